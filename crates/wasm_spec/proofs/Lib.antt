@@ -1,0 +1,5 @@
+pub mod UnambiguousNumbers
+pub mod UnambiguousTypes
+pub mod UnambiguousInstrs
+pub mod UnambiguousModules
+pub mod GrammarExamples

@@ -1,0 +1,4 @@
+pub mod Numbers
+pub mod TypeGrammar
+pub mod InstrGrammar
+pub mod Grammar
