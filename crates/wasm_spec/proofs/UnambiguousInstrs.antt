@@ -1,5 +1,5 @@
 -- Bytes begin with at most one instruction, and at most one sequence of instructions.
-use Rattle.std.proofs.Common.{◌≡◌, ℕ, ◌≤◌, ◌⊎◌, inl, inr, List, [], ◌∷◌, length, drop, refl, sym, ap, ◌∙◌, subst, arith, ℤ}
+use Rattle.std.proofs.Common.{◌≡◌, ℕ, ◌≤◌, ◌⊎◌, inl, inr, List, [], ◌∷◌, refl, sym, ap, ◌∙◌, subst, arith, ℤ}
 use Rattle.std.specs.Prelude.{Option}
 use Rattle.std.specs.Int.{cast_unsigned, w32, w64}
 use Rattle.wasm_types.specs.declared.types.ValType.{ValType}
@@ -8,7 +8,7 @@ use Rattle.wasm_types.specs.declared.instr.Instr.{Instr}
 use Rattle.wasm_types.specs.declared.instr.Instr.TheVariants as instr
 use Rattle.wasm_types.specs.declared.instr.MemArg.{MemArg}
 use Rattle.wasm_types.specs.Tree.{Code, End, Plain, Block, Loop, If, Call, CallIndirect}
-use Rattle.wasm_spec.specs.Numbers.{TakesUnsigned, TakesVec, IsUnambiguous}
+use Rattle.wasm_spec.specs.Numbers.{TakesUnsigned, IsUnambiguous}
 use Rattle.wasm_spec.specs.TypeGrammar.{TakesBlockType}
 use Rattle.wasm_spec.specs.InstrGrammar.{Shape, Alone, WithIndex, WithLabels, WithAddress, WithZero, WithI32, WithI64, WithBytes, NotPlain, shape, TakesShape, TakesInstr, Closer, ByEnd, ByElse, closing_byte, TakesCode, TakesExpr}
 use Rattle.wasm_spec.proofs.UnambiguousNumbers.{same_first, same_others, unsigned-unique, signed-unique, vec-unique}
@@ -163,10 +163,11 @@ code-unique (Loop t c e) (Loop u d f) k l bytes r s a b =
 code-unique (If t c e m) (If u d f n) k l bytes r s a b =
     let h = block_type-unique t u a.0 a.2 b.2 a.3 (subst (λ (x : List ℕ). TakesBlockType u x b.2) (sym (same_others a.1 b.1)) b.3) in
     let v = arms-unique c e d f a.2 a.4 b.4 (code-unique c d) (code-unique e f) a.5 (subst (λ (x : List ℕ). Arms d f x b.4) (sym h.1) b.5) in
-    let w = code-unique m n k l a.4 r s a.6 (subst (λ (x : List ℕ). TakesCode l n x s) (sym v.2) b.6) in
-    (w.0,
-     ap (λ (z : Option ValType). If z c e m) h.0 ∙ ap (λ (z : Code). If u z e m) v.0 ∙ ap (λ (z : Code). If u d z m) v.1 ∙ ap (λ (z : Code). If u d f z) w.1,
-     w.2)
+    let w = code-unique m n k l a.4 r s a.6 (subst (λ (x : List ℕ). TakesCode l n x s) (sym v.2) b.6) in (
+      w.0,
+      ap (λ (z : Option ValType). If z c e m) h.0 ∙ ap (λ (z : Code). If u z e m) v.0 ∙ ap (λ (z : Code). If u d z m) v.1 ∙ ap (λ (z : Code). If u d f z) w.1,
+      w.2,
+    )
 code-unique (Call x c) (Call y d) k l bytes r s a b =
     let u = unsigned-unique 32 x y a.0 a.2 b.2 a.3 (subst (λ (m : List ℕ). TakesUnsigned 32 y m b.2) (sym (same_others a.1 b.1)) b.3) in
     let v = code-unique c d k l a.2 r s a.4 (subst (λ (m : List ℕ). TakesCode l d m s) (sym u.1) b.4) in

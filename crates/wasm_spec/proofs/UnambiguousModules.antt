@@ -1,8 +1,7 @@
 -- Bytes spell at most one module.
-use Rattle.std.proofs.Common.{◌≡◌, ℕ, ◌⊎◌, inl, inr, List, [], ◌∷◌, ◌++◌, length, map, flat_map, refl, sym, ap, ◌∙◌, subst, arith}
+use Rattle.std.proofs.Common.{◌≡◌, ℕ, List, [], ◌∷◌, length, map, flat_map, refl, sym, ap, ◌∙◌, subst, arith}
 use Rattle.std.specs.Prelude.{Option, Some, None}
 use Rattle.wasm_types.specs.declared.types.ValType.{ValType}
-use Rattle.wasm_types.specs.declared.types.FuncType.{FuncType}
 use Rattle.wasm_types.specs.declared.types.Limits.{Limits}
 use Rattle.wasm_types.specs.declared.types.GlobalType.{GlobalType}
 use Rattle.wasm_types.specs.declared.module.LocalRun.{LocalRun}
@@ -43,7 +42,7 @@ import-unique : IsUnambiguous TakesImport
 import-unique i j bytes r s a b =
     let u = name-unique i.module_name j.module_name bytes a.after_module b.after_module a.module_name b.module_name in
     let v = name-unique i.item_name j.item_name a.after_module a.after_item b.after_item a.item_name
-      (subst (λ (l : List ℕ). TakesName j.item_name l b.after_item) (sym u.1) b.item_name) in
+    (subst (λ (l : List ℕ). TakesName j.item_name l b.after_item) (sym u.1) b.item_name) in
     let w = import_desc-unique i.desc j.desc a.after_item r s a.desc (subst (λ (l : List ℕ). TakesImportDesc j.desc l s) (sym v.1) b.desc) in
     let make : List ℕ → List ℕ → ImportDesc → Import = λ m n d. record { module_name = m; item_name = n; desc = d } in
     (ap (λ (z : List ℕ). make z i.item_name i.desc) u.0 ∙ ap (λ (z : List ℕ). make j.module_name z i.desc) v.0 ∙ ap (λ (z : ImportDesc). make j.module_name j.item_name z) w.0, w.1)
@@ -84,9 +83,9 @@ element-unique : IsUnambiguous TakesElement
 element-unique e f bytes r s a b =
     let u = unsigned-unique 32 e.table f.table bytes a.after_table b.after_table a.table b.table in
     let v = expr-unique e.offset f.offset a.after_table a.after_offset b.after_offset a.offset
-      (subst (λ (l : List ℕ). TakesExpr f.offset l b.after_offset) (sym u.1) b.offset) in
+    (subst (λ (l : List ℕ). TakesExpr f.offset l b.after_offset) (sym u.1) b.offset) in
     let w = vec-unique (TakesUnsigned 32) (unsigned-unique 32) e.functions f.functions a.after_offset r s a.functions
-      (subst (λ (l : List ℕ). TakesVec (TakesUnsigned 32) f.functions l s) (sym v.1) b.functions) in
+    (subst (λ (l : List ℕ). TakesVec (TakesUnsigned 32) f.functions l s) (sym v.1) b.functions) in
     let make : ℕ → Code → List ℕ → ElementTree = λ t o fs. record { table = t; offset = o; functions = fs } in
     (ap (λ (z : ℕ). make z e.offset e.functions) u.0 ∙ ap (λ (z : Code). make f.table z e.functions) v.0 ∙ ap (λ (z : List ℕ). make f.table f.offset z) w.0, w.1)
 
@@ -115,7 +114,7 @@ data-unique : IsUnambiguous TakesData
 data-unique d e bytes r s a b =
     let u = unsigned-unique 32 d.memory e.memory bytes a.after_memory b.after_memory a.memory b.memory in
     let v = expr-unique d.offset e.offset a.after_memory a.after_offset b.after_offset a.offset
-      (subst (λ (l : List ℕ). TakesExpr e.offset l b.after_offset) (sym u.1) b.offset) in
+    (subst (λ (l : List ℕ). TakesExpr e.offset l b.after_offset) (sym u.1) b.offset) in
     let w = bytes-unique d.bytes e.bytes a.after_offset r s a.contents (subst (λ (l : List ℕ). TakesBytes e.bytes l s) (sym v.1) b.contents) in
     let make : ℕ → Code → List ℕ → DataTree = λ m o c. record { memory = m; offset = o; bytes = c } in
     (ap (λ (z : ℕ). make z d.offset d.bytes) u.0 ∙ ap (λ (z : Code). make e.memory z d.bytes) v.0 ∙ ap (λ (z : List ℕ). make e.memory e.offset z) w.0, w.1)
@@ -180,28 +179,37 @@ spells-unique bytes m n a b =
     let e : a.sections ≡ b.sections = sections-unique a.sections b.sections a.after a.whole (subst (λ (l : List ℕ). TakesEach TakesSection b.sections l []) (sym rests) b.whole) in
     let at : (k : ℕ) → section k a.sections ≡ section k b.sections = λ k. ap (λ (ss : List Section). section k ss) e in
     let types = spelled_vec-unique TakesFuncType func_type-unique m.types n.types (section 1 a.sections) a.types
-      (subst (λ (o : Option Section). SpellsVec TakesFuncType n.types o) (sym (at 1)) b.types) in
+    (subst (λ (o : Option Section). SpellsVec TakesFuncType n.types o) (sym (at 1)) b.types) in
     let imports = spelled_vec-unique TakesImport import-unique m.imports n.imports (section 2 a.sections) a.imports
-      (subst (λ (o : Option Section). SpellsVec TakesImport n.imports o) (sym (at 2)) b.imports) in
+    (subst (λ (o : Option Section). SpellsVec TakesImport n.imports o) (sym (at 2)) b.imports) in
     let indices = spelled_vec-unique (TakesUnsigned 32) (unsigned-unique 32) (map type_index_of m.functions) (map type_index_of n.functions) (section 3 a.sections) a.function_types
-      (subst (λ (o : Option Section). SpellsVec (TakesUnsigned 32) (map type_index_of n.functions) o) (sym (at 3)) b.function_types) in
+    (subst (λ (o : Option Section). SpellsVec (TakesUnsigned 32) (map type_index_of n.functions) o) (sym (at 3)) b.function_types) in
     let tables = spelled_vec-unique TakesTableType table_type-unique m.tables n.tables (section 4 a.sections) a.tables
-      (subst (λ (o : Option Section). SpellsVec TakesTableType n.tables o) (sym (at 4)) b.tables) in
+    (subst (λ (o : Option Section). SpellsVec TakesTableType n.tables o) (sym (at 4)) b.tables) in
     let memories = spelled_vec-unique TakesMemoryType limits-unique m.memories n.memories (section 5 a.sections) a.memories
-      (subst (λ (o : Option Section). SpellsVec TakesMemoryType n.memories o) (sym (at 5)) b.memories) in
+    (subst (λ (o : Option Section). SpellsVec TakesMemoryType n.memories o) (sym (at 5)) b.memories) in
     let globals = spelled_vec-unique TakesGlobal global-unique m.globals n.globals (section 6 a.sections) a.globals
-      (subst (λ (o : Option Section). SpellsVec TakesGlobal n.globals o) (sym (at 6)) b.globals) in
+    (subst (λ (o : Option Section). SpellsVec TakesGlobal n.globals o) (sym (at 6)) b.globals) in
     let exports = spelled_vec-unique TakesExport export-unique m.exports n.exports (section 7 a.sections) a.exports
-      (subst (λ (o : Option Section). SpellsVec TakesExport n.exports o) (sym (at 7)) b.exports) in
+    (subst (λ (o : Option Section). SpellsVec TakesExport n.exports o) (sym (at 7)) b.exports) in
     let start = start-unique m.start n.start (section 8 a.sections) a.start
-      (subst (λ (o : Option Section). SpellsStart n.start o) (sym (at 8)) b.start) in
+    (subst (λ (o : Option Section). SpellsStart n.start o) (sym (at 8)) b.start) in
     let elements = spelled_vec-unique TakesElement element-unique m.element_segments n.element_segments (section 9 a.sections) a.element_segments
-      (subst (λ (o : Option Section). SpellsVec TakesElement n.element_segments o) (sym (at 9)) b.element_segments) in
+    (subst (λ (o : Option Section). SpellsVec TakesElement n.element_segments o) (sym (at 9)) b.element_segments) in
     let bodies = spelled_vec-unique TakesSizedBody sized_body-unique (map body_of m.functions) (map body_of n.functions) (section 10 a.sections) a.bodies
-      (subst (λ (o : Option Section). SpellsVec TakesSizedBody (map body_of n.functions) o) (sym (at 10)) b.bodies) in
+    (subst (λ (o : Option Section). SpellsVec TakesSizedBody (map body_of n.functions) o) (sym (at 10)) b.bodies) in
     let datas = spelled_vec-unique TakesData data-unique m.data_segments n.data_segments (section 11 a.sections) a.data_segments
-      (subst (λ (o : Option Section). SpellsVec TakesData n.data_segments o) (sym (at 11)) b.data_segments) in
+    (subst (λ (o : Option Section). SpellsVec TakesData n.data_segments o) (sym (at 11)) b.data_segments) in
     let functions = functions-equal m.functions n.functions indices bodies in
     λ i. record {
-      types = types i; imports = imports i; functions = functions i; tables = tables i; memories = memories i;
-      globals = globals i; exports = exports i; start = start i; element_segments = elements i; data_segments = datas i }
+      types = types i;
+      imports = imports i;
+      functions = functions i;
+      tables = tables i;
+      memories = memories i;
+      globals = globals i;
+      exports = exports i;
+      start = start i;
+      element_segments = elements i;
+      data_segments = datas i;
+    }

@@ -1,5 +1,5 @@
 -- Bytes begin with at most one type of each kind.
-use Rattle.std.proofs.Common.{◌≡◌, ℕ, List, [], ◌∷◌, refl, sym, ap, ◌∙◌, subst, arith, Bool, true, false}
+use Rattle.std.proofs.Common.{◌≡◌, ℕ, List, refl, sym, ap, ◌∙◌, subst, arith, Bool, true, false}
 use Rattle.std.specs.Prelude.{Option, Some, None}
 use Rattle.wasm_types.specs.declared.types.ValType.{ValType}
 use Rattle.wasm_types.specs.declared.types.ValType.TheVariants.{I32, I64, F32, F64}
@@ -7,7 +7,7 @@ use Rattle.wasm_types.specs.declared.types.FuncType.{FuncType}
 use Rattle.wasm_types.specs.declared.types.Limits.{Limits}
 use Rattle.wasm_types.specs.declared.types.GlobalType.{GlobalType}
 use Rattle.wasm_spec.specs.Numbers.{TakesUnsigned, TakesVec, IsUnambiguous}
-use Rattle.wasm_spec.specs.TypeGrammar.{value_type_byte, TakesValType, block_type_byte, TakesBlockType, TakesFuncType, TakesRange, TakesLimits, TakesMemoryType, TakesTableType, mutability_byte, TakesGlobalType}
+use Rattle.wasm_spec.specs.TypeGrammar.{value_type_byte, TakesValType, block_type_byte, TakesBlockType, TakesFuncType, TakesRange, TakesLimits, TakesTableType, mutability_byte, TakesGlobalType}
 use Rattle.wasm_spec.proofs.UnambiguousNumbers.{same_first, same_others, unsigned-unique, vec-unique}
 
 pub same_value_type : (t u : ValType) → value_type_byte t ≡ value_type_byte u → t ≡ u
@@ -41,9 +41,9 @@ block_type-unique t u bytes r s a b = (same_block_type t u (same_first a b), sam
 pub func_type-unique : IsUnambiguous TakesFuncType
 func_type-unique t u bytes r s a b =
     let i = vec-unique TakesValType val_type-unique t.params u.params a.after a.mid b.mid a.params
-      (subst (λ (l : List ℕ). TakesVec TakesValType u.params l b.mid) (sym (same_others a.tag b.tag)) b.params) in
+    (subst (λ (l : List ℕ). TakesVec TakesValType u.params l b.mid) (sym (same_others a.tag b.tag)) b.params) in
     let j = vec-unique TakesValType val_type-unique t.results u.results a.mid r s a.results
-      (subst (λ (l : List ℕ). TakesVec TakesValType u.results l s) (sym i.1) b.results) in
+    (subst (λ (l : List ℕ). TakesVec TakesValType u.results l s) (sym i.1) b.results) in
     let make : List ValType → List ValType → FuncType = λ ps rs. record { params = ps; results = rs } in
     (ap (λ (ps : List ValType). make ps t.results) i.0 ∙ ap (λ (rs : List ValType). make u.params rs) j.0, j.1)
 
@@ -76,7 +76,8 @@ same_mutability true true e = refl
 
 pub global_type-unique : IsUnambiguous TakesGlobalType
 global_type-unique g h bytes r s a b =
-    let make : ValType → Bool → GlobalType = λ t m. record { value = t; mutable = m } in
-    (ap (λ (t : ValType). make t g.mutable) (same_value_type g.value h.value (same_first a b))
-      ∙ ap (λ (m : Bool). make h.value m) (same_mutability g.mutable h.mutable (same_first refl (same_others a b))),
-     same_others refl (same_others a b))
+    let make : ValType → Bool → GlobalType = λ t m. record { value = t; mutable = m } in (
+      ap (λ (t : ValType). make t g.mutable) (same_value_type g.value h.value (same_first a b))
+          ∙ ap (λ (m : Bool). make h.value m) (same_mutability g.mutable h.mutable (same_first refl (same_others a b))),
+      same_others refl (same_others a b),
+    )

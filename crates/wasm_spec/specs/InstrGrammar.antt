@@ -1,7 +1,6 @@
 -- Instructions in the binary format. Source: WebAssembly Core Specification 1.0, section 5.4.
-use Rattle.std.specs.Prelude.{◌≡◌, ℕ, ◌≤◌, ◌⊎◌, List, [], ◌∷◌, ◌++◌, get_or, drop, length, replicate, ℤ, Option}
+use Rattle.std.specs.Prelude.{◌≡◌, ℕ, ◌≤◌, ◌⊎◌, List, [], ◌∷◌, ◌++◌, get_or, drop, length, replicate, ℤ}
 use Rattle.std.specs.Int.{cast_unsigned, w32, w64}
-use Rattle.wasm_types.specs.declared.types.ValType.{ValType}
 use Rattle.wasm_types.specs.declared.outcome.Val.TheVariants as val
 use Rattle.wasm_types.specs.declared.instr.Instr.{Instr}
 use Rattle.wasm_types.specs.declared.instr.Instr.TheVariants as instr
@@ -40,7 +39,7 @@ control_to_variable =
     ++ Alone instr.Drop ∷ Alone instr.Select ∷ []
     ++ replicate 4 NotPlain
     ++ WithIndex (λ x. instr.LocalGet x) ∷ WithIndex (λ x. instr.LocalSet x) ∷ WithIndex (λ x. instr.LocalTee x)
-        ∷ WithIndex (λ x. instr.GlobalGet x) ∷ WithIndex (λ x. instr.GlobalSet x) ∷ []
+    ∷ WithIndex (λ x. instr.GlobalGet x) ∷ WithIndex (λ x. instr.GlobalSet x) ∷ []
     ++ replicate 3 NotPlain
 
 abbrev float_access : Shape
@@ -138,7 +137,7 @@ TakesCode k (If t first second more) bytes rest =
     (after : List ℕ) × (bytes ≡ 0x04 ∷ after) × (inner : List ℕ) × TakesBlockType t after inner
     × (mid : List ℕ)
     × ((TakesCode ByEnd first inner mid × (second ≡ End))
-        ⊎ ((middle : List ℕ) × TakesCode ByElse first inner middle × TakesCode ByEnd second middle mid))
+    ⊎ ((middle : List ℕ) × TakesCode ByElse first inner middle × TakesCode ByEnd second middle mid))
     × TakesCode k more mid rest
 TakesCode k (Call x more) bytes rest =
     (after : List ℕ) × (bytes ≡ 0x10 ∷ after) × (mid : List ℕ) × TakesUnsigned 32 x after mid × TakesCode k more mid rest
