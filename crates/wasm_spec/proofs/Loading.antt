@@ -1,5 +1,5 @@
 -- Loading has one answer.
-use Rattle.std.proofs.Common.{◌≡◌, ℕ, List, Option, Some, None, refl, sym, ap, ◌∙◌, subst, ◌⊎◌, inl, inr}
+use Rattle.std.proofs.Common.{◌≡◌, ℕ, List, refl, sym, ap, ◌∙◌, subst, ◌⊎◌, inl, inr}
 use Rattle.std.specs.Prelude.{Result, Ok, Err}
 use Rattle.wasm_types.specs.Tree.{ModuleTree}
 use Rattle.wasm_spec.specs.Loading.{LoadLimits, Refusal, Malformed, Unsupported, Invalid, OverLimit, Segment, Answers, LoadsBy}
@@ -61,6 +61,6 @@ module _ (Spells : List ℕ → ModuleTree → Type 0) (bytes : List ℕ) (limit
 
   pub loads-unique : (r s : Result ModuleTree Refusal) → LoadsBy Spells bytes limits r → LoadsBy Spells bytes limits s → r ≡ s
   loads-unique r s h g = elim (spelled r h) [
-    inl a ↦ elim (spelled s g) [ inl b ↦ a.0 ∙ sym b.0 | inr b ↦ absurd (a.1 b.tree b.spells) ]
+    | inl a ↦ elim (spelled s g) [ inl b ↦ a.0 ∙ sym b.0 | inr b ↦ absurd (a.1 b.tree b.spells) ]
     | inr a ↦ elim (spelled s g) [ inl b ↦ absurd (b.1 a.tree a.spells) | inr b ↦ both_spelled r s a b ]
   ]

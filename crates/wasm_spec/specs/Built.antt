@@ -1,12 +1,9 @@
 -- What this host builds so far, of all modules: those with nothing but function types, functions without declared locals
 -- whose code reads parameters and adds, and exports of functions, all over the one type i32.
-use Rattle.std.specs.Prelude.{◌≡◌, ℕ, List, [], ◌∷◌, Option, None, All}
-use Rattle.wasm_types.specs.declared.types.ValType.{ValType}
+use Rattle.std.specs.Prelude.{◌≡◌, [], None, All}
 use Rattle.wasm_types.specs.declared.types.ValType.TheVariants.{I32}
 use Rattle.wasm_types.specs.declared.types.FuncType.{FuncType}
-use Rattle.wasm_types.specs.declared.instr.Width.{Width}
 use Rattle.wasm_types.specs.declared.instr.Width.TheVariants.{W32}
-use Rattle.wasm_types.specs.declared.instr.BinaryOp.{BinaryOp}
 use Rattle.wasm_types.specs.declared.instr.BinaryOp.TheVariants.{Add}
 use Rattle.wasm_types.specs.declared.instr.Instr.{Instr}
 use Rattle.wasm_types.specs.declared.instr.Instr.TheVariants as instr

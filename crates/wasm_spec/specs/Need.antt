@@ -1,8 +1,7 @@
 -- How many operands, locals and labels a function's frame holds at once.
 --
 -- Operands are counted by the typing rules (Core Specification 1.0, section 3.3), by heights alone.
-use Rattle.std.specs.Prelude.{ℕ, ◌+◌, ◌-◌, List, [], ◌∷◌, Option, length, max}
-use Rattle.wasm_types.specs.declared.types.ValType.{ValType}
+use Rattle.std.specs.Prelude.{ℕ, ◌+◌, ◌-◌, [], length, max}
 use Rattle.wasm_types.specs.Tree.{Code, End, Plain, Block, Loop, If, Call, CallIndirect, FunctionTree, ModuleTree}
 use Rattle.wasm_spec.specs.Typing.{values, Context, under, Rule, Fixed, Diverges, Drops, Selects, Wrong, rule, call_rule, call_indirect_rule, body_context}
 

@@ -17,7 +17,7 @@ use Rattle.wasm_types.specs.declared.instr.PackSize.TheVariants.{Pack8, Pack16, 
 use Rattle.wasm_types.specs.declared.instr.MemArg.{MemArg}
 use Rattle.wasm_types.specs.declared.instr.Instr.{Instr}
 use Rattle.wasm_types.specs.declared.instr.Instr.TheVariants as instr
-use Rattle.wasm_types.specs.Tree.{Code, End, Plain, Block, Loop, If, Call, CallIndirect, FunctionTree, GlobalTree, ModuleTree}
+use Rattle.wasm_types.specs.Tree.{Code, End, Plain, Block, Loop, If, Call, CallIndirect, FunctionTree, ModuleTree}
 
 -- section 2.3.2: a block has one result or none
 abbrev pub values : Option ValType → List ValType
