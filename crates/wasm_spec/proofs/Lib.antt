@@ -3,3 +3,5 @@ pub mod UnambiguousTypes
 pub mod UnambiguousInstrs
 pub mod UnambiguousModules
 pub mod GrammarExamples
+pub mod Loading
+mod TypingExamples

@@ -2,3 +2,9 @@ pub mod Numbers
 pub mod TypeGrammar
 pub mod InstrGrammar
 pub mod Grammar
+pub mod Typing
+pub mod Need
+pub mod Validity
+pub mod Segments
+pub mod Loading
+pub mod Built
