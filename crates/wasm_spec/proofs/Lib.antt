@@ -1,1 +1,3 @@
 pub mod OperatorLaws
+pub mod Modules
+pub mod Examples

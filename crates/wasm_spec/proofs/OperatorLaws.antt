@@ -2,8 +2,7 @@
 use Rattle.std.proofs.Common.{◌≡◌, ℕ, zero, suc, ◌+◌, ◌-◌, ◌*◌, ◌/◌, ◌%◌, ◌^◌, ◌<◌, ◌≤◌, List, [], ◌∷◌, length, Bool, refl, sym, ap, ◌∙◌, subst, arith, zero-add}
 use Rattle.std.specs.Prelude.{ℤ, pos, negsuc, reverse, ◌==◌, cond, bit_or}
 use Rattle.std.specs.List.{prefix_len, suffix_len}
-use Rattle.std.specs.Int as int
-use Rattle.std.specs.Int.{cast_signed, cast_unsigned, w32, w64, rotate_left, rotate_right}
+use Rattle.std.specs.Int.{cast_signed, cast_unsigned, rotate_left, rotate_right}
 use Rattle.std.specs.Int.Count.{ones, ones_step, count_leading_zeros, leading_of_zero, leading_top, count_trailing_zeros, under}
 use Rattle.std.specs.Int.Bits.{or_shifted, or_shifted_r, or_self}
 use Rattle.std.proofs.lemmas.Int.{ints}
@@ -17,13 +16,10 @@ use Rattle.std.proofs.Math.Path.{ap₂}
 use Rattle.std.proofs.Math.Pow.{shr_lt}
 use Rattle.wasm_types.specs.declared.instr.Width.{Width}
 use Rattle.wasm_types.specs.declared.instr.Width.TheVariants.{W32, W64}
+pub use Rattle.wasm_spec.specs.Operators.{int_width}
 use Rattle.wasm_spec.specs.Operators.{bit_width, binary_digits, signed, unsigned, sub, rotl, rotr, clz, ctz, popcnt}
 
 -- ---- signed values
-
-abbrev pub int_width : Width → int.Width
-int_width W32 = w32
-int_width W64 = w64
 
 pub signed-cast : (w : Width) (i : ℕ) → i < 2 ^ bit_width w → signed (bit_width w) i ≡ cast_signed (int_width w) i
 signed-cast W32 i h = grind (arith, ints)

@@ -1,1 +1,4 @@
 pub mod Operators
+pub mod Store
+pub mod Execution
+pub mod Result

@@ -1,7 +1,8 @@
 -- The integer operators of the WebAssembly Core Specification 1.0, sections 4.3.1, 4.3.2 and 4.3.4.
 -- A value of N bits is a number below 2 ^ N, and n stands for N, which is 32 or 64.
 use Rattle.std.specs.Prelude.{ℕ, zero, suc, ◌+◌, ◌-◌, ◌*◌, ◌/◌, ◌%◌, ◌^◌, ◌==◌, List, [], ◌∷◌, sum, Bool, true, false, not, ◌&&◌, if◌then◌else◌, Result, Ok, Err, nat_lt, nat_le, ℤ, pos, negsuc, ◌-ℤ◌, int_lt, int_le, int_div, int_rem, bit_and, bit_or, bit_xor}
-use Rattle.std.specs.Int.{int_shr}
+use Rattle.std.specs.Int as int
+use Rattle.std.specs.Int.{int_shr, w32, w64}
 use Rattle.std.specs.List.{prefix_len, suffix_len}
 use Rattle.wasm_types.specs.declared.instr.Width.{Width}
 use Rattle.wasm_types.specs.declared.instr.Width.TheVariants.{W32, W64}
@@ -17,6 +18,11 @@ use Rattle.wasm_types.specs.declared.outcome.TrapKind.TheVariants as trap
 abbrev pub bit_width : Width → ℕ
 bit_width W32 = 32
 bit_width W64 = 64
+
+-- the width as std's words on bytes and signs take it
+abbrev pub int_width : Width → int.Width
+int_width W32 = w32
+int_width W64 = w64
 
 -- ---- representations (section 4.3.1)
 
