@@ -1,2 +1,5 @@
 pub mod Loading
 mod TypingExamples
+pub mod OperatorLaws
+pub mod Modules
+pub mod Examples

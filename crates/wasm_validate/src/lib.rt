@@ -4,3 +4,5 @@
 #![tactic(auto)]
 
 mod checker;
+
+mod lookup;
