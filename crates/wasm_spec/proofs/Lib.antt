@@ -5,3 +5,6 @@ pub mod UnambiguousModules
 pub mod GrammarExamples
 pub mod Loading
 mod TypingExamples
+pub mod OperatorLaws
+pub mod Modules
+pub mod Examples

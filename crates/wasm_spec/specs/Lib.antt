@@ -8,3 +8,7 @@ pub mod Validity
 pub mod Segments
 pub mod Loading
 pub mod Built
+pub mod Operators
+pub mod Store
+pub mod Execution
+pub mod Result

@@ -1,0 +1,4 @@
+pub mod Exact
+pub mod Needs
+pub mod Stacks
+pub mod Steps

@@ -1,0 +1,4 @@
+pub mod Check
+pub mod Sequences
+pub mod Subject
+pub mod Walk
