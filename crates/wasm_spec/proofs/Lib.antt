@@ -1,3 +1,5 @@
 pub mod OperatorLaws
+pub mod FuelLaws
+pub mod Equations
 pub mod Modules
 pub mod Examples

@@ -1,4 +1,5 @@
 pub mod Operators
 pub mod Store
 pub mod Execution
+pub mod Equations
 pub mod Result

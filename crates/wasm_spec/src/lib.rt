@@ -2,3 +2,5 @@
 //!
 //! Source: WebAssembly Core Specification 1.0.
 #![tactic(auto)]
+
+pub mod laws;
