@@ -6,5 +6,7 @@ pub mod GrammarExamples
 pub mod Loading
 mod TypingExamples
 pub mod OperatorLaws
+pub mod FuelLaws
+pub mod Equations
 pub mod Modules
 pub mod Examples

@@ -4,6 +4,7 @@ pub mod Validity
 pub mod Need
 pub mod Store
 pub mod Execution
+pub mod Equations
 pub mod Result
 pub mod Numbers
 pub mod TypeGrammar

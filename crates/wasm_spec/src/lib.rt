@@ -4,3 +4,4 @@
 #![tactic(auto)]
 
 pub mod grammar_laws;
+pub mod laws;
