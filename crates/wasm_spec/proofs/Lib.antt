@@ -1,4 +1,5 @@
 pub mod OperatorLaws
+pub mod OperatorExamples
 pub mod FuelLaws
 pub mod Equations
 pub mod Modules
