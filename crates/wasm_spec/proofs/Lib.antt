@@ -4,3 +4,4 @@ pub mod FuelLaws
 pub mod Equations
 pub mod Modules
 pub mod Examples
+pub mod ProgramExamples
