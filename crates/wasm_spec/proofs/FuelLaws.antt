@@ -2,12 +2,13 @@
 use Rattle.std.proofs.Common.{◌≡◌, ℕ, zero, suc, ◌+◌, ◌<◌, ◌≤◌, List, [], ◌∷◌, ◌++◌, length, take, drop, Option, Some, None, Bool, true, false, refl, ap, ◌∙◌, arith}
 use Rattle.std.specs.Prelude.{nat_lt, nat_le, slice_get, not}
 use Rattle.wasm_types.specs.declared.types.FuncType.{FuncType}
+use Rattle.wasm_types.specs.declared.types.ValType.{ValType}
 use Rattle.wasm_types.specs.declared.outcome.Val.{Val}
 use Rattle.wasm_types.specs.declared.outcome.Val.TheVariants as val
 use Rattle.wasm_types.specs.declared.outcome.TrapKind.TheVariants as trap
 use Rattle.wasm_types.specs.Tree.{Code, End, Plain, Block, Loop, If, Call, CallIndirect, FunctionTree, ModuleTree}
 use Rattle.wasm_spec.specs.Store.{Store}
-use Rattle.wasm_spec.specs.Execution.{RunLimits, State, Signal, Next, Branch, Returned, Trapped, OutOfFuel, Stuck, Ended, Continuation, plain, pay, and_then, unless, keep, leave_by, leave, arity, pop_index, choose, inside, return_by, return, entered, invoke, with_type_as, with_function_as, with_element, same_type, exec_within, exec}
+use Rattle.wasm_spec.specs.Execution.{RunLimits, State, Signal, Next, Branch, Returned, Trapped, OutOfFuel, Stuck, Ended, Continuation, plain, pay, and_then, unless, keep, leave_by, leave, arity, pop_index, choose, inside, return_by, return, entered, invoke, with_type, with_function, with_type_as, with_function_as, with_element, same_type, exec_within, exec}
 
 -- ---- fuel only falls
 
@@ -95,21 +96,44 @@ choose-spends zero first second h k s fuel = k s fuel
 choose-spends (suc n) first second h k s fuel = h s fuel
 
 module _ (m : ModuleTree) (limits : RunLimits) where
+  -- what a block, an `if` and the calls go on with at the index n
+  abbrev within_block : ℕ → ℕ → Option ValType → Code → Code → Continuation
+  within_block n depth t body rest s fuel =
+      leave (arity t) s.operands (exec_within m limits n body depth (inside s) fuel) (exec_within m limits n rest depth) (exec_within m limits n rest depth)
+
+  abbrev within_arm : ℕ → ℕ → Option ValType → Code → Code → Code → ℕ → Continuation
+  within_arm n depth t first second rest c s fuel =
+      leave (arity t) s.operands (choose c (exec_within m limits n first depth) (exec_within m limits n second depth) (inside s) fuel)
+      (exec_within m limits n rest depth) (exec_within m limits n rest depth)
+
+  abbrev within_call : ℕ → ℕ → Code → FunctionTree → FuncType → Continuation
+  within_call n depth rest f t = invoke limits depth f t (exec_within m limits n f.body (depth + 1)) (exec_within m limits (suc n) rest depth)
+
+  abbrev within_typed_call : ℕ → ℕ → Code → FuncType → FunctionTree → FuncType → Continuation
+  within_typed_call n depth rest u f t s = unless (not (same_type u t)) (Trapped trap.Signature s.store) (within_call n depth rest f t) s
+
+  abbrev within_element : ℕ → ℕ → ℕ → Code → ℕ → Continuation
+  within_element n depth x rest y = with_type m x (λ u. with_function m y (within_typed_call n depth rest u))
+
+  abbrev within_element_call : ℕ → ℕ → ℕ → Code → ℕ → Continuation
+  within_element_call n depth x rest i s = with_element (slice_get s.store.table i) (within_element n depth x rest) s
+
   pub within-spends : (n : ℕ) (c : Code) (depth : ℕ) → Spends (exec_within m limits n c depth)
   within-spends n End depth s fuel = omega arith
   within-spends n (Plain i rest) depth s fuel =
       pay-spends s.store fuel _ (λ g. and_then-spends (plain m limits i s) (exec_within m limits n rest depth) (within-spends n rest depth) g)
   within-spends n (Block t body rest) depth s fuel =
+      pay-spends s.store fuel (within_block n depth t body rest s) (λ g.
       let go : Continuation = exec_within m limits n rest depth in
-      pay-spends s.store fuel _ (λ g.
       let inner : Ended = exec_within m limits n body depth (inside s) g in
       leave-spends (arity t) s.operands inner.signal g inner.fuel go go (within-spends n rest depth) (within-spends n rest depth) (within-spends n body depth (inside s) g))
   within-spends n (If t first second rest) depth s fuel =
+      pay-spends s.store fuel (pop_index s.operands (within_arm n depth t first second rest) s)
+      (pop_index-spends s.operands (within_arm n depth t first second rest) (λ c s g.
       let go : Continuation = exec_within m limits n rest depth in
-      pay-spends s.store fuel _ (λ g. pop_index-spends s.operands _ (λ c s g.
       let arm : Continuation = choose c (exec_within m limits n first depth) (exec_within m limits n second depth) in
       let arm_spends : Spends arm = choose-spends c (exec_within m limits n first depth) (exec_within m limits n second depth) (within-spends n first depth) (within-spends n second depth) in
-      leave-spends (arity t) s.operands (arm (inside s) g).signal g (arm (inside s) g).fuel go go (within-spends n rest depth) (within-spends n rest depth) (arm_spends (inside s) g)) s g)
+      leave-spends (arity t) s.operands (arm (inside s) g).signal g (arm (inside s) g).fuel go go (within-spends n rest depth) (within-spends n rest depth) (arm_spends (inside s) g)) s)
   within-spends zero (Loop t body rest) depth s fuel = omega arith
   within-spends (suc n) (Loop t body rest) depth s fuel =
       pay-spends s.store fuel _ (λ g.
@@ -118,17 +142,20 @@ module _ (m : ModuleTree) (limits : RunLimits) where
       (within-spends (suc n) rest depth) (within-spends n (Loop t body rest) depth) (within-spends (suc n) body depth (inside s) g))
   within-spends zero (Call x rest) depth s fuel = omega arith
   within-spends (suc n) (Call x rest) depth s fuel =
-      pay-spends s.store fuel _ (λ g. with_function-spends m (slice_get m.functions x) _ (λ f t.
+      pay-spends s.store fuel (with_function_as m (slice_get m.functions x) (within_call n depth rest) s)
+      (with_function-spends m (slice_get m.functions x) (within_call n depth rest) (λ f t.
       invoke-spends limits depth f t (exec_within m limits n f.body (depth + 1)) (exec_within m limits (suc n) rest depth)
-      (within-spends n f.body (depth + 1)) (within-spends (suc n) rest depth)) s g)
+      (within-spends n f.body (depth + 1)) (within-spends (suc n) rest depth)) s)
   within-spends zero (CallIndirect x rest) depth s fuel = omega arith
   within-spends (suc n) (CallIndirect x rest) depth s fuel =
-      pay-spends s.store fuel _ (λ g. pop_index-spends s.operands _ (λ i s. with_element-spends (slice_get s.store.table i) _ (λ y.
-      with_type-spends (slice_get m.types x) _ (λ u. with_function-spends m (slice_get m.functions y) _ (λ f t s.
-      let call : Continuation = invoke limits depth f t (exec_within m limits n f.body (depth + 1)) (exec_within m limits (suc n) rest depth) in
-      unless-spends (not (same_type u t)) (Trapped trap.Signature s.store) call
+      pay-spends s.store fuel (pop_index s.operands (within_element_call n depth x rest) s)
+      (pop_index-spends s.operands (within_element_call n depth x rest) (λ i s.
+      with_element-spends (slice_get s.store.table i) (within_element n depth x rest) (λ y.
+      with_type-spends (slice_get m.types x) (λ u. with_function m y (within_typed_call n depth rest u)) (λ u.
+      with_function-spends m (slice_get m.functions y) (within_typed_call n depth rest u) (λ f t s.
+      unless-spends (not (same_type u t)) (Trapped trap.Signature s.store) (within_call n depth rest f t)
       (invoke-spends limits depth f t (exec_within m limits n f.body (depth + 1)) (exec_within m limits (suc n) rest depth)
-      (within-spends n f.body (depth + 1)) (within-spends (suc n) rest depth)) s))) s) s g)
+      (within-spends n f.body (depth + 1)) (within-spends (suc n) rest depth)) s))) s) s)
 
   pub exec-spends : (depth : ℕ) (c : Code) → Spends (exec m limits depth c)
   unfolding exec

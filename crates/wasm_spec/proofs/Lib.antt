@@ -6,7 +6,9 @@ pub mod GrammarExamples
 pub mod Loading
 mod TypingExamples
 pub mod OperatorLaws
+pub mod OperatorExamples
 pub mod FuelLaws
 pub mod Equations
 pub mod Modules
 pub mod Examples
+pub mod ProgramExamples
