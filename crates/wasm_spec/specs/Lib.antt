@@ -1,10 +1,13 @@
 pub mod Typing
 pub mod Need
 pub mod Validity
-pub mod Segments
 pub mod Loading
 pub mod Built
 pub mod Operators
 pub mod Store
 pub mod Execution
 pub mod Result
+pub mod Numbers
+pub mod TypeGrammar
+pub mod InstrGrammar
+pub mod Grammar

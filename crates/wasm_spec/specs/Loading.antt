@@ -4,7 +4,8 @@ use Rattle.std.specs.List.{enumerate_from}
 use Rattle.wasm_types.specs.Tree.{ModuleTree}
 use Rattle.wasm_spec.specs.Validity.{IsSupported, IsValid}
 use Rattle.wasm_spec.specs.Need.{need}
-use Rattle.wasm_spec.specs.Segments.{Extent, minimum_size, first_unfit}
+use Rattle.wasm_spec.specs.Grammar.{Spells}
+use Rattle.wasm_spec.specs.Store.{Extent, minimum_of, first_misfit}
 
 -- the greatest numbers of pages, of table elements and of frame entries that are allowed
 pub record LoadLimits : Type 0 where
@@ -34,8 +35,8 @@ pub data Refusal : Type 0 where
 -- pages, elements and globals, then each function's frame in order
 abbrev pub demands : LoadLimits → ModuleTree → List Demand
 demands limits m =
-    record { which = Pages; value = minimum_size m.memories; limit = limits.pages }
-    ∷ record { which = Elements; value = minimum_size m.tables; limit = limits.elements }
+    record { which = Pages; value = minimum_of m.memories; limit = limits.pages }
+    ∷ record { which = Elements; value = minimum_of m.tables; limit = limits.elements }
     ∷ record { which = Globals; value = length m.globals; limit = 1024 }
     ∷ map (λ f. record { which = Frame f.0; value = need m f.1; limit = limits.frame }) (enumerate_from 0 m.functions)
 
@@ -49,7 +50,7 @@ refusal_of None (Some extent) = Some (Segment extent)
 refusal_of None None = None
 
 abbrev pub late_refusal : LoadLimits → ModuleTree → Option Refusal
-late_refusal limits m = refusal_of (first_over limits m) (first_unfit m)
+late_refusal limits m = refusal_of (first_over limits m) (first_misfit m)
 
 -- what loading answers for a module: unsupported before invalid, and then the limits and the segments
 abbrev pub Answers : LoadLimits → ModuleTree → Result ModuleTree Refusal → Type 0
@@ -61,6 +62,6 @@ Answers limits m (Err (OverLimit demand)) = IsSupported m × IsValid m × (late_
 Answers limits m (Err (Segment extent)) = IsSupported m × IsValid m × (late_refusal limits m ≡ Some (Segment extent))
 
 -- the answer for the module that the bytes spell, or malformed where they spell none
-abbrev pub LoadsBy : (Spells : List ℕ → ModuleTree → Type 0) → List ℕ → LoadLimits → Result ModuleTree Refusal → Type 0
-LoadsBy Spells bytes limits (Err Malformed) = (m : ModuleTree) → Spells bytes m → ⊥
-LoadsBy Spells bytes limits answer = (m : ModuleTree) × Spells bytes m × Answers limits m answer
+abbrev pub Loads : List ℕ → LoadLimits → Result ModuleTree Refusal → Type 0
+Loads bytes limits (Err Malformed) = (m : ModuleTree) → Spells bytes m → ⊥
+Loads bytes limits answer = (m : ModuleTree) × Spells bytes m × Answers limits m answer

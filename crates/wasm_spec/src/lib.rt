@@ -2,3 +2,6 @@
 //!
 //! Source: WebAssembly Core Specification 1.0.
 #![tactic(auto)]
+
+pub mod grammar_laws;
+pub mod loading_laws;
