@@ -6,3 +6,7 @@
 mod checker;
 
 mod lookup;
+
+mod plain;
+
+mod step;
