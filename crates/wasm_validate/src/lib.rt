@@ -10,3 +10,5 @@ mod lookup;
 mod plain;
 
 mod step;
+
+mod walk;
