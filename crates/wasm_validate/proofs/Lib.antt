@@ -4,3 +4,4 @@ pub mod Stacks
 pub mod Steps
 pub mod Trees
 pub mod Turns
+pub mod Functions

@@ -12,3 +12,5 @@ mod plain;
 mod step;
 
 mod walk;
+
+mod function;
