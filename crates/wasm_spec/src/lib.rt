@@ -5,3 +5,4 @@
 
 pub mod grammar_laws;
 pub mod laws;
+pub mod loading_laws;

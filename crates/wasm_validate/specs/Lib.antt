@@ -2,3 +2,4 @@ pub mod Check
 pub mod Sequences
 pub mod Subject
 pub mod Walk
+pub mod Checked

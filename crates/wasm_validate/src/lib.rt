@@ -6,3 +6,11 @@
 mod checker;
 
 mod lookup;
+
+mod plain;
+
+mod step;
+
+mod walk;
+
+mod function;

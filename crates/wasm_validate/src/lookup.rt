@@ -1,8 +1,9 @@
 // What the code of a function may name.
 
-ghost use Rattle.std.specs.Prelude.{◌≡◌, ℕ, List, [], Option, slice_get, option_copied};
+ghost use Rattle.std.specs.Prelude.{◌≡◌, ◌≤◌, ℕ, length, List, [], Option, slice_get, option_copied};
 ghost use Rattle.wasm_types.specs.Tree.{module_tree, function_tree};
 ghost use Rattle.wasm_spec.specs.Typing as typing;
+ghost use Rattle.wasm_spec.specs.Typing.{values};
 ghost use Rattle.wasm_validate.specs.Subject as subject;
 
 use wasm_types::module::{Function, Module};
@@ -16,6 +17,21 @@ pub fn function_type(m: &Module, x: u32) -> Option<&FuncType>
         Some(f) => m.types.as_slice().get(f.type_index as usize),
         None => None,
     }
+}
+
+/// A type of the module.
+pub fn type_at(m: &Module, x: u32) -> Option<&FuncType>
+    ensures { option_copied result ≡ slice_get m.now.types x }
+{
+    m.types.as_slice().get(x as usize)
+}
+
+/// The result of a function of this type, if it has one.
+pub fn single_result(t: &FuncType) -> Option<ValType>
+    requires { length t.now.results ≤ 1 }
+    ensures { values result ≡ t.now.results }
+{
+    t.results.as_slice().first().copied()
 }
 
 /// A global's type.
