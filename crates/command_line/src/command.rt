@@ -1,0 +1,72 @@
+//! The command as `clap` builds it.
+ghost use Rattle.std.specs.Prelude.{◌≡◌, IfOk, false, pos};
+ghost use Rattle.clap.specs.Words.{app_of, with_rule};
+ghost use Rattle.clap.specs.declared.builder.command.Command.TheViews.{out-Command as fields_of};
+ghost use Rattle.clap.specs.declared.builder.value_parser.ValueParser.TheVariants as vp;
+ghost use Rattle.command_line.specs.Command.{number_option, poolhost_command, run_command};
+
+use clap::builder::ValueParser;
+use clap::{Arg, ArgAction, Command};
+use std::alloc::{AllocError, Global};
+
+// The parser of the numbers from `least` to `most`.
+fn number_from_to<'a>(least: u32, most: u32) -> ValueParser<'a>
+    ensures { result ≡ vp.Signed (pos least) (pos most) }
+{
+    clap::value_parser!(u32).range(least as i64..=most as i64)
+}
+
+// The command with one more option, whose number lies in a range.
+fn with_number<'a>(
+    command: Command<'a>,
+    alloc: Global,
+    name: &'a str,
+    least: u32,
+    most: u32,
+    default: &'a str,
+) -> Result<Command<'a>, AllocError>
+    requires { (fields_of command).has_globals ≡ false }
+    ensures app { IfOk result (λ r. app_of r
+        ≡ with_rule (app_of command.entry) (number_option name.entry.now least most default.entry.now)) }
+    ensures local { IfOk result (λ r. (fields_of r).has_globals ≡ false) }
+{
+    let option = Arg::new(alloc, name)
+        .long(name)
+        .action(ArgAction::Set)
+        .value_parser(number_from_to(least, most))
+        .default_value(default);
+    command.arg(option)
+}
+
+// `run`, with its options.
+fn run_command<'a>(alloc: Global) -> Result<Command<'a>, AllocError>
+    ensures app { IfOk result (λ r. app_of r ≡ run_command) }
+    ensures local { IfOk result (λ r. (fields_of r).has_globals ≡ false) }
+{
+    let empty = Command::new(alloc, "run").disable_help_flag(true);
+    let workers = with_number(empty, alloc, "workers", 1, 16, "1")?;
+    let instances = with_number(workers, alloc, "instances", 1, 64, "4")?;
+    let memories = with_number(instances, alloc, "memories", 1, 64, "4")?;
+    let tables = with_number(memories, alloc, "tables", 1, 64, "4")?;
+    let warm = with_number(tables, alloc, "warm", 0, 64, "2")?;
+    let batch = with_number(warm, alloc, "batch", 1, 64, "4")?;
+    let pages = with_number(batch, alloc, "pages", 1, 256, "32")?;
+    let elements = with_number(pages, alloc, "elements", 0, 65536, "1024")?;
+    let depth = with_number(elements, alloc, "depth", 1, 1000, "128")?;
+    let frame = with_number(depth, alloc, "frame", 1, 4096, "1024")?;
+    Ok(frame)
+}
+
+// `poolhost`, with its subcommand.
+pub fn poolhost_command<'a>(alloc: Global) -> Result<Command<'a>, AllocError>
+    ensures app { IfOk result (λ r. app_of r ≡ poolhost_command) }
+    ensures local { IfOk result (λ r. (fields_of r).has_globals ≡ false) }
+{
+    let run = run_command(alloc)?;
+    let empty = Command::new(alloc, "poolhost")
+        .disable_help_flag(true)
+        .disable_help_subcommand(true)
+        .subcommand_required(true);
+    let command = empty.subcommand(run)?;
+    Ok(command)
+}
