@@ -1,5 +1,5 @@
 -- The same lemmas at a wider command: `run` has a flag besides, and a second subcommand has two required numbers.
-use Rattle.std.proofs.Common.{◌≡◌, ◌∙◌, ◌⊎◌, ◌||◌, ◌++◌, ℕ, zero, suc, Bool, true, false, List, [], ◌∷◌, Option, Some, refl, ap, inl, inr, codes}
+use Rattle.std.proofs.Common.{◌≡◌, ◌∙◌, ◌⊎◌, ◌||◌, ◌++◌, ℕ, zero, suc, Bool, true, false, List, [], ◌∷◌, Option, Some, refl, length, ap, inl, inr, codes}
 use Rattle.std.proofs.lemmas.Slice.Eq.{bytes_eq-Decides}
 use Rattle.std.specs.Prelude.{pos}
 use Rattle.std.specs.Str.{bytes_eq}
@@ -11,6 +11,7 @@ use Rattle.clap.specs.Faults.{level_fault}
 use Rattle.clap.specs.declared.builder.action.ArgAction.TheVariants.{SetTrue}
 use Rattle.clap.specs.declared.builder.value_parser.ValueParser.{ValueParser}
 use Rattle.clap.specs.declared.builder.value_parser.ValueParser.TheVariants as vp
+use Rattle.clap.proofs.OnLiterals.{clap_on_literals}
 use Rattle.command_line.specs.Command.{run_options}
 use Rattle.command_line.specs.Matches.{IsNumberIn}
 use Rattle.command_line.proofs.LevelValues.{reads_value}
@@ -49,6 +50,19 @@ wide_command = with_subcommand (with_subcommand (on_top (λ s. record s {
 
 simple : is_simple_and_free wide_command ≡ true
 simple = refl
+
+-- words of either subcommand that have no fault, and words that lack a required number
+run_words : fault_of wide_command (codes "poolhost" ∷ codes "run" ∷ codes "--summary" ∷ codes "--frame" ∷ codes "5" ∷ []) ≡ []
+unfolding clap_on_literals
+run_words = refl
+
+make_words : fault_of wide_command (codes "poolhost" ∷ codes "make" ∷ codes "7" ∷ codes "2000" ∷ []) ≡ []
+unfolding clap_on_literals
+make_words = refl
+
+no_count : length (fault_of wide_command (codes "poolhost" ∷ codes "make" ∷ codes "7" ∷ [])) ≡ 1
+unfolding clap_on_literals
+no_count = refl
 
 abbrev sub_at : ℕ → List Shape → Shape
 sub_at n [] = wide_command.top

@@ -5,7 +5,7 @@ use Rattle.clap.specs.Simple.{on_top}
 use Rattle.clap.specs.declared.builder.action.ArgAction.TheVariants.{Set}
 use Rattle.clap.specs.declared.builder.value_parser.ValueParser.TheVariants as vp
 
--- `--NAME NUMBER`, a whole number from `least` to `most`, and the text that stands for it where it is left out
+-- `--NAME NUMBER`: a whole number from `least` to `most`; left out, it is the number of `default`
 abbrev pub number_option : (name : Text) (least most : ℕ) (default : Text) → Rule
 number_option name least most default = record (new_rule name) {
   long = Some name;
@@ -29,7 +29,8 @@ run_options = number_option (codes "workers") 1 16 (codes "1")
 
 -- `run`, with its options and no help
 abbrev pub run_command : App
-run_command = on_top (λ s. record s { rules = run_options; disable_help_flag = true }) (new_app (codes "run"))
+run_command =
+    on_top (λ s. record s { rules = run_options; disable_help_flag = true }) (new_app (codes "run"))
 
 -- `poolhost`, which wants a subcommand; the one that it has is `run`
 abbrev pub poolhost_command : App

@@ -31,7 +31,8 @@ options_in rows = record {
 -- there is a text, and it writes a number from `least` to `most`
 abbrev pub IsNumberIn : (least most : ℕ) → Option Text → Type 0
 IsNumberIn least most None = ⊥
-IsNumberIn least most (Some text) = IsNumeral 10 (without_leading_plus text) × (least ≤ number_of text) × (number_of text ≤ most)
+IsNumberIn least most (Some text) =
+    IsNumeral 10 (without_leading_plus text) × (least ≤ number_of text) × (number_of text ≤ most)
 
 -- each option has a number of its range
 pub record HasNumbers (rows : List Row) : Type 0 where

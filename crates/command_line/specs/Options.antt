@@ -17,7 +17,8 @@ pub record IsInRange (o : Options) : Type 0 where
 
 -- there are several workers, and a total of 1 leaves them no slot to share
 abbrev pub lacks_shared_slots : Options → Bool
-lacks_shared_slots o = nat_lt 1 o.workers && (o.instances == 1 || (o.memories == 1 || o.tables == 1))
+lacks_shared_slots o =
+    nat_lt 1 o.workers && (o.instances == 1 || (o.memories == 1 || o.tables == 1))
 
 -- where there are several workers, each total is at least 2
 abbrev pub HasSharedSlots : Options → Type 0

@@ -18,8 +18,8 @@ fn number_from_to<'a>(least: u32, most: u32) -> ValueParser<'a>
 
 // The command with one more option, whose number lies in a range.
 fn with_number<'a>(
-    command: Command<'a>,
     alloc: Global,
+    command: Command<'a>,
     name: &'a str,
     least: u32,
     most: u32,
@@ -27,7 +27,8 @@ fn with_number<'a>(
 ) -> Result<Command<'a>, AllocError>
     requires { (fields_of command).has_globals ≡ false }
     ensures app { IfOk result (λ r. app_of r
-        ≡ with_rule (app_of command.entry) (number_option name.entry.now least most default.entry.now)) }
+        ≡ with_rule (app_of command.entry)
+        (number_option name.entry.now least most default.entry.now)) }
     ensures local { IfOk result (λ r. (fields_of r).has_globals ≡ false) }
 {
     let option = Arg::new(alloc, name)
@@ -44,21 +45,21 @@ fn run_command<'a>(alloc: Global) -> Result<Command<'a>, AllocError>
     ensures local { IfOk result (λ r. (fields_of r).has_globals ≡ false) }
 {
     let empty = Command::new(alloc, "run").disable_help_flag(true);
-    let workers = with_number(empty, alloc, "workers", 1, 16, "1")?;
-    let instances = with_number(workers, alloc, "instances", 1, 64, "4")?;
-    let memories = with_number(instances, alloc, "memories", 1, 64, "4")?;
-    let tables = with_number(memories, alloc, "tables", 1, 64, "4")?;
-    let warm = with_number(tables, alloc, "warm", 0, 64, "2")?;
-    let batch = with_number(warm, alloc, "batch", 1, 64, "4")?;
-    let pages = with_number(batch, alloc, "pages", 1, 256, "32")?;
-    let elements = with_number(pages, alloc, "elements", 0, 65536, "1024")?;
-    let depth = with_number(elements, alloc, "depth", 1, 1000, "128")?;
-    let frame = with_number(depth, alloc, "frame", 1, 4096, "1024")?;
+    let workers = with_number(alloc, empty, "workers", 1, 16, "1")?;
+    let instances = with_number(alloc, workers, "instances", 1, 64, "4")?;
+    let memories = with_number(alloc, instances, "memories", 1, 64, "4")?;
+    let tables = with_number(alloc, memories, "tables", 1, 64, "4")?;
+    let warm = with_number(alloc, tables, "warm", 0, 64, "2")?;
+    let batch = with_number(alloc, warm, "batch", 1, 64, "4")?;
+    let pages = with_number(alloc, batch, "pages", 1, 256, "32")?;
+    let elements = with_number(alloc, pages, "elements", 0, 65536, "1024")?;
+    let depth = with_number(alloc, elements, "depth", 1, 1000, "128")?;
+    let frame = with_number(alloc, depth, "frame", 1, 4096, "1024")?;
     Ok(frame)
 }
 
 // `poolhost`, with its subcommand.
-pub fn poolhost_command<'a>(alloc: Global) -> Result<Command<'a>, AllocError>
+pub(crate) fn poolhost_command<'a>(alloc: Global) -> Result<Command<'a>, AllocError>
     ensures app { IfOk result (λ r. app_of r ≡ poolhost_command) }
     ensures local { IfOk result (λ r. (fields_of r).has_globals ≡ false) }
 {

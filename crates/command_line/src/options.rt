@@ -50,7 +50,7 @@ fn number_at(run: &ArgMatches<'_>, id: &str) -> u32
 }
 
 // The options, from the matches of `run`.
-pub fn options_at(run: &ArgMatches<'_>) -> Options
+pub(crate) fn options_at(run: &ArgMatches<'_>) -> Options
     requires { HasNumbers (rows_of (found_of run.now)) }
     ensures { result ≡ options_in (rows_of (found_of run.now)) }
 {

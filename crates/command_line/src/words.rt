@@ -38,7 +38,8 @@ pub fn read_options(alloc: Global, words: &[&str]) -> Result<Options, WordsFault
     ensures options { IfOk result (λ o. o ≡ options_of (map (λ w. w.now) words.now)) }
     ensures within { IfOk result (λ o. IsInRange o) }
     ensures shared { IfOk result (λ o. HasSharedSlots o) }
-    ensures refused { IsErrOf result WordsFault.Refused → is_accepted (map (λ w. w.now) words.now) ≡ false }
+    ensures refused { IsErrOf result WordsFault.Refused
+        → is_accepted (map (λ w. w.now) words.now) ≡ false }
 {
     let command = poolhost_command(alloc)?;
     let matches = match command.try_get_matches_from(words) {
