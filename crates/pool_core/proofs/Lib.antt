@@ -1,0 +1,7 @@
+pub mod WordBits
+pub mod CoreChanges
+pub mod SeatChanges
+pub mod LawfulSteps
+pub mod Holders
+pub mod LawfulOpening
+mod RunLemmas
