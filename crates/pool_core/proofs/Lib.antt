@@ -5,3 +5,4 @@ pub mod LawfulSteps
 pub mod Holders
 pub mod LawfulOpening
 mod RunLemmas
+mod LeastRule

@@ -5,7 +5,7 @@ ghost use Rattle.pool_core.specs.declared.words.StateWord.{StateWord};
 ghost use Rattle.pool_core.specs.StateWords.{IsWordOf};
 ghost use Rattle.pool_core.specs.PoolCore.{PoolCore, seat_at, word_at, opening_core};
 ghost use Rattle.pool_core.specs.EventEffects.{core_after};
-ghost use Rattle.pool_core.specs.RefusalRules.{refusal_of};
+ghost use Rattle.pool_core.specs.RefusalRules.{refusal_of, IsLeastRule};
 ghost use Rattle.pool_core.specs.Lawful.{Lawful, is_free_warm, has_permit};
 ghost use Rattle.pool_core.specs.Runs.{core_after_all, AllAllowed};
 ghost use Rattle.pool_core.specs.declared.events.Event.{Event as AnyEvent};
@@ -40,6 +40,12 @@ pub fn held_words_have_one_seat()
 /// The free warm words and the permits are never more than the limit.
 pub fn cores_are_within_their_limit()
     ensures { (c : PoolCore) → Lawful c → count_by is_free_warm c.words + count_by has_permit c.seats ≤ c.limit }
+{
+}
+
+/// An event is refused by the least rule that it breaks, and by none exactly where it breaks none.
+pub fn refusals_are_least()
+    ensures { (c : PoolCore) (e : AnyEvent) → IsLeastRule c e (refusal_of c e) }
 {
 }
 
