@@ -48,9 +48,9 @@ holds_it (Some m) n e = let is : m ≡ n = grind (arith, nat_tests) in ap Some i
 counted_one : (ps : List Seat) (n : ℕ) → 1 ≤ count_by (λ p. is_holding p.holds n) ps → (s : ℕ) × ((get_or ps s (idle_seat Unmade)).holds ≡ Some n)
 counted_one [] n h = absurd (omega arith)
 counted_one (p ∷ ps) n h = let split : (b : Bool) → is_holding p.holds n ≡ b → (s : ℕ) × ((get_or (p ∷ ps) s (idle_seat Unmade)).holds ≡ Some n) = elim [
-    | true ↦ λ e. (0, holds_it p.holds n e)
-    | false ↦ λ e. let none : bit (is_holding p.holds n) ≡ 0 = ap bit e in let whole = sum_by-cons (λ (x : Seat). bit (is_holding x.holds n)) p ps in let r = counted_one ps n (omega arith) in (suc (r.0), r.1)
-  ] in split (is_holding p.holds n) refl
+  | true ↦ λ e. (0, holds_it p.holds n e)
+  | false ↦ λ e. let none : bit (is_holding p.holds n) ≡ 0 = ap bit e in let whole = sum_by-cons (λ (x : Seat). bit (is_holding x.holds n)) p ps in let r = counted_one ps n (omega arith) in (suc (r.0), r.1)
+] in split (is_holding p.holds n) refl
 
 pub holder_of : (c : PoolCore) (n : ℕ) → Lawful c → (word_at c n).held ≡ true → (s : ℕ) × ((seat_at c s).holds ≡ Some n)
 holder_of c n law held = let one : bit (word_at c n).held ≡ 1 = ap bit held in let all = law.holders n in counted_one c.seats n (omega arith)

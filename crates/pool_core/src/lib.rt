@@ -21,3 +21,6 @@ pub use refusals::Unlawful;
 pub use replays::{ReplayFault, replay};
 pub use seats::{Seat, Stage};
 pub use words::{State, StateWord, Target, pack, unpack};
+
+#[cfg(test)]
+mod tests;

@@ -16,7 +16,7 @@ use std::marker::Model;
 use thiserror::Error;
 
 /// A pool as plain data. Between any two events it is lawful.
-#[derive(Drop)]
+#[derive(Debug, Drop)]
 pub struct Core {
     words: Vec<StateWord>,
     seats: Vec<Seat>,
