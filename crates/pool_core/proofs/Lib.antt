@@ -6,3 +6,4 @@ pub mod Holders
 pub mod LawfulOpening
 mod RunLemmas
 mod LeastRule
+pub mod ChangeLemmas

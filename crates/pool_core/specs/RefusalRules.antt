@@ -1,5 +1,5 @@
 -- Which events a pool refuses, and by which of eight rules. An event is refused by the least rule that it breaks.
-use Rattle.std.specs.Prelude.{◌≡◌, ℕ, ◌==◌, ◌<◌, Bool, true, false, not, cond, ltb, ◌&&◌, ◌||◌, is_none, List, [], ◌∷◌, length, slice_index_or}
+use Rattle.std.specs.Prelude.{◌≡◌, ℕ, ◌==◌, ◌<◌, Bool, true, false, not, cond, ltb, ◌&&◌, ◌||◌, is_none, [], ◌∷◌, length, slice_index_or}
 use Rattle.pool_core.specs.declared.events.Event.{Event}
 use Rattle.pool_core.specs.declared.events.Event.TheVariants.{Load, Claim, Out, Home, Release, Split, Join, Close, WarmLoad, WarmUp, WarmDown, Stamp, AwaitUp, AwaitDown, AwaitLoad}
 use Rattle.pool_core.specs.StateWords.{is_warm, is_awaiting, is_well_formed}

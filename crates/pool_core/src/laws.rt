@@ -5,6 +5,7 @@ ghost use Rattle.pool_core.specs.declared.words.StateWord.{StateWord};
 ghost use Rattle.pool_core.specs.StateWords.{IsWordOf};
 ghost use Rattle.pool_core.specs.PoolCore.{PoolCore, seat_at, word_at, opening_core};
 ghost use Rattle.pool_core.specs.EventEffects.{core_after};
+ghost use Rattle.pool_core.specs.Changes.{ChangesOnly};
 ghost use Rattle.pool_core.specs.RefusalRules.{refusal_of, IsLeastRule};
 ghost use Rattle.pool_core.specs.Lawful.{Lawful, is_free_warm, has_permit};
 ghost use Rattle.pool_core.specs.Runs.{core_after_all, AllAllowed};
@@ -24,6 +25,11 @@ pub fn each_event_keeps_a_core_lawful()
 pub fn runs_keep_a_core_lawful()
     ensures kept { (c : PoolCore) (es : List AnyEvent) → Lawful c → AllAllowed c es → Lawful (core_after_all c es) }
     ensures opened { (slots limit seats : ℕ) (es : List AnyEvent) → AllAllowed (opening_core slots limit seats) es → Lawful (core_after_all (opening_core slots limit seats) es) }
+{}
+
+/// An event changes its own seat alone, but for a split, a join and a close, and of the words the one alone that it claims or releases.
+pub fn events_change_only_their_own()
+    ensures { (c : PoolCore) (e : AnyEvent) → ChangesOnly e c (core_after c e) }
 {}
 
 /// No two seats hold one number, and a number is held exactly where a seat holds it.
