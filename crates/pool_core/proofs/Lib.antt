@@ -1,0 +1,9 @@
+pub mod WordBits
+pub mod CoreChanges
+pub mod SeatChanges
+pub mod LawfulSteps
+pub mod Holders
+pub mod LawfulOpening
+mod RunLemmas
+mod LeastRule
+pub mod ChangeLemmas

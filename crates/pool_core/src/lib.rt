@@ -1,0 +1,27 @@
+//! The pure core of a slot pool: one word of state for each slot, one seat for each caller, the counts that all seats share, and what each of the fifteen events does to them.
+//!
+//! Nothing here runs in threads. A [`Core`] is plain data, [`step`] applies one event to it or says which rule refuses that event, and [`replay`] applies a list of events.
+#![tactic(auto)]
+
+mod events;
+mod laws;
+mod pool;
+mod refusals;
+mod replays;
+mod seats;
+mod words;
+
+pub use events::Event;
+pub use laws::{
+    cores_are_within_their_limit, each_event_keeps_a_core_lawful, events_change_only_their_own,
+    held_words_have_one_seat, refusals_are_least, runs_keep_a_core_lawful, the_opening_is_lawful,
+    words_are_read_back,
+};
+pub use pool::{Core, NoMemory, step};
+pub use refusals::Unlawful;
+pub use replays::{ReplayFault, replay};
+pub use seats::{Seat, Stage};
+pub use words::{State, StateWord, Target, pack, unpack};
+
+#[cfg(test)]
+mod tests;
