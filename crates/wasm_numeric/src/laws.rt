@@ -1,0 +1,32 @@
+// Laws of the operators' definitions in the standard's own words, as contracts of functions that do nothing.
+//
+// `binary_digits` lists the digits from the lowest on, so what the standard moves to the left goes towards the list's
+// end. Source: WebAssembly Core Specification 1.0, section 4.3.2.
+
+ghost use Rattle.std.specs.Prelude.{◌≡◌, ℕ, ◌-◌, ◌/◌, ◌%◌, ◌^◌, ◌<◌, ◌++◌, take, drop, replicate};
+ghost use Rattle.wasm_types.specs.declared.instr.Width.{Width};
+ghost use Rattle.wasm_spec.specs.Operators.{binary_digits, bit_width, rotl, rotr, shl, shr_s, shr_u};
+
+/// A rotation by k places: the k digits that leave at one end come in at the other, in their order.
+pub fn rotations_move_the_digits()
+    ensures left { (w : Width) (a b : ℕ) → a < 2 ^ bit_width w
+        → (let n = bit_width w in let k = b % n in let digits = binary_digits n a in
+        binary_digits n (rotl n a b) ≡ drop (n - k) digits ++ take (n - k) digits) }
+    ensures right { (w : Width) (a b : ℕ) → a < 2 ^ bit_width w
+        → (let n = bit_width w in let k = b % n in let digits = binary_digits n a in
+        binary_digits n (rotr n a b) ≡ drop k digits ++ take k digits) }
+{}
+
+/// A shift by k places: k digits leave at one end, and k zeros come in at the other, or k copies of the highest digit
+/// where the sign is kept.
+pub fn shifts_move_the_digits()
+    ensures left { (w : Width) (a b : ℕ) → a < 2 ^ bit_width w
+        → (let n = bit_width w in let k = b % n in let digits = binary_digits n a in
+        binary_digits n (shl n a b) ≡ replicate k 0 ++ take (n - k) digits) }
+    ensures unsigned_right { (w : Width) (a b : ℕ) → a < 2 ^ bit_width w
+        → (let n = bit_width w in let k = b % n in let digits = binary_digits n a in
+        binary_digits n (shr_u n a b) ≡ drop k digits ++ replicate k 0) }
+    ensures signed_right { (w : Width) (a b : ℕ) → a < 2 ^ bit_width w
+        → (let n = bit_width w in let k = b % n in let digits = binary_digits n a in
+        binary_digits n (shr_s n a b) ≡ drop k digits ++ replicate k (a / 2 ^ (n - 1))) }
+{}
