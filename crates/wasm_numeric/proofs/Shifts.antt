@@ -1,18 +1,15 @@
 -- What shifts and rotations do to the binary digits.
-use Rattle.std.proofs.Common.{◌≡◌, ℕ, zero, suc, ◌+◌, ◌-◌, ◌*◌, ◌/◌, ◌%◌, ◌^◌, ◌<◌, ◌≤◌, List, [], ◌∷◌, ◌++◌, take, drop, refl, sym, ap, ◌∙◌, subst, arith, inl, inr}
+use Rattle.std.proofs.Common.{◌≡◌, ℕ, suc, ◌+◌, ◌-◌, ◌*◌, ◌/◌, ◌%◌, ◌^◌, ◌<◌, ◌≤◌, List, ◌++◌, take, drop, sym, ap, ◌∙◌, subst, arith}
 use Rattle.std.specs.Prelude.{ℤ, pos, negsuc}
 use Rattle.std.specs.Int.{int_shr}
-use Rattle.std.proofs.lemmas.Bool.{cases_order}
-use Rattle.std.proofs.lemmas.Bool.Decides.{nat_tests}
-use Rattle.std.proofs.lemmas.Int.{ints}
 use Rattle.std.proofs.lemmas.Nat.{pow-add, div-add-mod', div-mul-add, pow_pos}
 use Rattle.std.proofs.Math.ListN.{replicate}
-use Rattle.std.proofs.Math.Nat.{pow-suc, add_comm, mod-lt, div-eq_of_lt}
-use Rattle.std.proofs.Math.Path.{ap₂}
+use Rattle.std.proofs.Math.Nat.{add_comm, mod-lt, div-eq_of_lt}
 use Rattle.std.proofs.Math.Pow.{shr_lt}
 use Rattle.wasm_types.specs.declared.instr.Width.{Width}
 use Rattle.wasm_types.specs.declared.instr.Width.TheVariants.{W32, W64}
 use Rattle.wasm_spec.specs.Operators.{bit_width, binary_digits, signed, unsigned}
+use Rattle.wasm_numeric.proofs.Signed.{by_sign, twice}
 use Rattle.wasm_numeric.proofs.Digits.{digits-zero, digits-ones, digits-moved-up, digits-zeros-below, digits-above}
 
 pub left : (n a k : ℕ) → a < 2 ^ n → k ≤ n
@@ -53,12 +50,6 @@ zeros_above n a k h le =
 
 -- ---- the shift that copies the sign
 
-signed-low : (n a : ℕ) → a < 2 ^ (n - 1) → signed n a ≡ pos a
-signed-low n a h = grind (arith, nat_tests)
-
-signed-high : (n a : ℕ) → 2 ^ (n - 1) ≤ a → a < 2 ^ n → signed n a ≡ negsuc (2 ^ n - suc a)
-signed-high n a le h = grind (arith, nat_tests, ints)
-
 -- the digits of a negative number, moved down by k places: copies of 1 come in
 shifted-high : (n a k : ℕ) → a < 2 ^ n → k ≤ n → 2 ^ n - suc ((2 ^ n - suc a) / 2 ^ k) ≡ a / 2 ^ k + (2 ^ k - 1) * 2 ^ (n - k)
 shifted-high n a k h le =
@@ -83,23 +74,21 @@ shifted-high n a k h le =
 
 pub sign_above : (n a k : ℕ) → 0 < n → a < 2 ^ n → k ≤ n
     → binary_digits n (unsigned n (int_shr (signed n a) k)) ≡ drop k (binary_digits n a) ++ replicate k (a / 2 ^ (n - 1))
-sign_above n a k some h le = elim (cases_order a (2 ^ (n - 1))) [
-  | inl same ↦ by-high (omega arith)
-  | inr other ↦ elim other [ inl low ↦ by-low low | inr high ↦ by-high (omega arith) ]
-]
+sign_above n a k some h le = by_sign n a h by-low by-high
   where
-    by-low : a < 2 ^ (n - 1) → binary_digits n (unsigned n (int_shr (signed n a) k)) ≡ drop k (binary_digits n a) ++ replicate k (a / 2 ^ (n - 1))
-    by-low low =
-        ap (λ (z : ℤ). binary_digits n (unsigned n (int_shr z k))) (signed-low n a low) ∙ zeros_above n a k h le
+    by-low : a < 2 ^ (n - 1) → signed n a ≡ pos a
+        → binary_digits n (unsigned n (int_shr (signed n a) k)) ≡ drop k (binary_digits n a) ++ replicate k (a / 2 ^ (n - 1))
+    by-low low e =
+        ap (λ (z : ℤ). binary_digits n (unsigned n (int_shr z k))) e ∙ zeros_above n a k h le
         ∙ ap (λ (d : ℕ). drop k (binary_digits n a) ++ replicate k d) (sym (div-eq_of_lt low))
 
-    by-high : 2 ^ (n - 1) ≤ a → binary_digits n (unsigned n (int_shr (signed n a) k)) ≡ drop k (binary_digits n a) ++ replicate k (a / 2 ^ (n - 1))
-    by-high high =
+    by-high : 2 ^ (n - 1) ≤ a → signed n a ≡ negsuc (2 ^ n - suc a)
+        → binary_digits n (unsigned n (int_shr (signed n a) k)) ≡ drop k (binary_digits n a) ++ replicate k (a / 2 ^ (n - 1))
+    by-high high e =
         let half : ℕ = 2 ^ (n - 1) in
-        let one_more : suc (n - 1) ≡ n = omega arith in
-        let twice : 2 ^ n ≡ half * 2 = ap (λ (x : ℕ). 2 ^ x) (sym one_more) ∙ pow-suc 2 (n - 1) in
+        let whole : 2 ^ n ≡ half * 2 = twice n some in
         let one : 1 ≡ a / half = sym (ap (λ (x : ℕ). x / half) (omega arith) ∙ div-mul-add 1 half (a - half) (omega arith)) in
-        ap (λ (z : ℤ). binary_digits n (unsigned n (int_shr z k))) (signed-high n a high h)
+        ap (λ (z : ℤ). binary_digits n (unsigned n (int_shr z k))) e
         ∙ ap (binary_digits n) (shifted-high n a k h le)
         ∙ above n a k (2 ^ k - 1) (replicate k 1) h le (digits-ones k)
         ∙ ap (λ (d : ℕ). drop k (binary_digits n a) ++ replicate k d) one

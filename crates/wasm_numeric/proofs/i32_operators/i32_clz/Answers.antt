@@ -1,4 +1,4 @@
-use Rattle.std.proofs.Common.{◌∙◌, sym}
+use Rattle.std.proofs.Common.{sym}
 use Rattle.wasm_spec.proofs.OperatorLaws.{clz-leading_zeros}
 use Rattle.wasm_numeric.proofs.i32_operators.i32_clz.Goals as goal
 

@@ -1,4 +1,4 @@
-use Rattle.std.proofs.Common.{◌∙◌, sym}
+use Rattle.std.proofs.Common.{sym}
 use Rattle.wasm_spec.proofs.OperatorLaws.{ctz-trailing_zeros}
 use Rattle.wasm_numeric.proofs.i32_operators.i32_ctz.Goals as goal
 

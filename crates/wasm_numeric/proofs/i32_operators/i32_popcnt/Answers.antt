@@ -1,4 +1,4 @@
-use Rattle.std.proofs.Common.{◌∙◌, sym}
+use Rattle.std.proofs.Common.{sym}
 use Rattle.wasm_spec.proofs.OperatorLaws.{popcnt-count_ones}
 use Rattle.wasm_numeric.proofs.i32_operators.i32_popcnt.Goals as goal
 
