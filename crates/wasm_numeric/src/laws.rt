@@ -32,8 +32,7 @@ pub fn shifts_move_the_digits()
         binary_digits n (shr_s n a b) ≡ drop k digits ++ replicate k (a / 2 ^ (n - 1))) }
 {}
 
-/// A signed quotient is towards zero: what it leaves is smaller than the divisor, and not of the sign that the dividend
-/// does not have.
+/// A signed quotient is towards zero: what it leaves is smaller than the divisor, and is 0 or has the dividend's sign.
 pub fn signed_division_leaves_the_remainder()
     ensures whole { (w : Width) (a b q r : ℕ) → a < 2 ^ bit_width w → b < 2 ^ bit_width w
         → div_s (bit_width w) a b ≡ Ok q → rem_s (bit_width w) a b ≡ Ok r
