@@ -1,0 +1,4 @@
+pub mod Digits
+pub mod Division
+pub mod Shifts
+pub mod Signed
