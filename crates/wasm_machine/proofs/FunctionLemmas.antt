@@ -1,5 +1,5 @@
 -- A function of a valid module that is built: it can be run, and what its run gives.
-use Rattle.std.proofs.Common.{◌≡◌, ℕ, zero, suc, ◌+◌, ◌-◌, ◌<◌, ◌≤◌, List, [], ◌∷◌, ◌++◌, Bool, true, false, Option, Some, None, length, map, get_or, take, drop, reverse, refl, sym, ap, ◌∙◌, subst, arith, append-nil}
+use Rattle.std.proofs.Common.{◌≡◌, ℕ, zero, suc, ◌*◌, ◌<◌, ◌≤◌, List, [], ◌∷◌, ◌++◌, false, Some, None, length, map, get_or, take, drop, reverse, sym, ap, ◌∙◌, subst, arith, append-nil, mul-le-mul_right}
 use Rattle.std.proofs.lemmas.Bool.Decides.{nat_tests}
 use Rattle.std.proofs.lemmas.List.{drop_all, length-map, length-reverse, reverse-reverse, take_all}
 use Rattle.std.proofs.lemmas.Option.{get_or_from_slice_get, slice_get_within}
@@ -7,7 +7,6 @@ use Rattle.std.specs.Prelude.{slice_get, nat_lt, nat_le, All}
 use Rattle.wasm_types.specs.declared.types.ValType.{ValType}
 use Rattle.wasm_types.specs.declared.types.FuncType.{FuncType}
 use Rattle.wasm_types.specs.declared.outcome.Val.{Val}
-use Rattle.wasm_types.specs.declared.outcome.Outcome.{Outcome}
 use Rattle.wasm_types.specs.declared.outcome.Outcome.TheVariants as outcome
 use Rattle.wasm_types.specs.declared.instr.Op.{Op}
 use Rattle.wasm_types.specs.declared.module.Function.{Function}
@@ -16,7 +15,6 @@ use Rattle.wasm_types.specs.Tree.{Code, FunctionTree, ModuleTree, code_of, expr_
 use Rattle.wasm_spec.specs.Built.{IsBuilt, IsBuiltFunction}
 use Rattle.wasm_spec.specs.Validity.{IsValid}
 use Rattle.wasm_spec.specs.Typing.{type_of, body_context, results_of, params_of, params_or_none, results_or_none, IsTypedFunction}
-use Rattle.wasm_spec.specs.Need.{need, highest}
 use Rattle.wasm_spec.specs.Store.{Store}
 use Rattle.wasm_spec.specs.Execution.{RunLimits, State, Continuation, exec, invoke, return, entered, zero_of}
 use Rattle.wasm_spec.specs.Result.{function_result, run_function, finish}
@@ -98,7 +96,7 @@ module _ (m : ModuleTree) (limits : RunLimits) (x : ℕ) (args : List Val) (room
   begun =
       let n : ℕ = length call.type.params in
       let start : reverse (take n (reverse args)) ++ map zero_of call.function.locals ≡ args =
-          ap (λ (ts : List ValType). reverse (take n (reverse args)) ++ map zero_of ts) locals ∙ append-nil (reverse (take n (reverse args))) ∙ take_whole args n counted in
+      ap (λ (ts : List ValType). reverse (take n (reverse args)) ++ map zero_of ts) locals ∙ append-nil (reverse (take n (reverse args))) ∙ take_whole args n counted in
       ap (λ (vs : List Val). state_of vs [] store) start
 
   nothing_below : drop (length call.type.params) (reverse args) ≡ []
@@ -129,3 +127,16 @@ module _ (m : ModuleTree) (limits : RunLimits) (x : ℕ) (args : List Val) (room
   unfinished code before now is none ends =
       let e : Finishes None call.function.body args [] now fuel = rw (is, ← none) ends in
       rw (whole, e m limits store)
+
+-- a larger room is enough too, and the frames of a run are one at least
+pub wider : (m : ModuleTree) (x : ℕ) (args : List Val) (frame room depth frame' : ℕ) → IsCall m x args frame → frame ≡ frame' → 0 < depth → room ≡ depth * frame' → IsCall m x args room
+wider m x args frame room depth frame' call same some is =
+    let enough : 1 * frame' ≤ depth * frame' = mul-le-mul_right frame' some in
+    record {
+      function = call.function;
+      type = call.type;
+      there = call.there;
+      typed = call.typed;
+      args_fit = call.args_fit;
+      frame_fits = let f = call.frame_fits in omega (arith, enough);
+    }

@@ -1,14 +1,14 @@
 -- How far straight code has run.
-use Rattle.std.proofs.Common.{◌≡◌, ◌≢◌, ℕ, zero, suc, ◌+◌, ◌-◌, ◌<◌, ◌≤◌, List, [], ◌∷◌, Option, Some, None, length, map, drop, get_or, refl, sym, ap, ◌∙◌, subst, arith, add-one, drop-cons}
+use Rattle.std.proofs.Common.{◌≡◌, ◌≢◌, ℕ, suc, ◌+◌, ◌<◌, List, [], ◌∷◌, Some, None, length, drop, get_or, refl, ◌∙◌, add-one, drop-cons}
 use Rattle.wasm_types.specs.declared.types.ValType.{ValType}
 use Rattle.wasm_types.specs.declared.outcome.Val.{Val}
 use Rattle.wasm_types.specs.declared.instr.Instr.{Instr}
 use Rattle.wasm_types.specs.declared.instr.Op.{Op}
 use Rattle.wasm_types.specs.declared.instr.Op.TheVariants as op
 use Rattle.wasm_types.specs.Tree.{Code, End, Plain, ModuleTree, code_of}
-use Rattle.wasm_spec.specs.Typing.{Context, type_of}
+use Rattle.wasm_spec.specs.Typing.{Context}
 use Rattle.wasm_spec.specs.Store.{Store}
-use Rattle.wasm_spec.specs.Execution.{RunLimits, Signal, Next, OutOfFuel, ended, exec, plain}
+use Rattle.wasm_spec.specs.Execution.{RunLimits, Next, exec, plain}
 use Rattle.wasm_spec.proofs.Equations.{exec-End, exec-Plain, exec-zero}
 use Rattle.wasm_machine.specs.Straight.{Finishes, IsRunnable, state_of}
 
@@ -46,12 +46,12 @@ module _ (ops : List Op) (values before : List Val) (room fuel : ℕ) where
       let q : Progress ops values before room fuel (op.Plain i ∷ more) now (suc less) = rw (is, paid) at p in
       record {
         runnable = λ C earlier after h.
-          let k : IsRunnable C after (Plain i (code_of earlier more)) values now free = rw same (q.runnable C earlier after h) in
-          rw (same' ∙ same) at (keeps C (code_of earlier more) after k);
+            let k : IsRunnable C after (Plain i (code_of earlier more)) values now free = rw same (q.runnable C earlier after h) in
+            rw (same' ∙ same) at (keeps C (code_of earlier more) after k);
         goes = λ earlier m limits store.
-          q.goes earlier m limits store
-          ∙ exec-Plain m limits 1 i (code_of earlier more) (state_of values now store) less
-          ∙ rw (does m limits store);
+            q.goes earlier m limits store
+            ∙ exec-Plain m limits 1 i (code_of earlier more) (state_of values now store) less
+            ∙ rw (does m limits store);
       }
 
   pub runs_out : (rest : List Op) (now : List Val) (left : ℕ) (o : Op) (more : List Op)

@@ -1,6 +1,6 @@
 -- What typing says of straight code's next instruction.
-use Rattle.std.proofs.Common.{◌≡◌, ℕ, zero, suc, ◌+◌, ◌-◌, ◌<◌, ◌≤◌, List, [], ◌∷◌, ◌++◌, Option, Some, None, length, map, refl, sym, ap, ◌∙◌, subst, arith}
-use Rattle.std.specs.Prelude.{slice_get, get_or, max}
+use Rattle.std.proofs.Common.{◌≡◌, ℕ, zero, suc, ◌+◌, ◌-◌, ◌<◌, ◌≤◌, List, [], ◌∷◌, Option, Some, None, length, map, refl, sym, ap, ◌∙◌, subst, arith}
+use Rattle.std.specs.Prelude.{slice_get, get_or}
 use Rattle.wasm_types.specs.declared.types.ValType.{ValType}
 use Rattle.wasm_types.specs.declared.types.ValType.TheVariants as type
 use Rattle.wasm_types.specs.declared.outcome.Val.{Val}
@@ -108,9 +108,9 @@ module _ (C : Context) (after : List ValType) (rest : Code) (values operands : L
           locals = h.locals;
           typed = subst (λ (ts : List ValType). Typed C rest ts after) (is ∙ ap (λ (ts : List ValType). type.I32 ∷ ts) (sym types)) typed;
           fits =
-            let f : highest 0 C rest ((length operands - 2) + 1) ≤ room = let g = h.fits in omega arith in
-            let same : (length operands - 2) + 1 ≡ suc (length vs) = omega arith in
-            subst (λ (k : ℕ). highest 0 C rest k ≤ room) same f;
+              let f : highest 0 C rest ((length operands - 2) + 1) ≤ room = let g = h.fits in omega arith in
+              let same : (length operands - 2) + 1 ≡ suc (length vs) = omega arith in
+              subst (λ (k : ℕ). highest 0 C rest k ≤ room) same f;
         };
       }
 

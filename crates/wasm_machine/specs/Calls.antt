@@ -1,5 +1,5 @@
 -- A call from outside of a function, and what is left of the parts after it.
-use Rattle.std.specs.Prelude.{◌≡◌, ℕ, ◌≤◌, List, map, Option, Some, slice_get}
+use Rattle.std.specs.Prelude.{◌≡◌, ℕ, ◌≤◌, List, map, Some, slice_get}
 use Rattle.wasm_types.specs.declared.types.FuncType.{FuncType}
 use Rattle.wasm_types.specs.declared.outcome.Val.{Val}
 use Rattle.wasm_types.specs.Tree.{FunctionTree, ModuleTree}
@@ -8,8 +8,8 @@ use Rattle.wasm_spec.specs.Need.{need}
 use Rattle.wasm_spec.specs.Store.{Store}
 use Rattle.wasm_spec.specs.Execution as execution
 use Rattle.wasm_spec.specs.Result.{function_result}
-use Rattle.wasm_machine.specs.declared.run.RunLimits.{RunLimits}
-use Rattle.wasm_machine.specs.declared.run.RunEnd.{RunEnd}
+use Rattle.wasm_machine.specs.declared.running.RunLimits.{RunLimits}
+use Rattle.wasm_machine.specs.declared.running.RunEnd.{RunEnd}
 
 -- the module has this function, the arguments have its types, and a frame of this size is enough for it
 pub record IsCall (m : ModuleTree) (x : ℕ) (args : List Val) (frame : ℕ) : Type 0 where

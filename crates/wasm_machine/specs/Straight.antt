@@ -7,7 +7,7 @@ use Rattle.wasm_spec.specs.Built.{IsBuiltCode}
 use Rattle.wasm_spec.specs.Typing.{Context, Typed, type_of}
 use Rattle.wasm_spec.specs.Need.{highest}
 use Rattle.wasm_spec.specs.Store.{Store}
-use Rattle.wasm_spec.specs.Execution.{RunLimits, State, Signal, Next, OutOfFuel, ended, exec}
+use Rattle.wasm_spec.specs.Execution.{RunLimits, State, Next, OutOfFuel, ended, exec}
 
 abbrev pub state_of : List Val → List Val → Store → State
 state_of locals operands store = record { locals = locals; operands = operands; store = store }

@@ -84,7 +84,12 @@ fn step(instr: &Instr, locals: &[Val], operands: &mut Operands)
 }
 
 /// Runs a function's outermost sequence to its end: the fuel that is left, or nothing where it ran out.
-pub(crate) fn run_body(ops: &[Op], locals: &[Val], operands: &mut Operands, fuel: u64) -> Option<u64>
+pub(crate) fn run_body(
+    ops: &[Op],
+    locals: &[Val],
+    operands: &mut Operands,
+    fuel: u64,
+) -> Option<u64>
     requires { (C : Context) × (earlier : List Code) × (after : List ValType)
         × IsRunnable C after (code_of earlier ops.now) locals.now operands.old.values operands.old.room }
     ensures ends { (C : Context) (earlier : List Code) (after : List ValType)

@@ -9,7 +9,7 @@ use wasm_types::outcome::NoMemory;
 /// Room for the frames of a run: so many of them, each of so many entries.
 #[derive(Drop)]
 pub struct Stacks {
-    operands: Operands,
+    pub(crate) operands: Operands,
     depth: u32,
     frame: u32,
 }

@@ -1,4 +1,4 @@
-use Rattle.std.proofs.Common.{◌≡◌, ◌∷◌, ◌∙◌, ap}
+use Rattle.std.proofs.Common.{◌∷◌, ◌∙◌, ap}
 use Rattle.wasm_types.specs.declared.outcome.Val.{Val}
 use Rattle.wasm_machine.specs.OperandStack.{OperandStack}
 use Rattle.wasm_machine.proofs.StraightLemmas.{got_or}

@@ -1,4 +1,3 @@
-use Rattle.std.proofs.Common.{◌≡◌}
 use Rattle.wasm_machine.proofs.StraightLemmas.{Adds, adds_at}
 use Rattle.wasm_machine.proofs.body.operate.Goals as goal
 

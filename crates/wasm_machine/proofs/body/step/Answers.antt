@@ -1,4 +1,3 @@
-use Rattle.std.proofs.Common.{◌≡◌, ◌∷◌, ◌∙◌, ap}
 use Rattle.wasm_machine.proofs.StraightLemmas.{ReadsLocal, reads_local}
 use Rattle.wasm_machine.proofs.body.step.Goals as goal
 

@@ -1,4 +1,4 @@
-use Rattle.std.proofs.Common.{◌≡◌, ◌∙◌, sym, [], List}
+use Rattle.std.proofs.Common.{[]}
 use Rattle.wasm_machine.proofs.OutermostLemmas.{outermost_tree, empty_tree}
 use Rattle.wasm_machine.proofs.lookup.outermost.Goals as goal
 

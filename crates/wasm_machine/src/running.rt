@@ -8,8 +8,10 @@ ghost use Rattle.wasm_machine.specs.Calls.{GivesResult, IsCall};
 use crate::body::run_body;
 use crate::lookup::outermost;
 use crate::operands::Operands;
+use crate::stacks::Stacks;
 use wasm_types::module::Module;
 use wasm_types::outcome::{Outcome, Val};
+use wasm_validate::Valid;
 
 /// What bounds a run beside its fuel: the pages of 65,536 bytes that a memory may have, and how many calls may be open at once.
 #[derive(Clone, Copy, Debug, PartialEq, Eq)]
@@ -53,4 +55,31 @@ fn run_function(
             left: 0,
         },
     }
+}
+
+/// Runs a function of a valid module from its beginning to its end. It takes no memory.
+///
+/// Each instruction costs one unit of fuel. Source: Core Specification 1.0, section 4.5.5 (invocation).
+pub fn run(
+    valid: &Valid,
+    function: u32,
+    args: &[Val],
+    fuel: u64,
+    limits: RunLimits,
+    stacks: &mut Stacks,
+) -> RunEnd
+    requires call { IsCall (module_tree valid.now) function args.now stacks.old.frame }
+    requires depth { 0 < limits.depth }
+    requires room { limits.depth ≤ stacks.old.depth }
+    ensures result { GivesResult (module_tree valid.now) limits function args.now fuel result }
+    ensures stacks { stacks.new ≡ stacks.old }
+{
+    run_function(
+        valid.module(),
+        function,
+        args,
+        fuel,
+        limits,
+        &mut stacks.operands,
+    )
 }
