@@ -19,3 +19,7 @@ locals_of m f = params_of (module_tree m) (function_tree f) ++ (function_tree f)
 
 abbrev pub context : Module → Function → List (List ValType) → Context
 context m f labels = record { defined = module_tree m; locals = locals_of m f; labels = labels; results = values (result_of m f) }
+
+-- no function declares a local
+abbrev pub HaveNoLocals : Module → Type 0
+HaveNoLocals m = All (λ f. (function_tree f).locals ≡ []) m.functions

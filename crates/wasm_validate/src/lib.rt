@@ -14,3 +14,5 @@ mod step;
 mod walk;
 
 mod function;
+
+mod module;
