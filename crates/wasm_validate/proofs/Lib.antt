@@ -5,3 +5,4 @@ pub mod Steps
 pub mod Trees
 pub mod Turns
 pub mod Functions
+pub mod Distinct

@@ -16,3 +16,5 @@ mod walk;
 mod function;
 
 mod module;
+
+mod names;
