@@ -6,3 +6,5 @@ pub mod Trees
 pub mod Turns
 pub mod Functions
 pub mod Distinct
+pub mod BuiltModules
+pub mod Exported

@@ -4,17 +4,11 @@
 #![tactic(auto)]
 
 mod checker;
-
-mod lookup;
-
-mod plain;
-
-mod step;
-
-mod walk;
-
 mod function;
-
+mod lookup;
 mod module;
-
 mod names;
+mod plain;
+mod step;
+pub mod valid;
+mod walk;
