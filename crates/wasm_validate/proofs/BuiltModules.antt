@@ -1,6 +1,6 @@
 -- What is built so far uses no floats, and is valid where its types, functions and exports are.
-use Rattle.std.proofs.Common.{◌≡◌, ◌≢◌, ℕ, zero, suc, ◌<◌, ◌≤◌, List, [], ◌∷◌, Bool, true, false, ◌||◌, Option, Some, None, length, get_or, refl, sym, ap, ◌∙◌, subst, arith}
-use Rattle.std.specs.Prelude.{All, AllPairs, MatchOption, map, option_map, IfSome, IsSome}
+use Rattle.std.proofs.Common.{◌≡◌, ◌≢◌, ℕ, suc, ◌≤◌, List, [], ◌∷◌, Bool, false, ◌||◌, Option, Some, None, length, refl, sym, ap, ◌∙◌, subst, arith}
+use Rattle.std.specs.Prelude.{All, AllPairs, MatchOption, map, option_map, IfSome}
 use Rattle.std.specs.List.{list_any}
 use Rattle.std.proofs.lemmas.List.{get_or-map, length-map}
 use Rattle.std.proofs.lemmas.List.Elements.{All-nil}
@@ -9,15 +9,13 @@ use Rattle.wasm_types.specs.declared.types.ValType.TheVariants.{I32}
 use Rattle.wasm_types.specs.declared.types.FuncType.{FuncType}
 use Rattle.wasm_types.specs.declared.instr.Instr.{Instr}
 use Rattle.wasm_types.specs.declared.instr.Instr.TheVariants as instr
-use Rattle.wasm_types.specs.declared.module.Function.{Function}
-use Rattle.wasm_types.specs.declared.module.Export.{Export}
 use Rattle.wasm_types.specs.declared.module.Module.{Module}
-use Rattle.wasm_types.specs.Tree.{Code, End, Plain, Block, Loop, If, Call, CallIndirect, FunctionTree, GlobalTree, ElementTree, DataTree, ModuleTree, module_tree, function_tree}
+use Rattle.wasm_types.specs.Tree.{Code, End, Plain, FunctionTree, ModuleTree, module_tree, function_tree}
 use Rattle.wasm_spec.specs.Typing.{IsTypedFunction}
 use Rattle.wasm_spec.specs.Need.{need}
-use Rattle.wasm_spec.specs.Validity.{is_float, has_float, is_float_instruction, code_uses_floats, uses_floats, IsSupported, IsValid, AreOrdered, IsMemoryType, IsInitialised, IsElementSegment, IsDataSegment, IsStart, IsDefined}
+use Rattle.wasm_spec.specs.Validity.{is_float, has_float, is_float_instruction, code_uses_floats, IsSupported, IsValid, AreOrdered, IsMemoryType, IsInitialised, IsElementSegment, IsDataSegment, IsStart, IsDefined}
 use Rattle.wasm_spec.specs.Built.{IsBuiltInstruction, IsBuiltCode, IsBuiltType, IsBuiltFunction, IsBuilt}
-use Rattle.wasm_validate.specs.Subject.{HaveOneResult, HaveNoLocals}
+use Rattle.wasm_validate.specs.Subject.{HaveNoLocals}
 use Rattle.wasm_validate.specs.Checked.{ChecksAll, IsValidated}
 
 none_passes : {X : Type 0} (P : X → Type 0) (p : X → Bool) → ((x : X) → P x → p x ≡ false) → (xs : List X) → All P xs → list_any p xs ≡ false

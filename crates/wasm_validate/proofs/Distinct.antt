@@ -1,5 +1,5 @@
 -- Names that differ.
-use Rattle.std.proofs.Common.{◌≡◌, ◌≢◌, ℕ, zero, suc, ◌+◌, ◌<◌, ◌≤◌, List, [], ◌∷◌, ◌++◌, Bool, true, false, cond, not, ◌||◌, Option, length, take, get_or, refl, sym, ap, ◌∙◌, subst, arith, length-append, ◌⊎◌, inl, inr}
+use Rattle.std.proofs.Common.{◌≡◌, ◌≢◌, ℕ, zero, suc, ◌+◌, ◌<◌, ◌≤◌, List, [], ◌∷◌, ◌++◌, Bool, true, false, cond, not, ◌||◌, length, take, get_or, refl, sym, ap, ◌∙◌, subst, arith, length-append, ◌⊎◌, inl, inr}
 use Rattle.std.specs.Prelude.{AllPairs}
 use Rattle.std.specs.List.{list_any}
 use Rattle.std.specs.Str.{bytes_eq}
@@ -82,11 +82,11 @@ differ_push ys e all none i j d lt le =
     let n = length-append ys (e ∷ []) in
     let at : (k : ℕ) → k < length ys → get_or (ys ++ e ∷ []) k d ≡ get_or ys k d = λ k h. get_or_append_left ys (e ∷ []) d k h in
     elim (below_last j (length ys) (omega (arith, n))) [
-      inl h ↦ λ q. all i j d lt h (ap (λ (x : Export). x.name) (sym (at i (omega (arith, h)))) ∙ q ∙ ap (λ (x : Export). x.name) (at j h))
+      | inl h ↦ λ q. all i j d lt h (ap (λ (x : Export). x.name) (sym (at i (omega (arith, h)))) ∙ q ∙ ap (λ (x : Export). x.name) (at j h))
       | inr h ↦ λ q.
-        let last : get_or (ys ++ e ∷ []) j d ≡ e = get_or_push ys e d j (sym h) in
-        names_apart (get_or ys i d).name e.name (any_false (named e.name) ys i d none (omega (arith, h)))
-        (ap (λ (x : Export). x.name) (sym (at i (omega (arith, h)))) ∙ q ∙ ap (λ (x : Export). x.name) last)
+          let last : get_or (ys ++ e ∷ []) j d ≡ e = get_or_push ys e d j (sym h) in
+          names_apart (get_or ys i d).name e.name (any_false (named e.name) ys i d none (omega (arith, h)))
+          (ap (λ (x : Export). x.name) (sym (at i (omega (arith, h)))) ∙ q ∙ ap (λ (x : Export). x.name) last)
     ]
 
 module _ (xs : List Export) (i : ℕ) (e : Export) (k : Bor (List ℕ)) (here : e ≡ get_or xs i e) (within : i < length xs) (is : k.now ≡ e.name) (seen : BTreeSet (Bor (List ℕ))) (s : Seen (take i xs) seen) where

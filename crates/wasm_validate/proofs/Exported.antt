@@ -1,5 +1,5 @@
 -- The function that is exported under a name.
-use Rattle.std.proofs.Common.{◌≡◌, ℕ, zero, suc, ◌+◌, ◌<◌, ◌≤◌, List, [], ◌∷◌, Option, Some, None, length, get_or, refl, sym, ap, ◌∙◌, subst, arith, ◌⊎◌, inl, inr}
+use Rattle.std.proofs.Common.{◌≡◌, ℕ, zero, suc, ◌+◌, ◌<◌, ◌≤◌, List, [], ◌∷◌, Some, length, get_or, sym, ap, ◌∙◌, arith, inl, inr}
 use Rattle.std.specs.Prelude.{slice_get}
 use Rattle.std.proofs.lemmas.Option.{slice_get_within}
 use Rattle.wasm_types.specs.declared.module.Export.{Export}
@@ -23,11 +23,11 @@ module _ (exports : List Export) (name : List ℕ) (i : ℕ) (e : Export) (here 
   pub not_here : NotYet exports name i → ((x : ℕ) → (e.name ≡ name) × (e.desc ≡ desc.Func x) → ⊥) → NotYet exports name (i + 1)
   not_here before other j d x lt at named function =
       elim (below_last j i lt) [
-        inl h ↦ before j d x h at named function
+        | inl h ↦ before j d x h at named function
         | inr h ↦
-          let same : Some d ≡ Some e = sym at ∙ ap (slice_get exports) h ∙ some_at exports i e here within in
-          let d_is : d ≡ e = cc (same) in
-          other x (ap (λ (y : Export). y.name) (sym d_is) ∙ named, ap (λ (y : Export). y.desc) (sym d_is) ∙ function)
+            let same : Some d ≡ Some e = sym at ∙ ap (slice_get exports) h ∙ some_at exports i e here within in
+            let d_is : d ≡ e = cc (same) in
+            other x (ap (λ (y : Export). y.name) (sym d_is) ∙ named, ap (λ (y : Export). y.desc) (sym d_is) ∙ function)
       ]
 
 pub nowhere : (exports : List Export) (name : List ℕ) (i : ℕ) → length exports ≤ i → NotYet exports name i → (x : ℕ) → Exports exports name x → ⊥

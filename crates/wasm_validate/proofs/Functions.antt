@@ -1,19 +1,19 @@
 -- From what the walk finds to what checking a function promises.
-use Rattle.std.proofs.Common.{◌≡◌, ℕ, zero, suc, ◌+◌, ◌-◌, ◌<◌, ◌≤◌, List, [], ◌∷◌, ◌++◌, Option, Some, None, length, take, refl, sym, ap, ◌∙◌, subst, arith, append-nil, length-append}
-use Rattle.std.specs.Prelude.{All, map, slice_get, slice_index_or, IsSome, get_or, option_map}
-use Rattle.std.proofs.lemmas.Option.{slice_get_within, get_or_from_slice_get, slice_get_past}
+use Rattle.std.proofs.Common.{◌≡◌, ℕ, zero, suc, ◌+◌, ◌-◌, ◌<◌, ◌≤◌, List, [], ◌∷◌, ◌++◌, Option, Some, None, length, take, refl, sym, ap, ◌∙◌, subst, arith, append-nil}
+use Rattle.std.specs.Prelude.{All, map, slice_get, IsSome, get_or, option_map}
+use Rattle.std.proofs.lemmas.Option.{slice_get_within, get_or_from_slice_get}
 use Rattle.std.proofs.lemmas.List.{take_more, take_all, map-append, get_or-map, length-map}
 use Rattle.std.proofs.lemmas.List.Elements.{All-push, All-map}
 use Rattle.wasm_types.specs.declared.types.ValType.{ValType}
 use Rattle.wasm_types.specs.declared.types.FuncType.{FuncType}
 use Rattle.wasm_types.specs.declared.module.Function.{Function}
 use Rattle.wasm_types.specs.declared.module.Module.{Module}
-use Rattle.wasm_types.specs.Tree.{Code, End, ModuleTree, module_tree, function_tree, expr_tree, codes}
-use Rattle.wasm_spec.specs.Typing.{values, Context, params_of, results_of, results_or_none, body_context, Typed, IsTypedFunction}
+use Rattle.wasm_types.specs.Tree.{Code, ModuleTree, module_tree, function_tree, expr_tree}
+use Rattle.wasm_spec.specs.Typing.{values, Context, params_of, results_of, results_or_none, Typed, IsTypedFunction}
 use Rattle.wasm_spec.specs.Need.{need, highest, deepest}
-use Rattle.wasm_validate.specs.Check.{Stack, check_body}
+use Rattle.wasm_validate.specs.Check.{Stack}
 use Rattle.wasm_validate.specs.Sequences.{code_at}
-use Rattle.wasm_validate.specs.Subject.{HaveOneResult, result_of, locals_of, context}
+use Rattle.wasm_validate.specs.Subject.{HaveOneResult, result_of, locals_of}
 use Rattle.wasm_validate.specs.Walk.{inside, whole, Finds}
 use Rattle.wasm_validate.specs.Checked.{Checks}
 use Rattle.wasm_validate.proofs.Exact.{Decides, body_exact}

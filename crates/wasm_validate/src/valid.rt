@@ -1,6 +1,6 @@
 // Valid modules.
 
-ghost use Rattle.std.specs.Prelude.{◌≡◌, ◌<◌, ◌↔◌, ℕ, List, length, slice_get, IfSome, IfNone, IfOk, OnOk, IsErrOf, MatchOption};
+ghost use Rattle.std.specs.Prelude.{map, ◌≡◌, ◌<◌, ◌↔◌, ℕ, List, length, slice_get, IfSome, IfNone, IfOk, OnOk, IsErrOf, MatchOption};
 ghost use Rattle.wasm_types.specs.Tree.{module_tree};
 ghost use Rattle.wasm_spec.specs.Built.{IsBuilt};
 ghost use Rattle.wasm_spec.specs.Need.{need};
@@ -105,6 +105,13 @@ impl Valid {
         ensures { IfSome (slice_get (module_tree self.now).functions function) (λ f. result ≡ need (module_tree self.now) f) }
     {
         self.needs[function as usize]
+    }
+
+    /// Each function's frame need, in the order of the functions.
+    pub fn frame_needs(&self) -> &[u64]
+        ensures { result.now ≡ map (need (module_tree self.now)) (module_tree self.now).functions }
+    {
+        &self.needs
     }
 
     /// The function that is exported under a name, if there is one.

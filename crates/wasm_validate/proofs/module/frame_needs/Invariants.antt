@@ -1,8 +1,4 @@
-use Rattle.std.proofs.Common.{◌≡◌, take, ◌<◌, get_or, ℕ}
-use Rattle.std.specs.Prelude.{map, All}
-use Rattle.wasm_types.specs.Tree.{module_tree, function_tree}
-use Rattle.wasm_spec.specs.Need.{need}
-use Rattle.wasm_spec.specs.Typing.{IsTypedFunction}
+use Rattle.std.proofs.Common.{take}
 use Rattle.wasm_validate.proofs.Functions.{Needs}
 use Rattle.wasm_validate.proofs.module.frame_needs.Given as goal
 

@@ -1,4 +1,3 @@
-use Rattle.std.proofs.Common.{◌≡◌}
 use Rattle.wasm_validate.proofs.Exported.{found_here, not_here, nowhere}
 use Rattle.wasm_validate.proofs.names.exported.Goals as goal
 

@@ -1,4 +1,4 @@
-use Rattle.std.proofs.Common.{◌≡◌, ◌<◌, length, get_or, true, false, Bool, arith, refl}
+use Rattle.std.proofs.Common.{refl}
 use Rattle.wasm_validate.proofs.Distinct.{seen_none, seen_more, seen_before, seen_all, not_false, not_true}
 use Rattle.wasm_validate.proofs.names.names_differ.Goals as goal
 
@@ -17,5 +17,5 @@ pub returns-then-not-branch : goal.returns-then-not-branch
 returns-then-not-branch c = (
   λ t. cc (t),
   λ all. absurd (seen_before c.args.exports.now c.loop-e.e-index c.e-item.result c.as_slice.result c.e-item.is c.loop-e-test.true c.as_slice.ensures c.loop-e.seen c.loop-e.invariant
-  (not_false c.in_ok-insert.field-0 _ c.if-not-branch.true c.in_ok-insert.ensures.added) all),
+      (not_false c.in_ok-insert.field-0 _ c.if-not-branch.true c.in_ok-insert.ensures.added) all),
 )

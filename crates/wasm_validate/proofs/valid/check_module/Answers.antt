@@ -1,4 +1,4 @@
-use Rattle.std.proofs.Common.{◌≡◌, ◌≢◌, List, subst}
+use Rattle.std.proofs.Common.{◌≢◌, List, subst}
 use Rattle.std.specs.Prelude.{AllPairs}
 use Rattle.wasm_types.specs.declared.module.Export.{Export}
 use Rattle.wasm_types.specs.Tree.{module_tree}

@@ -1,4 +1,3 @@
-use Rattle.std.proofs.Common.{◌≡◌}
 use Rattle.wasm_types.specs.Tree.{module_tree}
 use Rattle.wasm_validate.proofs.BuiltModules.{built_supported}
 use Rattle.wasm_validate.proofs.valid.validate.Goals as goal
