@@ -2,3 +2,8 @@
 #![tactic(auto)]
 
 mod arguments;
+mod lane;
+mod loading;
+
+pub use lane::{LaneAnswer, LaneHost};
+pub use loading::{LoadFault, LoadLimits, Loaded, load};

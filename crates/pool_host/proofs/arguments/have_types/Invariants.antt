@@ -1,4 +1,4 @@
-use Rattle.std.proofs.Common.{◌≡◌, map, length, take}
+use Rattle.std.proofs.Common.{◌≡◌, map, take}
 use Rattle.wasm_spec.specs.Typing.{type_of}
 use Rattle.pool_host.proofs.arguments.have_types.Given as goal
 
