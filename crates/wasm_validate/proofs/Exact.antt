@@ -1,13 +1,12 @@
 -- The algorithm finds exactly the typings: what a stack stands for after a step is all that the rules allow.
-use Rattle.std.proofs.Common.{◌≡◌, ℕ, suc, ◌+◌, List, [], ◌∷◌, ◌++◌, Bool, true, false, Option, Some, None, refl, sym, ap, ◌∙◌, subst}
-use Rattle.std.specs.Prelude.{slice_get, reverse, length, max}
-use Rattle.std.proofs.Common.{append_assoc, append-nil}
+use Rattle.std.proofs.Common.{◌≡◌, ℕ, ◌+◌, List, [], ◌∷◌, ◌++◌, Bool, true, false, Option, Some, None, refl, sym, ap, ◌∙◌, subst}
+use Rattle.std.specs.Prelude.{length}
+use Rattle.std.proofs.Common.{append-nil}
 use Rattle.wasm_types.specs.declared.types.ValType.{ValType}
 use Rattle.wasm_types.specs.declared.types.ValType.TheVariants.{I32, I64, F32, F64}
-use Rattle.wasm_types.specs.declared.instr.Instr.{Instr}
 use Rattle.wasm_types.specs.Tree.{Code, End, Plain, Block, Loop, If, Call, CallIndirect}
 use Rattle.wasm_spec.specs.Typing.{values, Context, under, Rule, Fixed, Diverges, Drops, Selects, Wrong, rule, call_rule, call_indirect_rule, same, Takes, Typed}
-use Rattle.wasm_validate.specs.Check.{Stack, Below, StandsAs, Stands, and_then, when, with_operands, Popped, pop_empty, pop_as, pop, agrees, expect, expects, give, gives, diverge, both, select, apply, no_more, leaves, around, enter, check, empty_stack, check_body}
+use Rattle.wasm_validate.specs.Check.{Stack, Below, StandsAs, Stands, and_then, when, with_operands, Popped, pop, expect, expects, give, gives, diverge, both, select, apply, no_more, leaves, around, enter, check, empty_stack, check_body}
 
 -- a relation between the operands before and after
 abbrev pub Change : Type 1

@@ -5,3 +5,6 @@ pub mod Steps
 pub mod Trees
 pub mod Turns
 pub mod Functions
+pub mod Distinct
+pub mod BuiltModules
+pub mod Exported

@@ -1,12 +1,11 @@
 -- What the checking algorithm counts is what a frame needs.
-use Rattle.std.proofs.Common.{◌≡◌, ℕ, zero, suc, ◌+◌, ◌-◌, ◌<◌, ◌≤◌, List, [], ◌∷◌, ◌++◌, Bool, true, false, length, Option, Some, None, refl, sym, ap, ◌∙◌, subst, arith, length-append}
+use Rattle.std.proofs.Common.{◌≡◌, ℕ, suc, ◌+◌, ◌-◌, ◌≤◌, List, [], ◌∷◌, Bool, true, false, length, Option, Some, None, refl, sym, ap, ◌∙◌, subst, arith}
 use Rattle.std.specs.Prelude.{max}
 use Rattle.wasm_types.specs.declared.types.ValType.{ValType}
-use Rattle.wasm_types.specs.declared.types.ValType.TheVariants.{I32, I64, F32, F64}
-use Rattle.wasm_types.specs.declared.instr.Instr.{Instr}
+use Rattle.wasm_types.specs.declared.types.ValType.TheVariants.{I32}
 use Rattle.wasm_types.specs.Tree.{Code, End, Plain, Block, Loop, If, Call, CallIndirect}
 use Rattle.wasm_spec.specs.Typing.{values, Context, under, Rule, Fixed, Diverges, Drops, Selects, Wrong, rule, call_rule, call_indirect_rule}
-use Rattle.wasm_validate.specs.Check.{Stack, and_then, when, with_operands, Popped, pop_empty, pop_as, pop, agrees, expect, expects, give, gives, diverge, both, select_both, select_second, select_first, select, apply, no_more, leaves, around, enter, check, empty_stack, check_body}
+use Rattle.wasm_validate.specs.Check.{Stack, and_then, when, Popped, pop, agrees, expect, expects, give, gives, diverge, both, select_both, select_second, select_first, select, apply, no_more, leaves, around, enter, check, empty_stack, check_body}
 use Rattle.wasm_spec.specs.Need.{height, highest, deepest}
 
 -- a step that went on

@@ -1,8 +1,8 @@
 -- The turns of the walk: each leads where the last one led, with less left to check.
-use Rattle.std.proofs.Common.{◌≡◌, ℕ, zero, suc, ◌+◌, ◌-◌, ◌<◌, ◌≤◌, List, [], ◌∷◌, ◌++◌, Bool, true, false, length, take, drop, get_or, reverse, Option, Some, None, refl, sym, ap, ◌∙◌, subst, arith, append_assoc, length-append, drop-cons, add-one, ◌⊎◌, ⊎_elim}
-use Rattle.std.specs.Prelude.{slice_get, max}
+use Rattle.std.proofs.Common.{◌≡◌, ℕ, suc, ◌+◌, ◌-◌, ◌<◌, List, [], ◌∷◌, ◌++◌, Bool, true, false, length, drop, get_or, Option, Some, None, refl, sym, ap, ◌∙◌, subst, arith, length-append, drop-cons, ⊎_elim}
+use Rattle.std.specs.Prelude.{slice_get}
 use Rattle.std.proofs.lemmas.Option.{slice_get_within, get_or_from_slice_get, slice_get_cases}
-use Rattle.std.proofs.lemmas.List.{drop_all, get_or_push, get_or_past, length-map}
+use Rattle.std.proofs.lemmas.List.{drop_all, get_or_push}
 use Rattle.wasm_types.specs.declared.types.ValType.{ValType}
 use Rattle.wasm_types.specs.declared.types.ValType.TheVariants.{I32}
 use Rattle.wasm_types.specs.declared.instr.Instr.{Instr}
@@ -10,16 +10,15 @@ use Rattle.wasm_types.specs.declared.instr.Op.{Op}
 use Rattle.wasm_types.specs.declared.instr.Op.TheVariants as op
 use Rattle.wasm_types.specs.declared.module.Function.{Function}
 use Rattle.wasm_types.specs.declared.module.Module.{Module}
-use Rattle.wasm_types.specs.Tree.{Code, End, Plain, Block, Loop, If, code_of, codes}
-use Rattle.wasm_spec.specs.Typing.{values, Context, under, Rule, rule, call_rule, call_indirect_rule}
+use Rattle.wasm_types.specs.Tree.{Code, End, code_of}
+use Rattle.wasm_spec.specs.Typing.{values, under, Rule, rule, call_rule, call_indirect_rule}
 use Rattle.wasm_validate.specs.declared.checker.ControlFrame.{ControlFrame}
 use Rattle.wasm_validate.specs.declared.checker.Checker.{Checker}
 use Rattle.wasm_validate.specs.Check.{Stack, and_then, expect, expects, when, no_more, apply, gives, leaves, around, enter, check, empty_stack}
 use Rattle.wasm_validate.specs.Sequences.{ops_of, earlier, code_at, named_in}
-use Rattle.wasm_validate.specs.Subject.{context, result_of}
-use Rattle.wasm_validate.specs.Walk.{OpenBlock, Parts, with_stack, labels_of, base_of, back, inside, follows, goes_on, close, remaining, beneath, frame_of, frames_of, Shows, After, opened, outside, size, second_weight, weights, weight, Leads, AfterTurn, doing, whole, Finds}
+use Rattle.wasm_validate.specs.Subject.{result_of}
+use Rattle.wasm_validate.specs.Walk.{OpenBlock, Parts, with_stack, base_of, back, inside, follows, goes_on, close, remaining, frame_of, frames_of, Shows, After, opened, outside, size, second_weight, weights, weight, Leads, AfterTurn, doing, whole, Finds}
 use Rattle.wasm_validate.proofs.Steps.{after_true, after_false, then_none, then_some}
-use Rattle.wasm_validate.proofs.Trees.{no_code}
 
 -- what stands at a place
 drop_at : (ops : List Op) (p : ℕ) (o : Op) → slice_get ops p ≡ Some o → drop p ops ≡ o ∷ drop (p + 1) ops

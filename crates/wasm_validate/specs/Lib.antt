@@ -3,3 +3,4 @@ pub mod Sequences
 pub mod Subject
 pub mod Walk
 pub mod Checked
+pub mod Exported

@@ -1,14 +1,14 @@
 -- The walk over numbered sequences: its stacks cut into parts, and what is still to check from there.
-use Rattle.std.specs.Prelude.{◌≡◌, ℕ, ◌+◌, ◌-◌, ◌<◌, ◌≤◌, List, [], ◌∷◌, ◌++◌, Bool, true, false, Option, Some, None, slice_get, reverse, length, map, max, get_or, drop}
+use Rattle.std.specs.Prelude.{◌≡◌, ℕ, ◌+◌, ◌-◌, ◌<◌, List, [], ◌∷◌, ◌++◌, Bool, true, false, Option, Some, None, reverse, length, max, drop}
 use Rattle.wasm_types.specs.declared.types.ValType.{ValType}
 use Rattle.wasm_types.specs.declared.instr.Op.{Op}
 use Rattle.wasm_types.specs.declared.module.Function.{Function}
 use Rattle.wasm_types.specs.declared.module.Module.{Module}
 use Rattle.wasm_types.specs.Tree.{Code, End, Plain, Block, Loop, If, Call, CallIndirect, code_of}
-use Rattle.wasm_spec.specs.Typing.{values, Context, under}
+use Rattle.wasm_spec.specs.Typing.{values, Context}
 use Rattle.wasm_validate.specs.declared.checker.ControlFrame.{ControlFrame}
 use Rattle.wasm_validate.specs.declared.checker.Checker.{Checker}
-use Rattle.wasm_validate.specs.Check.{Stack, Popped, and_then, gives, leaves, around, enter, check, check_body, empty_stack}
+use Rattle.wasm_validate.specs.Check.{Stack, Popped, and_then, gives, leaves, enter, check, check_body}
 use Rattle.wasm_validate.specs.Sequences.{ops_of, earlier, code_at}
 use Rattle.wasm_validate.specs.Subject.{context, result_of}
 

@@ -75,13 +75,7 @@ pub fn both(k: Option<ValType>, l: Option<ValType>) -> Option<Option<ValType>>
 {
     match (k, l) {
         (None, l) => Some(l),
-        (Some(t), l) => {
-            if agrees(t, l) {
-                Some(k)
-            } else {
-                None
-            }
-        }
+        (Some(t), l) => { if agrees(t, l) { Some(k) } else { None } }
     }
 }
 

@@ -10,7 +10,6 @@ use crate::walk::walk;
 use std::alloc::{AllocError, Global};
 use wasm_types::module::{Function, Module};
 
-
 /// What a function's frame needs, if its type is there and its body is of that type.
 pub fn check_function(alloc: Global, m: &Module, f: &Function) -> Result<Option<u64>, AllocError>
     requires types { HaveOneResult m.now }

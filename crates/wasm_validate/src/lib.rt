@@ -4,13 +4,13 @@
 #![tactic(auto)]
 
 mod checker;
-
+mod function;
 mod lookup;
-
+mod module;
+mod names;
 mod plain;
-
 mod step;
-
+mod valid;
 mod walk;
 
-mod function;
+pub use valid::{Valid, ValidFault, validate};

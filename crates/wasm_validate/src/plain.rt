@@ -196,7 +196,12 @@ impl Checker {
     }
 
     /// An instruction on the memory, with these operands, the last one on the top, and this result.
-    pub fn with_memory(&mut self, m: &Module, takes: &[ValType], t: Option<ValType>) -> Result<bool, AllocError>
+    pub fn with_memory(
+        &mut self,
+        m: &Module,
+        takes: &[ValType],
+        t: Option<ValType>,
+    ) -> Result<bool, AllocError>
         ensures { IfOk result (λ b. (k : Parts) → Shows k self.old → After (apply (base_of k.blocks) (typing.with_memory m.now.memories (Fixed (reverse takes.now) (values t))) k.stack) b k self.new) }
     {
         if m.memories.is_empty() {
@@ -206,7 +211,14 @@ impl Checker {
     }
 
     /// An access to so many bytes of memory, with these operands, the last one on the top, and this result.
-    pub fn access(&mut self, m: &Module, arg: &MemArg, bytes: u32, takes: &[ValType], t: Option<ValType>) -> Result<bool, AllocError>
+    pub fn access(
+        &mut self,
+        m: &Module,
+        arg: &MemArg,
+        bytes: u32,
+        takes: &[ValType],
+        t: Option<ValType>,
+    ) -> Result<bool, AllocError>
         requires { bytes ≤ 8 }
         ensures { IfOk result (λ b. (k : Parts) → Shows k self.old → After (apply (base_of k.blocks) (typing.access m.now.memories arg.now bytes (Fixed (reverse takes.now) (values t))) k.stack) b k self.new) }
     {

@@ -32,7 +32,11 @@ impl Checker {
             Instr::Nop => Ok(true),
             Instr::Br(l) => Ok(self.branch(result_of(m, f), *l)),
             Instr::BrIf(l) => self.branch_if(result_of(m, f), *l),
-            Instr::BrTable(names, l) => Ok(self.branch_table(result_of(m, f), names.as_slice(), *l)),
+            Instr::BrTable(names, l) => Ok(self.branch_table(
+                result_of(m, f),
+                names.as_slice(),
+                *l,
+            )),
             Instr::Return => Ok(self.jump(result_of(m, f))),
             Instr::Drop => Ok(self.discard()),
             Instr::Select => self.select(),
@@ -41,17 +45,47 @@ impl Checker {
             Instr::LocalTee(x) => self.local_tee(local_type(m, f, *x)),
             Instr::GlobalGet(x) => self.global_get(global_type(m, *x)),
             Instr::GlobalSet(x) => self.global_set(global_type(m, *x)),
-            Instr::Load(w, arg) => self.access(m, arg, byte_width(*w), &[ValType::I32], Some(integer_type(*w))),
-            Instr::LoadPacked(w, p, _, arg) => self.access(m, arg, packed_width(*p), &[ValType::I32], Some(integer_type(*w))),
-            Instr::Store(w, arg) => self.access(m, arg, byte_width(*w), &[ValType::I32, integer_type(*w)], None),
-            Instr::StorePacked(w, p, arg) => self.access(m, arg, packed_width(*p), &[ValType::I32, integer_type(*w)], None),
+            Instr::Load(w, arg) => self.access(
+                m,
+                arg,
+                byte_width(*w),
+                &[ValType::I32],
+                Some(integer_type(*w)),
+            ),
+            Instr::LoadPacked(w, p, _, arg) => self.access(
+                m,
+                arg,
+                packed_width(*p),
+                &[ValType::I32],
+                Some(integer_type(*w)),
+            ),
+            Instr::Store(w, arg) => self.access(
+                m,
+                arg,
+                byte_width(*w),
+                &[ValType::I32, integer_type(*w)],
+                None,
+            ),
+            Instr::StorePacked(w, p, arg) => self.access(
+                m,
+                arg,
+                packed_width(*p),
+                &[ValType::I32, integer_type(*w)],
+                None,
+            ),
             Instr::MemorySize => self.with_memory(m, &[], Some(ValType::I32)),
             Instr::MemoryGrow => self.with_memory(m, &[ValType::I32], Some(ValType::I32)),
             Instr::Const(v) => self.typed(&[], Some(type_of(*v))),
             Instr::Eqz(w) => self.typed(&[integer_type(*w)], Some(ValType::I32)),
-            Instr::Compare(w, _) => self.typed(&[integer_type(*w), integer_type(*w)], Some(ValType::I32)),
+            Instr::Compare(w, _) => self.typed(
+                &[integer_type(*w), integer_type(*w)],
+                Some(ValType::I32),
+            ),
             Instr::Unary(w, _) => self.typed(&[integer_type(*w)], Some(integer_type(*w))),
-            Instr::Binary(w, _) => self.typed(&[integer_type(*w), integer_type(*w)], Some(integer_type(*w))),
+            Instr::Binary(w, _) => self.typed(
+                &[integer_type(*w), integer_type(*w)],
+                Some(integer_type(*w)),
+            ),
             Instr::Wrap => self.typed(&[ValType::I64], Some(ValType::I32)),
             Instr::Extend(_) => self.typed(&[ValType::I32], Some(ValType::I64)),
             Instr::Float => Ok(false),
@@ -70,7 +104,11 @@ impl Checker {
     }
 
     /// An index on the top of these operands, the last one on the top, and this result.
-    pub fn typed_at_index(&mut self, takes: &[ValType], t: Option<ValType>) -> Result<bool, AllocError>
+    pub fn typed_at_index(
+        &mut self,
+        takes: &[ValType],
+        t: Option<ValType>,
+    ) -> Result<bool, AllocError>
         ensures { IfOk result (λ b. (k : Parts) → Shows k self.old → After (apply (base_of k.blocks) (Fixed (I32 ∷ reverse takes.now) (values t)) k.stack) b k self.new) }
     {
         if !self.expect(ValType::I32) {

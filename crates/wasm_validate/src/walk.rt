@@ -29,7 +29,11 @@ pub fn op_at(body: &Expr, sequence: usize, place: usize) -> Option<&Op>
 pub fn named(body: &Expr, sequence: usize, inner: usize) -> usize
     ensures { code_at body.now result 0 ≡ named_in body.now sequence inner }
 {
-    if inner < sequence { inner } else { body.sequences.len() }
+    if inner < sequence {
+        inner
+    } else {
+        body.sequences.len()
+    }
 }
 
 impl Checker {

@@ -1,4 +1,4 @@
-use Rattle.std.proofs.Common.{◌≡◌, ◌<◌, ℕ, length, ap, subst, arith, Some, None, Option}
+use Rattle.std.proofs.Common.{ℕ, length, ap, subst, arith, Some, None, Option}
 use Rattle.std.specs.Prelude.{IsSome, slice_get}
 use Rattle.wasm_validate.specs.Walk.{Finds, whole}
 use Rattle.wasm_validate.proofs.Functions.{found_checks, found_within, locals_without}

@@ -1,4 +1,4 @@
-use Rattle.std.proofs.Common.{◌≡◌, ◌^◌, ◌≤◌, sym, arith}
+use Rattle.std.proofs.Common.{◌^◌, ◌≤◌, sym, arith}
 use Rattle.std.proofs.Math.Pow.{pow_mono}
 use Rattle.std.proofs.lemmas.Bool.{lt-leb}
 use Rattle.wasm_validate.proofs.plain.is_aligned.Goals as goal

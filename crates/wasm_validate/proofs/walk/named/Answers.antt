@@ -1,4 +1,4 @@
-use Rattle.std.proofs.Common.{◌≡◌, ◌≤◌, length, arith}
+use Rattle.std.proofs.Common.{arith}
 use Rattle.wasm_validate.proofs.Trees.{named_before, named_later}
 use Rattle.wasm_validate.proofs.walk.named.Goals as goal
 

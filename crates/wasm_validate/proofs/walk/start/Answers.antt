@@ -1,4 +1,4 @@
-use Rattle.std.proofs.Common.{◌≡◌, ℕ, ◌-◌, false, refl, ap, ◌∙◌}
+use Rattle.std.proofs.Common.{ℕ, ◌-◌, false, refl, ap, ◌∙◌}
 use Rattle.wasm_validate.specs.declared.checker.Checker.{Checker}
 use Rattle.wasm_validate.proofs.Turns.{start_leads}
 use Rattle.wasm_validate.proofs.walk.start.Goals as goal

@@ -1,4 +1,3 @@
-use Rattle.std.proofs.Common.{◌≡◌, refl, sym, ap, ◌∙◌, arith}
 use Rattle.wasm_validate.specs.Walk.{whole, weight}
 use Rattle.wasm_validate.proofs.Turns.{fails, goes_on_turn}
 use Rattle.wasm_validate.proofs.walk.walk.Goals as goal

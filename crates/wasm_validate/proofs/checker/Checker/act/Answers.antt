@@ -1,4 +1,4 @@
-use Rattle.std.proofs.Common.{◌≡◌, ◌+◌, refl, ap, ◌∙◌, Some, Option}
+use Rattle.std.proofs.Common.{◌+◌, refl, ap, ◌∙◌, Some}
 use Rattle.wasm_validate.specs.declared.checker.Checker.{Checker}
 use Rattle.wasm_types.specs.declared.instr.Op.{Op}
 use Rattle.wasm_validate.specs.Subject.{result_of}

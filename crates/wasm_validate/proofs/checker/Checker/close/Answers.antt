@@ -1,7 +1,6 @@
-use Rattle.std.proofs.Common.{◌≡◌, ◌+◌, ap, sym, ◌∙◌, arith, ℕ, Option}
+use Rattle.std.proofs.Common.{ap, sym, ◌∙◌, arith}
 use Rattle.wasm_validate.specs.declared.checker.ControlFrame.{ControlFrame}
-use Rattle.wasm_validate.specs.Walk.{outside, with_stack, back}
-use Rattle.wasm_validate.specs.Check.{leaves}
+use Rattle.wasm_validate.specs.Walk.{outside, with_stack}
 use Rattle.wasm_validate.specs.Subject.{result_of}
 use Rattle.wasm_validate.proofs.Turns.{closing, frame_last, close_fails, given_turn, second_turn}
 use Rattle.wasm_validate.proofs.checker.Checker.close.Goals as goal

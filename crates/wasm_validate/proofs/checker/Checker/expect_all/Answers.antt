@@ -1,4 +1,4 @@
-use Rattle.std.proofs.Common.{◌≡◌, refl, reverse, arith}
+use Rattle.std.proofs.Common.{refl, reverse, arith}
 use Rattle.wasm_validate.specs.Check.{expects}
 use Rattle.wasm_validate.specs.Walk.{with_stack}
 use Rattle.wasm_types.specs.declared.types.ValType.TheVariants.{I32}

@@ -1,4 +1,4 @@
-use Rattle.std.proofs.Common.{◌≡◌, ℕ, length}
+use Rattle.std.proofs.Common.{length}
 use Rattle.wasm_validate.specs.Walk.{Parts, Shows}
 use Rattle.wasm_validate.proofs.Steps.{Rest}
 use Rattle.wasm_validate.proofs.checker.Checker.expect_all.Given as goal

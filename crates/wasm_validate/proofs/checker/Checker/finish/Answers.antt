@@ -1,4 +1,4 @@
-use Rattle.std.proofs.Common.{◌≡◌, Option, Some, subst}
+use Rattle.std.proofs.Common.{Option, Some, subst}
 use Rattle.wasm_types.specs.declared.types.ValType.{ValType}
 use Rattle.wasm_validate.specs.Check.{leaves}
 use Rattle.wasm_validate.specs.Walk.{After}

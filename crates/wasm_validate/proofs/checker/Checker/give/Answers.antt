@@ -1,6 +1,6 @@
-use Rattle.std.proofs.Common.{◌≡◌, ℕ, ◌+◌, ◌∷◌, [], ◌++◌, Option, List, length, ap, sym, ◌∙◌, arith, length-append}
+use Rattle.std.proofs.Common.{◌≡◌, ◌∷◌, [], ◌++◌, Option, List, length, ap, sym, ◌∙◌, arith, length-append}
 use Rattle.wasm_types.specs.declared.types.ValType.{ValType}
-use Rattle.wasm_validate.specs.Walk.{beneath, base_of}
+use Rattle.wasm_validate.specs.Walk.{beneath}
 use Rattle.wasm_validate.proofs.Stacks.{top, height}
 use Rattle.wasm_validate.proofs.checker.Checker.give.Goals as goal
 

@@ -1,4 +1,3 @@
-use Rattle.std.proofs.Common.{◌≡◌, ℕ, ap, sym, ◌∙◌, refl}
 use Rattle.wasm_validate.specs.Check.{Stack, expects, diverge}
 use Rattle.wasm_spec.specs.Typing.{values}
 use Rattle.wasm_validate.specs.Walk.{with_stack, base_of}

@@ -1,4 +1,4 @@
-use Rattle.std.proofs.Common.{◌≡◌, ap, Some, None, Option, ◌∷◌}
+use Rattle.std.proofs.Common.{ap, Some, Option, ◌∷◌}
 use Rattle.wasm_validate.specs.Check.{Stack, and_then, expect, expects, diverge, apply}
 use Rattle.wasm_spec.specs.Typing.{values, Diverges}
 use Rattle.wasm_types.specs.declared.types.ValType.TheVariants.{I32}

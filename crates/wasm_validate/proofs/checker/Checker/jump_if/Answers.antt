@@ -1,4 +1,4 @@
-use Rattle.std.proofs.Common.{◌≡◌, ap, sym, ◌∙◌, refl, Some, None, Option, ◌∷◌}
+use Rattle.std.proofs.Common.{◌∙◌, Some, Option, ◌∷◌}
 use Rattle.wasm_validate.specs.Check.{Stack, and_then, expect, expects, gives}
 use Rattle.wasm_spec.specs.Typing.{values}
 use Rattle.wasm_types.specs.declared.types.ValType.TheVariants.{I32}

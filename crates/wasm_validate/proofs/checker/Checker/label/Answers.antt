@@ -1,4 +1,4 @@
-use Rattle.std.proofs.Common.{◌≡◌, ℕ, ap, sym, ◌∙◌, refl, arith, length, get_or, Some, List, ◌-◌}
+use Rattle.std.proofs.Common.{◌≡◌, ap, sym, ◌∙◌, arith, length, get_or, Some, List, ◌-◌}
 use Rattle.wasm_spec.specs.Typing.{values}
 use Rattle.wasm_validate.specs.Walk.{frames_of}
 use Rattle.wasm_validate.specs.declared.checker.ControlFrame.{ControlFrame}

@@ -1,6 +1,6 @@
-use Rattle.std.proofs.Common.{◌≡◌, ℕ, ◌+◌, ◌∷◌, [], ◌++◌, Option, List, length, ap, sym, ◌∙◌, refl, arith, length-append, append-nil}
+use Rattle.std.proofs.Common.{◌≡◌, ◌∷◌, [], ◌++◌, List, length, ap, sym, ◌∙◌, refl, arith, append-nil}
 use Rattle.wasm_validate.specs.declared.checker.ControlFrame.{ControlFrame}
-use Rattle.wasm_validate.specs.Walk.{OpenBlock, beneath, base_of, opened, frame_of, frames_of}
+use Rattle.wasm_validate.specs.Walk.{OpenBlock, frame_of, frames_of}
 use Rattle.wasm_validate.proofs.Stacks.{opened_nest}
 use Rattle.wasm_validate.proofs.checker.Checker.open.Goals as goal
 

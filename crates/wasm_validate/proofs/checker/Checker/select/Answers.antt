@@ -1,9 +1,9 @@
-use Rattle.std.proofs.Common.{◌≡◌, ap, sym, ◌∙◌, refl, Some, None, Option, ◌∷◌}
-use Rattle.wasm_validate.specs.Check.{Stack, Popped, and_then, expect, pop, both, give, select, select_first, select_second, select_both}
+use Rattle.std.proofs.Common.{◌∙◌, Some, Option}
+use Rattle.wasm_validate.specs.Check.{Stack, Popped, expect, pop, both, give, select, select_first, select_second, select_both}
 use Rattle.wasm_types.specs.declared.types.ValType.{ValType}
 use Rattle.wasm_types.specs.declared.types.ValType.TheVariants.{I32}
 use Rattle.wasm_validate.specs.Walk.{with_stack, base_of}
-use Rattle.wasm_validate.proofs.Steps.{after_true, after_false, is_some, is_none, then_some, then_none, pop_none, pop_some}
+use Rattle.wasm_validate.proofs.Steps.{after_true, is_some, is_none, then_some, then_none, pop_none, pop_some}
 use Rattle.wasm_validate.proofs.checker.Checker.select.Goals as goal
 
 pub returns-in_default : goal.returns-in_default

@@ -1,4 +1,4 @@
-use Rattle.std.proofs.Common.{◌≡◌, ap, sym, ◌∙◌, refl, Some, Option, reverse}
+use Rattle.std.proofs.Common.{Some, Option, reverse}
 use Rattle.wasm_validate.specs.Check.{Stack, expects, gives}
 use Rattle.wasm_spec.specs.Typing.{values}
 use Rattle.wasm_validate.specs.Walk.{with_stack, base_of}

@@ -1,4 +1,4 @@
-use Rattle.std.proofs.Common.{◌≡◌, ap, Some, None, Option, ◌∷◌, reverse}
+use Rattle.std.proofs.Common.{ap, Some, Option, ◌∷◌, reverse}
 use Rattle.wasm_validate.specs.Check.{Stack, and_then, expect, expects, gives, apply}
 use Rattle.wasm_spec.specs.Typing.{values, Fixed}
 use Rattle.wasm_types.specs.declared.types.ValType.TheVariants.{I32}

@@ -1,0 +1,2 @@
+pub mod LoadWords
+pub mod CallWords

@@ -1,0 +1,9 @@
+//! Loads modules and makes calls, each on a fresh instance.
+#![tactic(auto)]
+
+mod arguments;
+mod lane;
+mod loading;
+
+pub use lane::{LaneAnswer, LaneHost};
+pub use loading::{LoadFault, LoadLimits, Loaded, load};

@@ -1,0 +1,4 @@
+pub mod StraightLemmas
+pub mod RunLemmas
+pub mod OutermostLemmas
+pub mod FunctionLemmas

@@ -1,0 +1,4 @@
+pub mod OperandStack
+pub mod Room
+pub mod Straight
+pub mod Calls
