@@ -1,0 +1,5 @@
+pub mod Answering
+pub mod FileLimit
+pub mod Serving
+pub mod Streams
+pub mod Words

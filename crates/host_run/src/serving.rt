@@ -1,0 +1,76 @@
+//! The host as one call.
+ghost use Rattle.std.specs.Prelude.{◌≡◌, ◌⊎◌, ◌+◌, ◌≤◌, IfSome, codes, false, length, true};
+ghost use Rattle.std.specs.Io.KnownBytes.{IsAtEnd, Keeps};
+ghost use Rattle.host_edge.specs.Streams.{Rose};
+ghost use Rattle.host_run.specs.Answering.{refused};
+ghost use Rattle.host_run.specs.FileLimit.{most_bytes};
+ghost use Rattle.host_run.specs.Serving.{Delivers, IsStatus, due_of, texts_of};
+ghost use Rattle.host_run.specs.Streams.{TakesAtMost};
+ghost use Rattle.host_run.specs.Words.{is_accepted};
+
+use crate::due::due_text;
+use crate::streams::{InputFault, write_text};
+use host_edge::{Gate, Sink, Source};
+use std::alloc::Global;
+use std::sync::Wait;
+use std::thread::Threads;
+
+// The statuses that a run ends with where no text is written, or not all of it.
+const SOURCE_FAILED: u8 = 3;
+
+const SINK_FAILED: u8 = 4;
+
+const NO_MEMORY: u8 = 5;
+
+/// Runs the host on the words of a command line, of which the first is the program's name: reads the source, makes
+/// the calls that it asks for, and writes the due text to the sink. Nothing is written before all calls are answered.
+///
+/// The result is the program's exit status: 0 after a report, 2 after the reason of a refusal, 3 where the source
+/// failed, 4 where the sink failed, 5 for want of memory. `gate` is told of each call.
+pub fn serve<S: Source, K: Sink, G: Gate>(
+    _rt: &(impl Threads + Wait),
+    alloc: Global,
+    words: &[&str],
+    source: &mut S,
+    sink: &mut K,
+    gate: &G,
+) -> u8
+    ensures status { IsStatus result }
+    ensures due { IfSome (S.left source.old) (λ bytes.
+        Delivers (due_of (texts_of words.now) bytes) (K.written sink.old) (K.written sink.new) result) }
+    ensures refused { is_accepted (texts_of words.now) ≡ false
+        → Delivers (refused (codes "refused words")) (K.written sink.old) (K.written sink.new) result }
+    ensures unread { is_accepted (texts_of words.now) ≡ false → source.new ≡ source.old }
+    ensures accepted { (result ≡ 0) ⊎ (result ≡ 3) → is_accepted (texts_of words.now) ≡ true }
+    ensures end { result ≡ 0 → IsAtEnd (S.left source.new) }
+    ensures all_read { is_accepted (texts_of words.now) ≡ true → (result ≡ 0) ⊎ ((result ≡ 2) ⊎ (result ≡ 4))
+        → IfSome (S.left source.old) (λ bytes. length bytes ≤ most_bytes → IsAtEnd (S.left source.new)) }
+    ensures source_failed { result ≡ 3 → Rose (S.faults source.old) (S.faults source.new) × Keeps (K.written sink.old) (K.written sink.new) }
+    ensures sink_failed { result ≡ 4 → Rose (K.faults sink.old) (K.faults sink.new) }
+    ensures no_memory { result ≡ 5 → Keeps (K.written sink.old) (K.written sink.new) }
+    ensures at_most { TakesAtMost (S.left source.old) (S.left source.new) (most_bytes + 1) }
+    ensures complete { IfSome (S.left source.old) (λ bytes.
+        (Rose (S.faults source.old) (S.faults source.new) → ⊥) → (Rose (K.faults sink.old) (K.faults sink.new) → ⊥)
+        → (result ≡ (due_of (texts_of words.now) bytes).status) ⊎ (result ≡ 5)) }
+{
+    match due_text(alloc, words, source, gate) {
+        Ok(due) => match write_text(sink, &due.text) {
+            Ok(()) => due.status,
+            Err(_) => SINK_FAILED,
+        },
+        Err(InputFault::Failed) => SOURCE_FAILED,
+        Err(InputFault::NoMemory) => NO_MEMORY,
+    }
+}
+
+/// Refuses words that are no text: writes so, and gives the exit status, 2, or 4 where the sink failed.
+pub fn refuse_words<K: Sink>(sink: &mut K) -> u8
+    ensures status { (result ≡ 2) ⊎ (result ≡ 4) }
+    ensures gives { Delivers (refused (codes "refused words")) (K.written sink.old) (K.written sink.new) result }
+    ensures sink_failed { result ≡ 4 → Rose (K.faults sink.old) (K.faults sink.new) }
+{
+    match write_text(sink, b"refused words\n") {
+        Ok(()) => 2,
+        Err(_) => SINK_FAILED,
+    }
+}
