@@ -1,6 +1,6 @@
 //! What a run owes: a status, and the text that is due before it.
-ghost use Rattle.std.specs.Prelude.{◌≡◌, ◌⊎◌, ◌+◌, ◌≤◌, IfOk, IfSome, IsErrOf, codes, false, length, true};
-ghost use Rattle.std.specs.Io.KnownBytes.{IsAtEnd};
+ghost use Rattle.std.specs.Prelude.{◌≡◌, ◌⊎◌, ◌+◌, ◌≤◌, ℕ, List, IfOk, IfSome, IsErrOf, codes, false, length, true};
+ghost use Rattle.std.specs.Io.KnownBytes.{Consumes, IsAtEnd};
 ghost use Rattle.host_edge.specs.Streams.{Rose};
 ghost use Rattle.host_run.specs.Answering.{refused};
 ghost use Rattle.host_run.specs.FileLimit.{most_bytes};
@@ -30,6 +30,8 @@ pub(crate) fn due_text<S: Source, G: Gate>(
 ) -> Result<Due, InputFault>
     ensures due { IfOk result (λ d. IfSome (S.left source.old) (λ bytes.
         shown d ≡ due_of (texts_of words.now) bytes)) }
+    ensures taken { IfOk result (λ d. (bytes : List ℕ)
+        × Consumes (S.left source.old) (S.left source.new) bytes × (shown d ≡ due_of (texts_of words.now) bytes)) }
     ensures refused { IfOk result (λ d. is_accepted (texts_of words.now) ≡ false
         → shown d ≡ refused (codes "refused words")) }
     ensures unread { is_accepted (texts_of words.now) ≡ false → source.new ≡ source.old }

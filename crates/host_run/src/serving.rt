@@ -1,6 +1,6 @@
 //! The host as one call.
-ghost use Rattle.std.specs.Prelude.{◌≡◌, ◌⊎◌, ◌+◌, ◌≤◌, IfSome, codes, false, length, true};
-ghost use Rattle.std.specs.Io.KnownBytes.{IsAtEnd, Keeps};
+ghost use Rattle.std.specs.Prelude.{◌≡◌, ◌⊎◌, ◌+◌, ◌≤◌, ℕ, List, IfSome, codes, false, length, true};
+ghost use Rattle.std.specs.Io.KnownBytes.{Consumes, IsAtEnd, Keeps};
 ghost use Rattle.host_edge.specs.Streams.{Rose};
 ghost use Rattle.host_run.specs.Answering.{refused};
 ghost use Rattle.host_run.specs.FileLimit.{most_bytes};
@@ -38,6 +38,9 @@ pub fn serve<S: Source, K: Sink, G: Gate>(
     ensures status { IsStatus result }
     ensures due { IfSome (S.left source.old) (λ bytes.
         Delivers (due_of (texts_of words.now) bytes) (K.written sink.old) (K.written sink.new) result) }
+    ensures taken { (result ≡ 0) ⊎ ((result ≡ 2) ⊎ (result ≡ 4)) → (bytes : List ℕ)
+        × Consumes (S.left source.old) (S.left source.new) bytes
+        × Delivers (due_of (texts_of words.now) bytes) (K.written sink.old) (K.written sink.new) result }
     ensures refused { is_accepted (texts_of words.now) ≡ false
         → Delivers (refused (codes "refused words")) (K.written sink.old) (K.written sink.new) result }
     ensures unread { is_accepted (texts_of words.now) ≡ false → source.new ≡ source.old }

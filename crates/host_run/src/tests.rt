@@ -19,6 +19,7 @@ const RUN: &[&str] = &["poolhost", "run"];
 fn runs_end_with_their_status_and_text(rt: HostRuntime) -> Result<(), Fail> {
     let alloc = rt.alloc();
     let runs = [
+        // a report
         Run {
             words: RUN,
             bytes: b"abcdefghij",
@@ -27,6 +28,7 @@ fn runs_end_with_their_status_and_text(rt: HostRuntime) -> Result<(), Fail> {
             status: 0,
             written: b"jihgfedcba",
         },
+        // small pieces
         Run {
             words: RUN,
             bytes: b"abcdefghij",
@@ -35,6 +37,7 @@ fn runs_end_with_their_status_and_text(rt: HostRuntime) -> Result<(), Fail> {
             status: 0,
             written: b"jihgfedcba",
         },
+        // an empty file
         Run {
             words: RUN,
             bytes: b"",
@@ -43,6 +46,7 @@ fn runs_end_with_their_status_and_text(rt: HostRuntime) -> Result<(), Fail> {
             status: 0,
             written: b"",
         },
+        // a refused line
         Run {
             words: RUN,
             bytes: b"!bcd",
@@ -51,6 +55,7 @@ fn runs_end_with_their_status_and_text(rt: HostRuntime) -> Result<(), Fail> {
             status: 2,
             written: b"line 1: bad byte\n",
         },
+        // a read that fails
         Run {
             words: RUN,
             bytes: b"abcdefghij",
@@ -59,6 +64,7 @@ fn runs_end_with_their_status_and_text(rt: HostRuntime) -> Result<(), Fail> {
             status: 3,
             written: b"",
         },
+        // a write that fails
         Run {
             words: RUN,
             bytes: b"abcdefghij",
@@ -67,6 +73,7 @@ fn runs_end_with_their_status_and_text(rt: HostRuntime) -> Result<(), Fail> {
             status: 4,
             written: b"jihgf",
         },
+        // no command
         Run {
             words: &["poolhost"],
             bytes: b"abc",
@@ -75,6 +82,7 @@ fn runs_end_with_their_status_and_text(rt: HostRuntime) -> Result<(), Fail> {
             status: 2,
             written: b"refused words\n",
         },
+        // another command, unread
         Run {
             words: &["poolhost", "make"],
             bytes: b"abc",
@@ -83,6 +91,7 @@ fn runs_end_with_their_status_and_text(rt: HostRuntime) -> Result<(), Fail> {
             status: 2,
             written: b"refused words\n",
         },
+        // a refusal in part
         Run {
             words: &["poolhost", "run", "run"],
             bytes: b"abc",
@@ -92,7 +101,7 @@ fn runs_end_with_their_status_and_text(rt: HostRuntime) -> Result<(), Fail> {
             written: b"refused wo",
         },
     ];
-    for run in runs {
+    for (at, run) in runs.into_iter().enumerate() {
         let mut source = MemSource::new(
             run.bytes.to_vec(alloc)?,
             run.source.0.max(1),
@@ -100,8 +109,8 @@ fn runs_end_with_their_status_and_text(rt: HostRuntime) -> Result<(), Fail> {
         );
         let mut sink = MemSink::new(alloc, run.sink.0.max(1), run.sink.1.to_vec(alloc)?);
         let status = serve(&rt, alloc, run.words, &mut source, &mut sink, &OpenGate);
-        assert_eq!(rt; status, run.status);
-        assert_eq!(rt; sink.bytes(), run.written);
+        assert_eq!(rt; status, run.status, "at run {at}");
+        assert_eq!(rt; sink.bytes(), run.written, "at run {at}");
     }
     Ok(())
 }
