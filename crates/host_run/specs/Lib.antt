@@ -1,5 +1,5 @@
-pub mod Answering
 pub mod FileLimit
 pub mod Serving
 pub mod Streams
+pub mod Text
 pub mod Words

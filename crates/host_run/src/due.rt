@@ -1,10 +1,9 @@
 //! What a run owes: a status, and the text that is due before it.
-ghost use Rattle.std.specs.Prelude.{◌≡◌, ◌⊎◌, ◌+◌, ◌≤◌, ℕ, List, IfOk, IfSome, IsErrOf, codes, false, length, true};
+ghost use Rattle.std.specs.Prelude.{◌≡◌, ◌⊎◌, ◌+◌, ◌≤◌, ℕ, List, IfOk, IfSome, IsErrOf, false, length, true};
 ghost use Rattle.std.specs.Io.KnownBytes.{Consumes, IsAtEnd};
 ghost use Rattle.host_edge.specs.Streams.{Rose};
-ghost use Rattle.host_run.specs.Answering.{refused};
 ghost use Rattle.host_run.specs.FileLimit.{most_bytes};
-ghost use Rattle.host_run.specs.Serving.{due_of, shown, texts_of};
+ghost use Rattle.host_run.specs.Serving.{IsDue, refused, refused_words, shown, texts_of};
 ghost use Rattle.host_run.specs.Streams.{TakesAtMost};
 ghost use Rattle.host_run.specs.Words.{is_accepted};
 
@@ -28,16 +27,14 @@ pub(crate) fn due_text<S: Source, G: Gate>(
     source: &mut S,
     gate: &G,
 ) -> Result<Due, InputFault>
-    ensures due { IfOk result (λ d. IfSome (S.left source.old) (λ bytes.
-        shown d ≡ due_of (texts_of words.now) bytes)) }
-    ensures taken { IfOk result (λ d. (bytes : List ℕ)
-        × Consumes (S.left source.old) (S.left source.new) bytes × (shown d ≡ due_of (texts_of words.now) bytes)) }
-    ensures refused { IfOk result (λ d. is_accepted (texts_of words.now) ≡ false
-        → shown d ≡ refused (codes "refused words")) }
+    ensures due { IfOk result (λ due. IfSome (S.left source.old) (λ bytes. IsDue (texts_of words.now) bytes (shown due))) }
+    ensures taken { IfOk result (λ due. (bytes : List ℕ)
+        × Consumes (S.left source.old) (S.left source.new) bytes × IsDue (texts_of words.now) bytes (shown due)) }
+    ensures refused { IfOk result (λ due. is_accepted (texts_of words.now) ≡ false → shown due ≡ refused_words) }
     ensures unread { is_accepted (texts_of words.now) ≡ false → source.new ≡ source.old }
-    ensures status { IfOk result (λ d. (d.status ≡ 0) ⊎ (d.status ≡ 2)) }
-    ensures accepted { IfOk result (λ d. d.status ≡ 0 → is_accepted (texts_of words.now) ≡ true) }
-    ensures end { IfOk result (λ d. d.status ≡ 0 → IsAtEnd (S.left source.new)) }
+    ensures status { IfOk result (λ due. (due.status ≡ 0) ⊎ (due.status ≡ 2)) }
+    ensures accepted { IfOk result (λ due. due.status ≡ 0 → is_accepted (texts_of words.now) ≡ true) }
+    ensures end { IfOk result (λ due. due.status ≡ 0 → IsAtEnd (S.left source.new)) }
     ensures all_read { IfOk result (λ _. is_accepted (texts_of words.now) ≡ true
         → IfSome (S.left source.old) (λ bytes. length bytes ≤ most_bytes → IsAtEnd (S.left source.new))) }
     ensures failed { IsErrOf result InputFault.Failed → Rose (S.faults source.old) (S.faults source.new)
@@ -46,18 +43,17 @@ pub(crate) fn due_text<S: Source, G: Gate>(
 {
     let options = match read_options(alloc, words) {
         Ok(options) => options,
-        Err(WordsFault::Refused) => return Ok(refusal(alloc, b"refused words")?),
+        Err(WordsFault::Refused) => return Ok(refusal(alloc, b"refused words\n")?),
         Err(WordsFault::NoMemory) => return Err(InputFault::NoMemory),
     };
     let bytes = read_input(alloc, source)?;
     Ok(answer(alloc, &options, &bytes, gate)?)
 }
 
-// A reason on a line of its own, with status 2.
-pub(crate) fn refusal(alloc: Global, reason: &[u8]) -> Result<Due, AllocError>
-    ensures { IfOk result (λ d. shown d ≡ refused reason.now) }
+// What is due for a refusal: this line, with status 2.
+pub(crate) fn refusal(alloc: Global, line: &[u8]) -> Result<Due, AllocError>
+    ensures { IfOk result (λ due. shown due ≡ refused line.now) }
 {
-    let mut text = reason.to_vec(alloc)?;
-    text.push(b'\n')?;
+    let text = line.to_vec(alloc)?;
     Ok(Due { status: 2, text })
 }

@@ -6,6 +6,7 @@ mod due;
 mod file_limit;
 mod serving;
 mod streams;
+mod text;
 mod words;
 
 pub use serving::{refuse_words, serve};

@@ -1,12 +1,12 @@
 //! The host as one call.
-ghost use Rattle.std.specs.Prelude.{◌≡◌, ◌⊎◌, ◌+◌, ◌≤◌, ℕ, List, IfSome, codes, false, length, true};
-ghost use Rattle.std.specs.Io.KnownBytes.{Consumes, IsAtEnd, Keeps};
+ghost use Rattle.std.specs.Prelude.{◌≡◌, ◌⊎◌, ◌+◌, ◌≤◌, ℕ, List, IfSome, IsOk, IsOkAnd, false, length, true};
+ghost use Rattle.std.specs.Io.KnownBytes.{Appends, Consumes, IsAtEnd, Keeps};
 ghost use Rattle.host_edge.specs.Streams.{Rose};
-ghost use Rattle.host_run.specs.Answering.{refused};
 ghost use Rattle.host_run.specs.FileLimit.{most_bytes};
-ghost use Rattle.host_run.specs.Serving.{Delivers, IsStatus, due_of, texts_of};
+ghost use Rattle.host_run.specs.Serving.{Delivers, IsDue, IsStatus, refused_words, texts_of};
 ghost use Rattle.host_run.specs.Streams.{TakesAtMost};
-ghost use Rattle.host_run.specs.Words.{is_accepted};
+ghost use Rattle.host_run.specs.Text.{IsReport, requests_of};
+ghost use Rattle.host_run.specs.Words.{is_accepted, options_of};
 
 use crate::due::due_text;
 use crate::streams::{InputFault, write_text};
@@ -37,12 +37,12 @@ pub fn serve<S: Source, K: Sink, G: Gate>(
 ) -> u8
     ensures status { IsStatus result }
     ensures due { IfSome (S.left source.old) (λ bytes.
-        Delivers (due_of (texts_of words.now) bytes) (K.written sink.old) (K.written sink.new) result) }
+        Delivers (IsDue (texts_of words.now) bytes) (K.written sink.old) (K.written sink.new) result) }
     ensures taken { (result ≡ 0) ⊎ ((result ≡ 2) ⊎ (result ≡ 4)) → (bytes : List ℕ)
         × Consumes (S.left source.old) (S.left source.new) bytes
-        × Delivers (due_of (texts_of words.now) bytes) (K.written sink.old) (K.written sink.new) result }
+        × Delivers (IsDue (texts_of words.now) bytes) (K.written sink.old) (K.written sink.new) result }
     ensures refused { is_accepted (texts_of words.now) ≡ false
-        → Delivers (refused (codes "refused words")) (K.written sink.old) (K.written sink.new) result }
+        → Delivers (λ due. due ≡ refused_words) (K.written sink.old) (K.written sink.new) result }
     ensures unread { is_accepted (texts_of words.now) ≡ false → source.new ≡ source.old }
     ensures accepted { (result ≡ 0) ⊎ (result ≡ 3) → is_accepted (texts_of words.now) ≡ true }
     ensures end { result ≡ 0 → IsAtEnd (S.left source.new) }
@@ -52,9 +52,13 @@ pub fn serve<S: Source, K: Sink, G: Gate>(
     ensures sink_failed { result ≡ 4 → Rose (K.faults sink.old) (K.faults sink.new) }
     ensures no_memory { result ≡ 5 → Keeps (K.written sink.old) (K.written sink.new) }
     ensures at_most { TakesAtMost (S.left source.old) (S.left source.new) (most_bytes + 1) }
-    ensures complete { IfSome (S.left source.old) (λ bytes.
-        (Rose (S.faults source.old) (S.faults source.new) → ⊥) → (Rose (K.faults sink.old) (K.faults sink.new) → ⊥)
-        → (result ≡ (due_of (texts_of words.now) bytes).status) ⊎ (result ≡ 5)) }
+    ensures report { result ≡ 0 → IfSome (S.left source.old) (λ bytes. IsOkAnd (requests_of bytes) (λ requests.
+        (text : List ℕ) × IsReport (options_of (texts_of words.now)) requests text
+        × Appends (K.written sink.old) (K.written sink.new) text)) }
+    ensures complete { is_accepted (texts_of words.now) ≡ true
+        → IfSome (S.left source.old) (λ bytes. IsOk (requests_of bytes)
+        → (Rose (S.faults source.old) (S.faults source.new) → ⊥) → (Rose (K.faults sink.old) (K.faults sink.new) → ⊥)
+        → (result ≡ 0) ⊎ (result ≡ 5)) }
 {
     match due_text(alloc, words, source, gate) {
         Ok(due) => match write_text(sink, &due.text) {
@@ -69,7 +73,7 @@ pub fn serve<S: Source, K: Sink, G: Gate>(
 /// Refuses words that are no text: writes so, and gives the exit status, 2, or 4 where the sink failed.
 pub fn refuse_words<K: Sink>(sink: &mut K) -> u8
     ensures status { (result ≡ 2) ⊎ (result ≡ 4) }
-    ensures gives { Delivers (refused (codes "refused words")) (K.written sink.old) (K.written sink.new) result }
+    ensures gives { Delivers (λ due. due ≡ refused_words) (K.written sink.old) (K.written sink.new) result }
     ensures sink_failed { result ≡ 4 → Rose (K.faults sink.old) (K.faults sink.new) }
 {
     match write_text(sink, b"refused words\n") {
