@@ -1,11 +1,11 @@
 //! The host as one call.
-ghost use Rattle.std.specs.Prelude.{◌≡◌, ◌⊎◌, ◌+◌, ◌≤◌, ℕ, List, IfSome, IsOk, IsOkAnd, false, length, true};
+ghost use Rattle.std.specs.Prelude.{◌≡◌, ◌⊎◌, ◌+◌, ◌≤◌, ℕ, List, IfSome, IsErrAnd, IsOk, IsOkAnd, false, length, true};
 ghost use Rattle.std.specs.Io.KnownBytes.{Appends, Consumes, IsAtEnd, Keeps};
 ghost use Rattle.host_edge.specs.Streams.{Rose};
 ghost use Rattle.host_run.specs.FileLimit.{most_bytes};
 ghost use Rattle.host_run.specs.Serving.{Delivers, IsDue, IsStatus, refused_words, texts_of};
 ghost use Rattle.host_run.specs.Streams.{TakesAtMost};
-ghost use Rattle.host_run.specs.Text.{IsReport, requests_of};
+ghost use Rattle.host_run.specs.Text.{IsReport, refusal_line, requests_of};
 ghost use Rattle.host_run.specs.Words.{is_accepted, options_of};
 
 use crate::due::due_text;
@@ -36,25 +36,38 @@ pub fn serve<S: Source, K: Sink, G: Gate>(
     gate: &G,
 ) -> u8
     ensures status { IsStatus result }
+
+    // 0, after the report on all that the source had left
+    ensures report { result ≡ 0 → IfSome (S.left source.old) (λ bytes. IsOkAnd (requests_of bytes) (λ requests.
+        (text : List ℕ) × IsReport (options_of (texts_of words.now)) requests text
+        × Appends (K.written sink.old) (K.written sink.new) text)) }
+    ensures end { result ≡ 0 → IsAtEnd (S.left source.new) }
+
+    // 2, after the line that refuses the words, or the file that was read
+    ensures refused_words { is_accepted (texts_of words.now) ≡ false
+        → Delivers (λ due. due ≡ refused_words) (K.written sink.old) (K.written sink.new) result }
+    ensures unread { is_accepted (texts_of words.now) ≡ false → source.new ≡ source.old }
+    ensures refused_file { is_accepted (texts_of words.now) ≡ true → result ≡ 2
+        → IfSome (S.left source.old) (λ bytes. IsErrAnd (requests_of bytes) (λ why.
+        Appends (K.written sink.old) (K.written sink.new) (refusal_line why))) }
+    ensures all_read { is_accepted (texts_of words.now) ≡ true → (result ≡ 0) ⊎ ((result ≡ 2) ⊎ (result ≡ 4))
+        → IfSome (S.left source.old) (λ bytes. length bytes ≤ most_bytes → IsAtEnd (S.left source.new)) }
+
+    // 3 and 4, for a fault alone, and 5
+    ensures source_failed { result ≡ 3
+        → Rose (S.faults source.old) (S.faults source.new) × Keeps (K.written sink.old) (K.written sink.new) }
+    ensures sink_failed { result ≡ 4 → Rose (K.faults sink.old) (K.faults sink.new) }
+    ensures no_memory { result ≡ 5 → Keeps (K.written sink.old) (K.written sink.new) }
+
+    // for all bytes that the source had left, and for those that were taken
     ensures due { IfSome (S.left source.old) (λ bytes.
         Delivers (IsDue (texts_of words.now) bytes) (K.written sink.old) (K.written sink.new) result) }
     ensures taken { (result ≡ 0) ⊎ ((result ≡ 2) ⊎ (result ≡ 4)) → (bytes : List ℕ)
         × Consumes (S.left source.old) (S.left source.new) bytes
         × Delivers (IsDue (texts_of words.now) bytes) (K.written sink.old) (K.written sink.new) result }
-    ensures refused { is_accepted (texts_of words.now) ≡ false
-        → Delivers (λ due. due ≡ refused_words) (K.written sink.old) (K.written sink.new) result }
-    ensures unread { is_accepted (texts_of words.now) ≡ false → source.new ≡ source.old }
+
     ensures accepted { (result ≡ 0) ⊎ (result ≡ 3) → is_accepted (texts_of words.now) ≡ true }
-    ensures end { result ≡ 0 → IsAtEnd (S.left source.new) }
-    ensures all_read { is_accepted (texts_of words.now) ≡ true → (result ≡ 0) ⊎ ((result ≡ 2) ⊎ (result ≡ 4))
-        → IfSome (S.left source.old) (λ bytes. length bytes ≤ most_bytes → IsAtEnd (S.left source.new)) }
-    ensures source_failed { result ≡ 3 → Rose (S.faults source.old) (S.faults source.new) × Keeps (K.written sink.old) (K.written sink.new) }
-    ensures sink_failed { result ≡ 4 → Rose (K.faults sink.old) (K.faults sink.new) }
-    ensures no_memory { result ≡ 5 → Keeps (K.written sink.old) (K.written sink.new) }
     ensures at_most { TakesAtMost (S.left source.old) (S.left source.new) (most_bytes + 1) }
-    ensures report { result ≡ 0 → IfSome (S.left source.old) (λ bytes. IsOkAnd (requests_of bytes) (λ requests.
-        (text : List ℕ) × IsReport (options_of (texts_of words.now)) requests text
-        × Appends (K.written sink.old) (K.written sink.new) text)) }
     ensures complete { is_accepted (texts_of words.now) ≡ true
         → IfSome (S.left source.old) (λ bytes. IsOk (requests_of bytes)
         → (Rose (S.faults source.old) (S.faults source.new) → ⊥) → (Rose (K.faults sink.old) (K.faults sink.new) → ⊥)
