@@ -6,8 +6,8 @@ use Rattle.host_run.specs.FileLimit.{most_bytes}
 use Rattle.host_run.specs.Serving.{Answer, IsAnswer, IsDue, refused}
 use Rattle.host_run.specs.Streams.{ReadsInput}
 use Rattle.host_run.specs.Text.{FileTooLong, refusal_line, requests_of}
-use Rattle.host_run.specs.Words.{is_accepted, options_of}
-use Rattle.host_run.specs.declared.words.Options.{Options}
+use Rattle.command_line.specs.Words.{is_accepted, options_of}
+use Rattle.command_line.specs.declared.options.Options.{Options}
 
 pub too_long : (text : List ℕ) → most_bytes < length text → requests_of text ≡ Err FileTooLong
 unfolding requests_of

@@ -2,4 +2,3 @@ pub mod FileLimit
 pub mod Serving
 pub mod Streams
 pub mod Text
-pub mod Words

@@ -5,9 +5,9 @@ use Rattle.std.specs.declared.option.Option.{Option}
 use Rattle.std.specs.Io.KnownBytes.{Appends}
 use Rattle.host_run.specs.Streams.{AppendsPart}
 use Rattle.host_run.specs.Text.{IsReport, refusal_line, requests_of}
-use Rattle.host_run.specs.Words.{is_accepted, options_of}
+use Rattle.command_line.specs.Words.{is_accepted, options_of}
 use Rattle.host_run.specs.declared.due.Due.{Due}
-use Rattle.host_run.specs.declared.words.Options.{Options}
+use Rattle.command_line.specs.declared.options.Options.{Options}
 
 -- the texts of the words of a command line
 abbrev pub texts_of : List (Bor (List ℕ)) → List (List ℕ)

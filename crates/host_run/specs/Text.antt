@@ -2,7 +2,7 @@
 -- for its bytes backwards.
 use Rattle.std.specs.Prelude.{◌≡◌, ◌==◌, ℕ, Bool, false, List, [], ◌∷◌, length, nat_lt, if◌then◌else◌, reverse, codes, Option, Some, None, Result, Ok, Err}
 use Rattle.host_run.specs.FileLimit.{most_bytes}
-use Rattle.host_run.specs.declared.words.Options.{Options}
+use Rattle.command_line.specs.declared.options.Options.{Options}
 use Rattle.host_run.specs.declared.text.ParseFault.{ParseFault}
 use Rattle.host_run.specs.declared.text.ParseFault.TheVariants.{TextFault, TooLong, NoMemory}
 

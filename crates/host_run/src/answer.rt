@@ -5,7 +5,7 @@ ghost use Rattle.host_run.specs.Text.{refusal_line, refusal_of};
 
 use crate::due::{Due, refusal};
 use crate::text::{ParseFault, parse, report};
-use crate::words::Options;
+use command_line::Options;
 use host_edge::Gate;
 use std::alloc::{AllocError, Global};
 

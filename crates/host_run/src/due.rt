@@ -5,11 +5,11 @@ ghost use Rattle.host_edge.specs.Streams.{Rose};
 ghost use Rattle.host_run.specs.FileLimit.{most_bytes};
 ghost use Rattle.host_run.specs.Serving.{IsDue, refused, refused_words, shown, texts_of};
 ghost use Rattle.host_run.specs.Streams.{TakesAtMost};
-ghost use Rattle.host_run.specs.Words.{is_accepted};
+ghost use Rattle.command_line.specs.Words.{is_accepted};
 
 use crate::answer::answer;
 use crate::streams::{InputFault, read_input};
-use crate::words::{WordsFault, read_options};
+use command_line::{WordsFault, read_options};
 use host_edge::{Gate, Source};
 use std::alloc::{AllocError, Global};
 

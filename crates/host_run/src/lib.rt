@@ -7,7 +7,6 @@ mod file_limit;
 mod serving;
 mod streams;
 mod text;
-mod words;
 
 pub use serving::{refuse_words, serve};
 

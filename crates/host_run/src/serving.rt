@@ -6,7 +6,7 @@ ghost use Rattle.host_run.specs.FileLimit.{most_bytes};
 ghost use Rattle.host_run.specs.Serving.{Delivers, IsDue, IsStatus, refused_words, texts_of};
 ghost use Rattle.host_run.specs.Streams.{TakesAtMost};
 ghost use Rattle.host_run.specs.Text.{IsReport, refusal_line, requests_of};
-ghost use Rattle.host_run.specs.Words.{is_accepted, options_of};
+ghost use Rattle.command_line.specs.Words.{is_accepted, options_of};
 
 use crate::due::due_text;
 use crate::streams::{InputFault, write_text};

@@ -82,6 +82,24 @@ fn runs_end_with_their_status_and_text(rt: HostRuntime) -> Result<(), Fail> {
             status: 2,
             written: b"refused words\n",
         },
+        // several workers, and one memory to share
+        Run {
+            words: &["poolhost", "run", "--workers", "2", "--memories", "1"],
+            bytes: b"abc",
+            source: (99, &[]),
+            sink: (5, &[]),
+            status: 2,
+            written: b"refused words\n",
+        },
+        // other options
+        Run {
+            words: &["poolhost", "run", "--workers=2", "--tables", "3"],
+            bytes: b"abc",
+            source: (99, &[]),
+            sink: (5, &[]),
+            status: 0,
+            written: b"cba",
+        },
         // another command, unread
         Run {
             words: &["poolhost", "make"],

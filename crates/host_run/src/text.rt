@@ -4,7 +4,7 @@ ghost use Rattle.std.specs.Prelude.{◌≡◌, IfErr, IfOk, IfSome};
 ghost use Rattle.host_run.specs.Text.{IsReport, refusal_line, refusal_of, requests_of};
 
 use crate::file_limit::MOST_BYTES;
-use crate::words::Options;
+use command_line::Options;
 use host_edge::Gate;
 use std::alloc::{AllocError, Global};
 use thiserror::Error;

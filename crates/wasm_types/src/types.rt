@@ -1,0 +1,34 @@
+// Types of values, functions, memories, tables and globals.
+
+use crate::items::Items;
+
+/// A value type. Source: Core Specification 1.0, section 2.3.1.
+#[derive(Clone, Copy, Debug, PartialEq, Eq)]
+pub enum ValType {
+    I32,
+    I64,
+    F32,
+    F64,
+}
+
+/// The type of a function. The binary format allows several results; a valid module has at most one.
+/// Source: section 2.3.3.
+#[derive(Drop)]
+pub struct FuncType {
+    pub params: Items<ValType>,
+    pub results: Items<ValType>,
+}
+
+/// The size range of a memory, in pages of 65,536 bytes, or of a table, in elements. Source: section 2.3.4.
+#[derive(Clone, Copy, Debug, PartialEq, Eq)]
+pub struct Limits {
+    pub min: u32,
+    pub max: Option<u32>,
+}
+
+/// The type of a global. Source: section 2.3.7.
+#[derive(Clone, Copy, Debug, PartialEq, Eq)]
+pub struct GlobalType {
+    pub value: ValType,
+    pub mutable: bool,
+}
