@@ -1,0 +1,4 @@
+pub mod FileLimit
+pub mod Serving
+pub mod Streams
+pub mod Text

@@ -1,0 +1,40 @@
+//! What a request file is answered.
+ghost use Rattle.std.specs.Prelude.{◌≡◌, ◌⊎◌, IfOk, IsSomeAnd};
+ghost use Rattle.host_run.specs.Serving.{IsAnswer, refused, shown};
+ghost use Rattle.host_run.specs.Text.{refusal_line, refusal_of};
+
+use crate::due::{Due, refusal};
+use crate::text::{ParseFault, parse, report};
+use command_line::Options;
+use host_edge::Gate;
+use std::alloc::{AllocError, Global};
+
+// What a request file of these bytes is answered, once its calls are made.
+pub(crate) fn answer<G: Gate>(
+    alloc: Global,
+    options: &Options,
+    bytes: &[u8],
+    gate: &G,
+) -> Result<Due, AllocError>
+    ensures answer { IfOk result (λ due. IsAnswer options.now bytes.now (shown due)) }
+    ensures status { IfOk result (λ due. (due.status ≡ 0) ⊎ (due.status ≡ 2)) }
+{
+    match parse(alloc, bytes) {
+        Ok(requests) => {
+            let text = report(alloc, options, &requests, gate)?;
+            Ok(Due { status: 0, text })
+        }
+        Err(fault) => refused_file(alloc, fault),
+    }
+}
+
+// What is due for a request file that is refused, unless the fault was want of memory.
+fn refused_file(alloc: Global, fault: ParseFault) -> Result<Due, AllocError>
+    ensures { IfOk result (λ due. IsSomeAnd (refusal_of fault) (λ why. shown due ≡ refused (refusal_line why))) }
+{
+    match fault {
+        ParseFault::TextFault { .. } => refusal(alloc, b"line 1: bad byte\n"),
+        ParseFault::TooLong => refusal(alloc, b"file too long\n"),
+        ParseFault::NoMemory => Err(AllocError),
+    }
+}

@@ -1,0 +1,96 @@
+//! The host as one call.
+ghost use Rattle.std.specs.Prelude.{◌≡◌, ◌⊎◌, ◌+◌, ◌≤◌, ℕ, List, IfSome, IsErrAnd, IsOk, IsOkAnd, false, length, true};
+ghost use Rattle.std.specs.Io.KnownBytes.{Appends, Consumes, IsAtEnd, Keeps};
+ghost use Rattle.host_edge.specs.Streams.{Rose};
+ghost use Rattle.host_run.specs.FileLimit.{most_bytes};
+ghost use Rattle.host_run.specs.Serving.{Delivers, IsDue, IsStatus, refused_words, texts_of};
+ghost use Rattle.host_run.specs.Streams.{TakesAtMost};
+ghost use Rattle.host_run.specs.Text.{IsReport, refusal_line, requests_of};
+ghost use Rattle.command_line.specs.Words.{is_accepted, options_of};
+
+use crate::due::due_text;
+use crate::streams::{InputFault, write_text};
+use host_edge::{Gate, Sink, Source};
+use std::alloc::Global;
+use std::sync::Wait;
+use std::thread::Threads;
+
+// The statuses that a run ends with where no text is written, or not all of it.
+const SOURCE_FAILED: u8 = 3;
+
+const SINK_FAILED: u8 = 4;
+
+const NO_MEMORY: u8 = 5;
+
+/// Runs the host on the words of a command line, of which the first is the program's name: reads the source, makes
+/// the calls that it asks for, and writes the due text to the sink. Nothing is written before all calls are answered.
+///
+/// The result is the program's exit status: 0 after a report, 2 after the reason of a refusal, 3 where the source
+/// failed, 4 where the sink failed, 5 for want of memory. `gate` is told of each call.
+pub fn serve<S: Source, K: Sink, G: Gate>(
+    _rt: &(impl Threads + Wait),
+    alloc: Global,
+    words: &[&str],
+    source: &mut S,
+    sink: &mut K,
+    gate: &G,
+) -> u8
+    ensures status { IsStatus result }
+
+    // 0, after the report on all that the source had left
+    ensures report { result ≡ 0 → IfSome (S.left source.old) (λ bytes. IsOkAnd (requests_of bytes) (λ requests.
+        (text : List ℕ) × IsReport (options_of (texts_of words.now)) requests text
+        × Appends (K.written sink.old) (K.written sink.new) text)) }
+    ensures end { result ≡ 0 → IsAtEnd (S.left source.new) }
+
+    // 2, after the line that refuses the words, or the file that was read
+    ensures refused_words { is_accepted (texts_of words.now) ≡ false
+        → Delivers (λ due. due ≡ refused_words) (K.written sink.old) (K.written sink.new) result }
+    ensures unread { is_accepted (texts_of words.now) ≡ false → source.new ≡ source.old }
+    ensures refused_file { is_accepted (texts_of words.now) ≡ true → result ≡ 2
+        → IfSome (S.left source.old) (λ bytes. IsErrAnd (requests_of bytes) (λ why.
+        Appends (K.written sink.old) (K.written sink.new) (refusal_line why))) }
+    ensures all_read { is_accepted (texts_of words.now) ≡ true → (result ≡ 0) ⊎ ((result ≡ 2) ⊎ (result ≡ 4))
+        → IfSome (S.left source.old) (λ bytes. length bytes ≤ most_bytes → IsAtEnd (S.left source.new)) }
+
+    // 3 and 4, for a fault alone, and 5
+    ensures source_failed { result ≡ 3
+        → Rose (S.faults source.old) (S.faults source.new) × Keeps (K.written sink.old) (K.written sink.new) }
+    ensures sink_failed { result ≡ 4 → Rose (K.faults sink.old) (K.faults sink.new) }
+    ensures no_memory { result ≡ 5 → Keeps (K.written sink.old) (K.written sink.new) }
+
+    // for all bytes that the source had left, and for those that were taken
+    ensures due { IfSome (S.left source.old) (λ bytes.
+        Delivers (IsDue (texts_of words.now) bytes) (K.written sink.old) (K.written sink.new) result) }
+    ensures taken { (result ≡ 0) ⊎ ((result ≡ 2) ⊎ (result ≡ 4)) → (bytes : List ℕ)
+        × Consumes (S.left source.old) (S.left source.new) bytes
+        × Delivers (IsDue (texts_of words.now) bytes) (K.written sink.old) (K.written sink.new) result }
+
+    ensures accepted { (result ≡ 0) ⊎ (result ≡ 3) → is_accepted (texts_of words.now) ≡ true }
+    ensures at_most { TakesAtMost (S.left source.old) (S.left source.new) (most_bytes + 1) }
+    ensures complete { is_accepted (texts_of words.now) ≡ true
+        → IfSome (S.left source.old) (λ bytes. IsOk (requests_of bytes)
+        → (Rose (S.faults source.old) (S.faults source.new) → ⊥) → (Rose (K.faults sink.old) (K.faults sink.new) → ⊥)
+        → (result ≡ 0) ⊎ (result ≡ 5)) }
+{
+    match due_text(alloc, words, source, gate) {
+        Ok(due) => match write_text(sink, &due.text) {
+            Ok(()) => due.status,
+            Err(_) => SINK_FAILED,
+        },
+        Err(InputFault::Failed) => SOURCE_FAILED,
+        Err(InputFault::NoMemory) => NO_MEMORY,
+    }
+}
+
+/// Refuses words that are no text: writes so, and gives the exit status, 2, or 4 where the sink failed.
+pub fn refuse_words<K: Sink>(sink: &mut K) -> u8
+    ensures status { (result ≡ 2) ⊎ (result ≡ 4) }
+    ensures gives { Delivers (λ due. due ≡ refused_words) (K.written sink.old) (K.written sink.new) result }
+    ensures sink_failed { result ≡ 4 → Rose (K.faults sink.old) (K.faults sink.new) }
+{
+    match write_text(sink, b"refused words\n") {
+        Ok(()) => 2,
+        Err(_) => SINK_FAILED,
+    }
+}
