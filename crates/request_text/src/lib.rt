@@ -1,0 +1,6 @@
+//! The request file's text and the report's lines: a request file is read into its directives or refused at its first
+//! bad line, and the report is written line by line.
+#![tactic(auto)]
+
+pub mod report;
+pub mod request;
