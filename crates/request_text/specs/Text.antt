@@ -1,10 +1,11 @@
 -- The request text: the lines of a file, the words of a line, and the ladder of reasons for which a line is refused.
-use Rattle.std.specs.Prelude.{ℕ, ◌+◌, ◌-◌, ◌*◌, ◌%◌, ◌^◌, ◌==◌, ◌&&◌, ◌||◌, nat_eq, nat_lt, nat_le, Bool, true, false, not, if◌then◌else◌, List, [], ◌∷◌, ◌++◌, length, drop, codes, filter, filter_map, count_by, position, Option, Some, None, is_none, option_and_then, Result, Ok, Err}
-use Rattle.std.specs.List.{slice_split, starts_with, list_all}
+use Rattle.std.specs.Prelude.{ℕ, ◌+◌, ◌-◌, ◌*◌, ◌%◌, ◌^◌, ◌==◌, ◌&&◌, ◌||◌, nat_eq, nat_lt, nat_le, Bool, true, false, not, if◌then◌else◌, List, [], ◌∷◌, ◌++◌, length, take, drop, codes, filter, filter_map, count_by, position, Option, Some, None, is_none, option_and_then, Result, Ok, Err}
+use Rattle.std.specs.List.{slice_split, list_all}
 use Rattle.std.specs.Option.{option_map, ok_or}
 use Rattle.std.specs.Result.{result_ok}
-use Rattle.std.specs.Str.{bytes_eq, all_ascii_digits}
-use Rattle.std.specs.Str.Parse.{digits_value, starts_with_minus}
+use Rattle.std.specs.Char.{is_ascii_digit}
+use Rattle.std.specs.Str.{bytes_eq}
+use Rattle.std.specs.Str.Parse.{digits_value}
 use Rattle.hex.specs.Hex.{decode_of}
 use Rattle.wasm_types.specs.declared.outcome.Val.{Val}
 use Rattle.wasm_types.specs.declared.outcome.Val.TheVariants.{I32, I64}
@@ -41,6 +42,9 @@ is_printable b = nat_le 32 b && nat_le b 126
 
 -- ---- what a word stands for
 
+abbrev pub begins_with : List ℕ → List ℕ → Bool
+begins_with word front = bytes_eq (take (length front) word) front
+
 -- the bytes that hex digits of either case spell, two a byte
 abbrev pub hex_bytes : List ℕ → Option (List ℕ)
 hex_bytes word = result_ok (decode_of word)
@@ -48,7 +52,7 @@ hex_bytes word = result_ok (decode_of word)
 -- the number that a word of digits alone writes, if it is at most `most`; leading zeros are allowed
 unfoldable pub number_up_to : ℕ → List ℕ → Option ℕ
 number_up_to most word =
-    if not (is_empty word) && all_ascii_digits word && nat_le (digits_value 10 word) most
+    if not (is_empty word) && list_all is_ascii_digit word && nat_le (digits_value 10 word) most
     then Some (digits_value 10 word)
     else None
 
@@ -58,15 +62,15 @@ fuel_of word = number_up_to 4294967295 word
 -- the number, from -2^(bits-1) to 2^bits - 1, that digits after an optional `-` write, modulo 2^bits
 unfoldable pub integer_of : ℕ → List ℕ → Option ℕ
 integer_of bits text =
-    if starts_with_minus text
+    if begins_with text (codes "-")
     then option_map (λ n. (2 ^ bits - n) % 2 ^ bits) (number_up_to (2 ^ (bits - 1)) (drop 1 text))
     else number_up_to (2 ^ bits - 1) text
 
 -- an argument names its type before its number
 unfoldable pub argument_of : List ℕ → Option Val
 argument_of word =
-    if starts_with nat_eq word (codes "i32:") then option_map I32 (integer_of 32 (drop 4 word))
-    else if starts_with nat_eq word (codes "i64:") then option_map I64 (integer_of 64 (drop 4 word))
+    if begins_with word (codes "i32:") then option_map I32 (integer_of 32 (drop 4 word))
+    else if begins_with word (codes "i64:") then option_map I64 (integer_of 64 (drop 4 word))
     else None
 
 -- the arguments that these words are, if each of them is one
@@ -141,11 +145,11 @@ is_call (Call place export fuel args) = true
 abbrev pub call_count : List Directive → ℕ
 call_count directives = count_by is_call directives
 
--- what a line asks for, after these directives of the lines before it
-abbrev pub requests_on_line : List Directive → List ℕ → Result (List Directive) Reason
-requests_on_line before line =
-    if is_skipped line then Ok []
-    else (directive_of (module_names before) (call_count before) line >>= λ directive. Ok (directive ∷ []))
+-- the directives once a line is read, after these of the lines before it
+unfoldable pub requests_after : List Directive → List ℕ → Result (List Directive) Reason
+requests_after before line =
+    if is_skipped line then Ok before
+    else (directive_of (module_names before) (call_count before) line >>= λ directive. Ok (before ++ directive ∷ []))
 
 -- Why a file is refused: it is too long, or its first bad line, counted from 1, is refused for this reason.
 pub data Refusal : Type 0 where
@@ -161,8 +165,8 @@ at_line line (Err reason) = Err (BadLine line reason)
 abbrev pub requests_from : ℕ → List Directive → List (List ℕ) → Result (List Directive) Refusal
 requests_from number before [] = Ok before
 requests_from number before (line ∷ lines) = do
-  more ← at_line number (requests_on_line before line)
-  requests_from (number + 1) (before ++ more) lines
+  directives ← at_line number (requests_after before line)
+  requests_from (number + 1) directives lines
 
 -- what a request file of these bytes asks for, or why it is refused
 unfoldable pub requests_of : List ℕ → Result (List Directive) Refusal

@@ -2,5 +2,11 @@
 //! bad line, and the report is written line by line.
 #![tactic(auto)]
 
+mod numbers;
+pub mod parser;
 pub mod report;
 pub mod request;
+mod words;
+
+#[cfg(test)]
+mod tests;
