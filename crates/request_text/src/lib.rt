@@ -2,8 +2,10 @@
 //! bad line, and the report is written line by line.
 #![tactic(auto)]
 
+mod directive;
 mod numbers;
 pub mod parser;
+mod reading;
 pub mod report;
 pub mod request;
 mod words;
