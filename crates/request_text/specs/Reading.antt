@@ -4,16 +4,25 @@ use Rattle.request_text.specs.declared.request.Directive.{Directive}
 use Rattle.request_text.specs.declared.request.Directive.TheVariants.{Module, Call}
 use Rattle.request_text.specs.declared.request.Reason.{Reason}
 use Rattle.request_text.specs.declared.directive.LineFault.{LineFault}
-use Rattle.request_text.specs.declared.directive.LineFault.TheVariants.{Refused, NoMemory}
+use Rattle.request_text.specs.declared.request.ParseFault.{ParseFault}
+use Rattle.request_text.specs.declared.request.ParseFault.TheVariants.{TextFault, TooLong, NoMemory}
+use Rattle.request_text.specs.declared.directive.LineFault.TheVariants as line
+use Rattle.request_text.specs.Text.{Refusal, BadLine}
 
 -- a refusal is the definition's; want of memory says nothing
 abbrev pub Explains : {A : Type 0} → LineFault → Result A Reason → Type 0
-Explains (Refused reason) meaning = meaning ≡ Err reason
-Explains NoMemory meaning = ⊤
+Explains (line.Refused reason) meaning = meaning ≡ Err reason
+Explains line.NoMemory meaning = ⊤
 
 -- an answer is the definition's, but for want of memory
 abbrev pub Agrees : {A : Type 0} → Result A LineFault → Result A Reason → Type 0
 Agrees result meaning = MatchResult result (λ x. meaning ≡ Ok x) (λ fault. Explains fault meaning)
+
+-- the parser's answer for lines is the definition's, but for want of memory
+abbrev pub Reports : ParseFault → Result (List Directive) Refusal → Type 0
+Reports (TextFault line reason) meaning = meaning ≡ Err (BadLine line reason)
+Reports TooLong meaning = ⊥
+Reports NoMemory meaning = ⊤
 
 -- one more directive keeps within the numbers of modules and calls
 abbrev pub HasRoom : List (List ℕ) → ℕ → Directive → Type 0

@@ -13,6 +13,8 @@ use Rattle.request_text.specs.declared.request.Directive.{Directive}
 use Rattle.request_text.specs.declared.request.Directive.TheVariants.{Module, Call}
 use Rattle.request_text.specs.declared.request.Reason.{Reason}
 use Rattle.request_text.specs.declared.request.Reason.TheVariants.{BadByte, UnknownDirective, BadWords, BadName, BadHex, NameUsedTwice, TooManyModules, UnknownModule, BadFuel, BadArgument, TooManyCalls}
+use Rattle.request_text.specs.declared.request.ParseFault.{ParseFault}
+use Rattle.request_text.specs.declared.request.ParseFault.TheVariants.{TextFault, TooLong, NoMemory}
 
 -- ---- lines and words
 
@@ -155,6 +157,12 @@ requests_after before line =
 pub data Refusal : Type 0 where
   FileTooLong : Refusal
   BadLine : (line : ℕ) (reason : Reason) → Refusal
+
+-- the refusal that an answer of the parser reports; want of memory is none
+abbrev pub refusal_of : ParseFault → Option Refusal
+refusal_of (TextFault line reason) = Some (BadLine line reason)
+refusal_of TooLong = Some FileTooLong
+refusal_of NoMemory = None
 
 -- what a line gave, or its refusal by its number
 abbrev pub at_line : {A : Type 0} → ℕ → Result A Reason → Result A Refusal

@@ -1,20 +1,21 @@
 // A request file is read line by line.
 
-ghost use Rattle.std.specs.Prelude.{◌≡◌, ◌↔◌, ◌<◌, ◌≤◌, length, IfOk, IfErr, IsErrOf};
-ghost use Rattle.request_text.specs.Text.{requests_after, requests_of};
-ghost use Rattle.request_text.specs.Reading.{Explains, HasRoom};
+ghost use Rattle.std.specs.Prelude.{◌≡◌, ◌↔◌, ◌<◌, ◌≤◌, [], length, IfOk, IfErr, IfSome, IsErrOf};
+ghost use Rattle.request_text.specs.Text.{text_lines, requests_from, requests_of, refusal_of};
+ghost use Rattle.request_text.specs.Reading.{Reports};
 
-use crate::directive::{LineFault, copied, line_directive};
+use crate::directive::LineFault;
 use crate::reading::Reading;
 use crate::request::{MOST_BYTES, ParseFault, Requests};
 use std::alloc::Global;
 use wasm_types::items::Items;
 
-/// Reads a request file. Takes memory for the directives, and for the lines' names once more.
-pub fn parse(alloc: Global, text: &[u8]) -> Result<Requests, ParseFault> {
-    if text.len() > MOST_BYTES {
-        return Err(ParseFault::TooLong);
-    }
+/// Reads the lines of a request file.
+fn read_lines(alloc: Global, text: &[u8]) -> Result<Requests, ParseFault>
+    requires { length text.now ≤ 16777216 }
+    ensures requests { IfOk result (λ requests. requests_from 1 [] (text_lines text.now) ≡ Ok requests) }
+    ensures refused { IfErr result (λ fault. Reports fault (requests_from 1 [] (text_lines text.now))) }
+{
     let mut reading = Reading::new(alloc);
     let mut number = 0u32;
     for line in text.split(|byte| *byte == b'\n') {
@@ -31,4 +32,17 @@ pub fn parse(alloc: Global, text: &[u8]) -> Result<Requests, ParseFault> {
         };
     }
     Ok(Items::new(reading.directives))
+}
+
+/// Reads a request file. Takes memory for the directives, and for the names of modules once more.
+#[tactic(auto, unfolding(crate::specs::Text::requests_of))]
+pub fn parse(alloc: Global, text: &[u8]) -> Result<Requests, ParseFault>
+    ensures requests { IfOk result (λ requests. requests_of text.now ≡ Ok requests) }
+    ensures refused { IfErr result (λ fault. IfSome (refusal_of fault) (λ refusal. requests_of text.now ≡ Err refusal)) }
+    ensures too_long { IsErrOf result ParseFault.TooLong ↔ (16777216 < length text.now) }
+{
+    if text.len() > MOST_BYTES {
+        return Err(ParseFault::TooLong);
+    }
+    read_lines(alloc, text)
 }
