@@ -6,17 +6,22 @@ use Rattle.request_text.specs.declared.request.Reason.{Reason}
 use Rattle.request_text.specs.declared.directive.LineFault.{LineFault}
 use Rattle.request_text.specs.declared.request.ParseFault.{ParseFault}
 use Rattle.request_text.specs.declared.request.ParseFault.TheVariants.{TextFault, TooLong, NoMemory}
-use Rattle.request_text.specs.declared.directive.LineFault.TheVariants as line
+use Rattle.request_text.specs.declared.directive.LineFault.TheVariants as judged
 use Rattle.request_text.specs.Text.{Refusal, BadLine}
 
 -- a refusal is the definition's; want of memory says nothing
 abbrev pub Explains : {A : Type 0} → LineFault → Result A Reason → Type 0
-Explains (line.Refused reason) meaning = meaning ≡ Err reason
-Explains line.NoMemory meaning = ⊤
+Explains (judged.Refused reason) meaning = meaning ≡ Err reason
+Explains judged.NoMemory meaning = ⊤
 
 -- an answer is the definition's, but for want of memory
 abbrev pub Agrees : {A : Type 0} → Result A LineFault → Result A Reason → Type 0
 Agrees result meaning = MatchResult result (λ x. meaning ≡ Ok x) (λ fault. Explains fault meaning)
+
+-- the parser's fault for that of the line with this number
+abbrev pub fault_at : ℕ → LineFault → ParseFault
+fault_at line (judged.Refused reason) = TextFault line reason
+fault_at line judged.NoMemory = NoMemory
 
 -- the parser's answer for lines is the definition's, but for want of memory
 abbrev pub Reports : ParseFault → Result (List Directive) Refusal → Type 0

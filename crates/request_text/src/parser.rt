@@ -2,13 +2,23 @@
 
 ghost use Rattle.std.specs.Prelude.{◌≡◌, ◌↔◌, ◌<◌, ◌≤◌, [], length, IfOk, IfErr, IfSome, IsErrOf};
 ghost use Rattle.request_text.specs.Text.{text_lines, requests_from, requests_of, refusal_of};
-ghost use Rattle.request_text.specs.Reading.{Reports};
+ghost use Rattle.request_text.specs.Reading.{fault_at, Reports};
 
 use crate::directive::LineFault;
 use crate::reading::Reading;
 use crate::request::{MOST_BYTES, ParseFault, Requests};
 use std::alloc::Global;
 use wasm_types::items::Items;
+
+/// The fault of the line with this number.
+fn at_line(line: u32, fault: LineFault) -> ParseFault
+    ensures { result ≡ fault_at line fault }
+{
+    match fault {
+        LineFault::Refused(reason) => ParseFault::TextFault { line, reason },
+        LineFault::NoMemory => ParseFault::NoMemory,
+    }
+}
 
 /// Reads the lines of a request file.
 fn read_lines(alloc: Global, text: &[u8]) -> Result<Requests, ParseFault>
@@ -22,13 +32,7 @@ fn read_lines(alloc: Global, text: &[u8]) -> Result<Requests, ParseFault>
         number += 1;
         reading = match reading.after(alloc, line) {
             Ok(reading) => reading,
-            Err(LineFault::Refused(reason)) => {
-                return Err(ParseFault::TextFault {
-                    line: number,
-                    reason,
-                });
-            }
-            Err(LineFault::NoMemory) => return Err(ParseFault::NoMemory),
+            Err(fault) => return Err(at_line(number, fault)),
         };
     }
     Ok(Items::new(reading.directives))
