@@ -26,7 +26,7 @@ pub number_parsed : {E : Type 0} (word : List ℕ) (r : Result ℕ E) → Parses
     → MatchOption (result_ok r) (2 ^ 64 ≤ digits_value 10 word) (λ n. n ≡ digits_value 10 word)
 number_parsed {E = E} word r parses some digits = told r (parse_digits digits_model 64 word r parses digits)
   where
-  told : (r : Result ℕ E) → OkIff r ((0 < length word) × (digits_value 10 word < 2 ^ 64)) (digits_value 10 word)
-      → MatchOption (result_ok r) (2 ^ 64 ≤ digits_value 10 word) (λ n. n ≡ digits_value 10 word)
-  told (Ok n) h = h.1
-  told (Err e) h = let small : digits_value 10 word < 2 ^ 64 → ⊥ = λ l. h (some, l) in omega arith
+    told : (r : Result ℕ E) → OkIff r ((0 < length word) × (digits_value 10 word < 2 ^ 64)) (digits_value 10 word)
+        → MatchOption (result_ok r) (2 ^ 64 ≤ digits_value 10 word) (λ n. n ≡ digits_value 10 word)
+    told (Ok n) h = h.1
+    told (Err e) h = let small : digits_value 10 word < 2 ^ 64 → ⊥ = λ l. h (some, l) in omega arith

@@ -46,30 +46,31 @@ split-first : (text : List ℕ) → slice_split is_space text ≡ take (position
 split-first [] = refl
 split-first (b ∷ rest) = step (is_space b) (split-first rest)
   where
-  step : (s : Bool) → slice_split is_space rest ≡ take (position_or_len is_space rest) rest ∷ later_parts (drop (position_or_len is_space rest) rest)
-      → cond s ([] ∷ slice_split is_space rest) (onto_first b (slice_split is_space rest)) ≡ take (cond (not s) (1 + position_or_len is_space rest) 0) (b ∷ rest) ∷ later_parts (drop (cond (not s) (1 + position_or_len is_space rest) 0) (b ∷ rest))
-  step true h = refl
-  step false h = let one : 1 + position_or_len is_space rest ≡ suc (position_or_len is_space rest) = omega arith in rw one (ap (onto_first b) h)
+    step : (s : Bool) → slice_split is_space rest ≡ take (position_or_len is_space rest) rest ∷ later_parts (drop (position_or_len is_space rest) rest)
+        → cond s ([] ∷ slice_split is_space rest) (onto_first b (slice_split is_space rest)) ≡ take (cond (not s) (1 + position_or_len is_space rest) 0) (b ∷ rest) ∷ later_parts (drop (cond (not s) (1 + position_or_len is_space rest) 0) (b ∷ rest))
+    step true h = refl
+    step false h = let one : 1 + position_or_len is_space rest ≡ suc (position_or_len is_space rest) = omega arith in rw one (ap (onto_first b) h)
 
 -- what follows the first word has the words of the parts after it
 words-after_first : (text : List ℕ) → line_words (drop (position_or_len is_space text) text) ≡ filter is_word (later_parts (drop (position_or_len is_space text) text))
 words-after_first [] = words-is []
 words-after_first (b ∷ rest) = step (is_space b) refl (words-after_first rest)
   where
-  step : (s : Bool) → is_space b ≡ s → line_words (drop (position_or_len is_space rest) rest) ≡ filter is_word (later_parts (drop (position_or_len is_space rest) rest))
-      → line_words (drop (cond (not s) (1 + position_or_len is_space rest) 0) (b ∷ rest)) ≡ filter is_word (later_parts (drop (cond (not s) (1 + position_or_len is_space rest) 0) (b ∷ rest)))
-  step true space h = words-space b rest space ∙ words-is rest
-  step false space h = let one : 1 + position_or_len is_space rest ≡ suc (position_or_len is_space rest) = omega arith in rw one h
+    step : (s : Bool) → is_space b ≡ s → line_words (drop (position_or_len is_space rest) rest) ≡ filter is_word (later_parts (drop (position_or_len is_space rest) rest))
+        → line_words (drop (cond (not s) (1 + position_or_len is_space rest) 0) (b ∷ rest)) ≡ filter is_word (later_parts (drop (cond (not s) (1 + position_or_len is_space rest) 0) (b ∷ rest)))
+    step true space h = words-space b rest space ∙ words-is rest
+    step false space h = let one : 1 + position_or_len is_space rest ≡ suc (position_or_len is_space rest) = omega arith in rw one h
 
 -- a text that begins with no space begins with a word
 words-word : (b : ℕ) (rest : List ℕ) → is_space b ≡ false → line_words (b ∷ rest) ≡ take (position_or_len is_space (b ∷ rest)) (b ∷ rest) ∷ line_words (drop (position_or_len is_space (b ∷ rest)) (b ∷ rest))
 words-word b rest other =
     words-is (b ∷ rest) ∙ ap (filter is_word) (split-first (b ∷ rest)) ∙ kept ∙ ap (λ words. take (position_or_len is_space (b ∷ rest)) (b ∷ rest) ∷ words) (sym (words-after_first (b ∷ rest)))
   where
-  later : List (List ℕ)
-  later = later_parts (drop (position_or_len is_space (b ∷ rest)) (b ∷ rest))
-  kept : filter is_word (take (position_or_len is_space (b ∷ rest)) (b ∷ rest) ∷ later) ≡ take (position_or_len is_space (b ∷ rest)) (b ∷ rest) ∷ filter is_word later
-  kept = let one : 1 + position_or_len is_space rest ≡ suc (position_or_len is_space rest) = omega arith in rw (other, one) refl
+    later : List (List ℕ)
+    later = later_parts (drop (position_or_len is_space (b ∷ rest)) (b ∷ rest))
+
+    kept : filter is_word (take (position_or_len is_space (b ∷ rest)) (b ∷ rest) ∷ later) ≡ take (position_or_len is_space (b ∷ rest)) (b ∷ rest) ∷ filter is_word later
+    kept = let one : 1 + position_or_len is_space rest ≡ suc (position_or_len is_space rest) = omega arith in rw (other, one) refl
 
 not_true : (s : Bool) → not s ≡ true → s ≡ false
 not_true true h = cc

@@ -62,7 +62,11 @@ fn hex_bytes(alloc: Global, digits: &[u8]) -> Result<Items<u8>, LineFault>
 
 /// What the words after `module` ask for.
 #[tactic(auto, unfolding(crate::specs::Text::module_of))]
-fn module_directive(alloc: Global, names: &[Items<u8>], words: &[u8]) -> Result<Directive, LineFault>
+fn module_directive(
+    alloc: Global,
+    names: &[Items<u8>],
+    words: &[u8],
+) -> Result<Directive, LineFault>
     requires { length names.now ≤ 4096 }
     ensures meaning { Agrees result (module_of names.now (line_words words.now)) }
     ensures room { (calls : ℕ) → IfOk result (λ directive. HasRoom names.now calls directive) }

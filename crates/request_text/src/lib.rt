@@ -8,7 +8,6 @@ pub mod parser;
 mod reading;
 pub mod report;
 pub mod request;
-mod words;
-
 #[cfg(test)]
 mod tests;
+mod words;

@@ -54,9 +54,7 @@ impl Reading {
             }
             Directive::Call { .. } => calls += 1,
         }
-        directives
-            .push(directive)
-            .map_err(|_| LineFault::NoMemory)?;
+        directives.push(directive).map_err(|_| LineFault::NoMemory)?;
         Ok(Reading {
             directives,
             names,

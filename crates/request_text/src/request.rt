@@ -1,5 +1,9 @@
 // What a request file asks for, and why one is refused.
 
+ghost use Rattle.std.specs.Prelude.{◌≡◌, Some};
+ghost use Rattle.request_text.specs.Lines.{reason_text};
+
+use std::fmt;
 use thiserror::Error;
 use wasm_types::items::Items;
 use wasm_types::outcome::Val;
@@ -20,7 +24,10 @@ pub const MOST_CALLS: usize = 100_000;
 #[derive(Drop)]
 pub enum Directive {
     /// The bytes of a module, known by a name from here on.
-    Module { name: Items<u8>, bytes: Items<u8> },
+    Module {
+        name: Items<u8>,
+        bytes: Items<u8>,
+    },
     /// A call of a module's export. `module` is the place of its module line among the module lines, from 0.
     Call {
         module: u32,
@@ -34,30 +41,48 @@ pub enum Directive {
 pub type Requests = Items<Directive>;
 
 /// Why a line of a request file is refused.
-#[derive(Clone, Copy, Debug, PartialEq, Eq, Error)]
+#[derive(Clone, Copy, Debug, PartialEq, Eq)]
 pub enum Reason {
-    #[error("bad byte")]
     BadByte,
-    #[error("unknown directive")]
     UnknownDirective,
-    #[error("bad words")]
     BadWords,
-    #[error("bad name")]
     BadName,
-    #[error("bad hex")]
     BadHex,
-    #[error("name used twice")]
     NameUsedTwice,
-    #[error("too many modules")]
     TooManyModules,
-    #[error("unknown module")]
     UnknownModule,
-    #[error("bad fuel")]
     BadFuel,
-    #[error("bad argument")]
     BadArgument,
-    #[error("too many calls")]
     TooManyCalls,
+}
+
+impl Reason {
+    /// The reason in words.
+    pub fn text(self) -> &'static str
+        ensures { result.now ≡ reason_text self }
+    {
+        match self {
+            Reason::BadByte => "bad byte",
+            Reason::UnknownDirective => "unknown directive",
+            Reason::BadWords => "bad words",
+            Reason::BadName => "bad name",
+            Reason::BadHex => "bad hex",
+            Reason::NameUsedTwice => "name used twice",
+            Reason::TooManyModules => "too many modules",
+            Reason::UnknownModule => "unknown module",
+            Reason::BadFuel => "bad fuel",
+            Reason::BadArgument => "bad argument",
+            Reason::TooManyCalls => "too many calls",
+        }
+    }
+}
+
+impl fmt::Display for Reason {
+    ghost output = { λ reason. Some (reason_text reason) };
+
+    fn fmt<W: fmt::Write>(&self, f: &mut fmt::Formatter<W>) -> fmt::Result {
+        f.write_str(self.text())
+    }
 }
 
 /// Why a request file is not read. Lines count from 1.

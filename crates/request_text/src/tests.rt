@@ -1,9 +1,13 @@
 // Texts and what is read from them, and lines of the report.
 
 use crate::parser::parse;
-use crate::request::{Directive, ParseFault, Requests};
+use crate::report::{CallLine, ModuleLine, write_call, write_module, write_text_fault};
+use crate::request::{
+    Directive, MOST_BYTES, MOST_CALLS, MOST_MODULES, ParseFault, Reason, Requests,
+};
 use std::alloc::{AllocError, Global};
 use std::test::Fail;
+use wasm_types::outcome::{Outcome, TrapKind, Val};
 
 // Pushes a directive as one line: a module's name and bytes, or a call's place, export, fuel and arguments.
 fn push_directive(text: &mut String, directive: &Directive) -> Result<(), AllocError> {
@@ -89,17 +93,107 @@ fn texts_are_read_or_refused_at_their_first_bad_line(rt: HostRuntime) -> Result<
         ("module a 00\ncall b f -1", "line 2: unknown module"),
         ("module a 00\ncall a f +1 x", "line 2: bad fuel"),
         ("module a 00\ncall a f 4294967296", "line 2: bad fuel"),
-        ("module a 00\ncall a f 1 i32:4294967296", "line 2: bad argument"),
-        ("module a 00\ncall a f 1 i32:-2147483649", "line 2: bad argument"),
-        ("module a 00\ncall a f 1 i64:18446744073709551616", "line 2: bad argument"),
-        ("module a 00\ncall a f 1 i64:-9223372036854775809", "line 2: bad argument"),
+        (
+            "module a 00\ncall a f 1 i32:4294967296",
+            "line 2: bad argument",
+        ),
+        (
+            "module a 00\ncall a f 1 i32:-2147483649",
+            "line 2: bad argument",
+        ),
+        (
+            "module a 00\ncall a f 1 i64:18446744073709551616",
+            "line 2: bad argument",
+        ),
+        (
+            "module a 00\ncall a f 1 i64:-9223372036854775809",
+            "line 2: bad argument",
+        ),
         ("module a 00\ncall a f 1 i32:", "line 2: bad argument"),
         ("module a 00\ncall a f 1 i32:+1", "line 2: bad argument"),
-        ("module a 00\ncall a f 1 i32:1 f32:1", "line 2: bad argument"),
+        (
+            "module a 00\ncall a f 1 i32:1 f32:1",
+            "line 2: bad argument",
+        ),
     ];
     for (text, want) in rows {
         let got = described(alloc, &parse(alloc, text.as_bytes()))?;
         assert_eq!(rt; got.as_str(), want, "of {text}");
     }
+    Ok(())
+}
+
+#[test]
+fn the_limits_are_exact(rt: HostRuntime) -> Result<(), Fail> {
+    let alloc = rt.alloc();
+    let long = "n".repeat(alloc, 64)?;
+    let text = format!(in alloc; "module {long} 00")?;
+    assert!(rt; parse(alloc, text.as_bytes()).is_ok(), "a name of 64 bytes");
+    let text = format!(in alloc; "module n{long} 00")?;
+    let got = described(alloc, &parse(alloc, text.as_bytes()))?;
+    assert_eq!(rt; got.as_str(), "line 1: bad name");
+
+    let mut modules = String::new(alloc);
+    for k in 0..MOST_MODULES {
+        write!(modules, "module m{k} 00\n")?;
+    }
+    assert!(rt; parse(alloc, modules.as_bytes()).is_ok(), "4096 modules");
+    modules.push_str("module m 00")?;
+    let got = described(alloc, &parse(alloc, modules.as_bytes()))?;
+    assert_eq!(rt; got.as_str(), "line 4097: too many modules");
+
+    let mut calls = String::from_str(alloc, "module a 00\n")?;
+    for _ in 0..MOST_CALLS {
+        calls.push_str("call a f 1\n")?;
+    }
+    assert!(rt; parse(alloc, calls.as_bytes()).is_ok(), "100000 calls");
+    calls.push_str("call a f 1")?;
+    let got = described(alloc, &parse(alloc, calls.as_bytes()))?;
+    assert_eq!(rt; got.as_str(), "line 100002: too many calls");
+
+    let mut comment = vec![in alloc; b'#'; MOST_BYTES]?;
+    comment.push(b'#')?;
+    let got = described(alloc, &parse(alloc, comment.as_slice()))?;
+    assert_eq!(rt; got.as_str(), "file too long");
+    Ok(())
+}
+
+#[test]
+fn lines_are_appended(rt: HostRuntime) -> Result<(), Fail> {
+    let alloc = rt.alloc();
+    let mut out = Vec::new(alloc);
+    let modules = [
+        ModuleLine::Accepted,
+        ModuleLine::Malformed,
+        ModuleLine::Unsupported,
+        ModuleLine::Invalid,
+        ModuleLine::Limit,
+        ModuleLine::Segment,
+    ];
+    for line in modules {
+        write_module(alloc, &mut out, b"e", line)?;
+    }
+    let calls = [
+        CallLine::Done(Outcome::Done(None)),
+        CallLine::Done(Outcome::Done(Some(Val::I32(5)))),
+        CallLine::Done(Outcome::Done(Some(Val::I32(2147483648)))),
+        CallLine::Done(Outcome::Done(Some(Val::I64(18446744073709551615)))),
+        CallLine::Done(Outcome::Trap(TrapKind::Uninit)),
+        CallLine::Done(Outcome::Fuel),
+        CallLine::NoModule,
+        CallLine::NoExport,
+        CallLine::BadArgs,
+    ];
+    let mut k = 1u32;
+    for line in calls {
+        write_call(alloc, &mut out, k, line)?;
+        k = k.saturating_add(1);
+    }
+    write_text_fault(alloc, &mut out, 2, Reason::BadArgument)?;
+    let want =
+        "module e ok\nmodule e refused malformed\nmodule e refused unsupported\nmodule e refused invalid\n\
+        module e refused limit\nmodule e refused segment\n1 ok\n2 ok i32:5\n3 ok i32:-2147483648\n4 ok i64:-1\n\
+        5 trap uninit\n6 fuel\n7 refused module\n8 refused export\n9 refused args\nline 2: bad argument\n";
+    assert_eq!(rt; out.as_slice(), want.as_bytes());
     Ok(())
 }

@@ -9,9 +9,10 @@ use Rattle.request_text.proofs.parser.read_lines.Goals as goal
 pub loop-line-preserved : goal.loop-line-preserved
 loop-line-preserved c =
     let turn = YieldsList-turn (YieldsList-from_slice_split _ (λ b. b == 10) c.args.text.now (cc) (cc) (cc) (λ x b q k. search (rules, tests))) c.loop-line.yielded _ c.loop-line.yielded_by _ _ c.in-Some.line c.in-Some.is c.next.ensures.steps in
-    let same = c.loop-line.invariant.0 in
-    (omega (arith, length_push c.loop-line.yielded c.in-Some.line),
-     one_read (text_lines c.args.text.now) _ _ _ _ _ _ same turn c.loop-line.invariant.1 c.in-Ok.ensures.read)
+    let same = c.loop-line.invariant.0 in (
+      omega (arith, length_push c.loop-line.yielded c.in-Some.line),
+      one_read (text_lines c.args.text.now) _ _ _ _ _ _ same turn c.loop-line.invariant.1 c.in-Ok.ensures.read,
+    )
 
 pub returns-in-Err-clause-refused : goal.returns-in-Err-clause-refused
 returns-in-Err-clause-refused c =

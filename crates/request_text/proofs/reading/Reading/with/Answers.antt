@@ -9,13 +9,13 @@ invariant_of-result c =
     let names = module_names-more c.args.self.directives.items c.args.directive in
     let calls = call_count-more c.args.self.directives.items c.args.directive in
     elim c.match-directive.branch [
-      in-Module+in_ok-name-in-Module+in_ok-map_err-in-Module w ↦ record {
+      | in-Module+in_ok-name-in-Module+in_ok-map_err-in-Module w ↦ record {
         named = grind (arith, common_steps, names);
         counted = grind (arith, common_steps, calls);
         few_names = grind (arith, common_steps);
         few_calls = grind (arith, common_steps);
       }
-    | in-Call w ↦ record {
+      | in-Call w ↦ record {
         named = grind (arith, common_steps, names);
         counted = grind (arith, common_steps, calls);
         few_names = grind (arith, common_steps);
