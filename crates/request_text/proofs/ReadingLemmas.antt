@@ -1,10 +1,8 @@
 -- One more directive among those that were read.
-use Rattle.std.proofs.Common.{◌≡◌, ◌+◌, ◌++◌, ℕ, cond, List, [], ◌∷◌, arith}
+use Rattle.std.proofs.Common.{◌≡◌, ◌+◌, ◌++◌, cond, List, [], ◌∷◌}
 use Rattle.std.proofs.lemmas.List.Elements.{filter_map-append}
 use Rattle.std.proofs.lemmas.List.Sums.{sum_by-append}
 use Rattle.request_text.specs.declared.request.Directive.{Directive}
-use Rattle.request_text.specs.declared.request.Directive.TheVariants.{Module, Call}
-use Rattle.wasm_types.specs.declared.outcome.Val.{Val}
 use Rattle.request_text.specs.Text.{module_name, module_names, is_call, call_count}
 
 pub module_names-more : (before : List Directive) (directive : Directive) → module_names (before ++ directive ∷ []) ≡ module_names before ++ module_names (directive ∷ [])

@@ -1,6 +1,6 @@
 -- The lines that a run writes: the report's line of a module and of a call, and the line that tells why a request
 -- file is refused. Each ends in LF.
-use Rattle.std.specs.Prelude.{ℕ, List, [], ◌∷◌, ◌++◌, codes, Option, Some, None}
+use Rattle.std.specs.Prelude.{ℕ, List, ◌++◌, codes, Some, None}
 use Rattle.std.specs.Fmt.{decimal, signed_decimal}
 use Rattle.std.specs.Int.{cast_signed, w32, w64}
 use Rattle.wasm_types.specs.declared.outcome.Val.{Val}

@@ -71,12 +71,8 @@ fn module_directive(
     ensures meaning { Agrees result (module_of names.now (line_words words.now)) }
     ensures room { (calls : ℕ) → IfOk result (λ directive. HasRoom names.now calls directive) }
 {
-    let Some((name, rest)) = next_word(words) else {
-        return Err(LineFault::Refused(Reason::BadWords));
-    };
-    let Some((digits, rest)) = next_word(rest) else {
-        return Err(LineFault::Refused(Reason::BadWords));
-    };
+    let (name, rest) = next_word(words).ok_or(LineFault::Refused(Reason::BadWords))?;
+    let (digits, rest) = next_word(rest).ok_or(LineFault::Refused(Reason::BadWords))?;
     if next_word(rest).is_some() {
         return Err(LineFault::Refused(Reason::BadWords));
     }
@@ -101,9 +97,7 @@ fn arguments(alloc: Global, words: &[u8]) -> Result<Items<Val>, LineFault>
     let mut args = Vec::new(alloc);
     let mut rest = words;
     while let Some((word, after)) = next_word(rest) {
-        let Some(arg) = argument(word) else {
-            return Err(LineFault::Refused(Reason::BadArgument));
-        };
+        let arg = argument(word).ok_or(LineFault::Refused(Reason::BadArgument))?;
         args.push(arg).map_err(|_| LineFault::NoMemory)?;
         rest = after;
     }
@@ -122,21 +116,11 @@ fn call_directive(
     ensures meaning { Agrees result (call_of names.now calls (line_words words.now)) }
     ensures room { IfOk result (λ directive. HasRoom names.now calls directive) }
 {
-    let Some((name, rest)) = next_word(words) else {
-        return Err(LineFault::Refused(Reason::BadWords));
-    };
-    let Some((export, rest)) = next_word(rest) else {
-        return Err(LineFault::Refused(Reason::BadWords));
-    };
-    let Some((fuel_word, rest)) = next_word(rest) else {
-        return Err(LineFault::Refused(Reason::BadWords));
-    };
-    let Some(module) = place(names, name) else {
-        return Err(LineFault::Refused(Reason::UnknownModule));
-    };
-    let Some(fuel) = fuel(fuel_word) else {
-        return Err(LineFault::Refused(Reason::BadFuel));
-    };
+    let (name, rest) = next_word(words).ok_or(LineFault::Refused(Reason::BadWords))?;
+    let (export, rest) = next_word(rest).ok_or(LineFault::Refused(Reason::BadWords))?;
+    let (fuel_word, rest) = next_word(rest).ok_or(LineFault::Refused(Reason::BadWords))?;
+    let module = place(names, name).ok_or(LineFault::Refused(Reason::UnknownModule))?;
+    let fuel = fuel(fuel_word).ok_or(LineFault::Refused(Reason::BadFuel))?;
     let args = arguments(alloc, rest)?;
     if calls >= MOST_CALLS {
         return Err(LineFault::Refused(Reason::TooManyCalls));

@@ -67,13 +67,13 @@ fn push_value(line: &mut Vec<u8>, value: Val) -> Result<(), AllocError>
 {
     let mut digits = Buffer::new();
     match value {
-        Val::I32(n) => {
+        Val::I32(word) => {
             line.extend_from_slice(b"i32:")?;
-            line.extend_from_slice(digits.format(n.cast_signed()).as_bytes())
+            line.extend_from_slice(digits.format(word.cast_signed()).as_bytes())
         }
-        Val::I64(n) => {
+        Val::I64(long) => {
             line.extend_from_slice(b"i64:")?;
-            line.extend_from_slice(digits.format(n.cast_signed()).as_bytes())
+            line.extend_from_slice(digits.format(long.cast_signed()).as_bytes())
         }
     }
 }
@@ -128,7 +128,7 @@ fn call_line(alloc: Global, k: u32, line: CallLine) -> Result<Vec<u8>, AllocErro
     let mut text = Vec::from_slice(alloc, number.format(k).as_bytes())?;
     text.extend_from_slice(b" ")?;
     push_call(&mut text, line)?;
-    text.extend_from_slice(b"\n")?;
+    text.push(b'\n')?;
     Ok(text)
 }
 
