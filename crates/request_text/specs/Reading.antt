@@ -29,7 +29,7 @@ Reports (TextFault line reason) meaning = meaning ≡ Err (BadLine line reason)
 Reports TooLong meaning = ⊥
 Reports NoMemory meaning = ⊤
 
--- one more directive keeps within the numbers of modules and calls
+-- one more directive keeps within the numbers of modules and calls, and a call is of one of the modules
 abbrev pub HasRoom : List (List ℕ) → ℕ → Directive → Type 0
 HasRoom names calls (Module name bytes) = length names < 4096
-HasRoom names calls (Call place export fuel args) = calls < 100000
+HasRoom names calls (Call place export fuel args) = (calls < 100000) × (place < length names)

@@ -1,6 +1,6 @@
 // One line of a request file is read.
 
-ghost use Rattle.std.specs.Prelude.{◌≡◌, ℕ, ◌≤◌, length, IfOk, IfSome};
+ghost use Rattle.std.specs.Prelude.{◌≡◌, ℕ, ◌<◌, ◌≤◌, length, IfOk, IfSome};
 ghost use Rattle.std.specs.List.{list_all};
 ghost use Rattle.std.specs.Option.{ok_or};
 ghost use Rattle.request_text.specs.Text.{line_words, place_of, hex_bytes, arguments_of, module_of, call_of, is_printable, directive_of_words, directive_of};
@@ -35,7 +35,7 @@ pub fn copied(alloc: Global, bytes: &[u8]) -> Result<Items<u8>, LineFault>
 #[tactic(auto, unfolding(crate::specs::Text::place_of))]
 fn position(names: &[Items<u8>], name: &[u8]) -> Option<usize>
     ensures place { result ≡ place_of names.now name.now }
-    ensures within { IfSome result (λ index. index ≤ length names.now) }
+    ensures within { IfSome result (λ index. index < length names.now) }
 {
     names.iter().position(|other| other.as_slice() == name)
 }
@@ -43,7 +43,8 @@ fn position(names: &[Items<u8>], name: &[u8]) -> Option<usize>
 /// The place of the module of this name, from 0.
 fn place(names: &[Items<u8>], name: &[u8]) -> Option<u32>
     requires { length names.now ≤ 4096 }
-    ensures { result ≡ place_of names.now name.now }
+    ensures place { result ≡ place_of names.now name.now }
+    ensures within { IfSome result (λ place. place < length names.now) }
 {
     let index = position(names, name)?;
     Some(index as u32)
