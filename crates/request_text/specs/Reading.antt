@@ -1,5 +1,5 @@
 -- How the reader's answers agree with the definition of the request text.
-use Rattle.std.specs.Prelude.{◌≡◌, ◌<◌, ℕ, List, length, Result, Ok, Err, MatchResult, ⊤}
+use Rattle.std.specs.Prelude.{◌+◌, ◌&&◌, nat_lt, Bool, true, [], ◌∷◌, ◌≡◌, ◌<◌, ℕ, List, length, Result, Ok, Err, MatchResult, ⊤}
 use Rattle.request_text.specs.declared.request.Directive.{Directive}
 use Rattle.request_text.specs.declared.request.Directive.TheVariants.{Module, Call}
 use Rattle.request_text.specs.declared.request.Reason.{Reason}
@@ -33,3 +33,9 @@ Reports NoMemory meaning = ⊤
 abbrev pub HasRoom : List (List ℕ) → ℕ → Directive → Type 0
 HasRoom names calls (Module name bytes) = length names < 4096
 HasRoom names calls (Call place export fuel args) = (calls < 100000) × (place < length names)
+
+-- the test for `IsPlacedFrom`
+abbrev pub are_placed_from : ℕ → List Directive → Bool
+are_placed_from modules [] = true
+are_placed_from modules (Module name bytes ∷ rest) = are_placed_from (modules + 1) rest
+are_placed_from modules (Call place export fuel args ∷ rest) = nat_lt place modules && are_placed_from modules rest

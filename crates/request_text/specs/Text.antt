@@ -1,5 +1,5 @@
 -- The request text: the lines of a file, the words of a line, and the ladder of reasons for which a line is refused.
-use Rattle.std.specs.Prelude.{◌≤◌, IsTrue, ℕ, ◌+◌, ◌-◌, ◌%◌, ◌^◌, ◌==◌, ◌&&◌, ◌||◌, nat_lt, nat_le, Bool, true, false, not, if◌then◌else◌, List, [], ◌∷◌, ◌++◌, length, take, drop, codes, filter, filter_map, count_by, position, Option, Some, None, is_none, option_and_then, Result, Ok, Err}
+use Rattle.std.specs.Prelude.{◌<◌, ℕ, ◌+◌, ◌-◌, ◌%◌, ◌^◌, ◌==◌, ◌&&◌, ◌||◌, nat_lt, nat_le, Bool, true, false, not, if◌then◌else◌, List, [], ◌∷◌, ◌++◌, length, take, drop, codes, filter, filter_map, count_by, position, Option, Some, None, is_none, option_and_then, Result, Ok, Err}
 use Rattle.std.specs.List.{slice_split, list_all}
 use Rattle.std.specs.Option.{option_map, ok_or}
 use Rattle.std.specs.Result.{result_ok}
@@ -147,11 +147,11 @@ is_call (Call place export fuel args) = true
 abbrev pub call_count : List Directive → ℕ
 call_count directives = count_by is_call directives
 
--- each call is of a module line that stands before it, where so many module lines stand before these directives
-abbrev pub are_placed : ℕ → List Directive → Bool
-are_placed modules [] = true
-are_placed modules (Module name bytes ∷ rest) = are_placed (modules + 1) rest
-are_placed modules (Call place export fuel args ∷ rest) = nat_lt place modules && are_placed modules rest
+-- each call's module is among the module lines before it, of which so many stand before these directives
+abbrev pub IsPlacedFrom : ℕ → List Directive → Type 0
+IsPlacedFrom modules [] = Unit {0}
+IsPlacedFrom modules (Module name bytes ∷ rest) = IsPlacedFrom (modules + 1) rest
+IsPlacedFrom modules (Call place export fuel args ∷ rest) = (place < modules) × IsPlacedFrom modules rest
 
 -- the directives once a line is read, after these of the lines before it
 unfoldable pub requests_after : List Directive → List ℕ → Result (List Directive) Reason
@@ -185,10 +185,3 @@ requests_from number before (line ∷ lines) = do
 -- what a request file of these bytes asks for, or why it is refused
 unfoldable pub requests_of : List ℕ → Result (List Directive) Refusal
 requests_of text = if nat_lt 16777216 (length text) then Err FileTooLong else requests_from 1 [] (text_lines text)
-
--- What all directives that are read from a file keep: at most 4,096 modules, and at most 100,000 calls, each of a
--- module that stands before it.
-pub record IsWithinLimits (directives : List Directive) : Type 0 where
-  pub modules : length (module_names directives) ≤ 4096
-  pub calls : call_count directives ≤ 100000
-  pub placed : IsTrue (are_placed 0 directives)

@@ -1,7 +1,7 @@
 // A request file is read line by line.
 
 ghost use Rattle.std.specs.Prelude.{◌≡◌, ◌↔◌, ◌<◌, ◌≤◌, [], length, IfOk, IfErr, IfSome, IsErrOf};
-ghost use Rattle.request_text.specs.Text.{text_lines, requests_from, requests_of, refusal_of, IsWithinLimits};
+ghost use Rattle.request_text.specs.Text.{text_lines, requests_from, requests_of, refusal_of, module_names, call_count, IsPlacedFrom};
 ghost use Rattle.request_text.specs.Reading.{fault_at, Reports};
 
 use crate::directive::LineFault;
@@ -24,7 +24,9 @@ fn at_line(line: u32, fault: LineFault) -> ParseFault
 fn read_lines(alloc: Global, text: &[u8]) -> Result<Requests, ParseFault>
     requires { length text.now ≤ 16777216 }
     ensures requests { IfOk result (λ requests. requests_from 1 [] (text_lines text.now) ≡ Ok requests) }
-    ensures limits { IfOk result (λ requests. IsWithinLimits requests) }
+    ensures few_modules { IfOk result (λ requests. length (module_names requests) ≤ 4096) }
+    ensures few_calls { IfOk result (λ requests. call_count requests ≤ 100000) }
+    ensures placed { IfOk result (λ requests. IsPlacedFrom 0 requests) }
     ensures refused { IfErr result (λ fault. Reports fault (requests_from 1 [] (text_lines text.now))) }
 {
     let mut reading = Reading::new(alloc);
@@ -43,7 +45,9 @@ fn read_lines(alloc: Global, text: &[u8]) -> Result<Requests, ParseFault>
 #[tactic(auto, unfolding(crate::specs::Text::requests_of))]
 pub fn parse(alloc: Global, text: &[u8]) -> Result<Requests, ParseFault>
     ensures requests { IfOk result (λ requests. requests_of text.now ≡ Ok requests) }
-    ensures limits { IfOk result (λ requests. IsWithinLimits requests) }
+    ensures few_modules { IfOk result (λ requests. length (module_names requests) ≤ 4096) }
+    ensures few_calls { IfOk result (λ requests. call_count requests ≤ 100000) }
+    ensures placed { IfOk result (λ requests. IsPlacedFrom 0 requests) }
     ensures refused { IfErr result (λ fault. IfSome (refusal_of fault) (λ refusal. requests_of text.now ≡ Err refusal)) }
     ensures too_long { IsErrOf result ParseFault.TooLong ↔ (16777216 < length text.now) }
 {

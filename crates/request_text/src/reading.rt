@@ -1,7 +1,8 @@
 // The directives that were read so far.
 
 ghost use Rattle.std.specs.Prelude.{◌≡◌, ◌<◌, ◌≤◌, [], ◌∷◌, ◌++◌, length, IsTrue, IfOk, IfErr};
-ghost use Rattle.request_text.specs.Text.{module_names, call_count, are_placed};
+ghost use Rattle.request_text.specs.Text.{module_names, call_count};
+ghost use Rattle.request_text.specs.Reading.{are_placed_from};
 
 use crate::directive::{LineFault, copied, line_directive};
 use crate::request::Directive;
@@ -19,7 +20,7 @@ pub struct Reading {
     ghost counted: { calls ≡ call_count directives.items },
     ghost few_names: { length names.items ≤ 4096 },
     ghost few_calls: { calls ≤ 100000 },
-    ghost placed: { IsTrue (are_placed 0 directives.items) },
+    ghost placed: { IsTrue (are_placed_from 0 directives.items) },
 }
 
 impl Reading {
