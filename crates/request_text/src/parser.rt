@@ -41,7 +41,8 @@ fn read_lines(alloc: Global, text: &[u8]) -> Result<Requests, ParseFault>
     Ok(Items::new(reading.directives))
 }
 
-/// Reads a request file. Takes memory for the directives, and for the names of modules once more.
+/// Reads a request file of at most 16,777,216 bytes: its directives in file order, or its first bad line and the first
+/// reason that applies to it. `TooLong` comes before any line is read, and `NoMemory` where memory is refused.
 #[tactic(auto, unfolding(crate::specs::Text::requests_of))]
 pub fn parse(alloc: Global, text: &[u8]) -> Result<Requests, ParseFault>
     ensures requests { IfOk result (λ requests. requests_of text.now ≡ Ok requests) }

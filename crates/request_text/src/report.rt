@@ -153,7 +153,7 @@ fn append(out: &mut Vec<u8>, text: Result<Vec<u8>, AllocError>) -> Result<(), No
     out.extend_from_slice(text.as_slice()).map_err(|_| NoMemory)
 }
 
-/// Appends the report's line of a module.
+/// Appends the report's line of the module of this name. Where memory is refused, `out` stays as it was.
 pub fn write_module(
     alloc: Global,
     out: &mut Vec<u8>,
@@ -166,7 +166,7 @@ pub fn write_module(
     append(out, module_line(alloc, name, line))
 }
 
-/// Appends the report's line of the `k`-th call, from 1.
+/// Appends the report's line of the `k`-th call of the file, from 1. Where memory is refused, `out` stays as it was.
 pub fn write_call(alloc: Global, out: &mut Vec<u8>, k: u32, line: CallLine) -> Result<(), NoMemory>
     ensures line { OnOk result (out.new.items ≡ out.old.items ++ call_line k line) }
     ensures memory { OnErr result (out.new.items ≡ out.old.items) }
@@ -174,7 +174,8 @@ pub fn write_call(alloc: Global, out: &mut Vec<u8>, k: u32, line: CallLine) -> R
     append(out, call_line(alloc, k, line))
 }
 
-/// Appends the line that tells the number of a request file's refused line, from 1, and the reason.
+/// Appends the line that tells which line of a request file is refused, from 1, and why. Where memory is refused, `out`
+/// stays as it was.
 pub fn write_text_fault(
     alloc: Global,
     out: &mut Vec<u8>,

@@ -23,12 +23,13 @@ pub const MOST_CALLS: usize = 100_000;
 /// One directive of a request file.
 #[derive(Drop)]
 pub enum Directive {
-    /// The bytes of a module, known by a name from here on.
+    /// The bytes of a module binary, known by a name from here on.
     Module {
         name: Items<u8>,
         bytes: Items<u8>,
     },
-    /// A call of a module's export. `module` is the place of its module line among the module lines, from 0.
+    /// A call of a module's export with this fuel, in instructions. `module` is the place of its module line among the
+    /// module lines, from 0.
     Call {
         module: u32,
         export: Items<u8>,
@@ -40,19 +41,31 @@ pub enum Directive {
 /// The directives of a request file, in file order.
 pub type Requests = Items<Directive>;
 
-/// Why a line of a request file is refused.
+/// Why a line of a request file is refused: the first of these that applies, in this order. Source:
+/// `specs/Text.antt`, `directive_of`.
 #[derive(Clone, Copy, Debug, PartialEq, Eq)]
 pub enum Reason {
+    /// A byte is outside 0x20 to 0x7E.
     BadByte,
+    /// The first word is neither `module` nor `call`.
     UnknownDirective,
+    /// `module` without exactly two more words, or `call` with fewer than three.
     BadWords,
+    /// A module's name has more than 64 bytes.
     BadName,
+    /// A module's bytes have an odd number of digits, or a byte that is no hex digit.
     BadHex,
+    /// An earlier module line has this name.
     NameUsedTwice,
+    /// 4,096 module lines stand before.
     TooManyModules,
+    /// No earlier module line has this name.
     UnknownModule,
+    /// The fuel isn't digits alone, or is above 4,294,967,295.
     BadFuel,
+    /// An argument is no `i32:n` or `i64:n` with n in the range of its type, read as signed or as unsigned.
     BadArgument,
+    /// 100,000 call lines stand before.
     TooManyCalls,
 }
 
@@ -85,9 +98,10 @@ impl fmt::Display for Reason {
     }
 }
 
-/// Why a request file is not read. Lines count from 1.
+/// Why a request file is not read.
 #[derive(Clone, Copy, Debug, PartialEq, Eq, Error)]
 pub enum ParseFault {
+    /// The first bad line, counted from 1.
     #[error("line {line}: {reason}")]
     TextFault { line: u32, reason: Reason },
     #[error("file too long")]
