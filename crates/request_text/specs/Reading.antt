@@ -1,0 +1,41 @@
+-- How the reader's answers agree with the definition of the request text.
+use Rattle.std.specs.Prelude.{◌+◌, ◌&&◌, nat_lt, Bool, true, [], ◌∷◌, ◌≡◌, ◌<◌, ℕ, List, length, Result, Ok, Err, MatchResult, ⊤}
+use Rattle.request_text.specs.declared.request.Directive.{Directive}
+use Rattle.request_text.specs.declared.request.Directive.TheVariants.{Module, Call}
+use Rattle.request_text.specs.declared.request.Reason.{Reason}
+use Rattle.request_text.specs.declared.directive.LineFault.{LineFault}
+use Rattle.request_text.specs.declared.request.ParseFault.{ParseFault}
+use Rattle.request_text.specs.declared.request.ParseFault.TheVariants.{TextFault, TooLong, NoMemory}
+use Rattle.request_text.specs.declared.directive.LineFault.TheVariants as judged
+use Rattle.request_text.specs.Text.{Refusal, BadLine}
+
+-- a refusal is the definition's; want of memory says nothing
+abbrev pub Explains : {A : Type 0} → LineFault → Result A Reason → Type 0
+Explains (judged.Refused reason) meaning = meaning ≡ Err reason
+Explains judged.NoMemory meaning = ⊤
+
+-- an answer is the definition's, but for want of memory
+abbrev pub Agrees : {A : Type 0} → Result A LineFault → Result A Reason → Type 0
+Agrees result meaning = MatchResult result (λ x. meaning ≡ Ok x) (λ fault. Explains fault meaning)
+
+-- the parser's fault for that of the line with this number
+abbrev pub fault_at : ℕ → LineFault → ParseFault
+fault_at line (judged.Refused reason) = TextFault line reason
+fault_at line judged.NoMemory = NoMemory
+
+-- the parser's answer for lines is the definition's, but for want of memory
+abbrev pub Reports : ParseFault → Result (List Directive) Refusal → Type 0
+Reports (TextFault line reason) meaning = meaning ≡ Err (BadLine line reason)
+Reports TooLong meaning = ⊥
+Reports NoMemory meaning = ⊤
+
+-- one more directive keeps within the numbers of modules and calls, and a call is of one of the modules
+abbrev pub HasRoom : List (List ℕ) → ℕ → Directive → Type 0
+HasRoom names calls (Module name bytes) = length names < 4096
+HasRoom names calls (Call place export fuel args) = (calls < 100000) × (place < length names)
+
+-- the test for `IsPlacedFrom`
+abbrev pub are_placed_from : ℕ → List Directive → Bool
+are_placed_from modules [] = true
+are_placed_from modules (Module name bytes ∷ rest) = are_placed_from (modules + 1) rest
+are_placed_from modules (Call place export fuel args ∷ rest) = nat_lt place modules && are_placed_from modules rest

@@ -1,0 +1,187 @@
+-- The request text: the lines of a file, the words of a line, and the ladder of reasons for which a line is refused.
+use Rattle.std.specs.Prelude.{◌<◌, ℕ, ◌+◌, ◌-◌, ◌%◌, ◌^◌, ◌==◌, ◌&&◌, ◌||◌, nat_lt, nat_le, Bool, true, false, not, if◌then◌else◌, List, [], ◌∷◌, ◌++◌, length, take, drop, codes, filter, filter_map, count_by, position, Option, Some, None, is_none, option_and_then, Result, Ok, Err}
+use Rattle.std.specs.List.{slice_split, list_all}
+use Rattle.std.specs.Option.{option_map, ok_or}
+use Rattle.std.specs.Result.{result_ok}
+use Rattle.std.specs.Char.{is_ascii_digit}
+use Rattle.std.specs.Str.{bytes_eq}
+use Rattle.std.specs.Str.Parse.{digits_value}
+use Rattle.hex.specs.Hex.{decode_of}
+use Rattle.wasm_types.specs.declared.outcome.Val.{Val}
+use Rattle.wasm_types.specs.declared.outcome.Val.TheVariants.{I32, I64}
+use Rattle.request_text.specs.declared.request.Directive.{Directive}
+use Rattle.request_text.specs.declared.request.Directive.TheVariants.{Module, Call}
+use Rattle.request_text.specs.declared.request.Reason.{Reason}
+use Rattle.request_text.specs.declared.request.Reason.TheVariants.{BadByte, UnknownDirective, BadWords, BadName, BadHex, NameUsedTwice, TooManyModules, UnknownModule, BadFuel, BadArgument, TooManyCalls}
+use Rattle.request_text.specs.declared.request.ParseFault.{ParseFault}
+use Rattle.request_text.specs.declared.request.ParseFault.TheVariants.{TextFault, TooLong, NoMemory}
+
+-- ---- lines and words
+
+-- The lines of a file end in LF (10). What follows the last LF is a line too; if it is empty it has no words.
+abbrev pub text_lines : List ℕ → List (List ℕ)
+text_lines text = slice_split (λ b. b == 10) text
+
+abbrev pub is_empty : {A : Type 0} → List A → Bool
+is_empty [] = true
+is_empty (x ∷ xs) = false
+
+-- The words of a line stand between spaces (32); empty words are dropped.
+unfoldable pub line_words : List ℕ → List (List ℕ)
+line_words line = filter (λ word. not (is_empty word)) (slice_split (λ b. b == 32) line)
+
+-- A comment has `#` (35) as its first byte.
+abbrev pub is_comment : List ℕ → Bool
+is_comment [] = false
+is_comment (b ∷ rest) = b == 35
+
+-- These lines ask for nothing.
+abbrev pub is_skipped : List ℕ → Bool
+is_skipped line = is_comment line || is_empty (line_words line)
+
+abbrev pub is_printable : ℕ → Bool
+is_printable b = nat_le 32 b && nat_le b 126
+
+-- ---- what a word stands for
+
+abbrev pub begins_with : List ℕ → List ℕ → Bool
+begins_with word front = bytes_eq (take (length front) word) front
+
+-- the bytes that hex digits of either case spell, two a byte
+abbrev pub hex_bytes : List ℕ → Option (List ℕ)
+hex_bytes word = result_ok (decode_of word)
+
+-- the number that a word of digits alone writes, if it is at most `most`; leading zeros are allowed
+unfoldable pub number_up_to : ℕ → List ℕ → Option ℕ
+number_up_to most word =
+    if not (is_empty word) && list_all is_ascii_digit word && nat_le (digits_value 10 word) most
+    then Some (digits_value 10 word)
+    else None
+
+abbrev pub fuel_of : List ℕ → Option ℕ
+fuel_of word = number_up_to 4294967295 word
+
+-- the number, from -2^(bits-1) to 2^bits - 1, that digits after an optional `-` write, modulo 2^bits
+unfoldable pub integer_of : ℕ → List ℕ → Option ℕ
+integer_of bits text =
+    if begins_with text (codes "-")
+    then option_map (λ n. (2 ^ bits - n) % 2 ^ bits) (number_up_to (2 ^ (bits - 1)) (drop 1 text))
+    else number_up_to (2 ^ bits - 1) text
+
+-- an argument names its type before its number
+unfoldable pub argument_of : List ℕ → Option Val
+argument_of word =
+    if begins_with word (codes "i32:") then option_map I32 (integer_of 32 (drop 4 word))
+    else if begins_with word (codes "i64:") then option_map I64 (integer_of 64 (drop 4 word))
+    else None
+
+-- the arguments that these words are, if each of them is one
+abbrev pub arguments_of : List (List ℕ) → Option (List Val)
+arguments_of [] = Some []
+arguments_of (word ∷ words) =
+    option_and_then (λ arg. option_map (λ args. arg ∷ args) (arguments_of words)) (argument_of word)
+
+-- ---- the ladder: what a line asks for, or the first reason that applies
+
+-- the next step where the one before gave a value, else its error
+infixl 10 ◌>>=◌
+abbrev pub ◌>>=◌ : {A B E : Type 0} → Result A E → (A → Result B E) → Result B E
+Ok x >>= next = next x
+Err e >>= next = Err e
+
+-- a line is refused for this reason, unless the test holds
+abbrev pub demand : Bool → Reason → Result (Unit {0}) Reason
+demand true reason = Ok tt
+demand false reason = Err reason
+
+-- the place among these module names, from 0, of the one that is `name`
+unfoldable pub place_of : List (List ℕ) → List ℕ → Option ℕ
+place_of names name = position (λ other. bytes_eq other name) names
+
+-- the words after `module`, where module lines with these names stand before
+unfoldable pub module_of : List (List ℕ) → List (List ℕ) → Result Directive Reason
+module_of names (name ∷ digits ∷ []) = do
+  _ ← demand (nat_le (length name) 64) BadName
+  bytes ← ok_or (hex_bytes digits) BadHex
+  _ ← demand (is_none (place_of names name)) NameUsedTwice
+  _ ← demand (nat_lt (length names) 4096) TooManyModules
+  Ok (Module name bytes)
+module_of names words = Err BadWords
+
+-- the words after `call`, where so many call lines stand before
+unfoldable pub call_of : List (List ℕ) → ℕ → List (List ℕ) → Result Directive Reason
+call_of names calls (name ∷ export ∷ fuel_word ∷ words) = do
+  place ← ok_or (place_of names name) UnknownModule
+  fuel ← ok_or (fuel_of fuel_word) BadFuel
+  args ← ok_or (arguments_of words) BadArgument
+  _ ← demand (nat_lt calls 100000) TooManyCalls
+  Ok (Call place export fuel args)
+call_of names calls words = Err BadWords
+
+unfoldable pub directive_of_words : List (List ℕ) → ℕ → List (List ℕ) → Result Directive Reason
+directive_of_words names calls [] = Err UnknownDirective
+directive_of_words names calls (word ∷ words) =
+    if bytes_eq word (codes "module") then module_of names words
+    else if bytes_eq word (codes "call") then call_of names calls words
+    else Err UnknownDirective
+
+unfoldable pub directive_of : List (List ℕ) → ℕ → List ℕ → Result Directive Reason
+directive_of names calls line = do
+  _ ← demand (list_all is_printable line) BadByte
+  directive_of_words names calls (line_words line)
+
+-- ---- the file
+
+-- the name of a module line
+abbrev pub module_name : Directive → Option (List ℕ)
+module_name (Module name bytes) = Some name
+module_name (Call place export fuel args) = None
+
+abbrev pub module_names : List Directive → List (List ℕ)
+module_names directives = filter_map module_name directives
+
+abbrev pub is_call : Directive → Bool
+is_call (Module name bytes) = false
+is_call (Call place export fuel args) = true
+
+abbrev pub call_count : List Directive → ℕ
+call_count directives = count_by is_call directives
+
+-- each call's module is among the module lines before it, of which so many stand before these directives
+abbrev pub IsPlacedFrom : ℕ → List Directive → Type 0
+IsPlacedFrom modules [] = Unit {0}
+IsPlacedFrom modules (Module name bytes ∷ rest) = IsPlacedFrom (modules + 1) rest
+IsPlacedFrom modules (Call place export fuel args ∷ rest) = (place < modules) × IsPlacedFrom modules rest
+
+-- the directives once a line is read, after these of the lines before it
+unfoldable pub requests_after : List Directive → List ℕ → Result (List Directive) Reason
+requests_after before line =
+    if is_skipped line then Ok before
+    else (directive_of (module_names before) (call_count before) line >>= λ directive. Ok (before ++ directive ∷ []))
+
+-- Why a file is refused: it is too long, or its first bad line, counted from 1, is refused for this reason.
+pub data Refusal : Type 0 where
+  FileTooLong : Refusal
+  BadLine : (line : ℕ) (reason : Reason) → Refusal
+
+-- the refusal that an answer of the parser reports; want of memory is none
+abbrev pub refusal_of : ParseFault → Option Refusal
+refusal_of (TextFault line reason) = Some (BadLine line reason)
+refusal_of TooLong = Some FileTooLong
+refusal_of NoMemory = None
+
+-- what a line gave, or its refusal by its number
+abbrev pub at_line : {A : Type 0} → ℕ → Result A Reason → Result A Refusal
+at_line line (Ok x) = Ok x
+at_line line (Err reason) = Err (BadLine line reason)
+
+-- the directives before and those of the further lines, the first of which has this number
+abbrev pub requests_from : ℕ → List Directive → List (List ℕ) → Result (List Directive) Refusal
+requests_from number before [] = Ok before
+requests_from number before (line ∷ lines) = do
+  directives ← at_line number (requests_after before line)
+  requests_from (number + 1) directives lines
+
+-- what a request file of these bytes asks for, or why it is refused
+unfoldable pub requests_of : List ℕ → Result (List Directive) Refusal
+requests_of text = if nat_lt 16777216 (length text) then Err FileTooLong else requests_from 1 [] (text_lines text)

@@ -1,0 +1,59 @@
+// A request file is read line by line.
+
+ghost use Rattle.std.specs.Prelude.{◌≡◌, ◌↔◌, ◌<◌, ◌≤◌, [], length, IfOk, IfErr, IfSome, IsErrOf};
+ghost use Rattle.request_text.specs.Text.{text_lines, requests_from, requests_of, refusal_of, module_names, call_count, IsPlacedFrom};
+ghost use Rattle.request_text.specs.Reading.{fault_at, Reports};
+
+use crate::directive::LineFault;
+use crate::reading::Reading;
+use crate::request::{MOST_BYTES, ParseFault, Requests};
+use std::alloc::Global;
+use wasm_types::items::Items;
+
+/// The fault of the line with this number.
+fn at_line(line: u32, fault: LineFault) -> ParseFault
+    ensures { result ≡ fault_at line fault }
+{
+    match fault {
+        LineFault::Refused(reason) => ParseFault::TextFault { line, reason },
+        LineFault::NoMemory => ParseFault::NoMemory,
+    }
+}
+
+/// Reads the lines of a request file.
+fn read_lines(alloc: Global, text: &[u8]) -> Result<Requests, ParseFault>
+    requires { length text.now ≤ 16777216 }
+    ensures requests { IfOk result (λ requests. requests_from 1 [] (text_lines text.now) ≡ Ok requests) }
+    ensures few_modules { IfOk result (λ requests. length (module_names requests) ≤ 4096) }
+    ensures few_calls { IfOk result (λ requests. call_count requests ≤ 100000) }
+    ensures placed { IfOk result (λ requests. IsPlacedFrom 0 requests) }
+    ensures refused { IfErr result (λ fault. Reports fault (requests_from 1 [] (text_lines text.now))) }
+{
+    let mut reading = Reading::new(alloc);
+    let mut number = 0u32;
+    for line in text.split(|byte| *byte == b'\n') {
+        number += 1;
+        reading = match reading.after(alloc, line) {
+            Ok(reading) => reading,
+            Err(fault) => return Err(at_line(number, fault)),
+        };
+    }
+    Ok(Items::new(reading.directives))
+}
+
+/// Reads a request file of at most 16,777,216 bytes: its directives in file order, or its first bad line and the first
+/// reason that applies to it. `TooLong` comes before any line is read, and `NoMemory` where memory is refused.
+#[tactic(auto, unfolding(crate::specs::Text::requests_of))]
+pub fn parse(alloc: Global, text: &[u8]) -> Result<Requests, ParseFault>
+    ensures requests { IfOk result (λ requests. requests_of text.now ≡ Ok requests) }
+    ensures few_modules { IfOk result (λ requests. length (module_names requests) ≤ 4096) }
+    ensures few_calls { IfOk result (λ requests. call_count requests ≤ 100000) }
+    ensures placed { IfOk result (λ requests. IsPlacedFrom 0 requests) }
+    ensures refused { IfErr result (λ fault. IfSome (refusal_of fault) (λ refusal. requests_of text.now ≡ Err refusal)) }
+    ensures too_long { IsErrOf result ParseFault.TooLong ↔ (16777216 < length text.now) }
+{
+    if text.len() > MOST_BYTES {
+        return Err(ParseFault::TooLong);
+    }
+    read_lines(alloc, text)
+}

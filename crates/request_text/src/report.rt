@@ -1,0 +1,189 @@
+// The lines that a run writes.
+
+ghost use Rattle.std.specs.Prelude.{◌≡◌, ◌++◌, OnOk, OnErr, IfOk, IsOkAnd};
+ghost use Rattle.request_text.specs.Lines.{loading_text, module_line, value_text, trap_text, outcome_text, call_text, call_line, refusal_line};
+ghost use Rattle.request_text.specs.Text.{BadLine};
+
+use crate::request::Reason;
+use itoa::Buffer;
+use std::alloc::{AllocError, Global};
+use wasm_types::outcome::{NoMemory, Outcome, TrapKind, Val};
+
+/// How the loading of a module went.
+#[derive(Clone, Copy, Debug, PartialEq, Eq)]
+pub enum ModuleLine {
+    Accepted,
+    Malformed,
+    Unsupported,
+    Invalid,
+    Limit,
+    Segment,
+}
+
+/// How a call went.
+#[derive(Clone, Copy, Debug, PartialEq, Eq)]
+pub enum CallLine {
+    /// The call was made, and ended so.
+    Done(Outcome),
+    /// Its module was refused.
+    NoModule,
+    /// No function is exported under its name.
+    NoExport,
+    /// The arguments aren't of the function's types.
+    BadArgs,
+}
+
+fn loading_text(line: ModuleLine) -> &'static [u8]
+    ensures { result.now ≡ loading_text line }
+{
+    match line {
+        ModuleLine::Accepted => b"ok",
+        ModuleLine::Malformed => b"refused malformed",
+        ModuleLine::Unsupported => b"refused unsupported",
+        ModuleLine::Invalid => b"refused invalid",
+        ModuleLine::Limit => b"refused limit",
+        ModuleLine::Segment => b"refused segment",
+    }
+}
+
+fn trap_text(kind: TrapKind) -> &'static [u8]
+    ensures { result.now ≡ trap_text kind }
+{
+    match kind {
+        TrapKind::Unreachable => b"unreachable",
+        TrapKind::Memory => b"memory",
+        TrapKind::Element => b"element",
+        TrapKind::Uninit => b"uninit",
+        TrapKind::Signature => b"signature",
+        TrapKind::Divide => b"divide",
+        TrapKind::Overflow => b"overflow",
+        TrapKind::Exhausted => b"exhausted",
+    }
+}
+
+/// Appends a value with its type, in signed decimal.
+fn push_value(line: &mut Vec<u8>, value: Val) -> Result<(), AllocError>
+    ensures { OnOk result (line.new.items ≡ line.old.items ++ value_text value) }
+{
+    let mut digits = Buffer::new();
+    match value {
+        Val::I32(word) => {
+            line.extend_from_slice(b"i32:")?;
+            line.extend_from_slice(digits.format(word.cast_signed()).as_bytes())
+        }
+        Val::I64(long) => {
+            line.extend_from_slice(b"i64:")?;
+            line.extend_from_slice(digits.format(long.cast_signed()).as_bytes())
+        }
+    }
+}
+
+/// Appends how a call that was made ended.
+fn push_outcome(line: &mut Vec<u8>, outcome: Outcome) -> Result<(), AllocError>
+    ensures { OnOk result (line.new.items ≡ line.old.items ++ outcome_text outcome) }
+{
+    match outcome {
+        Outcome::Done(None) => line.extend_from_slice(b"ok"),
+        Outcome::Done(Some(value)) => {
+            line.extend_from_slice(b"ok ")?;
+            push_value(line, value)
+        }
+        Outcome::Trap(kind) => {
+            line.extend_from_slice(b"trap ")?;
+            line.extend_from_slice(trap_text(kind))
+        }
+        Outcome::Fuel => line.extend_from_slice(b"fuel"),
+    }
+}
+
+/// Appends how a call went.
+fn push_call(line: &mut Vec<u8>, call: CallLine) -> Result<(), AllocError>
+    ensures { OnOk result (line.new.items ≡ line.old.items ++ call_text call) }
+{
+    match call {
+        CallLine::Done(outcome) => push_outcome(line, outcome),
+        CallLine::NoModule => line.extend_from_slice(b"refused module"),
+        CallLine::NoExport => line.extend_from_slice(b"refused export"),
+        CallLine::BadArgs => line.extend_from_slice(b"refused args"),
+    }
+}
+
+#[tactic(auto, unfolding(crate::specs::Lines::module_line))]
+fn module_line(alloc: Global, name: &[u8], line: ModuleLine) -> Result<Vec<u8>, AllocError>
+    ensures { IfOk result (λ text. text.items ≡ module_line name.now line) }
+{
+    let mut text = Vec::from_slice(alloc, b"module ")?;
+    text.extend_from_slice(name)?;
+    text.extend_from_slice(b" ")?;
+    text.extend_from_slice(loading_text(line))?;
+    text.extend_from_slice(b"\n")?;
+    Ok(text)
+}
+
+#[tactic(auto, unfolding(crate::specs::Lines::call_line))]
+fn call_line(alloc: Global, k: u32, line: CallLine) -> Result<Vec<u8>, AllocError>
+    ensures { IfOk result (λ text. text.items ≡ call_line k line) }
+{
+    let mut number = Buffer::new();
+    let mut text = Vec::from_slice(alloc, number.format(k).as_bytes())?;
+    text.extend_from_slice(b" ")?;
+    push_call(&mut text, line)?;
+    text.push(b'\n')?;
+    Ok(text)
+}
+
+fn text_fault_line(alloc: Global, line: u32, reason: Reason) -> Result<Vec<u8>, AllocError>
+    ensures { IfOk result (λ text. text.items ≡ refusal_line (BadLine line reason)) }
+{
+    let mut number = Buffer::new();
+    let mut text = Vec::from_slice(alloc, b"line ")?;
+    text.extend_from_slice(number.format(line).as_bytes())?;
+    text.extend_from_slice(b": ")?;
+    text.extend_from_slice(reason.text().as_bytes())?;
+    text.extend_from_slice(b"\n")?;
+    Ok(text)
+}
+
+/// Appends a text that was made before, if it was.
+fn append(out: &mut Vec<u8>, text: Result<Vec<u8>, AllocError>) -> Result<(), NoMemory>
+    ensures text { OnOk result (IsOkAnd text (λ t. out.new.items ≡ out.old.items ++ t.items)) }
+    ensures memory { OnErr result (out.new.items ≡ out.old.items) }
+{
+    let text = text.map_err(|_| NoMemory)?;
+    out.extend_from_slice(text.as_slice()).map_err(|_| NoMemory)
+}
+
+/// Appends the report's line of the module of this name. Where memory is refused, `out` stays as it was.
+pub fn write_module(
+    alloc: Global,
+    out: &mut Vec<u8>,
+    name: &[u8],
+    line: ModuleLine,
+) -> Result<(), NoMemory>
+    ensures line { OnOk result (out.new.items ≡ out.old.items ++ module_line name.now line) }
+    ensures memory { OnErr result (out.new.items ≡ out.old.items) }
+{
+    append(out, module_line(alloc, name, line))
+}
+
+/// Appends the report's line of the `k`-th call of the file, from 1. Where memory is refused, `out` stays as it was.
+pub fn write_call(alloc: Global, out: &mut Vec<u8>, k: u32, line: CallLine) -> Result<(), NoMemory>
+    ensures line { OnOk result (out.new.items ≡ out.old.items ++ call_line k line) }
+    ensures memory { OnErr result (out.new.items ≡ out.old.items) }
+{
+    append(out, call_line(alloc, k, line))
+}
+
+/// Appends the line that tells which line of a request file is refused, from 1, and why. Where memory is refused, `out`
+/// stays as it was.
+pub fn write_text_fault(
+    alloc: Global,
+    out: &mut Vec<u8>,
+    line: u32,
+    reason: Reason,
+) -> Result<(), NoMemory>
+    ensures line { OnOk result (out.new.items ≡ out.old.items ++ refusal_line (BadLine line reason)) }
+    ensures memory { OnErr result (out.new.items ≡ out.old.items) }
+{
+    append(out, text_fault_line(alloc, line, reason))
+}

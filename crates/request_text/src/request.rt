@@ -1,0 +1,111 @@
+// What a request file asks for, and why one is refused.
+
+ghost use Rattle.std.specs.Prelude.{◌≡◌, Some};
+ghost use Rattle.request_text.specs.Lines.{reason_text};
+
+use std::fmt;
+use thiserror::Error;
+use wasm_types::items::Items;
+use wasm_types::outcome::Val;
+
+/// The greatest size of a request file, in bytes.
+pub const MOST_BYTES: usize = 16_777_216;
+
+/// The greatest length of a module's name, in bytes.
+pub const MOST_NAME_BYTES: usize = 64;
+
+/// The greatest number of module lines of a request file.
+pub const MOST_MODULES: usize = 4_096;
+
+/// The greatest number of call lines of a request file.
+pub const MOST_CALLS: usize = 100_000;
+
+/// One directive of a request file.
+#[derive(Drop)]
+pub enum Directive {
+    /// The bytes of a module binary, known by a name from here on.
+    Module {
+        name: Items<u8>,
+        bytes: Items<u8>,
+    },
+    /// A call of a module's export with this fuel, in instructions. `module` is the place of its module line among the
+    /// module lines, from 0.
+    Call {
+        module: u32,
+        export: Items<u8>,
+        fuel: u32,
+        args: Items<Val>,
+    },
+}
+
+/// The directives of a request file, in file order.
+pub type Requests = Items<Directive>;
+
+/// Why a line of a request file is refused: the first of these that applies, in this order. Source:
+/// `specs/Text.antt`, `directive_of`.
+#[derive(Clone, Copy, Debug, PartialEq, Eq)]
+pub enum Reason {
+    /// A byte is outside 0x20 to 0x7E.
+    BadByte,
+    /// The first word is neither `module` nor `call`.
+    UnknownDirective,
+    /// `module` without exactly two more words, or `call` with fewer than three.
+    BadWords,
+    /// A module's name has more than 64 bytes.
+    BadName,
+    /// A module's bytes have an odd number of digits, or a byte that is no hex digit.
+    BadHex,
+    /// An earlier module line has this name.
+    NameUsedTwice,
+    /// 4,096 module lines stand before.
+    TooManyModules,
+    /// No earlier module line has this name.
+    UnknownModule,
+    /// The fuel isn't digits alone, or is above 4,294,967,295.
+    BadFuel,
+    /// An argument is no `i32:n` or `i64:n` with n in the range of its type, read as signed or as unsigned.
+    BadArgument,
+    /// 100,000 call lines stand before.
+    TooManyCalls,
+}
+
+impl Reason {
+    /// The reason in words.
+    pub fn text(self) -> &'static str
+        ensures { result.now ≡ reason_text self }
+    {
+        match self {
+            Reason::BadByte => "bad byte",
+            Reason::UnknownDirective => "unknown directive",
+            Reason::BadWords => "bad words",
+            Reason::BadName => "bad name",
+            Reason::BadHex => "bad hex",
+            Reason::NameUsedTwice => "name used twice",
+            Reason::TooManyModules => "too many modules",
+            Reason::UnknownModule => "unknown module",
+            Reason::BadFuel => "bad fuel",
+            Reason::BadArgument => "bad argument",
+            Reason::TooManyCalls => "too many calls",
+        }
+    }
+}
+
+impl fmt::Display for Reason {
+    ghost output = { λ reason. Some (reason_text reason) };
+
+    fn fmt<W: fmt::Write>(&self, f: &mut fmt::Formatter<W>) -> fmt::Result {
+        f.write_str(self.text())
+    }
+}
+
+/// Why a request file is not read.
+#[derive(Clone, Copy, Debug, PartialEq, Eq, Error)]
+pub enum ParseFault {
+    /// The first bad line, counted from 1.
+    #[error("line {line}: {reason}")]
+    TextFault { line: u32, reason: Reason },
+    #[error("file too long")]
+    TooLong,
+    #[error("out of memory")]
+    NoMemory,
+}
