@@ -5,7 +5,8 @@ use Rattle.std.specs.Io.KnownBytes.{Consumes, IsAtEnd}
 use Rattle.host_run.specs.FileLimit.{most_bytes}
 use Rattle.host_run.specs.Serving.{Answer, IsAnswer, IsDue, refused}
 use Rattle.host_run.specs.Streams.{ReadsInput}
-use Rattle.host_run.specs.Text.{FileTooLong, refusal_line, requests_of}
+use Rattle.request_text.specs.Lines.{refusal_line}
+use Rattle.request_text.specs.Text.{FileTooLong, requests_of}
 use Rattle.command_line.specs.Words.{is_accepted, options_of}
 use Rattle.command_line.specs.declared.options.Options.{Options}
 

@@ -1,2 +1,3 @@
 pub mod DueLemmas
 pub mod StreamLemmas
+pub mod ReportLemmas

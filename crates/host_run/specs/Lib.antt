@@ -1,4 +1,6 @@
+pub mod Entries
 pub mod FileLimit
+pub mod Progress
+pub mod Report
 pub mod Serving
 pub mod Streams
-pub mod Text

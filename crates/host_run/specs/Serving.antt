@@ -4,7 +4,9 @@ use Rattle.std.specs.Borrow.{Bor}
 use Rattle.std.specs.declared.option.Option.{Option}
 use Rattle.std.specs.Io.KnownBytes.{Appends}
 use Rattle.host_run.specs.Streams.{AppendsPart}
-use Rattle.host_run.specs.Text.{IsReport, refusal_line, requests_of}
+use Rattle.host_run.specs.Report.{IsReport}
+use Rattle.request_text.specs.Lines.{refusal_line}
+use Rattle.request_text.specs.Text.{requests_of}
 use Rattle.command_line.specs.Words.{is_accepted, options_of}
 use Rattle.host_run.specs.declared.due.Due.{Due}
 use Rattle.command_line.specs.declared.options.Options.{Options}

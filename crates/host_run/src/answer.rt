@@ -1,13 +1,18 @@
 //! What a request file is answered.
-ghost use Rattle.std.specs.Prelude.{◌≡◌, ◌⊎◌, IfOk, IsSomeAnd};
+ghost use Rattle.std.specs.Prelude.{◌≡◌, ◌⊎◌, ◌<◌, IfOk, IsSomeAnd};
 ghost use Rattle.host_run.specs.Serving.{IsAnswer, refused, shown};
-ghost use Rattle.host_run.specs.Text.{refusal_line, refusal_of};
+ghost use Rattle.request_text.specs.Lines.{refusal_line};
+ghost use Rattle.request_text.specs.Text.{refusal_of};
 
 use crate::due::{Due, refusal};
-use crate::text::{ParseFault, parse, report};
+use crate::reporting::report;
 use command_line::Options;
 use host_edge::Gate;
-use std::alloc::{AllocError, Global};
+use request_text::parser::parse;
+use request_text::report::write_text_fault;
+use request_text::request::ParseFault;
+use std::alloc::Global;
+use wasm_types::outcome::NoMemory;
 
 // What a request file of these bytes is answered, once its calls are made.
 pub(crate) fn answer<G: Gate>(
@@ -15,13 +20,14 @@ pub(crate) fn answer<G: Gate>(
     options: &Options,
     bytes: &[u8],
     gate: &G,
-) -> Result<Due, AllocError>
+) -> Result<Due, NoMemory>
+    requires { 0 < options.now.depth }
     ensures answer { IfOk result (λ due. IsAnswer options.now bytes.now (shown due)) }
     ensures status { IfOk result (λ due. (due.status ≡ 0) ⊎ (due.status ≡ 2)) }
 {
     match parse(alloc, bytes) {
         Ok(requests) => {
-            let text = report(alloc, options, &requests, gate)?;
+            let text = report(alloc, options, requests.as_slice(), gate)?;
             Ok(Due { status: 0, text })
         }
         Err(fault) => refused_file(alloc, fault),
@@ -29,12 +35,16 @@ pub(crate) fn answer<G: Gate>(
 }
 
 // What is due for a request file that is refused, unless the fault was want of memory.
-fn refused_file(alloc: Global, fault: ParseFault) -> Result<Due, AllocError>
+fn refused_file(alloc: Global, fault: ParseFault) -> Result<Due, NoMemory>
     ensures { IfOk result (λ due. IsSomeAnd (refusal_of fault) (λ why. shown due ≡ refused (refusal_line why))) }
 {
     match fault {
-        ParseFault::TextFault { .. } => refusal(alloc, b"line 1: bad byte\n"),
+        ParseFault::TextFault { line, reason } => {
+            let mut text = Vec::new(alloc);
+            write_text_fault(alloc, &mut text, line, reason)?;
+            Ok(Due { status: 2, text })
+        }
         ParseFault::TooLong => refusal(alloc, b"file too long\n"),
-        ParseFault::NoMemory => Err(AllocError),
+        ParseFault::NoMemory => Err(NoMemory),
     }
 }

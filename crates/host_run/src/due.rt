@@ -11,7 +11,8 @@ use crate::answer::answer;
 use crate::streams::{InputFault, read_input};
 use command_line::{WordsFault, read_options};
 use host_edge::{Gate, Source};
-use std::alloc::{AllocError, Global};
+use std::alloc::Global;
+use wasm_types::outcome::NoMemory;
 
 // A status, and the text that is due before it.
 #[derive(Drop)]
@@ -51,9 +52,9 @@ pub(crate) fn due_text<S: Source, G: Gate>(
 }
 
 // What is due for a refusal: this line, with status 2.
-pub(crate) fn refusal(alloc: Global, line: &[u8]) -> Result<Due, AllocError>
+pub(crate) fn refusal(alloc: Global, line: &[u8]) -> Result<Due, NoMemory>
     ensures { IfOk result (λ due. shown due ≡ refused line.now) }
 {
-    let text = line.to_vec(alloc)?;
+    let text = line.to_vec(alloc).map_err(|_| NoMemory)?;
     Ok(Due { status: 2, text })
 }

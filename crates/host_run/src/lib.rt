@@ -4,9 +4,10 @@
 mod answer;
 mod due;
 mod file_limit;
+mod modules;
+mod reporting;
 mod serving;
 mod streams;
-mod text;
 
 pub use serving::{refuse_words, serve};
 

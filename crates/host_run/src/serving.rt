@@ -5,7 +5,9 @@ ghost use Rattle.host_edge.specs.Streams.{Rose};
 ghost use Rattle.host_run.specs.FileLimit.{most_bytes};
 ghost use Rattle.host_run.specs.Serving.{Delivers, IsDue, IsStatus, refused_words, texts_of};
 ghost use Rattle.host_run.specs.Streams.{TakesAtMost};
-ghost use Rattle.host_run.specs.Text.{IsReport, refusal_line, requests_of};
+ghost use Rattle.host_run.specs.Report.{IsReport};
+ghost use Rattle.request_text.specs.Lines.{refusal_line};
+ghost use Rattle.request_text.specs.Text.{requests_of};
 ghost use Rattle.command_line.specs.Words.{is_accepted, options_of};
 
 use crate::due::due_text;

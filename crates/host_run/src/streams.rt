@@ -9,6 +9,7 @@ use crate::file_limit::MOST_BYTES;
 use host_edge::{Failed, Sink, Source};
 use std::alloc::{AllocError, Global};
 use thiserror::Error;
+use wasm_types::outcome::NoMemory;
 
 /// Why an input was not read.
 #[derive(Clone, Copy, Debug, PartialEq, Eq, Error)]
@@ -27,6 +28,16 @@ impl From<AllocError> for InputFault {
     ghost from_gives = { λ _ e. e ≡ NoMemory };
 
     fn from(_: AllocError) -> Self {
+        InputFault::NoMemory
+    }
+}
+
+impl From<NoMemory> for InputFault {
+    ghost use Rattle.host_run.specs.declared.streams.InputFault.TheVariants.{NoMemory as MemoryFault};
+
+    ghost from_gives = { λ _ e. e ≡ MemoryFault };
+
+    fn from(_: NoMemory) -> Self {
         InputFault::NoMemory
     }
 }
