@@ -1,5 +1,5 @@
 -- What is left of bytes after an item.
-use Rattle.std.proofs.Common.{◌≡◌, ℕ, ◌+◌, ◌-◌, ◌<◌, ◌≤◌, ◌⊎◌, ◌↔◌, inl, inr, List, [], ◌∷◌, ◌++◌, length, take, drop, refl, sym, ap, ◌∙◌, subst, arith, length-append, ℤ, pos, ◌+ℤ◌, ◌*ℤ◌, ◌*◌, IsTrue, nat_eq}
+use Rattle.std.proofs.Common.{◌≡◌, ℕ, ◌-◌, ◌<◌, ◌≤◌, ◌↔◌, inl, inr, List, [], ◌∷◌, ◌++◌, length, take, drop, refl, sym, ap, ◌∙◌, subst, arith, length-append, ℤ, pos, ◌+ℤ◌, ◌*ℤ◌, IsTrue, nat_eq}
 use Rattle.std.specs.Prelude.{slice_index_or}
 use Rattle.std.proofs.lemmas.List.{drop_at, take-append-drop, length-drop, drop_all, append_assoc, take_all}
 use Rattle.std.proofs.lemmas.Bool.{eqb-true, eq-eqb}
@@ -43,7 +43,8 @@ moved whole r place t =
 pub left : (p : Position) → p.place ≤ length p.whole → IsTrue (nat_eq p.place (length p.whole)) ↔ (rest p ≡ [])
 left p h = (
   λ e. drop_all p.place p.whole (omega (arith, eqb-true p.place (length p.whole) e)),
-  λ e. eq-eqb p.place (length p.whole) (omega (arith, h, ap length e, length-drop p.place p.whole)))
+  λ e. eq-eqb p.place (length p.whole) (omega (arith, h, ap length e, length-drop p.place p.whole)),
+)
 
 -- going to where r is left
 pub goes : (p : Position) (r : List ℕ) → IsTail r (rest p) → IsMoved p (record { whole = p.whole; place = length p.whole - length r }) r
@@ -58,7 +59,8 @@ pub read_is : {A : Type 0} (Takes : A → List ℕ → List ℕ → Type 0) (x :
 read_is Takes x old new bytes r e h m = record {
   whole = m.whole;
   within = m.within;
-  spelled = subst (λ (l : List ℕ). Takes x (rest old) l) (sym m.rest) (subst (λ (l : List ℕ). Takes x l r) e h) }
+  spelled = subst (λ (l : List ℕ). Takes x (rest old) l) (sym m.rest) (subst (λ (l : List ℕ). Takes x l r) e h);
+}
 
 -- a byte that goes on, before a signed number
 pub signed_next : (n : ℕ) (high z : ℤ) (bytes r : List ℕ) → 0 < length bytes → 128 ≤ slice_index_or bytes 0 0 → 7 < n

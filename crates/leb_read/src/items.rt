@@ -16,7 +16,11 @@ pub(crate) fn read_unsigned(bytes: &[u8], bits: u32) -> Option<(u32, &[u8])>
         [byte, rest @ ..] => {
             let byte = u32::from(*byte);
             if byte < 128 {
-                if u64::from(byte) < 1 << bits { Some((byte, rest)) } else { None }
+                if u64::from(byte) < 1 << bits {
+                    Some((byte, rest))
+                } else {
+                    None
+                }
             } else if bits > 7 {
                 match read_unsigned(rest, bits - 7) {
                     Some((high, rest)) => Some((128 * high + (byte - 128), rest)),
@@ -43,9 +47,17 @@ pub(crate) fn read_signed(bytes: &[u8], bits: u32) -> Option<(i64, &[u8])>
             let byte = *byte;
             let half: u64 = 1 << (bits - 1);
             if byte < 64 {
-                if u64::from(byte) < half { Some((i64::from(byte), rest)) } else { None }
+                if u64::from(byte) < half {
+                    Some((i64::from(byte), rest))
+                } else {
+                    None
+                }
             } else if byte < 128 {
-                if 128 <= u64::from(byte) + half { Some((i64::from(byte) - 128, rest)) } else { None }
+                if 128 <= u64::from(byte) + half {
+                    Some((i64::from(byte) - 128, rest))
+                } else {
+                    None
+                }
             } else if bits > 7 {
                 match read_signed(rest, bits - 7) {
                     Some((high, rest)) => Some((128 * high + i64::from(byte - 128), rest)),

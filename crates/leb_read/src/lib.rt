@@ -6,3 +6,5 @@
 pub mod cursor;
 mod items;
 pub mod laws;
+#[cfg(test)]
+mod tests;

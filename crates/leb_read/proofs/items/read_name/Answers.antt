@@ -1,4 +1,4 @@
-use Rattle.std.proofs.Common.{◌≡◌, true, false, ◌∙◌, sym, ap, subst, IsTrue}
+use Rattle.std.proofs.Common.{subst, IsTrue}
 use Rattle.std.specs.Prelude.{IsUtf8, List, ℕ}
 use Rattle.wasm_spec.proofs.UnambiguousNumbers.{bytes-unique}
 use Rattle.leb_read.proofs.items.read_name.Goals as goal

@@ -12,4 +12,5 @@ pub returns-in-None : goal.returns-in-None
 returns-in-None c = record {
   stays = refl;
   place = ap (λ (p : Position). p.place) c.self.view_is;
-  none = λ xs after h. c.in-None.ensures xs after (subst (λ (l : List ℕ). TakesName xs l after) (sym c.left.ensures) h) }
+  none = λ xs after h. c.in-None.ensures xs after (subst (λ (l : List ℕ). TakesName xs l after) (sym c.left.ensures) h);
+}
