@@ -1,0 +1,4 @@
+pub mod Decoding
+pub mod Built
+pub mod Trees
+pub mod Sections
