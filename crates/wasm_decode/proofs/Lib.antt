@@ -1,1 +1,4 @@
 pub mod Each
+pub mod SectionList
+pub mod Steps
+pub mod Fields

@@ -38,7 +38,17 @@ fn read_section<'a>(cursor: &mut Cursor<'a>) -> Result<Section<'a>, DecodeFault>
 fn is_custom(contents: &[u8]) -> bool
     ensures { IsTrue result ↔ IsCustom contents.now }
 {
-    Cursor::new(contents).name().is_ok()
+    match Cursor::new(contents).name() {
+        Ok(_) => true,
+        Err(_) => false,
+    }
+}
+
+/// Whether a section of this id may follow one of the id `last`. Source: section 5.5.15.
+fn is_in_order(last: u8, id: u8) -> bool
+    ensures { IsTrue result ↔ ((last < id) × (id ≤ 11)) }
+{
+    last < id && id <= 11
 }
 
 /// The sections other than custom, if the bytes are sections in their order.
@@ -57,9 +67,10 @@ pub(crate) fn read_sections<'a>(alloc: Global, bytes: &'a [u8]) -> Result<Vec<Se
             if !is_custom(section.contents) {
                 return Err(DecodeFault::Malformed);
             }
-        } else if section.id <= last || section.id > 11 {
-            return Err(DecodeFault::Malformed);
         } else {
+            if !is_in_order(last, section.id) {
+                return Err(DecodeFault::Malformed);
+            }
             last = section.id;
             found.push(section)?;
         }
@@ -71,10 +82,14 @@ pub(crate) fn read_sections<'a>(alloc: Global, bytes: &'a [u8]) -> Result<Vec<Se
 pub(crate) fn find_contents<'a>(sections: &[Section<'a>], id: u8) -> Option<&'a [u8]>
     ensures { option_map (λ c. c.now) result ≡ contents_of id (map section_of sections.now) }
 {
-    for section in sections {
-        if section.id == id {
-            return Some(section.contents);
+    match sections {
+        [] => None,
+        [first, others @ ..] => {
+            if first.id == id {
+                Some(first.contents)
+            } else {
+                find_contents(others, id)
+            }
         }
     }
-    None
 }

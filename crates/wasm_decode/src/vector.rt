@@ -37,8 +37,13 @@ pub(crate) fn decode_section<T: Item>(alloc: Global, contents: Option<&[u8]>) ->
     };
     let mut cursor = Cursor::new(contents);
     match decode_vec(alloc, &mut cursor) {
-        Ok(items) if cursor.is_at_end() => Ok(items),
-        Ok(_) => Err(DecodeFault::Malformed),
+        Ok(items) => {
+            if cursor.is_at_end() {
+                Ok(items)
+            } else {
+                Err(DecodeFault::Malformed)
+            }
+        }
         Err(fault) => Err(fault),
     }
 }
