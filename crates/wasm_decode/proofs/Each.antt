@@ -1,5 +1,5 @@
 -- Items one after the other, read from front to back.
-use Rattle.std.proofs.Common.{◌≡◌, ℕ, ◌+◌, ◌-◌, ◌<◌, ◌≤◌, ◌⊎◌, ◌↔◌, inl, inr, Bool, IsTrue, List, [], ◌∷◌, ◌++◌, length, map, refl, sym, ap, ◌∙◌, subst, arith}
+use Rattle.std.proofs.Common.{◌≡◌, ℕ, ◌-◌, ◌<◌, ◌↔◌, inl, inr, Bool, IsTrue, List, [], ◌∷◌, ◌++◌, length, refl, sym, ap, ◌∙◌, subst, arith}
 use Rattle.wasm_spec.specs.Numbers.{TakesUnsigned, TakesEach, TakesVec, TakesBytes, IsUnambiguous}
 use Rattle.wasm_spec.proofs.UnambiguousNumbers.{unsigned-unique, vec-unique, bytes-unique}
 use Rattle.std.specs.Prelude.{Option, Some, None}
@@ -98,10 +98,10 @@ spelled-both Takes Is xs None h e = h
 spelled-both Takes Is xs (Some bytes) h e = vec-both Takes Is xs bytes [] h e
 
 -- where there is none of the one, there is none of the other
-pub none-through : {A B : Type 0} (P : A → Type 0) (Q : B → Type 0) (part : B → A) (fault : DecodeFault)
-    → ((b : B) → Q b → P (part b)) → IsNone P fault → IsNone Q fault
-none-through P Q part Malformed through none = λ b q. none (part b) (through b q)
-none-through P Q part NoMemory through none = tt
+pub none-through : {A B : Type 0} (P : A → Type 0) (Q : B → Type 0) (fault : DecodeFault)
+    → ((b : B) → Q b → (a : A) × P a) → IsNone P fault → IsNone Q fault
+none-through P Q Malformed through none = λ b q. let m = through b q in none m.0 m.1
+none-through P Q NoMemory through none = tt
 
 pub begins-through : {A B : Type 0} (P : A → List ℕ → List ℕ → Type 0) (Q : B → List ℕ → List ℕ → Type 0) (from here : List ℕ) (fault : DecodeFault)
     → ((b : B) (after : List ℕ) → Q b from after → (a : A) × (mid : List ℕ) × P a here mid) → BeginsWithNone P here fault → BeginsWithNone Q from fault
@@ -113,7 +113,8 @@ pub nothing-if : (o : Option (List ℕ)) (bytes r : List ℕ) (n : ℕ) (b : Boo
     → IsTrue b ↔ (r ≡ []) → IsTrue b ↔ SpellsNothing o
 nothing-if o bytes r n b e h z d = (
   λ t. subst SpellsNothing (sym e) (subst (λ (k : ℕ). TakesUnsigned 32 k bytes []) z (subst (λ (l : List ℕ). TakesUnsigned 32 n bytes l) (d.0 t) h)),
-  λ s. let u = unsigned-unique 32 n 0 bytes r [] h (subst SpellsNothing e s) in d.1 u.1)
+  λ s. let u = unsigned-unique 32 n 0 bytes r [] h (subst SpellsNothing e s) in d.1 u.1,
+)
 
 pub nothing-not : (o : Option (List ℕ)) (bytes r : List ℕ) (n : ℕ) → o ≡ Some bytes → TakesUnsigned 32 n bytes r → (n ≡ 0 → ⊥) → SpellsNothing o → ⊥
 nothing-not o bytes r n e h z s = let u = unsigned-unique 32 n 0 bytes r [] h (subst SpellsNothing e s) in z u.0
@@ -132,3 +133,20 @@ bytes-cut ys bytes after mid n t count =
 pub bytes-same : (xs ys bytes r after mid : List ℕ) (n : ℕ) → TakesBytes ys bytes after → TakesUnsigned 32 n bytes mid → length xs ≡ n → mid ≡ xs ++ r → (ys ≡ xs) × (after ≡ r)
 bytes-same xs ys bytes r after mid n t count l e =
     bytes-unique ys xs bytes after r t (record { mid = mid; count = subst (λ (k : ℕ). TakesUnsigned 32 k bytes mid) (sym l) count; items = e })
+
+-- a section that spells nothing has no items of any kind
+pub nothing-vec : {A : Type 0} (Takes : A → List ℕ → List ℕ → Type 0) (xs : List A) (o : Option (List ℕ)) → SpellsNothing o → xs ≡ [] → SpellsVec Takes xs o
+nothing-vec Takes xs None n e = e
+nothing-vec {A = A} Takes xs (Some bytes) n e =
+    subst (λ (l : List A). TakesVec Takes l bytes []) (sym e) (record { mid = []; count = n; items = refl })
+
+pub vec-nothing : {A : Type 0} (Takes : A → List ℕ → List ℕ → Type 0) (xs : List A) (o : Option (List ℕ)) → SpellsVec Takes xs o → xs ≡ [] → SpellsNothing o
+vec-nothing Takes xs None h e = tt
+vec-nothing {A = A} Takes xs (Some bytes) h e =
+    let v = subst (λ (l : List A). TakesVec Takes l bytes []) e h in
+    subst (λ (l : List ℕ). TakesUnsigned 32 0 bytes l) (sym v.items) v.count
+
+-- the items of a section are told by its contents
+pub spelled-unique : {A : Type 0} (Takes : A → List ℕ → List ℕ → Type 0) → IsUnambiguous Takes → (xs ys : List A) (o : Option (List ℕ)) → SpellsVec Takes xs o → SpellsVec Takes ys o → xs ≡ ys
+spelled-unique Takes u xs ys None a b = a ∙ sym b
+spelled-unique Takes u xs ys (Some bytes) a b = let v = vec-unique Takes u xs ys bytes [] [] a b in v.0

@@ -1,5 +1,5 @@
 -- Types, exports and bodies, of which a front has been read.
-use Rattle.std.proofs.Common.{◌≡◌, ℕ, ◌+◌, ◌^◌, ◌<◌, ◌≤◌, ◌⊎◌, inl, inr, List, [], ◌∷◌, ◌++◌, length, map, flat_map, replicate, refl, sym, ap, ◌∙◌, subst, arith, length-append}
+use Rattle.std.proofs.Common.{◌≡◌, ℕ, ◌+◌, List, [], ◌∷◌, ◌++◌, length, flat_map, replicate, refl, sym, ap, ◌∙◌, subst, arith, length-append}
 use Rattle.std.proofs.lemmas.List.{length-replicate}
 use Rattle.wasm_types.specs.declared.types.ValType.{ValType}
 use Rattle.wasm_types.specs.declared.types.FuncType.{FuncType}
@@ -10,8 +10,8 @@ use Rattle.wasm_types.specs.Tree.{Code, locals_of}
 use Rattle.wasm_spec.specs.Numbers.{TakesUnsigned, TakesVec, TakesName}
 use Rattle.wasm_spec.specs.TypeGrammar.{TakesValType, TakesFuncType}
 use Rattle.wasm_spec.specs.InstrGrammar.{TakesExpr}
-use Rattle.wasm_spec.specs.Grammar.{TakesExport, TakesExportDesc, TakesLocalRun, Body, TakesBody, TakesSizedBody}
-use Rattle.wasm_spec.proofs.UnambiguousNumbers.{same_first, same_others, unsigned-unique, vec-unique, name-unique}
+use Rattle.wasm_spec.specs.Grammar.{TakesExport, TakesExportDesc, TakesLocalRun, Body, TakesBody}
+use Rattle.wasm_spec.proofs.UnambiguousNumbers.{same_others, vec-unique, name-unique}
 use Rattle.wasm_spec.proofs.UnambiguousTypes.{val_type-unique}
 use Rattle.wasm_spec.proofs.UnambiguousModules.{local_run-unique}
 use Rattle.wasm_decode.specs.Built.{Each, IsI32, IsBuiltType, IsBuiltExport, IsBuiltCode, IsBuiltBody}
@@ -26,6 +26,7 @@ type-params t bytes a after e h =
 
 pub type-results : (t : FuncType) (qs : List ValType) (bytes a mid after : List ℕ) → bytes ≡ 0x60 ∷ a → TakesVec (Both TakesValType IsI32) qs a mid
     → Both TakesFuncType IsBuiltType t bytes after → (rs : List ValType) × (end : List ℕ) × TakesVec (Both TakesValType IsI32) rs mid end
+unfolding type-params
 type-results t qs bytes a mid after e v h =
     let p = type-params t bytes a after e h in
     let q = vec-parts TakesValType IsI32 qs a mid v in

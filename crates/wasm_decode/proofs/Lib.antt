@@ -2,3 +2,4 @@ pub mod Each
 pub mod SectionList
 pub mod Steps
 pub mod Fields
+pub mod Modules

@@ -1,11 +1,11 @@
 -- The sections of a module, read from front to back.
 use Rattle.std.proofs.Common.{◌≡◌, ℕ, ◌<◌, ◌≤◌, ◌⊎◌, inl, inr, List, [], ◌∷◌, ◌++◌, length, refl, sym, ap, ◌∙◌, subst, arith, true, false, Bool, nat_lt, cond}
-use Rattle.std.proofs.lemmas.Bool.{ltb-true, lt-ltb}
-use Rattle.std.specs.Prelude.{length, Option}
+use Rattle.std.proofs.lemmas.Bool.{lt-ltb}
+use Rattle.std.specs.Prelude.{length}
 use Rattle.std.proofs.Common.{length-append}
-use Rattle.wasm_spec.specs.Numbers.{TakesUnsigned, TakesEach, TakesBytes}
+use Rattle.wasm_spec.specs.Numbers.{TakesUnsigned, TakesEach}
 use Rattle.wasm_spec.specs.Grammar.{Section, TakesSection, IsCustom, IsOrderedAbove}
-use Rattle.wasm_spec.proofs.UnambiguousNumbers.{same_first, same_others, unsigned-unique}
+use Rattle.wasm_spec.proofs.UnambiguousNumbers.{same_others, unsigned-unique}
 use Rattle.wasm_spec.proofs.UnambiguousModules.{section-unique}
 use Rattle.wasm_decode.proofs.Each.{unsigned-shorter}
 use Rattle.wasm_decode.specs.Decoding.{IsNone, BeginsWithNone}
@@ -18,7 +18,7 @@ pub section-cut : (s : Section) (bytes after a mid : List ℕ) (id size : ℕ) �
     → (length s.contents ≡ size) × (mid ≡ s.contents ++ after)
 section-cut s bytes after a mid id size e count t =
     let u = unsigned-unique 32 (length s.contents) size a t.sized.mid mid
-      (subst (λ (l : List ℕ). TakesUnsigned 32 (length s.contents) l t.sized.mid) (same_others t.id e) t.sized.count) count in
+    (subst (λ (l : List ℕ). TakesUnsigned 32 (length s.contents) l t.sized.mid) (same_others t.id e) t.sized.count) count in
     (u.0, sym u.1 ∙ t.sized.items)
 
 -- sections in their order, of which the last one other than custom has the id last
@@ -82,7 +82,8 @@ at-custom bytes here mid last kept s a t z c = record {
   done = a.done ++ s ∷ [];
   so_far = each-then a.done bytes here mid s a.so_far t;
   ordered = ordered-custom 0 last a.done s a.ordered z c;
-  kept_are = a.kept_are ∙ sym (known-skip a.done s z) }
+  kept_are = a.kept_are ∙ sym (known-skip a.done s z);
+}
 
 pub at-known : (bytes here mid : List ℕ) (last : ℕ) (kept : List Section) (s : Section) → AtSection bytes here last kept
     → TakesSection s here mid → last < s.id → s.id ≤ 11 → AtSection bytes mid s.id (kept ++ s ∷ [])
@@ -90,14 +91,16 @@ at-known bytes here mid last kept s a t lt le = record {
   done = a.done ++ s ∷ [];
   so_far = each-then a.done bytes here mid s a.so_far t;
   ordered = ordered-more 0 last a.done s a.ordered lt le;
-  kept_are = ap (λ (l : List Section). l ++ s ∷ []) a.kept_are ∙ sym (known-more a.done s (omega (arith, lt))) }
+  kept_are = ap (λ (l : List Section). l ++ s ∷ []) a.kept_are ∙ sym (known-more a.done s (omega (arith, lt)));
+}
 
 pub at-end : (bytes here : List ℕ) (last : ℕ) (kept : List Section) → AtSection bytes here last kept → here ≡ [] → IsSections bytes kept
 at-end bytes here last kept a e = record {
   sections = a.done;
   whole = subst (λ (l : List ℕ). TakesEach TakesSection a.done bytes l) e a.so_far;
   ordered = ordered-all 0 last a.done a.ordered;
-  kept = a.kept_are }
+  kept = a.kept_are;
+}
 
 -- the sections go on from here
 record GoesOn (done all : List Section) (here : List ℕ) : Type 0 where

@@ -1,19 +1,18 @@
 -- The instructions of a sequence, one after the other.
-use Rattle.std.proofs.Common.{◌≡◌, ℕ, zero, suc, ◌+◌, ◌<◌, ◌⊎◌, inl, inr, List, [], ◌∷◌, ◌++◌, length, map, get_or, refl, sym, ap, ◌∙◌, subst, arith}
+use Rattle.std.proofs.Common.{◌≡◌, ℕ, zero, suc, ◌+◌, ◌<◌, inl, inr, List, [], ◌∷◌, ◌++◌, length, map, get_or, refl, sym, ap, ◌∙◌, subst, arith}
 use Rattle.std.specs.Prelude.{Option, Some, None}
 use Rattle.wasm_types.specs.declared.instr.Instr.{Instr}
 use Rattle.wasm_types.specs.declared.instr.Instr.TheVariants as instr
 use Rattle.wasm_types.specs.declared.instr.MemArg.{MemArg}
 use Rattle.wasm_types.specs.declared.instr.Op.{Op}
 use Rattle.wasm_types.specs.declared.instr.Op.TheVariants as op
-use Rattle.wasm_types.specs.declared.instr.Expr.{Expr}
 use Rattle.wasm_types.specs.declared.instr.Width.{Width}
 use Rattle.wasm_types.specs.declared.instr.Width.TheVariants.{W32, W64}
 use Rattle.wasm_types.specs.declared.instr.BinaryOp.{BinaryOp}
 use Rattle.wasm_types.specs.declared.instr.BinaryOp.TheVariants as binary
 use Rattle.wasm_types.specs.Tree.{Code, End, Plain, Block, Loop, If, Call, CallIndirect, code_of, codes, expr_tree}
 use Rattle.wasm_spec.specs.Numbers.{TakesUnsigned, TakesEach}
-use Rattle.wasm_spec.specs.InstrGrammar.{Shape, Alone, WithIndex, WithLabels, WithAddress, WithZero, WithI32, WithI64, WithBytes, NotPlain, control_to_variable, memory, numeric, shape, TakesShape, TakesInstr, ByEnd, TakesCode, TakesExpr}
+use Rattle.wasm_spec.specs.InstrGrammar.{Shape, Alone, WithIndex, WithLabels, WithAddress, WithZero, WithI32, WithI64, WithBytes, NotPlain, control_to_variable, memory, numeric, shape, TakesShape, TakesInstr, TakesExpr}
 use Rattle.wasm_spec.proofs.UnambiguousNumbers.{same_first, same_others}
 use Rattle.wasm_spec.proofs.UnambiguousInstrs.{instr-unique}
 use Rattle.wasm_decode.proofs.Each.{unsigned-shorter}
@@ -58,24 +57,583 @@ row-at b (s ∷ shapes) rows (suc k) =
     subst (λ (n : ℕ). Row n (get_or shapes k NotPlain)) e (row-at (b + 1) shapes rows.1 k)
 
 all_rows : Rows 0 (control_to_variable ++ memory ++ numeric)
-all_rows =
-  (refl, (refl, (tt, (tt, (tt, (tt, (tt, (tt, (tt, (tt, (tt, (tt,
-  (λ x. refl, (λ x. refl, (tt, (refl, (tt, (tt, (tt, (tt, (tt, (tt, (tt, (tt,
-  (tt, (tt, (refl, (refl, (tt, (tt, (tt, (tt, (λ x. refl, (λ x. refl, (λ x. refl, (λ x. refl,
-  (λ x. refl, (tt, (tt, (tt, (λ m. refl, (λ m. refl, (λ m. refl, (λ m. refl, (λ m. refl, (λ m. refl, (λ m. refl, (λ m. refl,
-  (λ m. refl, (λ m. refl, (λ m. refl, (λ m. refl, (λ m. refl, (λ m. refl, (λ m. refl, (λ m. refl, (λ m. refl, (λ m. refl, (λ m. refl, (λ m. refl,
-  (λ m. refl, (λ m. refl, (λ m. refl, (refl, (refl, (tt, (tt, (refl, (refl, (refl, (refl, (refl,
-  (refl, (refl, (refl, (refl, (refl, (refl, (refl, (refl, (refl, (refl, (refl, (refl,
-  (refl, (refl, (refl, (refl, (refl, (refl, (refl, (refl, (refl, (refl, (refl, (refl,
-  (refl, (refl, (refl, (refl, (refl, (refl, (refl, (refl, (refl, (refl, (refl, (refl,
-  (refl, (refl, (refl, (refl, (refl, (refl, (refl, (refl, (refl, (refl, (refl, (refl,
-  (refl, (refl, (refl, (refl, (refl, (refl, (refl, (refl, (refl, (refl, (refl, (refl,
-  (refl, (refl, (refl, (refl, (refl, (refl, (refl, (refl, (refl, (refl, (refl, (refl,
-  (refl, (refl, (refl, (refl, (refl, (refl, (refl, (refl, (refl, (refl, (refl, (refl,
-  (refl, (refl, (refl, (refl, (refl, (refl, (refl, (refl, (refl, (refl, (refl, (refl,
-  (refl, (refl, (refl, (refl, (refl, (refl, (refl, (refl, (refl, (refl, (refl, (refl,
-  (refl, (refl, (refl, (refl, (refl, (refl, (refl, (refl, (refl, (refl, (refl, (refl,
-  tt))))))))))))))))))))))))))))))))))))))))))))))))))))))))))))))))))))))))))))))))))))))))))))))))))))))))))))))))))))))))))))))))))))))))))))))))))))))))))))))))))))))))))))))))))))))))))))))))
+all_rows = (
+  refl,
+  (
+    refl,
+    (
+      tt,
+      (
+        tt,
+        (
+          tt,
+          (
+            tt,
+            (
+              tt,
+              (
+                tt,
+                (
+                  tt,
+                  (
+                    tt,
+                    (
+                      tt,
+                      (
+                        tt,
+                        (
+                          λ x. refl,
+                          (
+                            λ x. refl,
+                            (
+                              tt,
+                              (
+                                refl,
+                                (
+                                  tt,
+                                  (
+                                    tt,
+                                    (
+                                      tt,
+                                      (
+                                        tt,
+                                        (
+                                          tt,
+                                          (
+                                            tt,
+                                            (
+                                              tt,
+                                              (
+                                                tt,
+                                                (
+                                                  tt,
+                                                  (
+                                                    tt,
+                                                    (
+                                                      refl,
+                                                      (
+                                                        refl,
+                                                        (
+                                                          tt,
+                                                          (
+                                                            tt,
+                                                            (
+                                                              tt,
+                                                              (
+                                                                tt,
+                                                                (
+                                                                  λ x. refl,
+                                                                  (
+                                                                    λ x. refl,
+                                                                    (
+                                                                      λ x. refl,
+                                                                      (
+                                                                        λ x. refl,
+                                                                        (
+                                                                          λ x. refl,
+                                                                          (
+                                                                            tt,
+                                                                            (
+                                                                              tt,
+                                                                              (
+                                                                                tt,
+                                                                                (
+                                                                                  λ m. refl,
+                                                                                  (
+                                                                                    λ m. refl,
+                                                                                    (
+                                                                                      λ m. refl,
+                                                                                      (
+                                                                                        λ m. refl,
+                                                                                        (
+                                                                                          λ m. refl,
+                                                                                          (
+                                                                                            λ m. refl,
+                                                                                            (
+                                                                                              λ m. refl,
+                                                                                              (
+                                                                                                λ m. refl,
+                                                                                                (
+                                                                                                  λ m. refl,
+                                                                                                  (
+                                                                                                    λ m. refl,
+                                                                                                    (
+                                                                                                      λ m. refl,
+                                                                                                      (
+                                                                                                        λ m. refl,
+                                                                                                        (
+                                                                                                          λ m. refl,
+                                                                                                          (
+                                                                                                            λ m. refl,
+                                                                                                            (
+                                                                                                              λ m. refl,
+                                                                                                              (
+                                                                                                                λ m. refl,
+                                                                                                                (
+                                                                                                                  λ m. refl,
+                                                                                                                  (
+                                                                                                                    λ m. refl,
+                                                                                                                    (
+                                                                                                                      λ m. refl,
+                                                                                                                      (
+                                                                                                                        λ m. refl,
+                                                                                                                        (
+                                                                                                                          λ m. refl,
+                                                                                                                          (
+                                                                                                                            λ m. refl,
+                                                                                                                            (
+                                                                                                                              λ m. refl,
+                                                                                                                              (
+                                                                                                                                refl,
+                                                                                                                                (
+                                                                                                                                  refl,
+                                                                                                                                  (
+                                                                                                                                    tt,
+                                                                                                                                    (
+                                                                                                                                      tt,
+                                                                                                                                      (
+                                                                                                                                        refl,
+                                                                                                                                        (
+                                                                                                                                          refl,
+                                                                                                                                          (
+                                                                                                                                            refl,
+                                                                                                                                            (
+                                                                                                                                              refl,
+                                                                                                                                              (
+                                                                                                                                                refl,
+                                                                                                                                                (
+                                                                                                                                                  refl,
+                                                                                                                                                  (
+                                                                                                                                                    refl,
+                                                                                                                                                    (
+                                                                                                                                                      refl,
+                                                                                                                                                      (
+                                                                                                                                                        refl,
+                                                                                                                                                        (
+                                                                                                                                                          refl,
+                                                                                                                                                          (
+                                                                                                                                                            refl,
+                                                                                                                                                            (
+                                                                                                                                                              refl,
+                                                                                                                                                              (
+                                                                                                                                                                refl,
+                                                                                                                                                                (
+                                                                                                                                                                  refl,
+                                                                                                                                                                  (
+                                                                                                                                                                    refl,
+                                                                                                                                                                    (
+                                                                                                                                                                      refl,
+                                                                                                                                                                      (
+                                                                                                                                                                        refl,
+                                                                                                                                                                        (
+                                                                                                                                                                          refl,
+                                                                                                                                                                          (
+                                                                                                                                                                            refl,
+                                                                                                                                                                            (
+                                                                                                                                                                              refl,
+                                                                                                                                                                              (
+                                                                                                                                                                                refl,
+                                                                                                                                                                                (
+                                                                                                                                                                                  refl,
+                                                                                                                                                                                  (
+                                                                                                                                                                                    refl,
+                                                                                                                                                                                    (
+                                                                                                                                                                                      refl,
+                                                                                                                                                                                      (
+                                                                                                                                                                                        refl,
+                                                                                                                                                                                        (
+                                                                                                                                                                                          refl,
+                                                                                                                                                                                          (
+                                                                                                                                                                                            refl,
+                                                                                                                                                                                            (
+                                                                                                                                                                                              refl,
+                                                                                                                                                                                              (
+                                                                                                                                                                                                refl,
+                                                                                                                                                                                                (
+                                                                                                                                                                                                  refl,
+                                                                                                                                                                                                  (
+                                                                                                                                                                                                    refl,
+                                                                                                                                                                                                    (
+                                                                                                                                                                                                      refl,
+                                                                                                                                                                                                      (
+                                                                                                                                                                                                        refl,
+                                                                                                                                                                                                        (
+                                                                                                                                                                                                          refl,
+                                                                                                                                                                                                          (
+                                                                                                                                                                                                            refl,
+                                                                                                                                                                                                            (
+                                                                                                                                                                                                              refl,
+                                                                                                                                                                                                              (
+                                                                                                                                                                                                                refl,
+                                                                                                                                                                                                                (
+                                                                                                                                                                                                                  refl,
+                                                                                                                                                                                                                  (
+                                                                                                                                                                                                                    refl,
+                                                                                                                                                                                                                    (
+                                                                                                                                                                                                                      refl,
+                                                                                                                                                                                                                      (
+                                                                                                                                                                                                                        refl,
+                                                                                                                                                                                                                        (
+                                                                                                                                                                                                                          refl,
+                                                                                                                                                                                                                          (
+                                                                                                                                                                                                                            refl,
+                                                                                                                                                                                                                            (
+                                                                                                                                                                                                                              refl,
+                                                                                                                                                                                                                              (
+                                                                                                                                                                                                                                refl,
+                                                                                                                                                                                                                                (
+                                                                                                                                                                                                                                  refl,
+                                                                                                                                                                                                                                  (
+                                                                                                                                                                                                                                    refl,
+                                                                                                                                                                                                                                    (
+                                                                                                                                                                                                                                      refl,
+                                                                                                                                                                                                                                      (
+                                                                                                                                                                                                                                        refl,
+                                                                                                                                                                                                                                        (
+                                                                                                                                                                                                                                          refl,
+                                                                                                                                                                                                                                          (
+                                                                                                                                                                                                                                            refl,
+                                                                                                                                                                                                                                            (
+                                                                                                                                                                                                                                              refl,
+                                                                                                                                                                                                                                              (
+                                                                                                                                                                                                                                                refl,
+                                                                                                                                                                                                                                                (
+                                                                                                                                                                                                                                                  refl,
+                                                                                                                                                                                                                                                  (
+                                                                                                                                                                                                                                                    refl,
+                                                                                                                                                                                                                                                    (
+                                                                                                                                                                                                                                                      refl,
+                                                                                                                                                                                                                                                      (
+                                                                                                                                                                                                                                                        refl,
+                                                                                                                                                                                                                                                        (
+                                                                                                                                                                                                                                                          refl,
+                                                                                                                                                                                                                                                          (
+                                                                                                                                                                                                                                                            refl,
+                                                                                                                                                                                                                                                            (
+                                                                                                                                                                                                                                                              refl,
+                                                                                                                                                                                                                                                              (
+                                                                                                                                                                                                                                                                refl,
+                                                                                                                                                                                                                                                                (
+                                                                                                                                                                                                                                                                  refl,
+                                                                                                                                                                                                                                                                  (
+                                                                                                                                                                                                                                                                    refl,
+                                                                                                                                                                                                                                                                    (
+                                                                                                                                                                                                                                                                      refl,
+                                                                                                                                                                                                                                                                      (
+                                                                                                                                                                                                                                                                        refl,
+                                                                                                                                                                                                                                                                        (
+                                                                                                                                                                                                                                                                          refl,
+                                                                                                                                                                                                                                                                          (
+                                                                                                                                                                                                                                                                            refl,
+                                                                                                                                                                                                                                                                            (
+                                                                                                                                                                                                                                                                              refl,
+                                                                                                                                                                                                                                                                              (
+                                                                                                                                                                                                                                                                                refl,
+                                                                                                                                                                                                                                                                                (
+                                                                                                                                                                                                                                                                                  refl,
+                                                                                                                                                                                                                                                                                  (
+                                                                                                                                                                                                                                                                                    refl,
+                                                                                                                                                                                                                                                                                    (
+                                                                                                                                                                                                                                                                                      refl,
+                                                                                                                                                                                                                                                                                      (
+                                                                                                                                                                                                                                                                                        refl,
+                                                                                                                                                                                                                                                                                        (
+                                                                                                                                                                                                                                                                                          refl,
+                                                                                                                                                                                                                                                                                          (
+                                                                                                                                                                                                                                                                                            refl,
+                                                                                                                                                                                                                                                                                            (
+                                                                                                                                                                                                                                                                                              refl,
+                                                                                                                                                                                                                                                                                              (
+                                                                                                                                                                                                                                                                                                refl,
+                                                                                                                                                                                                                                                                                                (
+                                                                                                                                                                                                                                                                                                  refl,
+                                                                                                                                                                                                                                                                                                  (
+                                                                                                                                                                                                                                                                                                    refl,
+                                                                                                                                                                                                                                                                                                    (
+                                                                                                                                                                                                                                                                                                      refl,
+                                                                                                                                                                                                                                                                                                      (
+                                                                                                                                                                                                                                                                                                        refl,
+                                                                                                                                                                                                                                                                                                        (
+                                                                                                                                                                                                                                                                                                          refl,
+                                                                                                                                                                                                                                                                                                          (
+                                                                                                                                                                                                                                                                                                            refl,
+                                                                                                                                                                                                                                                                                                            (
+                                                                                                                                                                                                                                                                                                              refl,
+                                                                                                                                                                                                                                                                                                              (
+                                                                                                                                                                                                                                                                                                                refl,
+                                                                                                                                                                                                                                                                                                                (
+                                                                                                                                                                                                                                                                                                                  refl,
+                                                                                                                                                                                                                                                                                                                  (
+                                                                                                                                                                                                                                                                                                                    refl,
+                                                                                                                                                                                                                                                                                                                    (
+                                                                                                                                                                                                                                                                                                                      refl,
+                                                                                                                                                                                                                                                                                                                      (
+                                                                                                                                                                                                                                                                                                                        refl,
+                                                                                                                                                                                                                                                                                                                        (
+                                                                                                                                                                                                                                                                                                                          refl,
+                                                                                                                                                                                                                                                                                                                          (
+                                                                                                                                                                                                                                                                                                                            refl,
+                                                                                                                                                                                                                                                                                                                            (
+                                                                                                                                                                                                                                                                                                                              refl,
+                                                                                                                                                                                                                                                                                                                              (
+                                                                                                                                                                                                                                                                                                                                refl,
+                                                                                                                                                                                                                                                                                                                                (
+                                                                                                                                                                                                                                                                                                                                  refl,
+                                                                                                                                                                                                                                                                                                                                  (
+                                                                                                                                                                                                                                                                                                                                    refl,
+                                                                                                                                                                                                                                                                                                                                    (
+                                                                                                                                                                                                                                                                                                                                      refl,
+                                                                                                                                                                                                                                                                                                                                      (
+                                                                                                                                                                                                                                                                                                                                        refl,
+                                                                                                                                                                                                                                                                                                                                        (
+                                                                                                                                                                                                                                                                                                                                          refl,
+                                                                                                                                                                                                                                                                                                                                          (
+                                                                                                                                                                                                                                                                                                                                            refl,
+                                                                                                                                                                                                                                                                                                                                            (
+                                                                                                                                                                                                                                                                                                                                              refl,
+                                                                                                                                                                                                                                                                                                                                              (
+                                                                                                                                                                                                                                                                                                                                                refl,
+                                                                                                                                                                                                                                                                                                                                                (
+                                                                                                                                                                                                                                                                                                                                                  refl,
+                                                                                                                                                                                                                                                                                                                                                  (
+                                                                                                                                                                                                                                                                                                                                                    refl,
+                                                                                                                                                                                                                                                                                                                                                    (
+                                                                                                                                                                                                                                                                                                                                                      refl,
+                                                                                                                                                                                                                                                                                                                                                      (
+                                                                                                                                                                                                                                                                                                                                                        refl,
+                                                                                                                                                                                                                                                                                                                                                        (
+                                                                                                                                                                                                                                                                                                                                                          refl,
+                                                                                                                                                                                                                                                                                                                                                          (
+                                                                                                                                                                                                                                                                                                                                                            refl,
+                                                                                                                                                                                                                                                                                                                                                            (
+                                                                                                                                                                                                                                                                                                                                                              refl,
+                                                                                                                                                                                                                                                                                                                                                              (
+                                                                                                                                                                                                                                                                                                                                                                refl,
+                                                                                                                                                                                                                                                                                                                                                                (
+                                                                                                                                                                                                                                                                                                                                                                  refl,
+                                                                                                                                                                                                                                                                                                                                                                  (
+                                                                                                                                                                                                                                                                                                                                                                    refl,
+                                                                                                                                                                                                                                                                                                                                                                    (
+                                                                                                                                                                                                                                                                                                                                                                      refl,
+                                                                                                                                                                                                                                                                                                                                                                      (
+                                                                                                                                                                                                                                                                                                                                                                        refl,
+                                                                                                                                                                                                                                                                                                                                                                        (
+                                                                                                                                                                                                                                                                                                                                                                          refl,
+                                                                                                                                                                                                                                                                                                                                                                          (
+                                                                                                                                                                                                                                                                                                                                                                            refl,
+                                                                                                                                                                                                                                                                                                                                                                            (
+                                                                                                                                                                                                                                                                                                                                                                              refl,
+                                                                                                                                                                                                                                                                                                                                                                              (
+                                                                                                                                                                                                                                                                                                                                                                                refl,
+                                                                                                                                                                                                                                                                                                                                                                                (
+                                                                                                                                                                                                                                                                                                                                                                                  refl,
+                                                                                                                                                                                                                                                                                                                                                                                  (
+                                                                                                                                                                                                                                                                                                                                                                                    refl,
+                                                                                                                                                                                                                                                                                                                                                                                    (
+                                                                                                                                                                                                                                                                                                                                                                                      refl,
+                                                                                                                                                                                                                                                                                                                                                                                      (
+                                                                                                                                                                                                                                                                                                                                                                                        refl,
+                                                                                                                                                                                                                                                                                                                                                                                        (
+                                                                                                                                                                                                                                                                                                                                                                                          refl,
+                                                                                                                                                                                                                                                                                                                                                                                          (
+                                                                                                                                                                                                                                                                                                                                                                                            refl,
+                                                                                                                                                                                                                                                                                                                                                                                            (
+                                                                                                                                                                                                                                                                                                                                                                                              refl,
+                                                                                                                                                                                                                                                                                                                                                                                              (
+                                                                                                                                                                                                                                                                                                                                                                                                refl,
+                                                                                                                                                                                                                                                                                                                                                                                                tt,
+                                                                                                                                                                                                                                                                                                                                                                                              ),
+                                                                                                                                                                                                                                                                                                                                                                                            ),
+                                                                                                                                                                                                                                                                                                                                                                                          ),
+                                                                                                                                                                                                                                                                                                                                                                                        ),
+                                                                                                                                                                                                                                                                                                                                                                                      ),
+                                                                                                                                                                                                                                                                                                                                                                                    ),
+                                                                                                                                                                                                                                                                                                                                                                                  ),
+                                                                                                                                                                                                                                                                                                                                                                                ),
+                                                                                                                                                                                                                                                                                                                                                                              ),
+                                                                                                                                                                                                                                                                                                                                                                            ),
+                                                                                                                                                                                                                                                                                                                                                                          ),
+                                                                                                                                                                                                                                                                                                                                                                        ),
+                                                                                                                                                                                                                                                                                                                                                                      ),
+                                                                                                                                                                                                                                                                                                                                                                    ),
+                                                                                                                                                                                                                                                                                                                                                                  ),
+                                                                                                                                                                                                                                                                                                                                                                ),
+                                                                                                                                                                                                                                                                                                                                                              ),
+                                                                                                                                                                                                                                                                                                                                                            ),
+                                                                                                                                                                                                                                                                                                                                                          ),
+                                                                                                                                                                                                                                                                                                                                                        ),
+                                                                                                                                                                                                                                                                                                                                                      ),
+                                                                                                                                                                                                                                                                                                                                                    ),
+                                                                                                                                                                                                                                                                                                                                                  ),
+                                                                                                                                                                                                                                                                                                                                                ),
+                                                                                                                                                                                                                                                                                                                                              ),
+                                                                                                                                                                                                                                                                                                                                            ),
+                                                                                                                                                                                                                                                                                                                                          ),
+                                                                                                                                                                                                                                                                                                                                        ),
+                                                                                                                                                                                                                                                                                                                                      ),
+                                                                                                                                                                                                                                                                                                                                    ),
+                                                                                                                                                                                                                                                                                                                                  ),
+                                                                                                                                                                                                                                                                                                                                ),
+                                                                                                                                                                                                                                                                                                                              ),
+                                                                                                                                                                                                                                                                                                                            ),
+                                                                                                                                                                                                                                                                                                                          ),
+                                                                                                                                                                                                                                                                                                                        ),
+                                                                                                                                                                                                                                                                                                                      ),
+                                                                                                                                                                                                                                                                                                                    ),
+                                                                                                                                                                                                                                                                                                                  ),
+                                                                                                                                                                                                                                                                                                                ),
+                                                                                                                                                                                                                                                                                                              ),
+                                                                                                                                                                                                                                                                                                            ),
+                                                                                                                                                                                                                                                                                                          ),
+                                                                                                                                                                                                                                                                                                        ),
+                                                                                                                                                                                                                                                                                                      ),
+                                                                                                                                                                                                                                                                                                    ),
+                                                                                                                                                                                                                                                                                                  ),
+                                                                                                                                                                                                                                                                                                ),
+                                                                                                                                                                                                                                                                                              ),
+                                                                                                                                                                                                                                                                                            ),
+                                                                                                                                                                                                                                                                                          ),
+                                                                                                                                                                                                                                                                                        ),
+                                                                                                                                                                                                                                                                                      ),
+                                                                                                                                                                                                                                                                                    ),
+                                                                                                                                                                                                                                                                                  ),
+                                                                                                                                                                                                                                                                                ),
+                                                                                                                                                                                                                                                                              ),
+                                                                                                                                                                                                                                                                            ),
+                                                                                                                                                                                                                                                                          ),
+                                                                                                                                                                                                                                                                        ),
+                                                                                                                                                                                                                                                                      ),
+                                                                                                                                                                                                                                                                    ),
+                                                                                                                                                                                                                                                                  ),
+                                                                                                                                                                                                                                                                ),
+                                                                                                                                                                                                                                                              ),
+                                                                                                                                                                                                                                                            ),
+                                                                                                                                                                                                                                                          ),
+                                                                                                                                                                                                                                                        ),
+                                                                                                                                                                                                                                                      ),
+                                                                                                                                                                                                                                                    ),
+                                                                                                                                                                                                                                                  ),
+                                                                                                                                                                                                                                                ),
+                                                                                                                                                                                                                                              ),
+                                                                                                                                                                                                                                            ),
+                                                                                                                                                                                                                                          ),
+                                                                                                                                                                                                                                        ),
+                                                                                                                                                                                                                                      ),
+                                                                                                                                                                                                                                    ),
+                                                                                                                                                                                                                                  ),
+                                                                                                                                                                                                                                ),
+                                                                                                                                                                                                                              ),
+                                                                                                                                                                                                                            ),
+                                                                                                                                                                                                                          ),
+                                                                                                                                                                                                                        ),
+                                                                                                                                                                                                                      ),
+                                                                                                                                                                                                                    ),
+                                                                                                                                                                                                                  ),
+                                                                                                                                                                                                                ),
+                                                                                                                                                                                                              ),
+                                                                                                                                                                                                            ),
+                                                                                                                                                                                                          ),
+                                                                                                                                                                                                        ),
+                                                                                                                                                                                                      ),
+                                                                                                                                                                                                    ),
+                                                                                                                                                                                                  ),
+                                                                                                                                                                                                ),
+                                                                                                                                                                                              ),
+                                                                                                                                                                                            ),
+                                                                                                                                                                                          ),
+                                                                                                                                                                                        ),
+                                                                                                                                                                                      ),
+                                                                                                                                                                                    ),
+                                                                                                                                                                                  ),
+                                                                                                                                                                                ),
+                                                                                                                                                                              ),
+                                                                                                                                                                            ),
+                                                                                                                                                                          ),
+                                                                                                                                                                        ),
+                                                                                                                                                                      ),
+                                                                                                                                                                    ),
+                                                                                                                                                                  ),
+                                                                                                                                                                ),
+                                                                                                                                                              ),
+                                                                                                                                                            ),
+                                                                                                                                                          ),
+                                                                                                                                                        ),
+                                                                                                                                                      ),
+                                                                                                                                                    ),
+                                                                                                                                                  ),
+                                                                                                                                                ),
+                                                                                                                                              ),
+                                                                                                                                            ),
+                                                                                                                                          ),
+                                                                                                                                        ),
+                                                                                                                                      ),
+                                                                                                                                    ),
+                                                                                                                                  ),
+                                                                                                                                ),
+                                                                                                                              ),
+                                                                                                                            ),
+                                                                                                                          ),
+                                                                                                                        ),
+                                                                                                                      ),
+                                                                                                                    ),
+                                                                                                                  ),
+                                                                                                                ),
+                                                                                                              ),
+                                                                                                            ),
+                                                                                                          ),
+                                                                                                        ),
+                                                                                                      ),
+                                                                                                    ),
+                                                                                                  ),
+                                                                                                ),
+                                                                                              ),
+                                                                                            ),
+                                                                                          ),
+                                                                                        ),
+                                                                                      ),
+                                                                                    ),
+                                                                                  ),
+                                                                                ),
+                                                                              ),
+                                                                            ),
+                                                                          ),
+                                                                        ),
+                                                                      ),
+                                                                    ),
+                                                                  ),
+                                                                ),
+                                                              ),
+                                                            ),
+                                                          ),
+                                                        ),
+                                                      ),
+                                                    ),
+                                                  ),
+                                                ),
+                                              ),
+                                            ),
+                                          ),
+                                        ),
+                                      ),
+                                    ),
+                                  ),
+                                ),
+                              ),
+                            ),
+                          ),
+                        ),
+                      ),
+                    ),
+                  ),
+                ),
+              ),
+            ),
+          ),
+        ),
+      ),
+    ),
+  ),
+)
 
 row-of : (b : ℕ) → Row b (shape b)
 unfolding shape
@@ -96,7 +654,7 @@ row-tells b NotPlain i bytes rest row h = absurd h
 opcode-is : (b : ℕ) (i : Instr) (bytes a rest : List ℕ) → bytes ≡ b ∷ a → TakesInstr i bytes rest → opcode_at b i ≡ b
 opcode-is b i bytes a rest e t =
     subst (λ (n : ℕ). opcode_at n i ≡ n) (same_first t.leads e)
-      (row-tells t.opcode (shape t.opcode) i t.after rest (row-of t.opcode) t.follows)
+    (row-tells t.opcode (shape t.opcode) i t.after rest (row-of t.opcode) t.follows)
 
 -- the steps that are built
 pub step-local_get : (bytes a rest : List ℕ) (x : ℕ) → bytes ≡ 0x20 ∷ a → TakesUnsigned 32 x a rest → TakesStep (Some (instr.LocalGet x)) bytes rest

@@ -46,5 +46,7 @@ pub(crate) fn decode_expr(alloc: Global, cursor: &mut Cursor) -> Result<Expr, De
     }
     let mut sequences = Vec::new(alloc);
     sequences.push(Items::new(ops))?;
-    Ok(Expr { sequences: Items::new(sequences) })
+    Ok(Expr {
+        sequences: Items::new(sequences),
+    })
 }

@@ -8,7 +8,7 @@ ghost use Rattle.wasm_decode.specs.Trees.{HasOnlyBuilt, SpellsNothing, SpellsBui
 
 use crate::fault::DecodeFault;
 use crate::function::decode_functions;
-use crate::section::{find_contents, read_sections, Section};
+use crate::section::{Section, find_contents, read_sections};
 use crate::vector::decode_section;
 use leb_read::cursor::Cursor;
 use std::alloc::Global;
@@ -85,7 +85,11 @@ fn decode_fields(alloc: Global, sections: &[Section]) -> Result<Module, DecodeFa
         Ok(exports) => exports,
         Err(fault) => return Err(fault),
     };
-    let functions = match decode_functions(alloc, type_indices.as_slice(), find_contents(sections, 10)) {
+    let functions = match decode_functions(
+        alloc,
+        type_indices.as_slice(),
+        find_contents(sections, 10),
+    ) {
         Ok(functions) => functions,
         Err(fault) => return Err(fault),
     };

@@ -35,7 +35,10 @@ impl Item for Export {
             return Err(DecodeFault::Malformed);
         };
         let name = Items::new(Vec::from_slice(alloc, name)?);
-        Ok(Export { name, desc: ExportDesc::Func(index) })
+        Ok(Export {
+            name,
+            desc: ExportDesc::Func(index),
+        })
     }
 
     ghost unique = { λ x y bytes r s a b. export-unique x y bytes r s a.0 b.0 };

@@ -54,13 +54,21 @@ fn decode_body(alloc: Global, cursor: &mut Cursor, type_index: u32) -> Result<Fu
         Err(fault) => return Err(fault),
     };
     match decode_expr(alloc, cursor) {
-        Ok(body) => Ok(Function { type_index, locals: Items::new(locals), body }),
+        Ok(body) => Ok(Function {
+            type_index,
+            locals: Items::new(locals),
+            body,
+        }),
         Err(fault) => Err(fault),
     }
 }
 
 /// A function of this type, behind its size. Source: section 5.5.13.
-fn decode_function(alloc: Global, cursor: &mut Cursor, type_index: u32) -> Result<Function, DecodeFault>
+fn decode_function(
+    alloc: Global,
+    cursor: &mut Cursor,
+    type_index: u32,
+) -> Result<Function, DecodeFault>
     ensures body { MatchResult result (λ f. IsRead (Both TakesSizedBody IsBuiltBody) cursor.old cursor.new (body_of (function_tree f))) (BeginsWithNone (Both TakesSizedBody IsBuiltBody) (rest cursor.old)) }
     ensures index { MatchResult result (λ f. f.type_index ≡ type_index) (λ _. Unit {0}) }
 {
@@ -84,7 +92,11 @@ fn decode_function(alloc: Global, cursor: &mut Cursor, type_index: u32) -> Resul
 }
 
 /// Functions of these types, one for each.
-fn decode_bodies(alloc: Global, cursor: &mut Cursor, type_indices: &[u32]) -> Result<Vec<Function>, DecodeFault>
+fn decode_bodies(
+    alloc: Global,
+    cursor: &mut Cursor,
+    type_indices: &[u32],
+) -> Result<Vec<Function>, DecodeFault>
     ensures bodies { MatchResult result (λ fs. IsRead (TakesFunctions type_indices.now) cursor.old cursor.new (map body_of (map function_tree fs.items))) (BeginsWithNone (TakesFunctions type_indices.now) (rest cursor.old)) }
     ensures indices { MatchResult result (λ fs. map type_index_of (map function_tree fs.items) ≡ type_indices.now) (λ _. Unit {0}) }
 {
@@ -105,7 +117,11 @@ fn decode_bodies(alloc: Global, cursor: &mut Cursor, type_indices: &[u32]) -> Re
 }
 
 /// The functions of these types, whose bodies are the whole contents of the code section.
-pub(crate) fn decode_functions(alloc: Global, type_indices: &[u32], contents: Option<&[u8]>) -> Result<Vec<Function>, DecodeFault>
+pub(crate) fn decode_functions(
+    alloc: Global,
+    type_indices: &[u32],
+    contents: Option<&[u8]>,
+) -> Result<Vec<Function>, DecodeFault>
     ensures bodies { MatchResult result (λ fs. SpellsFunctions type_indices.now (map body_of (map function_tree fs.items)) (option_map (λ c. c.now) contents.entry)) (IsNone (λ bs. SpellsFunctions type_indices.now bs (option_map (λ c. c.now) contents.entry))) }
     ensures indices { MatchResult result (λ fs. map type_index_of (map function_tree fs.items) ≡ type_indices.now) (λ _. Unit {0}) }
 {

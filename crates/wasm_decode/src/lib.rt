@@ -3,13 +3,14 @@
 //! Source: WebAssembly Core Specification 1.0, chapter 5.
 #![tactic(auto)]
 
-pub mod decode;
-pub mod fault;
-
 mod code;
+pub mod decode;
 mod export;
+pub mod fault;
 mod function;
 mod item;
 mod section;
+#[cfg(test)]
+mod tests;
 mod types;
 mod vector;

@@ -52,7 +52,10 @@ fn is_in_order(last: u8, id: u8) -> bool
 }
 
 /// The sections other than custom, if the bytes are sections in their order.
-pub(crate) fn read_sections<'a>(alloc: Global, bytes: &'a [u8]) -> Result<Vec<Section<'a>>, DecodeFault>
+pub(crate) fn read_sections<'a>(
+    alloc: Global,
+    bytes: &'a [u8],
+) -> Result<Vec<Section<'a>>, DecodeFault>
     ensures { MatchResult result (λ found. IsSections bytes.now (map section_of found.items)) (IsNone (IsSections bytes.now)) }
 {
     let mut cursor = Cursor::new(bytes);

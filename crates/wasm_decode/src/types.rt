@@ -75,7 +75,10 @@ impl Item for FuncType {
             Ok(results) => results,
             Err(fault) => return Err(fault),
         };
-        Ok(FuncType { params: Items::new(params), results: Items::new(results) })
+        Ok(FuncType {
+            params: Items::new(params),
+            results: Items::new(results),
+        })
     }
 
     ghost unique = { λ x y bytes r s a b. func_type-unique x y bytes r s a.0 b.0 };

@@ -29,7 +29,10 @@ pub(crate) fn decode_vec<T: Item>(alloc: Global, cursor: &mut Cursor) -> Result<
 }
 
 /// The items of a section, which are its whole contents; none without the section. Source: section 5.5.2.
-pub(crate) fn decode_section<T: Item>(alloc: Global, contents: Option<&[u8]>) -> Result<Vec<T>, DecodeFault>
+pub(crate) fn decode_section<T: Item>(
+    alloc: Global,
+    contents: Option<&[u8]>,
+) -> Result<Vec<T>, DecodeFault>
     ensures { MatchResult result (λ xs. SpellsVec T.Takes (map T.tree xs.items) (option_map (λ c. c.now) contents.entry)) (IsNone (λ xs. SpellsVec T.Takes xs (option_map (λ c. c.now) contents.entry))) }
 {
     let Some(contents) = contents else {

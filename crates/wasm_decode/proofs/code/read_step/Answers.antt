@@ -1,4 +1,4 @@
-use Rattle.std.proofs.Common.{◌≡◌, ℕ, List, ◌∷◌, ap, ◌∙◌, arith}
+use Rattle.std.proofs.Common.{◌≡◌, ℕ, ◌∷◌, ap, ◌∙◌, arith}
 use Rattle.leb_read.specs.Reading.{rest}
 use Rattle.wasm_decode.proofs.Steps.{step-local_get, step-add, no_index, no_step}
 use Rattle.wasm_decode.proofs.code.read_step.Goals as goal
@@ -10,7 +10,7 @@ returns-in-Ok-u32 c =
       whole = c.in-Ok-u32.ensures.whole ∙ c.in-Ok.ensures.whole;
       within = c.in-Ok-u32.ensures.within;
       spelled = step-local_get (rest c.args.cursor.now) (rest c.u8.new.self) (rest c.u32.new.self) c.in-Ok-u32.index
-        (c.in-Ok.ensures.spelled ∙ ap (λ (n : ℕ). n ∷ rest c.u8.new.self) e) c.in-Ok-u32.ensures.spelled;
+          (c.in-Ok.ensures.spelled ∙ ap (λ (n : ℕ). n ∷ rest c.u8.new.self) e) c.in-Ok-u32.ensures.spelled;
     }
 
 pub returns-in-Err : goal.returns-in-Err
@@ -30,4 +30,4 @@ returns-in-106 c =
 pub returns-in_default-opcode : goal.returns-in_default-opcode
 returns-in_default-opcode c =
     no_step c.in-Ok.opcode (rest c.args.cursor.now) (rest c.u8.new.self) c.in-Ok.ensures.spelled
-      (λ e. omega (arith, e)) (λ e. omega (arith, e)) (λ e. omega (arith, e))
+    (λ e. omega (arith, e)) (λ e. omega (arith, e)) (λ e. omega (arith, e))

@@ -1,4 +1,3 @@
-use Rattle.std.proofs.Common.{◌≡◌, ℕ, List, ◌∷◌}
 use Rattle.leb_read.specs.Reading.{rest}
 use Rattle.wasm_decode.proofs.SectionList.{section-cut}
 use Rattle.wasm_decode.proofs.section.read_section.Goals as goal

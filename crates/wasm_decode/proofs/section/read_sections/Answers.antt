@@ -1,4 +1,4 @@
-use Rattle.std.proofs.Common.{◌≡◌, ℕ, ◌<◌, ◌≤◌, List, [], ◌∷◌, ◌++◌, map, ap, sym, ◌∙◌, subst, arith, IsTrue, true, false, rules}
+use Rattle.std.proofs.Common.{◌≡◌, ◌<◌, ◌≤◌, List, [], ◌∷◌, ◌++◌, map, ap, sym, ◌∙◌, subst, arith, IsTrue, rules}
 use Rattle.std.proofs.lemmas.List.{map-append}
 use Rattle.wasm_spec.specs.Grammar.{Section, IsCustom}
 use Rattle.leb_read.specs.Reading.{rest}
@@ -17,7 +17,7 @@ returns-then-not-is_custom c =
     let s : Section = section_of c.in-Ok.section in
     let no : IsCustom s.contents → ⊥ = λ h. let f : IsTrue c.is_custom.result = c.is_custom.ensures.1 h in first_of (cc, search rules) in
     none-ordered c.args.bytes.now (rest c.loop-cursor.cursor) (rest c.read_section.new.cursor) c.loop-cursor.last (map section_of c.loop-cursor.found.items) s c.loop-cursor.invariant left c.in-Ok.ensures.spelled
-      (not-custom c.loop-cursor.last s (omega arith) no)
+    (not-custom c.loop-cursor.last s (omega arith) no)
 
 pub loop-cursor-smaller-else-not-is_custom : goal.loop-cursor-smaller-else-not-is_custom
 loop-cursor-smaller-else-not-is_custom c = section-shorter (section_of c.in-Ok.section) (rest c.loop-cursor.cursor) (rest c.read_section.new.cursor) c.in-Ok.ensures.spelled
@@ -26,7 +26,7 @@ pub loop-cursor-preserved-else-not-is_custom : goal.loop-cursor-preserved-else-n
 loop-cursor-preserved-else-not-is_custom c =
     let is : IsTrue c.is_custom.result = first_of (cc, search rules) in
     at-custom c.args.bytes.now (rest c.loop-cursor.cursor) (rest c.read_section.new.cursor) c.loop-cursor.last (map section_of c.loop-cursor.found.items) (section_of c.in-Ok.section) c.loop-cursor.invariant c.in-Ok.ensures.spelled
-      (omega arith) (c.is_custom.ensures.0 is)
+    (omega arith) (c.is_custom.ensures.0 is)
 
 pub returns-then-not-is_in_order : goal.returns-then-not-is_in_order
 returns-then-not-is_in_order c =
@@ -34,7 +34,7 @@ returns-then-not-is_in_order c =
     let s : Section = section_of c.in-Ok.section in
     let no : (c.loop-cursor.last < s.id) × (s.id ≤ 11) → ⊥ = λ h. let f : IsTrue c.is_in_order.result = c.is_in_order.ensures.1 h in first_of (cc, search rules) in
     none-ordered c.args.bytes.now (rest c.loop-cursor.cursor) (rest c.read_section.new.cursor) c.loop-cursor.last (map section_of c.loop-cursor.found.items) s c.loop-cursor.invariant left c.in-Ok.ensures.spelled
-      (out-of-order c.loop-cursor.last s (λ z. omega (arith, z)) no)
+    (out-of-order c.loop-cursor.last s (λ z. omega (arith, z)) no)
 
 pub loop-cursor-smaller : goal.loop-cursor-smaller
 loop-cursor-smaller c = section-shorter (section_of c.in-Ok.section) (rest c.loop-cursor.cursor) (rest c.read_section.new.cursor) c.in-Ok.ensures.spelled
@@ -47,7 +47,7 @@ loop-cursor-preserved c =
     let found = c.loop-cursor.found.items in
     let e : map section_of c.push.new.self.items ≡ map section_of found ++ s ∷ [] = ap (map section_of) c.in_ok-push.ensures.items ∙ map-append section_of found (c.in-Ok.section ∷ []) in
     subst (λ (l : List Section). AtSection c.args.bytes.now (rest c.read_section.new.cursor) c.in-Ok.section.id l) (sym e)
-      (at-known c.args.bytes.now (rest c.loop-cursor.cursor) (rest c.read_section.new.cursor) c.loop-cursor.last (map section_of found) s c.loop-cursor.invariant c.in-Ok.ensures.spelled order.0 order.1)
+    (at-known c.args.bytes.now (rest c.loop-cursor.cursor) (rest c.read_section.new.cursor) c.loop-cursor.last (map section_of found) s c.loop-cursor.invariant c.in-Ok.ensures.spelled order.0 order.1)
 
 pub returns : goal.returns
 returns c =

@@ -1,4 +1,4 @@
-use Rattle.std.proofs.Common.{ℕ, length, map}
+use Rattle.std.proofs.Common.{length, map}
 use Rattle.leb_read.specs.Reading.{rest}
 use Rattle.wasm_decode.specs.Sections.{section_of}
 use Rattle.wasm_decode.proofs.SectionList.{AtSection}

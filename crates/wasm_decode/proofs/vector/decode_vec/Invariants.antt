@@ -1,4 +1,4 @@
-use Rattle.std.proofs.Common.{◌≡◌, ◌≤◌, ℕ, length, map}
+use Rattle.std.proofs.Common.{◌≡◌, ◌≤◌, length, map}
 use Rattle.wasm_spec.specs.Numbers.{TakesEach}
 use Rattle.leb_read.specs.Reading.{rest}
 use Rattle.wasm_decode.proofs.vector.decode_vec.Given as goal

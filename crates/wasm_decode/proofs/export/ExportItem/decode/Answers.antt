@@ -1,4 +1,4 @@
-use Rattle.std.proofs.Common.{◌≡◌, ℕ, List, ◌∷◌, ◌∙◌, sym, subst, arith}
+use Rattle.std.proofs.Common.{ℕ, List, subst, arith}
 use Rattle.wasm_spec.specs.Numbers.{TakesUnsigned}
 use Rattle.wasm_spec.proofs.UnambiguousNumbers.{same_first, same_others}
 use Rattle.leb_read.specs.Reading.{rest}
@@ -22,4 +22,4 @@ pub returns-in_default-u32 : goal.returns-in_default-u32
 returns-in_default-u32 c = λ e after h.
     let r = export-rest e c.in-Ok.name.now (rest c.args.cursor.now) (rest c.name.new.self) after c.in-Ok.ensures.spelled h in
     c.in_default-u32.ensures.none r.2.0 after
-      (subst (λ (l : List ℕ). TakesUnsigned 32 r.2.0 l after) (same_others r.1 c.in-Ok-u8.ensures.spelled) r.2.1)
+    (subst (λ (l : List ℕ). TakesUnsigned 32 r.2.0 l after) (same_others r.1 c.in-Ok-u8.ensures.spelled) r.2.1)

@@ -1,4 +1,4 @@
-use Rattle.std.proofs.Common.{◌≡◌, ℕ, List, subst, arith}
+use Rattle.std.proofs.Common.{ℕ, List, subst, arith}
 use Rattle.wasm_spec.specs.TypeGrammar.{TakesValType}
 use Rattle.wasm_spec.specs.Grammar.{TakesLocalRun}
 use Rattle.wasm_spec.proofs.UnambiguousNumbers.{unsigned-unique}
@@ -15,7 +15,7 @@ returns-then-count-ne0 c = λ run after h.
 pub returns-in-Err : goal.returns-in-Err
 returns-in-Err c =
     begins-through TakesValType (Both TakesLocalRun IsEmptyRun) (rest c.args.cursor.now) (rest c.u32.new.self) c.in-Err.fault
-      (λ run after h.
-        let u = unsigned-unique 32 run.count c.in-Ok.count (rest c.args.cursor.now) h.0.mid (rest c.u32.new.self) h.0.count c.in-Ok.ensures.spelled in
-        (run.value, after, subst (λ (l : List ℕ). TakesValType run.value l after) u.1 h.0.value))
-      c.in-Err.ensures
+    (λ run after h.
+    let u = unsigned-unique 32 run.count c.in-Ok.count (rest c.args.cursor.now) h.0.mid (rest c.u32.new.self) h.0.count c.in-Ok.ensures.spelled in
+    (run.value, after, subst (λ (l : List ℕ). TakesValType run.value l after) u.1 h.0.value))
+    c.in-Err.ensures
