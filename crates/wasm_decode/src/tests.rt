@@ -36,22 +36,49 @@ const AFTER_HEADER: &[(&[u8], bool)] = &[
     // ids that don't rise, the same one twice, and one that there isn't
     (b"\x03\x01\0\x01\x01\0", false),
     (b"\x01\x01\0\x01\x01\0", false),
-    (b"\x0c\x01\0", false),
+    (b"\x7f\x01\0", false),
     // a type; a function without code; code without a function
     (b"\x01\x04\x01\x60\0\0", true),
     (b"\x01\x04\x01\x60\0\0\x03\x02\x01\0", false),
     (b"\x01\x04\x01\x60\0\0\x0a\x04\x01\x02\0\x0b", false),
     // a body; one with a run of no locals; longer than its size, shorter, without an end; an opcode of no instruction
-    (b"\x01\x04\x01\x60\0\0\x03\x02\x01\0\x0a\x04\x01\x02\0\x0b", true),
-    (b"\x01\x04\x01\x60\0\0\x03\x02\x01\0\x0a\x06\x01\x04\x01\0\x7c\x0b", true),
-    (b"\x01\x04\x01\x60\0\0\x03\x02\x01\0\x0a\x04\x01\x01\0\x0b", false),
-    (b"\x01\x04\x01\x60\0\0\x03\x02\x01\0\x0a\x05\x01\x03\0\x0b\x0b", false),
-    (b"\x01\x04\x01\x60\0\0\x03\x02\x01\0\x0a\x04\x01\x02\0\x6a", false),
-    (b"\x01\x04\x01\x60\0\0\x03\x02\x01\0\x0a\x05\x01\x03\0\xff\x0b", false),
+    (
+        b"\x01\x04\x01\x60\0\0\x03\x02\x01\0\x0a\x04\x01\x02\0\x0b",
+        true,
+    ),
+    (
+        b"\x01\x04\x01\x60\0\0\x03\x02\x01\0\x0a\x06\x01\x04\x01\0\x7c\x0b",
+        true,
+    ),
+    (
+        b"\x01\x04\x01\x60\0\0\x03\x02\x01\0\x0a\x04\x01\x01\0\x0b",
+        false,
+    ),
+    (
+        b"\x01\x04\x01\x60\0\0\x03\x02\x01\0\x0a\x05\x01\x03\0\x0b\x0b",
+        false,
+    ),
+    (
+        b"\x01\x04\x01\x60\0\0\x03\x02\x01\0\x0a\x04\x01\x02\0\x6a",
+        false,
+    ),
+    (
+        b"\x01\x04\x01\x60\0\0\x03\x02\x01\0\x0a\x05\x01\x03\0\xff\x0b",
+        false,
+    ),
     // an export of the function, one whose name isn't UTF-8, one of a kind that there isn't
-    (b"\x01\x04\x01\x60\0\0\x03\x02\x01\0\x07\x05\x01\x01f\0\0\x0a\x04\x01\x02\0\x0b", true),
-    (b"\x01\x04\x01\x60\0\0\x03\x02\x01\0\x07\x05\x01\x01\xff\0\0\x0a\x04\x01\x02\0\x0b", false),
-    (b"\x01\x04\x01\x60\0\0\x03\x02\x01\0\x07\x05\x01\x01f\x04\0\x0a\x04\x01\x02\0\x0b", false),
+    (
+        b"\x01\x04\x01\x60\0\0\x03\x02\x01\0\x07\x05\x01\x01f\0\0\x0a\x04\x01\x02\0\x0b",
+        true,
+    ),
+    (
+        b"\x01\x04\x01\x60\0\0\x03\x02\x01\0\x07\x05\x01\x01\xff\0\0\x0a\x04\x01\x02\0\x0b",
+        false,
+    ),
+    (
+        b"\x01\x04\x01\x60\0\0\x03\x02\x01\0\x07\x05\x01\x01f\x04\0\x0a\x04\x01\x02\0\x0b",
+        false,
+    ),
 ];
 
 #[test]
@@ -77,12 +104,15 @@ fn a_function_that_adds(rt: HostRuntime) {
     let [signature] = module.types.as_slice() else {
         panic!(rt; "it has one type");
     };
-    assert_eq!(rt; signature.params.as_slice(), &[ValType::I32, ValType::I32]);
-    assert_eq!(rt; signature.results.as_slice(), &[ValType::I32]);
+    assert_eq!(rt;
+        signature.params.as_slice(),
+        [ValType::I32, ValType::I32].as_slice()
+    );
+    assert_eq!(rt; signature.results.as_slice(), [ValType::I32].as_slice());
     let [export] = module.exports.as_slice() else {
         panic!(rt; "it has one export");
     };
-    assert_eq!(rt; export.name.as_slice(), b"add");
+    assert_eq!(rt; export.name.as_slice(), b"add".as_slice());
     assert_eq!(rt; export.desc, ExportDesc::Func(0));
     let [function] = module.functions.as_slice() else {
         panic!(rt; "it has one function");
@@ -94,7 +124,11 @@ fn a_function_that_adds(rt: HostRuntime) {
     };
     let adds = matches!(
         sequence.as_slice(),
-        [Op::Plain(Instr::LocalGet(0)), Op::Plain(Instr::LocalGet(1)), Op::Plain(Instr::Binary(Width::W32, BinaryOp::Add))]
+        [
+            Op::Plain(Instr::LocalGet(0)),
+            Op::Plain(Instr::LocalGet(1)),
+            Op::Plain(Instr::Binary(Width::W32, BinaryOp::Add))
+        ]
     );
     assert!(rt; adds);
 }
