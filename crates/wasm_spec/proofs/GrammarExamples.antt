@@ -42,19 +42,17 @@ header_alone = record {
   header = refl;
   whole = refl;
   ordered = tt;
-  fields = record {
-    types = refl;
-    imports = refl;
-    function_types = refl;
-    tables = refl;
-    memories = refl;
-    globals = refl;
-    exports = refl;
-    start = refl;
-    element_segments = refl;
-    bodies = refl;
-    data_segments = refl;
-  };
+  types = refl;
+  imports = refl;
+  function_types = refl;
+  tables = refl;
+  memories = refl;
+  globals = refl;
+  exports = refl;
+  start = refl;
+  element_segments = refl;
+  bodies = refl;
+  data_segments = refl;
 }
 
 abbrev sum_of_both : Code
@@ -216,17 +214,15 @@ add_spelled = record {
   header = refl;
   whole = sections_follow;
   ordered = sections_rise;
-  fields = record {
-    types = type_spelled;
-    imports = refl;
-    function_types = index_spelled;
-    tables = refl;
-    memories = refl;
-    globals = refl;
-    exports = export_spelled;
-    start = refl;
-    element_segments = refl;
-    bodies = body_spelled;
-    data_segments = refl;
-  };
+  types = type_spelled;
+  imports = refl;
+  function_types = index_spelled;
+  tables = refl;
+  memories = refl;
+  globals = refl;
+  exports = export_spelled;
+  start = refl;
+  element_segments = refl;
+  bodies = body_spelled;
+  data_segments = refl;
 }

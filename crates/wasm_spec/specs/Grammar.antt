@@ -1,5 +1,5 @@
 -- Modules in the binary format. Source: WebAssembly Core Specification 1.0, section 5.5.
-use Rattle.std.specs.Prelude.{◌≡◌, ℕ, ◌<◌, ◌≤◌, ◌^◌, ◌⊎◌, ◌==◌, List, [], ◌∷◌, length, map, flat_map, find, Option, Some, None, option_map}
+use Rattle.std.specs.Prelude.{◌≡◌, ℕ, ◌<◌, ◌≤◌, ◌^◌, ◌⊎◌, ◌==◌, List, [], ◌∷◌, length, map, flat_map, find, Option, Some, None}
 use Rattle.wasm_types.specs.declared.types.ValType.{ValType}
 use Rattle.wasm_types.specs.declared.module.LocalRun.{LocalRun}
 use Rattle.wasm_types.specs.declared.module.Import.{Import}
@@ -116,39 +116,36 @@ IsOrderedAbove low (s ∷ sections) =
     ((s.id ≡ 0) × IsCustom s.contents × IsOrderedAbove low sections)
     ⊎ ((low < s.id) × (s.id ≤ 11) × IsOrderedAbove s.id sections)
 
--- the contents of the section of an id
-abbrev pub contents_of : ℕ → List Section → Option (List ℕ)
-contents_of id sections = option_map (λ s. s.contents) (find (λ s. s.id == id) sections)
+-- the section of an id
+abbrev pub section : ℕ → List Section → Option Section
+section id sections = find (λ s. s.id == id) sections
 
 -- the contents of a section are a vector; without the section there are no items
-abbrev pub SpellsVec : {A : Type 0} → (A → List ℕ → List ℕ → Type 0) → List A → Option (List ℕ) → Type 0
+abbrev pub SpellsVec : {A : Type 0} → (A → List ℕ → List ℕ → Type 0) → List A → Option Section → Type 0
 SpellsVec Takes xs None = xs ≡ []
-SpellsVec Takes xs (Some contents) = TakesVec Takes xs contents []
+SpellsVec Takes xs (Some s) = TakesVec Takes xs s.contents []
 
 -- section 5.5.11
-abbrev pub SpellsStart : Option ℕ → Option (List ℕ) → Type 0
+abbrev pub SpellsStart : Option ℕ → Option Section → Type 0
 SpellsStart start None = start ≡ None
-SpellsStart start (Some contents) = (x : ℕ) × (start ≡ Some x) × TakesUnsigned 32 x contents []
+SpellsStart start (Some s) = (x : ℕ) × (start ≡ Some x) × TakesUnsigned 32 x s.contents []
 
--- what the sections of a module say: the function section has the functions' types, and the code section their bodies
-pub record SpellsFields (sections : List Section) (m : ModuleTree) : Type 0 where
-  pub types : SpellsVec TakesFuncType m.types (contents_of 1 sections)
-  pub imports : SpellsVec TakesImport m.imports (contents_of 2 sections)
-  pub function_types : SpellsVec (TakesUnsigned 32) (map type_index_of m.functions) (contents_of 3 sections)
-  pub tables : SpellsVec TakesTableType m.tables (contents_of 4 sections)
-  pub memories : SpellsVec TakesMemoryType m.memories (contents_of 5 sections)
-  pub globals : SpellsVec TakesGlobal m.globals (contents_of 6 sections)
-  pub exports : SpellsVec TakesExport m.exports (contents_of 7 sections)
-  pub start : SpellsStart m.start (contents_of 8 sections)
-  pub element_segments : SpellsVec TakesElement m.element_segments (contents_of 9 sections)
-  pub bodies : SpellsVec TakesSizedBody (map body_of m.functions) (contents_of 10 sections)
-  pub data_segments : SpellsVec TakesData m.data_segments (contents_of 11 sections)
-
--- section 5.5.15: the magic bytes, the version, and sections up to the end
+-- Section 5.5.15: the magic bytes, the version, and sections up to the end. The function section has the functions'
+-- types, and the code section their bodies.
 pub record Spells (bytes : List ℕ) (m : ModuleTree) : Type 0 where
   pub after : List ℕ
   pub sections : List Section
   pub header : bytes ≡ 0x00 ∷ 0x61 ∷ 0x73 ∷ 0x6D ∷ 0x01 ∷ 0x00 ∷ 0x00 ∷ 0x00 ∷ after
   pub whole : TakesEach TakesSection sections after []
   pub ordered : IsOrderedAbove 0 sections
-  pub fields : SpellsFields sections m
+  pub types : SpellsVec TakesFuncType m.types (section 1 sections)
+  pub imports : SpellsVec TakesImport m.imports (section 2 sections)
+  pub function_types : SpellsVec (TakesUnsigned 32) (map type_index_of m.functions) (section 3 sections)
+  pub tables : SpellsVec TakesTableType m.tables (section 4 sections)
+  pub memories : SpellsVec TakesMemoryType m.memories (section 5 sections)
+  pub globals : SpellsVec TakesGlobal m.globals (section 6 sections)
+  pub exports : SpellsVec TakesExport m.exports (section 7 sections)
+  pub start : SpellsStart m.start (section 8 sections)
+  pub element_segments : SpellsVec TakesElement m.element_segments (section 9 sections)
+  pub bodies : SpellsVec TakesSizedBody (map body_of m.functions) (section 10 sections)
+  pub data_segments : SpellsVec TakesData m.data_segments (section 11 sections)

@@ -1,4 +1,14 @@
+pub mod Operators
+pub mod Typing
+pub mod Validity
+pub mod Need
+pub mod Store
+pub mod Execution
+pub mod Equations
+pub mod Result
 pub mod Numbers
 pub mod TypeGrammar
 pub mod InstrGrammar
 pub mod Grammar
+pub mod Loading
+pub mod Built

@@ -1,0 +1,365 @@
+-- Execution (WebAssembly Core Specification 1.0, section 4.4), with fuel and a bounded depth of calls.
+--
+-- Each plain instruction, block, loop, if and call costs one unit of fuel, and so does each branch back to a loop, which
+-- executes the loop instruction again. The end of a sequence costs nothing. An instruction that is due where no fuel is
+-- left is not executed.
+--
+-- The operands are those of the innermost block alone, the topmost first: a block's inner sequence begins with none, and
+-- what lay below comes back when it is left. So a missing operand is met exactly where the standard's rules have no step,
+-- which is `Stuck`.
+use Rattle.std.specs.Prelude.{ℕ, zero, suc, ◌+◌, ◌-◌, ◌*◌, ◌/◌, ◌^◌, List, [], ◌∷◌, ◌++◌, Bool, true, false, Result, Ok, Err, Option, Some, None, nat_lt, nat_le, not, if◌then◌else◌, ◌&&◌, slice_get, slice_set, length, take, drop, reverse, map, replicate, min, unwrap_or}
+use Rattle.std.specs.Int as int
+use Rattle.std.specs.Int.{w8, w16, w32, byte_len, to_le_bytes}
+use Rattle.wasm_types.specs.declared.types.ValType.{ValType}
+use Rattle.wasm_types.specs.declared.types.ValType.TheVariants as type
+use Rattle.wasm_types.specs.declared.types.FuncType.{FuncType}
+use Rattle.wasm_types.specs.declared.types.Limits.{Limits}
+use Rattle.wasm_types.specs.declared.outcome.Val.{Val}
+use Rattle.wasm_types.specs.declared.outcome.Val.TheVariants as val
+use Rattle.wasm_types.specs.declared.outcome.TrapKind.{TrapKind}
+use Rattle.wasm_types.specs.declared.outcome.TrapKind.TheVariants as trap
+use Rattle.wasm_types.specs.declared.instr.Width.{Width}
+use Rattle.wasm_types.specs.declared.instr.Width.TheVariants.{W32, W64}
+use Rattle.wasm_types.specs.declared.instr.Sign.{Sign}
+use Rattle.wasm_types.specs.declared.instr.Sign.TheVariants.{Signed, Unsigned}
+use Rattle.wasm_types.specs.declared.instr.PackSize.{PackSize}
+use Rattle.wasm_types.specs.declared.instr.PackSize.TheVariants.{Pack8, Pack16, Pack32}
+use Rattle.wasm_types.specs.declared.instr.Instr.{Instr}
+use Rattle.wasm_types.specs.declared.instr.Instr.TheVariants as instr
+use Rattle.wasm_types.specs.Tree.{Code, End, Plain, Block, Loop, If, Call, CallIndirect, FunctionTree, ModuleTree}
+use Rattle.wasm_spec.specs.Typing.{all_same}
+use Rattle.wasm_spec.specs.Operators.{bit_width, int_width, unary, binary, compare, eqz, extend_s, wrap}
+use Rattle.wasm_spec.specs.Store.{Store, page_size, written, loaded}
+
+-- what bounds a run beside its fuel: the pages that a memory may have, and the calls that may be open at once
+pub record RunLimits : Type 0 where
+  pub pages : ℕ
+  pub depth : ℕ
+
+-- the current function's locals, the operands, and the store
+pub record State : Type 0 where
+  pub locals : List Val
+  pub operands : List Val
+  pub store : Store
+
+-- how a sequence of instructions ends: at its end, on the way to a label (the innermost is 0) or out of the function, by a
+-- trap, for want of fuel, or where the standard has no step
+pub data Signal : Type 0 where
+  Next : (s : State) → Signal
+  Branch : (l : ℕ) (s : State) → Signal
+  Returned : (s : State) → Signal
+  Trapped : (t : TrapKind) (store : Store) → Signal
+  OutOfFuel : (store : Store) → Signal
+  Stuck : Signal
+
+-- and with how much fuel left
+pub record Ended : Type 0 where
+  pub signal : Signal
+  pub fuel : ℕ
+
+abbrev pub ended : Signal → ℕ → Ended
+ended signal fuel = record { signal = signal; fuel = fuel }
+
+-- what is done from a state and the fuel left on
+abbrev pub Continuation : Type 0
+Continuation = State → ℕ → Ended
+
+-- ---- values and operands
+
+-- the number of a value of an integer type, if it has that type
+abbrev pub number : Width → Val → Option ℕ
+number W32 (val.I32 n) = Some n
+number W32 (val.I64 n) = None
+number W64 (val.I32 n) = None
+number W64 (val.I64 n) = Some n
+
+abbrev pub value : Width → ℕ → Val
+value W32 n = val.I32 n
+value W64 n = val.I64 n
+
+abbrev pub given : {A : Type 0} → Option A → (A → Signal) → Signal
+given None next = Stuck
+given (Some x) next = next x
+
+-- goes on with these operands
+abbrev pub with_operands : List Val → State → Signal
+with_operands vs s = Next (record s { operands = vs })
+
+-- the topmost operand, the topmost two and three in the order in which they were pushed, and those below them
+abbrev pub pop : List Val → (Val → List Val → Signal) → Signal
+pop [] next = Stuck
+pop (x ∷ rest) next = next x rest
+
+abbrev pub pop_two : List Val → (Val → Val → List Val → Signal) → Signal
+pop_two (y ∷ x ∷ rest) next = next x y rest
+pop_two _ next = Stuck
+
+abbrev pub pop_three : List Val → (Val → Val → Val → List Val → Signal) → Signal
+pop_three (z ∷ y ∷ x ∷ rest) next = next x y z rest
+pop_three _ next = Stuck
+
+-- the first at 0, and else the second
+abbrev pub if_zero : ℕ → Signal → Signal → Signal
+if_zero zero first second = first
+if_zero (suc n) first second = second
+
+abbrev pub or_trap : Result ℕ TrapKind → State → (ℕ → Signal) → Signal
+or_trap (Ok n) s next = next n
+or_trap (Err t) s next = Trapped t s.store
+
+-- ---- memory (section 4.4.4)
+
+-- a narrow part of an integer, as std's words on bytes take it
+abbrev pub pack_width : PackSize → int.Width
+pack_width Pack8 = w8
+pack_width Pack16 = w16
+pack_width Pack32 = w32
+
+abbrev pub pack_bits : PackSize → ℕ
+pack_bits Pack8 = 8
+pack_bits Pack16 = 16
+pack_bits Pack32 = 32
+
+-- a number of so many bits in a type of n bits
+abbrev pub extended : ℕ → ℕ → Sign → ℕ → ℕ
+extended m n Signed i = extend_s m n i
+extended m n Unsigned i = i
+
+-- the number at an address, if its bytes lie in the memory, goes onto these operands as `what` makes it
+abbrev pub load_number : int.Width → (ℕ → Val) → ℕ → List Val → State → Signal
+load_number width what at vs s =
+    if nat_lt (length s.store.memory) (at + byte_len width) then Trapped trap.Memory s.store
+    else with_operands (what (loaded width s.store.memory at) ∷ vs) s
+
+abbrev pub with_memory : List ℕ → Store → Store
+with_memory bytes store = record store { memory = bytes }
+
+-- a number's bytes to an address, if they fit the memory; a store that traps writes nothing
+abbrev pub store_number : int.Width → ℕ → ℕ → List Val → State → Signal
+store_number width n at vs s =
+    if nat_lt (length s.store.memory) (at + byte_len width) then Trapped trap.Memory s.store
+    else Next (record s { operands = vs; store = with_memory (written s.store.memory at (to_le_bytes width n)) s.store })
+
+-- the address of an access: the operand and the offset as a whole number, which does not wrap
+abbrev pub at_address : Val → ℕ → (ℕ → Signal) → Signal
+at_address base offset next = given (number W32 base) (λ a. next (a + offset))
+
+abbrev pub pages_of : Store → ℕ
+pages_of store = length store.memory / page_size
+
+-- the pages that the memory may have: at most the declared maximum of the memory, if it declares one
+abbrev pub most_pages : List Limits → ℕ → ℕ
+most_pages [] pages = pages
+most_pages (limits ∷ _) pages = min pages (unwrap_or limits.max pages)
+
+-- so many pages of zeros more, and the old size; or -1 exactly where that would be too many
+abbrev pub grow : ℕ → ℕ → List Val → State → Signal
+grow most n vs s =
+    let old = pages_of s.store in
+    if nat_lt most (old + n) then with_operands (val.I32 (2 ^ 32 - 1) ∷ vs) s
+    else Next (record s { operands = val.I32 old ∷ vs; store = with_memory (s.store.memory ++ replicate (n * page_size) 0) s.store })
+
+-- ---- plain instructions (sections 4.4.1 to 4.4.5)
+
+-- an instruction that holds no other and calls none
+abbrev pub plain : ModuleTree → RunLimits → Instr → State → Signal
+plain m limits instr.Unreachable s = Trapped trap.Unreachable s.store
+plain m limits instr.Nop s = Next s
+plain m limits (instr.Br l) s = Branch l s
+plain m limits (instr.BrIf l) s =
+    pop s.operands (λ c vs. given (number W32 c) (λ n. let t = record s { operands = vs } in if_zero n (Next t) (Branch l t)))
+plain m limits (instr.BrTable labels l) s =
+    pop s.operands (λ c vs. given (number W32 c) (λ n. Branch (unwrap_or (slice_get labels n) l) (record s { operands = vs })))
+plain m limits instr.Return s = Returned s
+plain m limits instr.Drop s = pop s.operands (λ x vs. with_operands vs s)
+plain m limits instr.Select s =
+    pop_three s.operands (λ x y c vs. given (number W32 c) (λ n. if_zero n (with_operands (y ∷ vs) s) (with_operands (x ∷ vs) s)))
+plain m limits (instr.LocalGet x) s = given (slice_get s.locals x) (λ v. with_operands (v ∷ s.operands) s)
+plain m limits (instr.LocalSet x) s =
+    pop s.operands (λ v vs. given (slice_get s.locals x) (λ old. Next (record s { operands = vs; locals = slice_set s.locals x v })))
+plain m limits (instr.LocalTee x) s =
+    pop s.operands (λ v vs. given (slice_get s.locals x) (λ old. Next (record s { locals = slice_set s.locals x v })))
+plain m limits (instr.GlobalGet x) s = given (slice_get s.store.globals x) (λ v. with_operands (v ∷ s.operands) s)
+plain m limits (instr.GlobalSet x) s =
+    pop s.operands (λ v vs. given (slice_get s.store.globals x) (λ old.
+    Next (record s { operands = vs; store = record s.store { globals = slice_set s.store.globals x v } })))
+plain m limits (instr.Load w a) s =
+    pop s.operands (λ b vs. at_address b a.offset (λ at. load_number (int_width w) (value w) at vs s))
+plain m limits (instr.LoadPacked w p sign a) s =
+    pop s.operands (λ b vs. at_address b a.offset (λ at.
+    load_number (pack_width p) (λ n. value w (extended (pack_bits p) (bit_width w) sign n)) at vs s))
+plain m limits (instr.Store w a) s =
+    pop_two s.operands (λ b v vs. at_address b a.offset (λ at. given (number w v) (λ n. store_number (int_width w) n at vs s)))
+plain m limits (instr.StorePacked w p a) s =
+    pop_two s.operands (λ b v vs. at_address b a.offset (λ at.
+    given (number w v) (λ n. store_number (pack_width p) (wrap (pack_bits p) n) at vs s)))
+plain m limits instr.MemorySize s = with_operands (val.I32 (pages_of s.store) ∷ s.operands) s
+plain m limits instr.MemoryGrow s =
+    pop s.operands (λ x vs. given (number W32 x) (λ n. grow (most_pages m.memories limits.pages) n vs s))
+plain m limits (instr.Const v) s = with_operands (v ∷ s.operands) s
+plain m limits (instr.Eqz w) s = pop s.operands (λ x vs. given (number w x) (λ a. with_operands (val.I32 (eqz a) ∷ vs) s))
+plain m limits (instr.Compare w op) s =
+    pop_two s.operands (λ x y vs. given (number w x) (λ a. given (number w y) (λ b.
+    with_operands (val.I32 (compare (bit_width w) op a b) ∷ vs) s)))
+plain m limits (instr.Unary w op) s =
+    pop s.operands (λ x vs. given (number w x) (λ a. with_operands (value w (unary (bit_width w) op a) ∷ vs) s))
+plain m limits (instr.Binary w op) s =
+    pop_two s.operands (λ x y vs. given (number w x) (λ a. given (number w y) (λ b.
+    or_trap (binary (bit_width w) op a b) s (λ c. with_operands (value w c ∷ vs) s))))
+plain m limits instr.Wrap s = pop s.operands (λ x vs. given (number W64 x) (λ a. with_operands (val.I32 (wrap 32 a) ∷ vs) s))
+plain m limits (instr.Extend sign) s =
+    pop s.operands (λ x vs. given (number W32 x) (λ a. with_operands (val.I64 (extended 32 64 sign a) ∷ vs) s))
+plain m limits instr.Float s = Stuck
+
+-- ---- going on
+
+-- one unit of fuel, or the end of the fuel where none is left
+abbrev pub pay : Store → ℕ → (ℕ → Ended) → Ended
+pay store zero next = ended (OutOfFuel store) 0
+pay store (suc fuel) next = next fuel
+
+-- what follows an instruction, if it does not leave its sequence
+abbrev pub and_then : Signal → ℕ → Continuation → Ended
+and_then (Next s) fuel next = next s fuel
+and_then (Branch l s) fuel next = ended (Branch l s) fuel
+and_then (Returned s) fuel next = ended (Returned s) fuel
+and_then (Trapped t store) fuel next = ended (Trapped t store) fuel
+and_then (OutOfFuel store) fuel next = ended (OutOfFuel store) fuel
+and_then Stuck fuel next = ended Stuck fuel
+
+-- this end where the test holds, and else what goes on
+abbrev pub unless : Bool → Signal → Continuation → Continuation
+unless true signal next s fuel = ended signal fuel
+unless false signal next s fuel = next s fuel
+
+-- the topmost n operands on what lay below
+abbrev pub keep : ℕ → List Val → Continuation → Continuation
+keep n below next s fuel =
+    unless (nat_lt (length s.operands) n) Stuck next (record s { operands = take n s.operands ++ below }) fuel
+
+-- ---- blocks (section 4.4.6)
+
+-- How a block's inner sequence leaves it: at its end, or by a branch to its label of n values, which goes to `target`. A
+-- branch to a label further out counts from outside.
+abbrev pub leave_by : ℕ → List Val → Signal → ℕ → Continuation → Continuation → Ended
+leave_by n below (Next s) fuel next target = next (record s { operands = s.operands ++ below }) fuel
+leave_by n below (Branch zero s) fuel next target = keep n below target s fuel
+leave_by n below (Branch (suc l) s) fuel next target = ended (Branch l s) fuel
+leave_by n below (Returned s) fuel next target = ended (Returned s) fuel
+leave_by n below (Trapped t store) fuel next target = ended (Trapped t store) fuel
+leave_by n below (OutOfFuel store) fuel next target = ended (OutOfFuel store) fuel
+leave_by n below Stuck fuel next target = ended Stuck fuel
+
+abbrev pub leave : ℕ → List Val → Ended → Continuation → Continuation → Ended
+leave n below inner next target = leave_by n below inner.signal inner.fuel next target
+
+-- how many values a block's result type has
+abbrev pub arity : Option ValType → ℕ
+arity None = 0
+arity (Some t) = 1
+
+-- an i32 on top goes on as a number
+abbrev pub pop_index : List Val → (ℕ → Continuation) → Continuation
+pop_index (val.I32 n ∷ vs) next s fuel = next n (record s { operands = vs }) fuel
+pop_index _ next s fuel = ended Stuck fuel
+
+-- the first where the condition is not 0, and else the second; the other is not executed
+abbrev pub choose : ℕ → Continuation → Continuation → Continuation
+choose zero first second s fuel = second s fuel
+choose (suc n) first second s fuel = first s fuel
+
+abbrev pub inside : State → State
+inside s = record s { operands = [] }
+
+-- ---- calls (section 4.4.7)
+
+-- The value that a local begins with. A local of a float type, which no module that is run has, is given one of i32.
+abbrev pub zero_of : ValType → Val
+zero_of type.I64 = val.I64 0
+zero_of _ = val.I32 0
+
+-- How a function's body leaves it: the caller goes on with its own locals, and with the n results on its operands below
+-- the arguments. The body is the outermost block: its label is that of the results.
+abbrev pub return_by : ℕ → State → List Val → Signal → ℕ → Continuation → Ended
+return_by n caller below (Next s) fuel next = keep n below next (record s { locals = caller.locals }) fuel
+return_by n caller below (Branch zero s) fuel next = keep n below next (record s { locals = caller.locals }) fuel
+return_by n caller below (Branch (suc l) s) fuel next = ended Stuck fuel
+return_by n caller below (Returned s) fuel next = keep n below next (record s { locals = caller.locals }) fuel
+return_by n caller below (Trapped t store) fuel next = ended (Trapped t store) fuel
+return_by n caller below (OutOfFuel store) fuel next = ended (OutOfFuel store) fuel
+return_by n caller below Stuck fuel next = ended Stuck fuel
+
+abbrev pub return : ℕ → State → List Val → Ended → Continuation → Ended
+return n caller below inner next = return_by n caller below inner.signal inner.fuel next
+
+-- a function's locals as it begins: its arguments, and then zeros
+abbrev pub entered : FunctionTree → FuncType → State → State
+entered f t s = record s { locals = reverse (take (length t.params) s.operands) ++ map zero_of f.locals; operands = [] }
+
+-- A call of a function of this type, whose body `run` executes, from so many calls that are open.
+abbrev pub invoke : RunLimits → ℕ → FunctionTree → FuncType → Continuation → Continuation → Continuation
+invoke limits depth f t run next s fuel =
+    let n = length t.params in
+    unless (nat_lt (length s.operands) n) Stuck (unless (nat_le limits.depth depth) (Trapped trap.Exhausted s.store) (λ s fuel.
+    return (length t.results) s (drop n s.operands) (run (entered f t s) fuel) next)) s fuel
+
+abbrev pub with_type_as : Option FuncType → (FuncType → Continuation) → Continuation
+with_type_as None next s fuel = ended Stuck fuel
+with_type_as (Some t) next s fuel = next t s fuel
+
+abbrev pub with_type : ModuleTree → ℕ → (FuncType → Continuation) → Continuation
+with_type m x next s fuel = with_type_as (slice_get m.types x) next s fuel
+
+abbrev pub with_function_as : ModuleTree → Option FunctionTree → (FunctionTree → FuncType → Continuation) → Continuation
+with_function_as m None next s fuel = ended Stuck fuel
+with_function_as m (Some f) next s fuel = with_type m f.type_index (next f) s fuel
+
+-- the function with an index, and its type
+abbrev pub with_function : ModuleTree → ℕ → (FunctionTree → FuncType → Continuation) → Continuation
+with_function m x next s fuel = with_function_as m (slice_get m.functions x) next s fuel
+
+-- the function that an element of the table is, if there is such an element and it is not empty
+abbrev pub with_element : Option (Option ℕ) → (ℕ → Continuation) → Continuation
+with_element None next s fuel = ended (Trapped trap.Element s.store) fuel
+with_element (Some None) next s fuel = ended (Trapped trap.Uninit s.store) fuel
+with_element (Some (Some x)) next s fuel = next x s fuel
+
+-- two function types are the same
+abbrev pub same_type : FuncType → FuncType → Bool
+same_type a b = all_same a.params b.params && all_same a.results b.results
+
+-- ---- sequences of instructions
+
+module _ (m : ModuleTree) (limits : RunLimits) where
+  -- A sequence, where so many calls are open. A loop that is executed again and a call take one from the index n. Each takes
+  -- one from the fuel first, so an index above the fuel is enough, and a higher one gives the same.
+  abbrev pub exec_within : ℕ → Code → ℕ → Continuation
+  exec_within n End depth s fuel = ended (Next s) fuel
+  exec_within n (Plain i rest) depth s fuel =
+      pay s.store fuel (λ g. and_then (plain m limits i s) g (exec_within n rest depth))
+  exec_within n (Block t body rest) depth s fuel =
+      pay s.store fuel (λ g.
+      leave (arity t) s.operands (exec_within n body depth (inside s) g) (exec_within n rest depth) (exec_within n rest depth))
+  exec_within n (If t first second rest) depth s fuel =
+      pay s.store fuel (pop_index s.operands (λ c s g.
+      leave (arity t) s.operands (choose c (exec_within n first depth) (exec_within n second depth) (inside s) g)
+      (exec_within n rest depth) (exec_within n rest depth)) s)
+  exec_within zero (Loop t body rest) depth s fuel = ended (OutOfFuel s.store) 0
+  exec_within (suc n) (Loop t body rest) depth s fuel =
+      pay s.store fuel (λ g.
+      leave 0 s.operands (exec_within (suc n) body depth (inside s) g)
+      (exec_within (suc n) rest depth) (exec_within n (Loop t body rest) depth))
+  exec_within zero (Call x rest) depth s fuel = ended (OutOfFuel s.store) 0
+  exec_within (suc n) (Call x rest) depth s fuel =
+      pay s.store fuel (with_function m x (λ f t.
+      invoke limits depth f t (exec_within n f.body (depth + 1)) (exec_within (suc n) rest depth)) s)
+  exec_within zero (CallIndirect x rest) depth s fuel = ended (OutOfFuel s.store) 0
+  exec_within (suc n) (CallIndirect x rest) depth s fuel =
+      pay s.store fuel (pop_index s.operands (λ i s. with_element (slice_get s.store.table i) (λ y.
+      with_type m x (λ u. with_function m y (λ f t s.
+      unless (not (same_type u t)) (Trapped trap.Signature s.store)
+      (invoke limits depth f t (exec_within n f.body (depth + 1)) (exec_within (suc n) rest depth)) s))) s) s)
+
+  -- what a sequence does, where so many calls are open
+  unfoldable pub exec : ℕ → Code → Continuation
+  exec depth code s fuel = exec_within (suc fuel) code depth s fuel

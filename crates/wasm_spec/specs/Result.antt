@@ -1,0 +1,62 @@
+-- The result of a call: what invocation (WebAssembly Core Specification 1.0, section 4.5.5) gives a fresh instance, whose
+-- start function (section 4.5.4) runs first and on the same fuel.
+use Rattle.std.specs.Prelude.{ℕ, List, [], Option, Some, None, slice_get, reverse}
+use Rattle.wasm_types.specs.declared.outcome.Val.{Val}
+use Rattle.wasm_types.specs.declared.outcome.Outcome.{Outcome}
+use Rattle.wasm_types.specs.declared.outcome.Outcome.TheVariants as outcome
+use Rattle.wasm_types.specs.Tree.{ModuleTree}
+use Rattle.wasm_spec.specs.Store.{Store, fresh_store}
+use Rattle.wasm_spec.specs.Execution.{RunLimits, State, Signal, Next, Branch, Returned, Trapped, OutOfFuel, Stuck, Ended, ended, exec, invoke, with_function}
+
+-- how a call ended, and what it left
+pub record CallResult : Type 0 where
+  pub outcome : Outcome
+  pub store : Store
+  pub fuel : ℕ
+
+abbrev pub finish : State → ℕ → Ended
+finish s fuel = ended (Next s) fuel
+
+-- A function of the module with these arguments on the operands, called from outside: its body begins at depth 1.
+abbrev pub run_function : ModuleTree → RunLimits → ℕ → List Val → Store → ℕ → Ended
+run_function m limits x arguments store fuel =
+    with_function m x (λ f t. invoke limits 0 f t (exec m limits 1 f.body) finish)
+    (record { locals = []; operands = reverse arguments; store = store }) fuel
+
+abbrev pub result_by : Signal → ℕ → Option CallResult
+result_by (Next s) fuel = Some (record { outcome = outcome.Done (slice_get s.operands 0); store = s.store; fuel = fuel })
+result_by (Trapped t store) fuel = Some (record { outcome = outcome.Trap t; store = store; fuel = fuel })
+result_by (OutOfFuel store) fuel = Some (record { outcome = outcome.Fuel; store = store; fuel = fuel })
+result_by (Branch l s) fuel = None
+result_by (Returned s) fuel = None
+result_by Stuck fuel = None
+
+-- nothing where the run is stuck, as no run of a valid module is
+abbrev pub result_of : Ended → Option CallResult
+result_of e = result_by e.signal e.fuel
+
+-- What one function gives from these parts.
+abbrev pub function_result : ModuleTree → RunLimits → ℕ → List Val → Store → ℕ → Option CallResult
+function_result m limits x arguments store fuel = result_of (run_function m limits x arguments store fuel)
+
+abbrev pub if_done_by : Outcome → CallResult → (Store → ℕ → Option CallResult) → Option CallResult
+if_done_by (outcome.Done v) r next = next r.store r.fuel
+if_done_by (outcome.Trap t) r next = Some r
+if_done_by outcome.Fuel r next = Some r
+
+-- what follows a run that ended well, and else that run's own result
+abbrev pub if_done : Option CallResult → (Store → ℕ → Option CallResult) → Option CallResult
+if_done None next = None
+if_done (Some r) next = if_done_by r.outcome r next
+
+abbrev pub after_start : ModuleTree → RunLimits → Option ℕ → (Store → ℕ → Option CallResult) → Store → ℕ → Option CallResult
+after_start m limits None next store fuel = next store fuel
+after_start m limits (Some x) next store fuel = if_done (function_result m limits x [] store fuel) next
+
+-- What a call gives from this store: the start function first, if there is one, and then the function.
+abbrev pub result_from : ModuleTree → RunLimits → ℕ → List Val → Store → ℕ → Option CallResult
+result_from m limits x arguments store fuel = after_start m limits m.start (function_result m limits x arguments) store fuel
+
+-- What a call gives a fresh instance.
+abbrev pub call_result : ModuleTree → RunLimits → ℕ → List Val → ℕ → Option CallResult
+call_result m limits x arguments fuel = result_from m limits x arguments (fresh_store m) fuel

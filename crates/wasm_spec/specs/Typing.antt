@@ -1,0 +1,228 @@
+-- The types of instructions: WebAssembly Core Specification 1.0, section 3.3.
+--
+-- Lists of operands have the top first, and are those of the innermost block alone.
+use Rattle.std.specs.Prelude.{◌≡◌, ℕ, ◌^◌, List, [], ◌∷◌, ◌++◌, Bool, true, false, ◌&&◌, Option, Some, None, slice_get, reverse, nat_le, if◌then◌else◌, option_and_then, option_map, IsSome}
+use Rattle.std.specs.List.{list_all}
+use Rattle.wasm_types.specs.declared.types.ValType.{ValType}
+use Rattle.wasm_types.specs.declared.types.ValType.TheVariants.{I32, I64, F32, F64}
+use Rattle.wasm_types.specs.declared.types.FuncType.{FuncType}
+use Rattle.wasm_types.specs.declared.types.Limits.{Limits}
+use Rattle.wasm_types.specs.declared.types.GlobalType.{GlobalType}
+use Rattle.wasm_types.specs.declared.outcome.Val.{Val}
+use Rattle.wasm_types.specs.declared.outcome.Val.TheVariants as val
+use Rattle.wasm_types.specs.declared.instr.Width.{Width}
+use Rattle.wasm_types.specs.declared.instr.Width.TheVariants.{W32, W64}
+use Rattle.wasm_types.specs.declared.instr.PackSize.{PackSize}
+use Rattle.wasm_types.specs.declared.instr.PackSize.TheVariants.{Pack8, Pack16, Pack32}
+use Rattle.wasm_types.specs.declared.instr.MemArg.{MemArg}
+use Rattle.wasm_types.specs.declared.instr.Instr.{Instr}
+use Rattle.wasm_types.specs.declared.instr.Instr.TheVariants as instr
+use Rattle.wasm_types.specs.Tree.{Code, End, Plain, Block, Loop, If, Call, CallIndirect, FunctionTree, ModuleTree}
+
+-- section 2.3.2: a block has one result or none
+abbrev pub values : Option ValType → List ValType
+values None = []
+values (Some t) = t ∷ []
+
+abbrev pub type_of : Val → ValType
+type_of (val.I32 n) = I32
+type_of (val.I64 n) = I64
+
+abbrev pub integer_type : Width → ValType
+integer_type W32 = I32
+integer_type W64 = I64
+
+-- whether two types are the same
+abbrev pub same : ValType → ValType → Bool
+same I32 I32 = true
+same I64 I64 = true
+same F32 F32 = true
+same F64 F64 = true
+same _ _ = false
+
+abbrev pub all_same : List ValType → List ValType → Bool
+all_same [] [] = true
+all_same (t ∷ ts) (u ∷ us) = same t u && all_same ts us
+all_same _ _ = false
+
+-- a function's type, in a module that imports nothing
+abbrev pub function_type : ModuleTree → ℕ → Option FuncType
+function_type m x = option_and_then (λ f. slice_get m.types f.type_index) (slice_get m.functions x)
+
+abbrev pub global_type : ModuleTree → ℕ → Option GlobalType
+global_type m x = option_map (λ g. g.global_type) (slice_get m.globals x)
+
+-- section 3.1.1: what code may name. The innermost label stands first.
+pub record Context : Type 0 where
+  pub defined : ModuleTree
+  pub locals : List ValType
+  pub labels : List (List ValType)
+  pub results : List ValType
+
+-- the context of a block's inner code, with this label
+abbrev pub under : List ValType → Context → Context
+under label C = record { defined = C.defined; locals = C.locals; labels = label ∷ C.labels; results = C.results }
+
+-- what an instruction does to the operands
+pub data Rule : Type 0 where
+  -- takes these operands, and gives these results
+  Fixed : (takes gives : List ValType) → Rule
+  -- takes these operands, and any others, and gives any results: nothing behind it is reached
+  Diverges : (takes : List ValType) → Rule
+  -- takes one operand of any type
+  Drops : Rule
+  -- takes a condition and two operands of one type, and gives one of that type
+  Selects : Rule
+  -- has no type here
+  Wrong : Rule
+
+-- section 3.3.3
+abbrev pub local_get : Option ValType → Rule
+local_get None = Wrong
+local_get (Some t) = Fixed [] (t ∷ [])
+
+abbrev pub local_set : Option ValType → Rule
+local_set None = Wrong
+local_set (Some t) = Fixed (t ∷ []) []
+
+abbrev pub local_tee : Option ValType → Rule
+local_tee None = Wrong
+local_tee (Some t) = Fixed (t ∷ []) (t ∷ [])
+
+abbrev pub global_get : Option GlobalType → Rule
+global_get None = Wrong
+global_get (Some g) = Fixed [] (g.value ∷ [])
+
+-- only a variable is set
+abbrev pub global_set : Option GlobalType → Rule
+global_set None = Wrong
+global_set (Some g) = if g.mutable then Fixed (g.value ∷ []) [] else Wrong
+
+-- section 3.3.4: memory 0 is there
+abbrev pub with_memory : List Limits → Rule → Rule
+with_memory [] r = Wrong
+with_memory (_ ∷ _) r = r
+
+-- the access width in bytes
+abbrev pub byte_width : Width → ℕ
+byte_width W32 = 4
+byte_width W64 = 8
+
+abbrev pub packed_width : PackSize → ℕ
+packed_width Pack8 = 1
+packed_width Pack16 = 2
+packed_width Pack32 = 4
+
+-- an access to memory, whose alignment is at most its width
+abbrev pub access : List Limits → MemArg → ℕ → Rule → Rule
+access memories arg bytes r = with_memory memories (if nat_le (2 ^ arg.align) bytes then r else Wrong)
+
+-- section 3.3.5
+abbrev pub branch : Option (List ValType) → Rule
+branch None = Wrong
+branch (Some label) = Diverges label
+
+abbrev pub branch_if : Option (List ValType) → Rule
+branch_if None = Wrong
+branch_if (Some label) = Fixed (I32 ∷ label) label
+
+-- whether this label is there, and of this type
+abbrev pub is_label : List ValType → Option (List ValType) → Bool
+is_label label None = false
+is_label label (Some other) = all_same label other
+
+-- all labels of a table have the type of its last one
+abbrev pub branch_table : (labels : List (List ValType)) (names : List ℕ) → Option (List ValType) → Rule
+branch_table labels names None = Wrong
+branch_table labels names (Some label) = if list_all (λ x. is_label label (slice_get labels x)) names then Diverges (I32 ∷ label) else Wrong
+
+abbrev pub calling : Option FuncType → Rule
+calling None = Wrong
+calling (Some t) = Fixed (reverse t.params) t.results
+
+abbrev pub calling_indirect : List Limits → Option FuncType → Rule
+calling_indirect [] t = Wrong
+calling_indirect (_ ∷ _) None = Wrong
+calling_indirect (_ ∷ _) (Some t) = Fixed (I32 ∷ reverse t.params) t.results
+
+-- an instruction that holds no other and calls none. Float instructions get no type: a module that has one is refused before it is typed.
+abbrev pub rule : Context → Instr → Rule
+rule C instr.Unreachable = Diverges []
+rule C instr.Nop = Fixed [] []
+rule C (instr.Br l) = branch (slice_get C.labels l)
+rule C (instr.BrIf l) = branch_if (slice_get C.labels l)
+rule C (instr.BrTable ls l) = branch_table C.labels ls (slice_get C.labels l)
+rule C instr.Return = Diverges C.results
+rule C instr.Drop = Drops
+rule C instr.Select = Selects
+rule C (instr.LocalGet x) = local_get (slice_get C.locals x)
+rule C (instr.LocalSet x) = local_set (slice_get C.locals x)
+rule C (instr.LocalTee x) = local_tee (slice_get C.locals x)
+rule C (instr.GlobalGet x) = global_get (global_type C.defined x)
+rule C (instr.GlobalSet x) = global_set (global_type C.defined x)
+rule C (instr.Load w arg) = access C.defined.memories arg (byte_width w) (Fixed (I32 ∷ []) (integer_type w ∷ []))
+rule C (instr.LoadPacked w p s arg) = access C.defined.memories arg (packed_width p) (Fixed (I32 ∷ []) (integer_type w ∷ []))
+rule C (instr.Store w arg) = access C.defined.memories arg (byte_width w) (Fixed (integer_type w ∷ I32 ∷ []) [])
+rule C (instr.StorePacked w p arg) = access C.defined.memories arg (packed_width p) (Fixed (integer_type w ∷ I32 ∷ []) [])
+rule C instr.MemorySize = with_memory C.defined.memories (Fixed [] (I32 ∷ []))
+rule C instr.MemoryGrow = with_memory C.defined.memories (Fixed (I32 ∷ []) (I32 ∷ []))
+rule C (instr.Const v) = Fixed [] (type_of v ∷ [])
+rule C (instr.Eqz w) = Fixed (integer_type w ∷ []) (I32 ∷ [])
+rule C (instr.Compare w op) = Fixed (integer_type w ∷ integer_type w ∷ []) (I32 ∷ [])
+rule C (instr.Unary w op) = Fixed (integer_type w ∷ []) (integer_type w ∷ [])
+rule C (instr.Binary w op) = Fixed (integer_type w ∷ integer_type w ∷ []) (integer_type w ∷ [])
+rule C instr.Wrap = Fixed (I64 ∷ []) (I32 ∷ [])
+rule C (instr.Extend s) = Fixed (I32 ∷ []) (I64 ∷ [])
+rule C instr.Float = Wrong
+
+abbrev pub call_rule : Context → ℕ → Rule
+call_rule C x = calling (function_type C.defined x)
+
+abbrev pub call_indirect_rule : Context → ℕ → Rule
+call_indirect_rule C x = calling_indirect C.defined.tables (slice_get C.defined.types x)
+
+-- a rule takes these operands to those
+abbrev pub Takes : Rule → List ValType → List ValType → Type 0
+Takes (Fixed takes gives) before after = (below : List ValType) × (before ≡ takes ++ below) × (after ≡ gives ++ below)
+Takes (Diverges takes) before after = (below : List ValType) × (before ≡ takes ++ below)
+Takes Drops before after = (t : ValType) × (before ≡ t ∷ after)
+Takes Selects before after = (t : ValType) × (below : List ValType) × (before ≡ I32 ∷ t ∷ t ∷ below) × (after ≡ t ∷ below)
+Takes Wrong before after = ⊥
+
+-- section 3.3.6: a sequence takes these operands to those. Inner code begins with none, and ends with exactly its block's results.
+abbrev pub Typed : Context → Code → List ValType → List ValType → Type 0
+Typed C End before after = before ≡ after
+Typed C (Plain i rest) before after = (middle : List ValType) × Takes (rule C i) before middle × Typed C rest middle after
+Typed C (Block t body rest) before after =
+    Typed (under (values t) C) body [] (values t) × Typed C rest (values t ++ before) after
+Typed C (Loop t body rest) before after =
+    Typed (under [] C) body [] (values t) × Typed C rest (values t ++ before) after
+Typed C (If t first second rest) before after =
+    (below : List ValType) × (before ≡ I32 ∷ below) × Typed (under (values t) C) first [] (values t) × Typed (under (values t) C) second [] (values t)
+    × Typed C rest (values t ++ below) after
+Typed C (Call x rest) before after = (middle : List ValType) × Takes (call_rule C x) before middle × Typed C rest middle after
+Typed C (CallIndirect x rest) before after =
+    (middle : List ValType) × Takes (call_indirect_rule C x) before middle × Typed C rest middle after
+
+-- section 3.4.1: functions. Parameters and declared locals are numbered together.
+abbrev pub params_or_none : Option FuncType → List ValType
+params_or_none None = []
+params_or_none (Some t) = t.params
+
+abbrev pub results_or_none : Option FuncType → List ValType
+results_or_none None = []
+results_or_none (Some t) = t.results
+
+abbrev pub params_of : ModuleTree → FunctionTree → List ValType
+params_of m f = params_or_none (slice_get m.types f.type_index)
+
+abbrev pub results_of : ModuleTree → FunctionTree → List ValType
+results_of m f = results_or_none (slice_get m.types f.type_index)
+
+-- a body's own label is the outermost one
+abbrev pub body_context : ModuleTree → FunctionTree → Context
+body_context m f = record { defined = m; locals = params_of m f ++ f.locals; labels = results_of m f ∷ []; results = results_of m f }
+
+-- its type is there, and its body takes nothing to its results
+abbrev pub IsTypedFunction : ModuleTree → FunctionTree → Type 0
+IsTypedFunction m f = IsSome (slice_get m.types f.type_index) × Typed (body_context m f) f.body [] (results_of m f)

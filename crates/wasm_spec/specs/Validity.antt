@@ -1,0 +1,137 @@
+-- Valid modules: WebAssembly Core Specification 1.0, section 3.4, for modules that import nothing and use no floats.
+use Rattle.std.specs.Prelude.{◌≡◌, ◌≢◌, ℕ, ◌≤◌, List, [], Bool, true, false, ◌||◌, Option, Some, None, length, slice_get, IfSome, IsSome, All, AllPairs, option_and_then, if◌then◌else◌}
+use Rattle.std.specs.List.{list_any}
+use Rattle.wasm_types.specs.declared.types.ValType.{ValType}
+use Rattle.wasm_types.specs.declared.types.ValType.TheVariants.{I32, I64, F32, F64}
+use Rattle.wasm_types.specs.declared.types.FuncType.{FuncType}
+use Rattle.wasm_types.specs.declared.types.Limits.{Limits}
+use Rattle.wasm_types.specs.declared.outcome.Val.{Val}
+use Rattle.wasm_types.specs.declared.outcome.Val.TheVariants as val
+use Rattle.wasm_types.specs.declared.instr.Instr.{Instr}
+use Rattle.wasm_types.specs.declared.instr.Instr.TheVariants as instr
+use Rattle.wasm_types.specs.declared.module.Export.{Export}
+use Rattle.wasm_types.specs.declared.module.ExportDesc.{ExportDesc}
+use Rattle.wasm_types.specs.declared.module.ExportDesc.TheVariants as desc
+use Rattle.wasm_types.specs.Tree.{Code, End, Plain, Block, Loop, If, Call, CallIndirect, GlobalTree, ElementTree, DataTree, ModuleTree}
+use Rattle.wasm_spec.specs.Typing.{type_of, values, function_type, IsTypedFunction}
+
+-- floats: a float type, or an instruction on floats, anywhere in the module (sections 2.3.1 and 2.4.1)
+abbrev pub is_float : ValType → Bool
+is_float I32 = false
+is_float I64 = false
+is_float F32 = true
+is_float F64 = true
+
+abbrev pub has_float : List ValType → Bool
+has_float ts = list_any is_float ts
+
+abbrev pub is_float_instruction : Instr → Bool
+is_float_instruction instr.Float = true
+is_float_instruction _ = false
+
+abbrev pub code_uses_floats : Code → Bool
+code_uses_floats End = false
+code_uses_floats (Plain i rest) = is_float_instruction i || code_uses_floats rest
+code_uses_floats (Block t body rest) = has_float (values t) || code_uses_floats body || code_uses_floats rest
+code_uses_floats (Loop t body rest) = has_float (values t) || code_uses_floats body || code_uses_floats rest
+code_uses_floats (If t first second rest) = has_float (values t) || code_uses_floats first || code_uses_floats second || code_uses_floats rest
+code_uses_floats (Call x rest) = code_uses_floats rest
+code_uses_floats (CallIndirect x rest) = code_uses_floats rest
+
+abbrev pub uses_floats : ModuleTree → Bool
+uses_floats m =
+    list_any (λ t. has_float t.params || has_float t.results) m.types
+    || list_any (λ f. has_float f.locals || code_uses_floats f.body) m.functions
+    || list_any (λ g. is_float g.global_type.value || code_uses_floats g.init) m.globals
+    || list_any (λ s. code_uses_floats s.offset) m.element_segments
+    || list_any (λ s. code_uses_floats s.offset) m.data_segments
+
+-- what this host runs: modules that import nothing and use no floats
+pub record IsSupported (m : ModuleTree) : Type 0 where
+  pub no_import : m.imports ≡ []
+  pub no_float : uses_floats m ≡ false
+
+-- section 3.3.7.2: constant expressions. Those of one instruction are all that a module without imports may have.
+abbrev pub single_instruction : Code → Option Instr
+single_instruction (Plain i End) = Some i
+single_instruction _ = None
+
+abbrev pub constant : Instr → Option Val
+constant (instr.Const v) = Some v
+constant _ = None
+
+-- the value of a global's initialiser, where it is one constant
+abbrev pub initial_value : GlobalTree → Option Val
+initial_value g = option_and_then constant (single_instruction g.init)
+
+abbrev pub i32_value : Val → Option ℕ
+i32_value (val.I32 n) = Some n
+i32_value (val.I64 n) = None
+
+-- the value of an immutable global of type i32
+abbrev pub constant_global : GlobalTree → Option ℕ
+constant_global g = if g.global_type.mutable then None else option_and_then i32_value (initial_value g)
+
+-- the value of a segment's offset, where it is one i32.const, or global.get of an immutable i32 global of the module
+abbrev pub offset_of : ModuleTree → Instr → Option ℕ
+offset_of m (instr.Const v) = i32_value v
+offset_of m (instr.GlobalGet x) = option_and_then constant_global (slice_get m.globals x)
+offset_of m _ = None
+
+abbrev pub offset_value : ModuleTree → Code → Option ℕ
+offset_value m c = option_and_then (offset_of m) (single_instruction c)
+
+-- section 3.2.1
+abbrev pub AreOrdered : Limits → Type 0
+AreOrdered l = IfSome l.max (λ most. l.min ≤ most)
+
+-- section 3.2.4: at most 65,536 pages of 65,536 bytes
+pub record IsMemoryType (l : Limits) : Type 0 where
+  pub least : l.min ≤ 65536
+  pub most : IfSome l.max (λ most. most ≤ 65536)
+  pub ordered : AreOrdered l
+
+-- section 3.4.4
+abbrev pub IsInitialised : GlobalTree → Type 0
+IsInitialised g = (v : Val) × (initial_value g ≡ Some v) × (type_of v ≡ g.global_type.value)
+
+-- section 3.4.5
+pub record IsElementSegment (m : ModuleTree) (s : ElementTree) : Type 0 where
+  pub table : IsSome (slice_get m.tables s.table)
+  pub offset : IsSome (offset_value m s.offset)
+  pub functions : All (λ x. IsSome (slice_get m.functions x)) s.functions
+
+-- section 3.4.6
+pub record IsDataSegment (m : ModuleTree) (s : DataTree) : Type 0 where
+  pub memory : IsSome (slice_get m.memories s.memory)
+  pub offset : IsSome (offset_value m s.offset)
+
+-- section 3.4.7: the start function takes nothing and gives nothing
+abbrev pub IsStart : ModuleTree → ℕ → Type 0
+IsStart m x = (t : FuncType) × (function_type m x ≡ Some t) × (t.params ≡ []) × (t.results ≡ [])
+
+-- section 3.4.8: what is exported is there
+abbrev pub IsDefined : ModuleTree → ExportDesc → Type 0
+IsDefined m (desc.Func x) = IsSome (slice_get m.functions x)
+IsDefined m (desc.Table x) = IsSome (slice_get m.tables x)
+IsDefined m (desc.Memory x) = IsSome (slice_get m.memories x)
+IsDefined m (desc.Global x) = IsSome (slice_get m.globals x)
+
+-- section 3.4.10
+pub record IsValid (m : ModuleTree) : Type 0 where
+  pub function_types : All (λ t. length t.results ≤ 1) m.types
+  pub functions : All (IsTypedFunction m) m.functions
+  pub one_table : length m.tables ≤ 1
+  pub table_types : All AreOrdered m.tables
+  pub one_memory : length m.memories ≤ 1
+  pub memory_types : All IsMemoryType m.memories
+  pub globals : All IsInitialised m.globals
+  pub element_segments : All (IsElementSegment m) m.element_segments
+  pub data_segments : All (IsDataSegment m) m.data_segments
+  pub start : IfSome m.start (IsStart m)
+  pub exports : All (λ e. IsDefined m e.desc) m.exports
+  pub names_differ : AllPairs (λ a b. a.name ≢ b.name) m.exports
+
+-- the function that is exported under a name
+abbrev pub Exports : ModuleTree → List ℕ → ℕ → Type 0
+Exports m name x = (i : ℕ) × (e : Export) × (slice_get m.exports i ≡ Some e) × (e.name ≡ name) × (e.desc ≡ desc.Func x)

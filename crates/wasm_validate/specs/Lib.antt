@@ -1,0 +1,5 @@
+pub mod Check
+pub mod Sequences
+pub mod Subject
+pub mod Walk
+pub mod Checked

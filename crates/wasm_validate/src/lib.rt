@@ -1,0 +1,16 @@
+//! Validation of WebAssembly 1.0 modules, and what each function's frame needs.
+//!
+//! Source: WebAssembly Core Specification 1.0, chapter 3 (validation) and its appendix A.3 (validation algorithm).
+#![tactic(auto)]
+
+mod checker;
+
+mod lookup;
+
+mod plain;
+
+mod step;
+
+mod walk;
+
+mod function;
