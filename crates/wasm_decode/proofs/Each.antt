@@ -3,7 +3,7 @@ use Rattle.std.proofs.Common.{◌≡◌, ℕ, ◌-◌, ◌<◌, ◌↔◌, inl, 
 use Rattle.wasm_spec.specs.Numbers.{TakesUnsigned, TakesEach, TakesVec, TakesBytes, IsUnambiguous}
 use Rattle.wasm_spec.proofs.UnambiguousNumbers.{unsigned-unique, vec-unique, bytes-unique}
 use Rattle.std.specs.Prelude.{Option, Some, None}
-use Rattle.wasm_spec.specs.Grammar.{SpellsVec}
+use Rattle.wasm_decode.specs.Fields.{SpellsItems}
 use Rattle.wasm_decode.specs.Decoding.{IsNone, BeginsWithNone}
 use Rattle.wasm_decode.specs.Built.{Each}
 use Rattle.wasm_decode.specs.Trees.{Both, SpellsNothing}
@@ -71,29 +71,29 @@ vec-none Takes u NoMemory done bytes mid here n count each lt none = tt
 
 -- a section breaks off where its vector does, or has bytes left over
 pub section-none : {A : Type 0} (Takes : A → List ℕ → List ℕ → Type 0) (fault : DecodeFault) (o : Option (List ℕ)) (bytes : List ℕ)
-    → o ≡ Some bytes → BeginsWithNone (TakesVec Takes) bytes fault → IsNone (λ xs. SpellsVec Takes xs o) fault
-section-none Takes Malformed o bytes e none = λ xs h. none xs [] (subst (λ (p : Option (List ℕ)). SpellsVec Takes xs p) e h)
+    → o ≡ Some bytes → BeginsWithNone (TakesVec Takes) bytes fault → IsNone (λ xs. SpellsItems Takes xs o) fault
+section-none Takes Malformed o bytes e none = λ xs h. none xs [] (subst (λ (p : Option (List ℕ)). SpellsItems Takes xs p) e h)
 section-none Takes NoMemory o bytes e none = tt
 
 pub section-left : {A : Type 0} (Takes : A → List ℕ → List ℕ → Type 0) → IsUnambiguous Takes
     → (o : Option (List ℕ)) (bytes left : List ℕ) (ys : List A) → o ≡ Some bytes → TakesVec Takes ys bytes left → (left ≡ [] → ⊥)
-    → (xs : List A) → SpellsVec Takes xs o → ⊥
+    → (xs : List A) → SpellsItems Takes xs o → ⊥
 section-left Takes u o bytes left ys e v n xs h =
-    let i = vec-unique Takes u ys xs bytes left [] v (subst (λ (p : Option (List ℕ)). SpellsVec Takes xs p) e h) in
+    let i = vec-unique Takes u ys xs bytes left [] v (subst (λ (p : Option (List ℕ)). SpellsItems Takes xs p) e h) in
     n i.1
 
 pub section-is : {A : Type 0} (Takes : A → List ℕ → List ℕ → Type 0) (o : Option (List ℕ)) (bytes left : List ℕ) (xs : List A)
-    → o ≡ Some bytes → TakesVec Takes xs bytes left → left ≡ [] → SpellsVec Takes xs o
+    → o ≡ Some bytes → TakesVec Takes xs bytes left → left ≡ [] → SpellsItems Takes xs o
 section-is Takes o bytes left xs e v n =
-    subst (λ (p : Option (List ℕ)). SpellsVec Takes xs p) (sym e) (subst (λ (l : List ℕ). TakesVec Takes xs bytes l) n v)
+    subst (λ (p : Option (List ℕ)). SpellsItems Takes xs p) (sym e) (subst (λ (l : List ℕ). TakesVec Takes xs bytes l) n v)
 
 pub spelled-parts : {A : Type 0} (Takes : A → List ℕ → List ℕ → Type 0) (Is : A → Type 0) (xs : List A) (o : Option (List ℕ))
-    → SpellsVec (Both Takes Is) xs o → SpellsVec Takes xs o × Each Is xs
+    → SpellsItems (Both Takes Is) xs o → SpellsItems Takes xs o × Each Is xs
 spelled-parts {A = A} Takes Is xs None h = (h, subst (λ (l : List A). Each Is l) (sym h) tt)
 spelled-parts Takes Is xs (Some bytes) h = vec-parts Takes Is xs bytes [] h
 
 pub spelled-both : {A : Type 0} (Takes : A → List ℕ → List ℕ → Type 0) (Is : A → Type 0) (xs : List A) (o : Option (List ℕ))
-    → SpellsVec Takes xs o → Each Is xs → SpellsVec (Both Takes Is) xs o
+    → SpellsItems Takes xs o → Each Is xs → SpellsItems (Both Takes Is) xs o
 spelled-both Takes Is xs None h e = h
 spelled-both Takes Is xs (Some bytes) h e = vec-both Takes Is xs bytes [] h e
 
@@ -135,18 +135,18 @@ bytes-same xs ys bytes r after mid n t count l e =
     bytes-unique ys xs bytes after r t (record { mid = mid; count = subst (λ (k : ℕ). TakesUnsigned 32 k bytes mid) (sym l) count; items = e })
 
 -- a section that spells nothing has no items of any kind
-pub nothing-vec : {A : Type 0} (Takes : A → List ℕ → List ℕ → Type 0) (xs : List A) (o : Option (List ℕ)) → SpellsNothing o → xs ≡ [] → SpellsVec Takes xs o
+pub nothing-vec : {A : Type 0} (Takes : A → List ℕ → List ℕ → Type 0) (xs : List A) (o : Option (List ℕ)) → SpellsNothing o → xs ≡ [] → SpellsItems Takes xs o
 nothing-vec Takes xs None n e = e
 nothing-vec {A = A} Takes xs (Some bytes) n e =
     subst (λ (l : List A). TakesVec Takes l bytes []) (sym e) (record { mid = []; count = n; items = refl })
 
-pub vec-nothing : {A : Type 0} (Takes : A → List ℕ → List ℕ → Type 0) (xs : List A) (o : Option (List ℕ)) → SpellsVec Takes xs o → xs ≡ [] → SpellsNothing o
+pub vec-nothing : {A : Type 0} (Takes : A → List ℕ → List ℕ → Type 0) (xs : List A) (o : Option (List ℕ)) → SpellsItems Takes xs o → xs ≡ [] → SpellsNothing o
 vec-nothing Takes xs None h e = tt
 vec-nothing {A = A} Takes xs (Some bytes) h e =
     let v = subst (λ (l : List A). TakesVec Takes l bytes []) e h in
     subst (λ (l : List ℕ). TakesUnsigned 32 0 bytes l) (sym v.items) v.count
 
 -- the items of a section are told by its contents
-pub spelled-unique : {A : Type 0} (Takes : A → List ℕ → List ℕ → Type 0) → IsUnambiguous Takes → (xs ys : List A) (o : Option (List ℕ)) → SpellsVec Takes xs o → SpellsVec Takes ys o → xs ≡ ys
+pub spelled-unique : {A : Type 0} (Takes : A → List ℕ → List ℕ → Type 0) → IsUnambiguous Takes → (xs ys : List A) (o : Option (List ℕ)) → SpellsItems Takes xs o → SpellsItems Takes ys o → xs ≡ ys
 spelled-unique Takes u xs ys None a b = a ∙ sym b
 spelled-unique Takes u xs ys (Some bytes) a b = let v = vec-unique Takes u xs ys bytes [] [] a b in v.0

@@ -13,7 +13,7 @@ use Rattle.wasm_spec.specs.InstrGrammar.{TakesExpr}
 use Rattle.wasm_spec.specs.Grammar.{TakesExport, TakesExportDesc, TakesLocalRun, Body, TakesBody}
 use Rattle.wasm_spec.proofs.UnambiguousNumbers.{same_others, vec-unique, name-unique}
 use Rattle.wasm_spec.proofs.UnambiguousTypes.{val_type-unique}
-use Rattle.wasm_spec.proofs.UnambiguousModules.{local_run-unique}
+use Rattle.wasm_decode.specs.LocalRuns.{local_run-unique}
 use Rattle.wasm_decode.specs.Built.{Each, IsI32, IsBuiltType, IsBuiltExport, IsBuiltCode, IsBuiltBody}
 use Rattle.wasm_decode.specs.Trees.{Both, IsEmptyRun}
 use Rattle.wasm_decode.proofs.Each.{vec-parts, vec-both}

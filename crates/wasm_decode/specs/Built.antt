@@ -1,5 +1,4 @@
--- The modules that the decoder takes so far: types, functions, exports of functions and code; values of i32; no
--- declared locals; `local.get` and `i32.add`.
+-- What is built so far, item by item, as the decoder meets it.
 use Rattle.std.specs.Prelude.{◌≡◌, ℕ, ◌⊎◌, List, [], ◌∷◌, None, map}
 use Rattle.wasm_types.specs.declared.types.ValType.{ValType}
 use Rattle.wasm_types.specs.declared.types.ValType.TheVariants.{I32}
@@ -42,7 +41,7 @@ IsBuiltBody b = (b.locals ≡ []) × IsBuiltCode b.code
 abbrev pub IsBuiltExport : Export → Type 0
 IsBuiltExport e = (x : ℕ) × (e.desc ≡ export.Func x)
 
-pub record IsBuilt (m : ModuleTree) : Type 0 where
+pub record HasBuiltItems (m : ModuleTree) : Type 0 where
   pub types : Each IsBuiltType m.types
   pub imports : m.imports ≡ []
   pub functions : Each IsBuiltBody (map body_of m.functions)

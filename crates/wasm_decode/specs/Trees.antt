@@ -5,8 +5,9 @@ use Rattle.wasm_types.specs.declared.module.LocalRun.{LocalRun}
 use Rattle.wasm_types.specs.Tree.{ModuleTree}
 use Rattle.wasm_spec.specs.Numbers.{TakesUnsigned, TakesVec}
 use Rattle.wasm_spec.specs.InstrGrammar.{TakesInstr}
-use Rattle.wasm_spec.specs.Grammar.{Body, TakesSizedBody, Section, contents_of, SpellsVec, SpellsFields, Spells}
-use Rattle.wasm_decode.specs.Built.{IsBuiltInstr, IsBuiltBody, IsBuilt}
+use Rattle.wasm_spec.specs.Grammar.{Body, TakesSizedBody, Section}
+use Rattle.wasm_decode.specs.Fields.{contents_of, SpellsItems, SpellsFields}
+use Rattle.wasm_decode.specs.Built.{IsBuiltInstr, IsBuiltBody, HasBuiltItems}
 
 -- spelled so, and is so
 abbrev pub Both : {A : Type 0} → (A → List ℕ → List ℕ → Type 0) → (A → Type 0) → A → List ℕ → List ℕ → Type 0
@@ -26,7 +27,7 @@ abbrev pub TakesFunctions : List ℕ → List Body → List ℕ → List ℕ →
 TakesFunctions indices bodies bytes rest = TakesVec (Both TakesSizedBody IsBuiltBody) bodies bytes rest × (length bodies ≡ length indices)
 
 abbrev pub SpellsFunctions : List ℕ → List Body → Option (List ℕ) → Type 0
-SpellsFunctions indices bodies contents = SpellsVec (Both TakesSizedBody IsBuiltBody) bodies contents × (length bodies ≡ length indices)
+SpellsFunctions indices bodies contents = SpellsItems (Both TakesSizedBody IsBuiltBody) bodies contents × (length bodies ≡ length indices)
 
 -- no items: no section, or one whose count is 0
 abbrev pub SpellsNothing : Option (List ℕ) → Type 0
@@ -44,9 +45,5 @@ pub record HasOnlyBuilt (sections : List Section) : Type 0 where
   pub data_segments : SpellsNothing (contents_of 11 sections)
 
 -- a built module whose fields these sections spell
-abbrev pub SpellsBuilt : List Section → ModuleTree → Type 0
-SpellsBuilt sections m = SpellsFields sections m × IsBuilt m
-
--- a built module that the bytes spell
-abbrev pub SpellsBuiltModule : List ℕ → ModuleTree → Type 0
-SpellsBuiltModule bytes m = Spells bytes m × IsBuilt m
+abbrev pub SpellsBuiltFields : List Section → ModuleTree → Type 0
+SpellsBuiltFields sections m = SpellsFields sections m × HasBuiltItems m

@@ -4,7 +4,8 @@ ghost use Rattle.std.specs.Prelude.{◌≡◌, ◌↔◌, IsTrue, ◌∷◌, ◌
 ghost use Rattle.wasm_types.specs.Tree.{module_tree};
 ghost use Rattle.wasm_decode.specs.Decoding.{IsNone};
 ghost use Rattle.wasm_decode.specs.Sections.{section_of};
-ghost use Rattle.wasm_decode.specs.Trees.{HasOnlyBuilt, SpellsNothing, SpellsBuilt, SpellsBuiltModule};
+ghost use Rattle.wasm_spec.specs.Built.{SpellsBuilt};
+ghost use Rattle.wasm_decode.specs.Trees.{HasOnlyBuilt, SpellsNothing, SpellsBuiltFields};
 
 use crate::fault::DecodeFault;
 use crate::function::decode_functions;
@@ -21,7 +22,7 @@ const HEADER: [u8; 8] = [0x00, 0x61, 0x73, 0x6D, 0x01, 0x00, 0x00, 0x00];
 /// The module that these bytes spell. `Malformed` where they spell none that is built. Source: Core Specification
 /// 1.0, section 5.5.15.
 pub fn decode(alloc: Global, bytes: &[u8]) -> Result<Module, DecodeFault>
-    ensures { MatchResult result (λ m. SpellsBuiltModule bytes.now (module_tree m)) (IsNone (SpellsBuiltModule bytes.now)) }
+    ensures { MatchResult result (λ m. SpellsBuilt bytes.now (module_tree m)) (IsNone (SpellsBuilt bytes.now)) }
 {
     let Some(after) = after_header(bytes) else {
         return Err(DecodeFault::Malformed);
@@ -68,7 +69,7 @@ fn has_only_built(sections: &[Section]) -> bool
 
 /// The module whose sections these are.
 fn decode_fields(alloc: Global, sections: &[Section]) -> Result<Module, DecodeFault>
-    ensures { MatchResult result (λ m. SpellsBuilt (map section_of sections.now) (module_tree m)) (IsNone (SpellsBuilt (map section_of sections.now))) }
+    ensures { MatchResult result (λ m. SpellsBuiltFields (map section_of sections.now) (module_tree m)) (IsNone (SpellsBuiltFields (map section_of sections.now))) }
 {
     if !has_only_built(sections) {
         return Err(DecodeFault::Malformed);

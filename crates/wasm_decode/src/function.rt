@@ -4,7 +4,7 @@ ghost use Rattle.std.specs.Prelude.{◌≡◌, map, option_map, MatchResult};
 ghost use Rattle.wasm_types.specs.declared.module.LocalRun.{LocalRun as LocalRunTree};
 ghost use Rattle.wasm_types.specs.Tree.{function_tree};
 ghost use Rattle.wasm_spec.specs.Grammar.{TakesLocalRun, TakesBody, TakesSizedBody, body_of, type_index_of};
-ghost use Rattle.wasm_spec.proofs.UnambiguousModules.{local_run-unique};
+ghost use Rattle.wasm_decode.specs.LocalRuns.{local_run-unique};
 ghost use Rattle.leb_read.specs.Reading.{rest, IsRead};
 ghost use Rattle.wasm_decode.specs.Decoding.{IsNone, BeginsWithNone};
 ghost use Rattle.wasm_decode.specs.Built.{IsBuiltBody};

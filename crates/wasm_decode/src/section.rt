@@ -2,7 +2,8 @@
 
 ghost use Rattle.std.specs.Prelude.{◌≡◌, ℕ, ◌<◌, ◌≤◌, ◌↔◌, IsTrue, List, ◌∷◌, map, Option, Some, None, option_map, MatchResult, MatchOption};
 ghost use Rattle.wasm_spec.specs.Numbers.{TakesUnsigned, TakesEach};
-ghost use Rattle.wasm_spec.specs.Grammar.{TakesSection, IsCustom, contents_of};
+ghost use Rattle.wasm_spec.specs.Grammar.{TakesSection, IsCustom};
+ghost use Rattle.wasm_decode.specs.Fields.{contents_of};
 ghost use Rattle.leb_read.specs.Reading.{rest, IsRead};
 ghost use Rattle.wasm_decode.specs.Decoding.{IsNone, BeginsWithNone};
 ghost use Rattle.wasm_decode.specs.Sections.{section_of, IsSections};

@@ -2,7 +2,7 @@
 
 ghost use Rattle.std.specs.Prelude.{ℕ, List, map, option_map, MatchResult};
 ghost use Rattle.wasm_spec.specs.Numbers.{TakesVec};
-ghost use Rattle.wasm_spec.specs.Grammar.{SpellsVec};
+ghost use Rattle.wasm_decode.specs.Fields.{SpellsItems};
 ghost use Rattle.leb_read.specs.Reading.{rest, IsRead};
 ghost use Rattle.wasm_decode.specs.Decoding.{IsNone, BeginsWithNone};
 
@@ -33,7 +33,7 @@ pub(crate) fn decode_section<T: Item>(
     alloc: Global,
     contents: Option<&[u8]>,
 ) -> Result<Vec<T>, DecodeFault>
-    ensures { MatchResult result (λ xs. SpellsVec T.Takes (map T.tree xs.items) (option_map (λ c. c.now) contents.entry)) (IsNone (λ xs. SpellsVec T.Takes xs (option_map (λ c. c.now) contents.entry))) }
+    ensures { MatchResult result (λ xs. SpellsItems T.Takes (map T.tree xs.items) (option_map (λ c. c.now) contents.entry)) (IsNone (λ xs. SpellsItems T.Takes xs (option_map (λ c. c.now) contents.entry))) }
 {
     let Some(contents) = contents else {
         return Ok(Vec::new(alloc));

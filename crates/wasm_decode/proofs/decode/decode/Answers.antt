@@ -2,7 +2,7 @@ use Rattle.std.proofs.Common.{◌≡◌, List, map, ap, sym, subst}
 use Rattle.wasm_types.specs.Tree.{module_tree}
 use Rattle.wasm_spec.specs.Grammar.{Section}
 use Rattle.wasm_decode.specs.Sections.{section_of, IsSections}
-use Rattle.wasm_decode.specs.Trees.{SpellsBuiltModule}
+use Rattle.wasm_spec.specs.Built.{SpellsBuilt}
 use Rattle.wasm_decode.proofs.Each.{none-through}
 use Rattle.wasm_decode.proofs.Modules.{sections-of, answer-is}
 use Rattle.wasm_decode.proofs.decode.decode.Goals as goal
@@ -15,5 +15,5 @@ returns-in-Ok c =
 
 pub returns-in-Err : goal.returns-in-Err
 returns-in-Err c =
-    none-through (IsSections c.in-Some.after.now) (SpellsBuiltModule c.args.bytes.now) c.in-Err.fault
+    none-through (IsSections c.in-Some.after.now) (SpellsBuilt c.args.bytes.now) c.in-Err.fault
     (λ m h. sections-of c.args.bytes.now c.in-Some.after.now m c.in-Some.ensures h) c.in-Err.ensures

@@ -5,7 +5,7 @@ use Rattle.wasm_types.specs.Tree.{function_tree}
 use Rattle.wasm_spec.specs.Numbers.{TakesEach, TakesVec}
 use Rattle.wasm_spec.specs.Grammar.{Body, TakesSizedBody, body_of, type_index_of}
 use Rattle.wasm_spec.proofs.UnambiguousNumbers.{unsigned-unique}
-use Rattle.wasm_spec.proofs.UnambiguousModules.{sized_body-unique}
+use Rattle.wasm_decode.proofs.Unambiguous.{sized_body-unique}
 use Rattle.leb_read.specs.Reading.{rest}
 use Rattle.wasm_decode.specs.Built.{IsBuiltBody}
 use Rattle.wasm_decode.specs.Trees.{Both, TakesFunctions}

@@ -1,7 +1,7 @@
 use Rattle.std.proofs.Common.{ℕ, List, [], sym, subst, IsTrue, rules}
 use Rattle.wasm_types.specs.Tree.{function_tree}
 use Rattle.wasm_spec.specs.Grammar.{TakesBody, TakesSizedBody, body_of}
-use Rattle.wasm_spec.proofs.UnambiguousModules.{body-unique}
+use Rattle.wasm_decode.proofs.Unambiguous.{body-unique}
 use Rattle.leb_read.specs.Reading.{Position, rest}
 use Rattle.wasm_decode.specs.Built.{IsBuiltBody}
 use Rattle.wasm_decode.specs.Trees.{Both}

@@ -3,7 +3,7 @@ use Rattle.std.specs.Prelude.{option_map}
 use Rattle.wasm_types.specs.Tree.{function_tree}
 use Rattle.wasm_spec.specs.Numbers.{TakesVec}
 use Rattle.wasm_spec.specs.Grammar.{TakesSizedBody, body_of}
-use Rattle.wasm_spec.proofs.UnambiguousModules.{sized_body-unique}
+use Rattle.wasm_decode.proofs.Unambiguous.{sized_body-unique}
 use Rattle.leb_read.specs.Reading.{Position, rest}
 use Rattle.wasm_decode.specs.Decoding.{BeginsWithNone}
 use Rattle.wasm_decode.specs.Built.{IsBuiltBody}
