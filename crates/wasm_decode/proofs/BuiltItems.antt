@@ -1,11 +1,10 @@
 -- What is built, item by item and as the definitions have it.
-use Rattle.std.proofs.Common.{◌≡◌, ℕ, zero, suc, ◌<◌, ◌⊎◌, inl, inr, List, [], ◌∷◌, length, map, refl, sym, subst, arith}
-use Rattle.std.specs.Prelude.{All, None}
-use Rattle.wasm_types.specs.declared.types.ValType.{ValType}
+use Rattle.std.proofs.Common.{◌≡◌, ℕ, zero, suc, inl, inr, List, [], ◌∷◌, map, refl, sym, subst, arith}
+use Rattle.std.specs.Prelude.{All}
 use Rattle.wasm_types.specs.declared.types.FuncType.{FuncType}
 use Rattle.wasm_types.specs.declared.instr.Instr.{Instr}
 use Rattle.wasm_types.specs.declared.instr.Instr.TheVariants as instr
-use Rattle.wasm_types.specs.declared.instr.Width.TheVariants.{W32, W64}
+use Rattle.wasm_types.specs.declared.instr.Width.TheVariants.{W32}
 use Rattle.wasm_types.specs.declared.instr.BinaryOp.TheVariants as binary
 use Rattle.wasm_types.specs.declared.module.Export.{Export}
 use Rattle.wasm_types.specs.declared.module.ExportDesc.{ExportDesc}
@@ -89,7 +88,8 @@ built-to m h = record {
   exports = each-all (λ e. built.IsFunctionExport e.desc) m.exports (each-map IsBuiltExport (λ e. built.IsFunctionExport e.desc) export-to m.exports h.exports);
   start = h.start;
   element_segments = h.element_segments;
-  data_segments = h.data_segments }
+  data_segments = h.data_segments;
+}
 
 pub built-from : (m : ModuleTree) → built.IsBuilt m → HasBuiltItems m
 built-from m h = record {
@@ -102,4 +102,5 @@ built-from m h = record {
   exports = each-map (λ e. built.IsFunctionExport e.desc) IsBuiltExport (λ e. desc-from e.desc) m.exports (all-each (λ e. built.IsFunctionExport e.desc) m.exports h.exports);
   start = h.start;
   element_segments = h.element_segments;
-  data_segments = h.data_segments }
+  data_segments = h.data_segments;
+}

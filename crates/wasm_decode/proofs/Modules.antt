@@ -178,7 +178,8 @@ fields-to bytes m h = record {
   start = start-to m.start (section 8 h.sections) h.start;
   element_segments = items-to TakesElement m.element_segments (section 9 h.sections) h.element_segments;
   bodies = items-to TakesSizedBody (map body_of m.functions) (section 10 h.sections) h.bodies;
-  data_segments = items-to TakesData m.data_segments (section 11 h.sections) h.data_segments }
+  data_segments = items-to TakesData m.data_segments (section 11 h.sections) h.data_segments;
+}
 
 pub spelled-is : (bytes after : List ℕ) (found : List Section) (m : ModuleTree) → bytes ≡ header ++ after → IsSections after found → SpellsBuiltFields found m → SpellsBuilt bytes m
 spelled-is bytes after found m e s h =
@@ -201,29 +202,35 @@ spelled-is bytes after found m e s h =
         start = start-from m.start (section 8 s.sections) f.start;
         element_segments = items-from TakesElement m.element_segments (section 9 s.sections) f.element_segments;
         bodies = items-from TakesSizedBody (map body_of m.functions) (section 10 s.sections) f.bodies;
-        data_segments = items-from TakesData m.data_segments (section 11 s.sections) f.data_segments };
-      built = built-to m h.1 }
+        data_segments = items-from TakesData m.data_segments (section 11 s.sections) f.data_segments;
+      };
+      built = built-to m h.1;
+    }
 
 -- a built module that the bytes spell has sections, from which its fields are spelled
 pub sections-of : (bytes after : List ℕ) (m : ModuleTree) → bytes ≡ header ++ after → SpellsBuilt bytes m → (found : List Section) × IsSections after found
 sections-of bytes after m e h =
     let w = h.spelled in
-    let a : w.after ≡ after = after-header bytes w.after after w.header e in
-    (known w.sections, record {
-      sections = w.sections;
-      whole = subst (λ (l : List ℕ). TakesEach TakesSection w.sections l []) a w.whole;
-      ordered = w.ordered;
-      kept = refl })
+    let a : w.after ≡ after = after-header bytes w.after after w.header e in (
+      known w.sections,
+      record {
+        sections = w.sections;
+        whole = subst (λ (l : List ℕ). TakesEach TakesSection w.sections l []) a w.whole;
+        ordered = w.ordered;
+        kept = refl;
+      },
+    )
 
 pub fields-of : (bytes after : List ℕ) (found : List Section) (m : ModuleTree) → bytes ≡ header ++ after → IsSections after found → SpellsBuilt bytes m → SpellsBuiltFields found m
 fields-of bytes after found m e s h =
     let w = h.spelled in
     let a : w.after ≡ after = after-header bytes w.after after w.header e in
     let same : w.sections ≡ s.sections = sections-unique w.sections s.sections after (subst (λ (l : List ℕ). TakesEach TakesSection w.sections l []) a w.whole) s.whole in
-    let f : SpellsFields s.sections m = subst (λ (l : List Section). SpellsFields l m) same (fields-to bytes m w) in
-    (subst (λ (l : List Section). SpellsFields l m) (sym s.kept)
-      (fields-from s.sections (known s.sections) m (λ k lt. sym (same-contents k s.sections lt)) f),
-     built-from m h.built)
+    let f : SpellsFields s.sections m = subst (λ (l : List Section). SpellsFields l m) same (fields-to bytes m w) in (
+      subst (λ (l : List Section). SpellsFields l m) (sym s.kept)
+          (fields-from s.sections (known s.sections) m (λ k lt. sym (same-contents k s.sections lt)) f),
+      built-from m h.built,
+    )
 
 -- an answer on the sections is one on the bytes
 pub answer-is : (bytes after : List ℕ) (found : List Section) (tree : Module → ModuleTree) (r : Result Module DecodeFault) → bytes ≡ header ++ after → IsSections after found

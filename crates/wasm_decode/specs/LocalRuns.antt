@@ -1,5 +1,5 @@
 -- Bytes begin with at most one run of locals.
-use Rattle.std.specs.Prelude.{◌≡◌, ℕ, List}
+use Rattle.std.specs.Prelude.{ℕ, List}
 use Rattle.std.proofs.Common.{sym, ap, ◌∙◌, subst}
 use Rattle.wasm_types.specs.declared.types.ValType.{ValType}
 use Rattle.wasm_types.specs.declared.module.LocalRun.{LocalRun}
