@@ -10,5 +10,7 @@ mod module;
 mod names;
 mod plain;
 mod step;
+#[cfg(test)]
+mod tests;
 pub mod valid;
 mod walk;
