@@ -278,7 +278,7 @@ impl Checker {
         if !self.expect_values(t) {
             return false;
         }
-        self.operands.len() == self.base
+        self.base == self.operands.len()
     }
 
     /// Goes back around the inner code, which is over.
