@@ -1,15 +1,15 @@
 -- Calls of small modules on a fresh instance, computed.
-use Rattle.std.specs.Prelude.{◌≡◌, ℕ, List, [], ◌∷◌, Option, Some, None, refl}
+use Rattle.std.specs.Prelude.{◌≡◌, ℕ, List, [], ◌∷◌, ◌++◌, Option, Some, None, take, codes, refl}
 use Rattle.wasm_types.specs.declared.outcome.Val.{Val}
 use Rattle.wasm_types.specs.declared.outcome.Val.TheVariants.{I32}
 use Rattle.wasm_types.specs.declared.outcome.TrapKind.TheVariants as trap
 use Rattle.wasm_types.specs.declared.outcome.Outcome.{Outcome}
 use Rattle.wasm_types.specs.declared.outcome.Outcome.TheVariants.{Done, Trap, Fuel}
 use Rattle.wasm_types.specs.Tree.{ModuleTree}
-use Rattle.wasm_spec.specs.Store.{Data, first_misfit}
+use Rattle.wasm_spec.specs.Store.{Data, first_misfit, fresh_store}
 use Rattle.wasm_spec.specs.Execution.{exec}
 use Rattle.wasm_spec.specs.Result.{CallResult, call_result}
-use Rattle.wasm_spec.proofs.Modules.{add_module, bump_module, poke_module, wrap_module, grown_module, grow_module, div_module, indirect_module, recursive_module, count_module, next_module, start_module, spin_module, misfit_module}
+use Rattle.wasm_spec.proofs.Modules.{add_module, bump_module, poke_module, wrap_module, grown_module, grow_module, div_module, indirect_module, recursive_module, count_module, next_module, start_module, spin_module, misfit_module, overlap_module}
 
 abbrev ending : Option CallResult → Option (Outcome × ℕ)
 ending None = None
@@ -206,3 +206,12 @@ misfit-is_named = refl
 
 indirect-has_no_misfit : first_misfit indirect_module ≡ None
 indirect-has_no_misfit = refl
+
+indirect-begins_with_its_table : (fresh_store indirect_module).table ≡ Some 0 ∷ Some 1 ∷ None ∷ []
+indirect-begins_with_its_table = refl
+
+overlap-has_no_misfit : first_misfit overlap_module ≡ None
+overlap-has_no_misfit = refl
+
+overlap-begins_with_its_data : take 6 (fresh_store overlap_module).memory ≡ 0 ∷ 0 ∷ codes "azc" ++ 0 ∷ []
+overlap-begins_with_its_data = refl

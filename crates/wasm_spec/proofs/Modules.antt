@@ -1,5 +1,5 @@
 -- The trees of small modules, for worked examples.
-use Rattle.std.specs.Prelude.{ℕ, List, [], ◌∷◌, Some, None, true, codes}
+use Rattle.std.specs.Prelude.{ℕ, List, [], ◌∷◌, Some, None, true, false, codes}
 use Rattle.wasm_types.specs.declared.types.ValType.{ValType}
 use Rattle.wasm_types.specs.declared.types.ValType.TheVariants as type
 use Rattle.wasm_types.specs.declared.types.FuncType.{FuncType}
@@ -179,4 +179,13 @@ spin_module = record (bare (empty_type ∷ []) (function_of 0 (Loop None (straig
 abbrev pub misfit_module : ModuleTree
 misfit_module = record (paged [] [] []) {
   data_segments = record { memory = 0; offset = straight (i32_const 65535 ∷ []) End; bytes = codes "ab" } ∷ [];
+}
+
+-- data that a later segment overwrites in part; that segment begins at the value of a global
+abbrev pub overlap_module : ModuleTree
+overlap_module = record (paged [] [] []) {
+  globals = record { global_type = record { value = type.I32; mutable = false }; init = straight (i32_const 3 ∷ []) End } ∷ [];
+  data_segments =
+      record { memory = 0; offset = straight (i32_const 2 ∷ []) End; bytes = codes "abc" }
+      ∷ record { memory = 0; offset = straight (instr.GlobalGet 0 ∷ []) End; bytes = codes "z" } ∷ [];
 }

@@ -1,6 +1,6 @@
 -- What this host builds so far, of all modules: those with nothing but function types, functions without declared locals
 -- whose code reads parameters and adds, and exports of functions, all over the one type i32.
-use Rattle.std.specs.Prelude.{◌≡◌, [], None, All}
+use Rattle.std.specs.Prelude.{◌≡◌, ℕ, List, [], None, All, Result}
 use Rattle.wasm_types.specs.declared.types.ValType.TheVariants.{I32}
 use Rattle.wasm_types.specs.declared.types.FuncType.{FuncType}
 use Rattle.wasm_types.specs.declared.instr.Width.TheVariants.{W32}
@@ -10,6 +10,8 @@ use Rattle.wasm_types.specs.declared.instr.Instr.TheVariants as instr
 use Rattle.wasm_types.specs.declared.module.ExportDesc.{ExportDesc}
 use Rattle.wasm_types.specs.declared.module.ExportDesc.TheVariants as desc
 use Rattle.wasm_types.specs.Tree.{Code, End, Plain, FunctionTree, ModuleTree}
+use Rattle.wasm_spec.specs.Grammar.{Spells}
+use Rattle.wasm_spec.specs.Loading.{LoadLimits, Refusal, LoadsBy}
 
 abbrev pub IsBuiltInstruction : Instr → Type 0
 IsBuiltInstruction (instr.LocalGet x) = Unit {0}
@@ -44,3 +46,12 @@ pub record IsBuilt (m : ModuleTree) : Type 0 where
   pub start : m.start ≡ None
   pub element_segments : m.element_segments ≡ []
   pub data_segments : m.data_segments ≡ []
+
+-- the bytes of a module that is built
+pub record SpellsBuilt (bytes : List ℕ) (m : ModuleTree) : Type 0 where
+  pub spelled : Spells bytes m
+  pub built : IsBuilt m
+
+-- what loading answers by this host's grammar: bytes of any other module count as malformed
+abbrev pub LoadsBuilt : List ℕ → LoadLimits → Result ModuleTree Refusal → Type 0
+LoadsBuilt bytes limits answer = LoadsBy SpellsBuilt bytes limits answer

@@ -27,6 +27,7 @@ use Rattle.wasm_types.specs.declared.instr.PackSize.TheVariants.{Pack8, Pack16, 
 use Rattle.wasm_types.specs.declared.instr.Instr.{Instr}
 use Rattle.wasm_types.specs.declared.instr.Instr.TheVariants as instr
 use Rattle.wasm_types.specs.Tree.{Code, End, Plain, Block, Loop, If, Call, CallIndirect, FunctionTree, ModuleTree}
+use Rattle.wasm_spec.specs.Typing.{all_same}
 use Rattle.wasm_spec.specs.Operators.{bit_width, int_width, unary, binary, compare, eqz, extend_s, wrap}
 use Rattle.wasm_spec.specs.Store.{Store, page_size, written, loaded}
 
@@ -323,21 +324,9 @@ with_element None next s fuel = ended (Trapped trap.Element s.store) fuel
 with_element (Some None) next s fuel = ended (Trapped trap.Uninit s.store) fuel
 with_element (Some (Some x)) next s fuel = next x s fuel
 
--- two types are the same
-abbrev pub same_value_type : ValType → ValType → Bool
-same_value_type type.I32 type.I32 = true
-same_value_type type.I64 type.I64 = true
-same_value_type type.F32 type.F32 = true
-same_value_type type.F64 type.F64 = true
-same_value_type _ _ = false
-
-abbrev pub same_value_types : List ValType → List ValType → Bool
-same_value_types [] [] = true
-same_value_types (a ∷ as_) (b ∷ bs) = same_value_type a b && same_value_types as_ bs
-same_value_types _ _ = false
-
+-- two function types are the same
 abbrev pub same_type : FuncType → FuncType → Bool
-same_type a b = same_value_types a.params b.params && same_value_types a.results b.results
+same_type a b = all_same a.params b.params && all_same a.results b.results
 
 -- ---- sequences of instructions
 

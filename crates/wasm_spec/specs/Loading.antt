@@ -61,7 +61,10 @@ Answers limits m (Err Invalid) = IsSupported m × ¬ (IsValid m)
 Answers limits m (Err (OverLimit demand)) = IsSupported m × IsValid m × (late_refusal limits m ≡ Some (OverLimit demand))
 Answers limits m (Err (Segment extent)) = IsSupported m × IsValid m × (late_refusal limits m ≡ Some (Segment extent))
 
--- the answer for the module that the bytes spell, or malformed where they spell none
+-- the answer for the module that the bytes spell by this grammar, or malformed where they spell none
+abbrev pub LoadsBy : (Grammar : List ℕ → ModuleTree → Type 0) → List ℕ → LoadLimits → Result ModuleTree Refusal → Type 0
+LoadsBy Grammar bytes limits (Err Malformed) = (m : ModuleTree) → Grammar bytes m → ⊥
+LoadsBy Grammar bytes limits answer = (m : ModuleTree) × Grammar bytes m × Answers limits m answer
+
 abbrev pub Loads : List ℕ → LoadLimits → Result ModuleTree Refusal → Type 0
-Loads bytes limits (Err Malformed) = (m : ModuleTree) → Spells bytes m → ⊥
-Loads bytes limits answer = (m : ModuleTree) × Spells bytes m × Answers limits m answer
+Loads bytes limits answer = LoadsBy Spells bytes limits answer

@@ -1,14 +1,14 @@
 -- The store (WebAssembly Core Specification 1.0, section 4.2.3) as one module instance sees it, the store that
 -- instantiation makes (section 4.5.4), and numbers in memory (section 4.3.1).
-use Rattle.std.specs.Prelude.{ℕ, ◌+◌, ◌*◌, List, [], ◌∷◌, ◌++◌, length, map, take, drop, replicate, find, fold, Option, Some, None, unwrap_or, nat_lt, slice_get}
+use Rattle.std.specs.Prelude.{ℕ, ◌+◌, ◌*◌, List, [], ◌∷◌, ◌++◌, length, map, take, drop, replicate, find, fold, Option, Some, None, unwrap_or, nat_lt}
 use Rattle.std.specs.List.{enumerate_from}
 use Rattle.std.specs.Int as int
 use Rattle.std.specs.Int.{from_le_bytes}
 use Rattle.wasm_types.specs.declared.outcome.Val.{Val}
 use Rattle.wasm_types.specs.declared.outcome.Val.TheVariants as val
-use Rattle.wasm_types.specs.declared.instr.Instr.TheVariants as instr
 use Rattle.wasm_types.specs.declared.types.Limits.{Limits}
-use Rattle.wasm_types.specs.Tree.{Code, End, Plain, ElementTree, DataTree, ModuleTree}
+use Rattle.wasm_types.specs.Tree.{Code, ElementTree, DataTree, ModuleTree}
+use Rattle.wasm_spec.specs.Validity.{initial_value, offset_value}
 
 -- The bytes of the one memory, the elements of the one table (a function's index or nothing) and the globals' values.
 -- A module without a memory or a table has an empty one.
@@ -31,23 +31,13 @@ loaded width memory at = from_le_bytes width (drop at memory)
 
 -- ---- constant expressions (section 3.3.7.2)
 
--- The value of a global's initialiser. In a valid module it is one constant: no global is imported that it could read.
-abbrev pub initial_value : Code → Val
-initial_value (Plain (instr.Const v) End) = v
-initial_value _ = val.I32 0
-
+-- What the globals begin with. In a valid module each initialiser has a value.
 abbrev pub initial_globals : ModuleTree → List Val
-initial_globals m = map (λ g. initial_value g.init) m.globals
+initial_globals m = map (λ g. unwrap_or (initial_value g) (val.I32 0)) m.globals
 
-abbrev pub number_of : Val → ℕ
-number_of (val.I32 n) = n
-number_of (val.I64 n) = n
-
--- Where a segment begins, read as an unsigned number. In a valid module that is a constant or the value of a global.
+-- Where a segment begins, read as an unsigned number. In a valid module each offset has a value.
 abbrev pub offset_of : ModuleTree → Code → ℕ
-offset_of m (Plain (instr.Const v) End) = number_of v
-offset_of m (Plain (instr.GlobalGet x) End) = number_of (unwrap_or (slice_get (initial_globals m) x) (val.I32 0))
-offset_of m _ = 0
+offset_of m code = unwrap_or (offset_value m code) 0
 
 -- ---- segments (section 4.5.4)
 

@@ -4,4 +4,5 @@
 #![tactic(auto)]
 
 pub mod grammar_laws;
+pub mod laws;
 pub mod loading_laws;

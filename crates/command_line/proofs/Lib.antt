@@ -1,0 +1,9 @@
+pub mod RowFacts
+pub mod LevelWalk
+pub mod LevelValues
+pub mod SubcommandFacts
+pub mod NumberTexts
+pub mod RunLevel
+pub mod ParsedWords
+pub mod LaterCommand
+pub mod Examples

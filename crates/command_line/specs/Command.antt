@@ -1,0 +1,41 @@
+-- The command `poolhost`, as clap's parse reads it.
+use Rattle.std.specs.Prelude.{ℕ, pos, true, Some, List, [], ◌∷◌, codes}
+use Rattle.clap.specs.Words.{App, Rule, Text, new_app, new_rule, with_subcommand}
+use Rattle.clap.specs.Simple.{on_top}
+use Rattle.clap.specs.declared.builder.action.ArgAction.TheVariants.{Set}
+use Rattle.clap.specs.declared.builder.value_parser.ValueParser.TheVariants as vp
+
+-- `--NAME NUMBER`: a whole number from `least` to `most`; left out, it is the number of `default`
+abbrev pub number_option : (name : Text) (least most : ℕ) (default : Text) → Rule
+number_option name least most default = record (new_rule name) {
+  long = Some name;
+  action = Some Set;
+  parser = Some (vp.Signed (pos least) (pos most));
+  defaults = default ∷ [];
+}
+
+abbrev pub run_options : List Rule
+run_options = number_option (codes "workers") 1 16 (codes "1")
+    ∷ number_option (codes "instances") 1 64 (codes "4")
+    ∷ number_option (codes "memories") 1 64 (codes "4")
+    ∷ number_option (codes "tables") 1 64 (codes "4")
+    ∷ number_option (codes "warm") 0 64 (codes "2")
+    ∷ number_option (codes "batch") 1 64 (codes "4")
+    ∷ number_option (codes "pages") 1 256 (codes "32")
+    ∷ number_option (codes "elements") 0 65536 (codes "1024")
+    ∷ number_option (codes "depth") 1 1000 (codes "128")
+    ∷ number_option (codes "frame") 1 4096 (codes "1024")
+    ∷ []
+
+-- `run`, with its options and no help
+abbrev pub run_command : App
+run_command =
+    on_top (λ s. record s { rules = run_options; disable_help_flag = true }) (new_app (codes "run"))
+
+-- `poolhost`, which wants a subcommand; the one that it has is `run`
+abbrev pub poolhost_command : App
+poolhost_command = with_subcommand (on_top (λ s. record s {
+  disable_help_flag = true;
+  disable_help_subcommand = true;
+  subcommand_required = true;
+}) (new_app (codes "poolhost"))) run_command.top

@@ -1,0 +1,4 @@
+pub mod Command
+pub mod Matches
+pub mod Options
+pub mod Words
