@@ -144,6 +144,7 @@ impl Checker {
         }
     }
 
+    /// A read of a local of this type.
     pub fn local_get(&mut self, t: Option<ValType>) -> Result<bool, AllocError>
         ensures { IfOk result (λ b. (k : Parts) → Shows k self.old → After (apply (base_of k.blocks) (typing.local_get t) k.stack) b k self.new) }
     {
@@ -153,6 +154,7 @@ impl Checker {
         }
     }
 
+    /// A write of a local of this type.
     pub fn local_set(&mut self, t: Option<ValType>) -> Result<bool, AllocError>
         ensures { IfOk result (λ b. (k : Parts) → Shows k self.old → After (apply (base_of k.blocks) (typing.local_set t) k.stack) b k self.new) }
     {
@@ -162,6 +164,7 @@ impl Checker {
         }
     }
 
+    /// A write of a local of this type, which leaves the value.
     pub fn local_tee(&mut self, t: Option<ValType>) -> Result<bool, AllocError>
         ensures { IfOk result (λ b. (k : Parts) → Shows k self.old → After (apply (base_of k.blocks) (typing.local_tee t) k.stack) b k self.new) }
     {
@@ -171,6 +174,7 @@ impl Checker {
         }
     }
 
+    /// A read of a global of this type.
     pub fn global_get(&mut self, g: Option<GlobalType>) -> Result<bool, AllocError>
         ensures { IfOk result (λ b. (k : Parts) → Shows k self.old → After (apply (base_of k.blocks) (typing.global_get g) k.stack) b k self.new) }
     {
@@ -180,6 +184,7 @@ impl Checker {
         }
     }
 
+    /// A write of a global of this type, which has to be a variable.
     pub fn global_set(&mut self, g: Option<GlobalType>) -> Result<bool, AllocError>
         ensures { IfOk result (λ b. (k : Parts) → Shows k self.old → After (apply (base_of k.blocks) (typing.global_set g) k.stack) b k self.new) }
     {
@@ -226,5 +231,48 @@ impl Checker {
             return Ok(false);
         }
         self.with_memory(m, takes, t)
+    }
+
+    /// A load of an integer of this width from so many bytes.
+    pub fn load(
+        &mut self,
+        m: &Module,
+        arg: &MemArg,
+        bytes: u32,
+        width: Width,
+    ) -> Result<bool, AllocError>
+        requires { bytes ≤ 8 }
+        ensures { IfOk result (λ b. (k : Parts) → Shows k self.old → After (apply (base_of k.blocks) (typing.access m.now.memories arg.now bytes (Fixed (I32 ∷ []) (typing.integer_type width ∷ []))) k.stack) b k self.new) }
+    {
+        self.access(m, arg, bytes, &[ValType::I32], Some(integer_type(width)))
+    }
+
+    /// A store of an integer of this width into so many bytes.
+    pub fn store(
+        &mut self,
+        m: &Module,
+        arg: &MemArg,
+        bytes: u32,
+        width: Width,
+    ) -> Result<bool, AllocError>
+        requires { bytes ≤ 8 }
+        ensures { IfOk result (λ b. (k : Parts) → Shows k self.old → After (apply (base_of k.blocks) (typing.access m.now.memories arg.now bytes (Fixed (typing.integer_type width ∷ I32 ∷ []) [])) k.stack) b k self.new) }
+    {
+        self.access(m, arg, bytes, &[ValType::I32, integer_type(width)], None)
+    }
+
+    /// An operator of one integer of this width, which gives this type.
+    pub fn unary(&mut self, width: Width, t: ValType) -> Result<bool, AllocError>
+        ensures { IfOk result (λ b. (k : Parts) → Shows k self.old → After (apply (base_of k.blocks) (Fixed (typing.integer_type width ∷ []) (t ∷ [])) k.stack) b k self.new) }
+    {
+        self.typed(&[integer_type(width)], Some(t))
+    }
+
+    /// An operator of two integers of this width, which gives this type.
+    pub fn binary(&mut self, width: Width, t: ValType) -> Result<bool, AllocError>
+        ensures { IfOk result (λ b. (k : Parts) → Shows k self.old → After (apply (base_of k.blocks) (Fixed (typing.integer_type width ∷ typing.integer_type width ∷ []) (t ∷ [])) k.stack) b k self.new) }
+    {
+        let operand = integer_type(width);
+        self.typed(&[operand, operand], Some(t))
     }
 }
