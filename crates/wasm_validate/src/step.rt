@@ -8,7 +8,7 @@ ghost use Rattle.wasm_spec.specs.Typing.{values, Fixed, rule, calling, calling_i
 ghost use Rattle.wasm_spec.specs.Typing as typing;
 ghost use Rattle.wasm_validate.specs.Check.{apply};
 ghost use Rattle.wasm_validate.specs.Subject.{HaveOneResult};
-ghost use Rattle.wasm_validate.specs.Walk.{Parts, Shows, After, base_of, inside};
+ghost use Rattle.wasm_validate.specs.Walk.{Acts, inside};
 
 use crate::checker::Checker;
 use crate::lookup::{function_type, global_type, local_type, result_of, single_result, type_at};
@@ -22,7 +22,7 @@ impl Checker {
     /// An instruction that holds no other and calls none.
     pub fn plain(&mut self, m: &Module, f: &Function, i: &Instr) -> Result<bool, AllocError>
         requires { (function_tree f.now).locals ≡ [] }
-        ensures { IfOk result (λ b. (k : Parts) → Shows k self.old → After (apply (base_of k.blocks) (rule (inside m.now f.now k.blocks) i.now) k.stack) b k self.new) }
+        ensures { IfOk result (λ b. Acts (λ k. rule (inside m.now f.now k.blocks) i.now) self.old b self.new) }
     {
         match i {
             Instr::Unreachable => {
@@ -61,7 +61,8 @@ impl Checker {
     /// A call of a function.
     pub fn call(&mut self, m: &Module, x: u32) -> Result<bool, AllocError>
         requires { HaveOneResult m.now }
-        ensures { IfOk result (λ b. (k : Parts) → Shows k self.old → After (apply (base_of k.blocks) (calling (typing.function_type (module_tree m.now) x)) k.stack) b k self.new) }
+        ensures { let callee = typing.function_type (module_tree m.now) x in
+            IfOk result (λ b. Acts (λ _. calling callee) self.old b self.new) }
     {
         match function_type(m, x) {
             Some(t) => self.typed(t.params.as_slice(), single_result(t)),
@@ -75,7 +76,7 @@ impl Checker {
         takes: &[ValType],
         t: Option<ValType>,
     ) -> Result<bool, AllocError>
-        ensures { IfOk result (λ b. (k : Parts) → Shows k self.old → After (apply (base_of k.blocks) (Fixed (I32 ∷ reverse takes.now) (values t)) k.stack) b k self.new) }
+        ensures { IfOk result (λ b. Acts (λ _. Fixed (I32 ∷ reverse takes.now) (values t)) self.old b self.new) }
     {
         if !self.expect(ValType::I32) {
             return Ok(false);
@@ -87,7 +88,8 @@ impl Checker {
     /// A call of a function of this type that an index chooses from table 0.
     pub fn call_indirect(&mut self, m: &Module, x: u32) -> Result<bool, AllocError>
         requires { HaveOneResult m.now }
-        ensures { IfOk result (λ b. (k : Parts) → Shows k self.old → After (apply (base_of k.blocks) (calling_indirect m.now.tables (slice_get m.now.types x)) k.stack) b k self.new) }
+        ensures { let callee = slice_get m.now.types x in
+            IfOk result (λ b. Acts (λ _. calling_indirect m.now.tables callee) self.old b self.new) }
     {
         if m.tables.is_empty() {
             return Ok(false);
