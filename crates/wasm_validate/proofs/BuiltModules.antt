@@ -47,8 +47,8 @@ function_float : (f : FunctionTree) → IsBuiltFunction f → (has_float f.local
 function_float f b = ap (λ (ts : List ValType). has_float ts || code_uses_floats f.body) b.locals ∙ code_float f.body b.body
 
 no_parts : (a b c d e : Bool) → a ≡ false → b ≡ false → c ≡ false → d ≡ false → e ≡ false → (a || b || c || d || e) ≡ false
-no_parts false false false false false p q r s t = refl
-no_parts a b c d e p q r s t = cc (p, q, r, s, t)
+no_parts a b c d e p q r s t =
+    ap (λ (x : Bool). x || b || c || d || e) p ∙ ap (λ (x : Bool). x || c || d || e) q ∙ ap (λ (x : Bool). x || d || e) r ∙ ap (λ (x : Bool). x || e) s ∙ t
 
 pub built_supported : (m : ModuleTree) → IsBuilt m → IsSupported m
 built_supported m b = record {

@@ -8,3 +8,4 @@ pub mod Functions
 pub mod Distinct
 pub mod BuiltModules
 pub mod Exported
+pub mod Fixtures

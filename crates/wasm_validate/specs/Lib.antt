@@ -4,3 +4,4 @@ pub mod Subject
 pub mod Walk
 pub mod Checked
 pub mod Exported
+pub mod Fixture

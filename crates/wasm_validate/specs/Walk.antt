@@ -5,10 +5,10 @@ use Rattle.wasm_types.specs.declared.instr.Op.{Op}
 use Rattle.wasm_types.specs.declared.module.Function.{Function}
 use Rattle.wasm_types.specs.declared.module.Module.{Module}
 use Rattle.wasm_types.specs.Tree.{Code, End, Plain, Block, Loop, If, Call, CallIndirect, code_of}
-use Rattle.wasm_spec.specs.Typing.{values, Context}
+use Rattle.wasm_spec.specs.Typing.{values, Context, Rule}
 use Rattle.wasm_validate.specs.declared.checker.ControlFrame.{ControlFrame}
 use Rattle.wasm_validate.specs.declared.checker.Checker.{Checker}
-use Rattle.wasm_validate.specs.Check.{Stack, Popped, and_then, gives, leaves, enter, check, check_body}
+use Rattle.wasm_validate.specs.Check.{Stack, Popped, and_then, gives, leaves, enter, check, check_body, apply}
 use Rattle.wasm_validate.specs.Sequences.{ops_of, earlier, code_at}
 use Rattle.wasm_validate.specs.Subject.{context, result_of}
 
@@ -104,6 +104,19 @@ AfterPop None (Some t) k w = ⊥
 AfterPop (Some p) None k w = ⊥
 AfterPop (Some p) (Some t) k w = (t ≡ p.top) × Shows (with_stack k p.rest) w
 
+-- A step on the operands of the innermost block, whatever the checker's stacks stand for: where it can't be taken the
+-- flag is false, and nothing is said of the checker.
+abbrev pub Steps : (Stack → Option Stack) → Checker → Bool → Checker → Type 0
+Steps step old fits new = (k : Parts) → Shows k old → After (step k.stack) fits k new
+
+-- an instruction by its rule
+abbrev pub Acts : (Parts → Rule) → Checker → Bool → Checker → Type 0
+Acts rule old fits new = (k : Parts) → Shows k old → After (apply (base_of k.blocks) (rule k) k.stack) fits k new
+
+-- a step that is always taken; it gets the number of operands below the innermost block
+abbrev pub Becomes : (ℕ → Stack → Stack) → Checker → Checker → Type 0
+Becomes step old new = (k : Parts) → Shows k old → Shows (with_stack k (step (base_of k.blocks) k.stack)) new
+
 -- opened inner code, in a function with this result
 abbrev pub opened : Option ValType → Parts → Option ValType → Option ValType → Option ℕ → ℕ → Parts
 opened result k label ends second q = record {
@@ -149,6 +162,10 @@ pub record Leads (m : Module) (f : Function) (w : Checker) (r : Option Stack) : 
 abbrev pub AfterTurn : Bool → Module → Function → Checker → ℕ → Option Stack → Type 0
 AfterTurn true m f w n r = Leads m f w r × (weight f w < n)
 AfterTurn false m f w n r = r ≡ None
+
+-- a turn of the walk keeps where it leads, and leaves less to check
+abbrev pub Turns : Module → Function → Checker → Bool → Checker → Type 0
+Turns m f old fits new = (r : Option Stack) → Leads m f old r → AfterTurn fits m f new (weight f old) r
 
 -- what the instruction at the last place does, and what follows it
 abbrev pub doing : Module → Function → Op → Parts → Option Stack

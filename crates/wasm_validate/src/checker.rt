@@ -6,7 +6,7 @@ ghost use Rattle.wasm_types.specs.declared.types.ValType.TheVariants.{I32};
 ghost use Rattle.wasm_spec.specs.Typing.{values, Fixed, Diverges, Drops, Selects};
 ghost use Rattle.wasm_validate.specs.Check.{pop, expect, expects, give, gives, diverge, apply, leaves};
 ghost use Rattle.wasm_validate.specs.Check as check;
-ghost use Rattle.wasm_validate.specs.Walk.{Parts, Shows, After, AfterPop, with_stack, base_of, labels_of, opened, outside, OpenBlock};
+ghost use Rattle.wasm_validate.specs.Walk.{Parts, Shows, Steps, Acts, Becomes, AfterPop, labels_of, opened, outside, OpenBlock};
 
 use std::alloc::AllocError;
 use wasm_types::types::ValType;
@@ -93,7 +93,7 @@ impl Checker {
 
     /// An operand of this type, which is taken off.
     pub fn expect(&mut self, t: ValType) -> bool
-        ensures { (k : Parts) → Shows k self.old → After (expect t k.stack) result k self.new }
+        ensures { Steps (expect t) self.old result self.new }
     {
         match self.pop() {
             Some(k) => agrees(t, k),
@@ -103,14 +103,14 @@ impl Checker {
 
     /// Any operand, which is taken off.
     pub fn discard(&mut self) -> bool
-        ensures { (k : Parts) → Shows k self.old → After (apply (base_of k.blocks) Drops k.stack) result k self.new }
+        ensures { Acts (λ _. Drops) self.old result self.new }
     {
         self.pop().is_some()
     }
 
     /// An operand on the top.
     pub fn give(&mut self, t: Option<ValType>) -> Result<(), AllocError>
-        ensures { OnOk result ((k : Parts) → Shows k self.old → Shows (with_stack k (give (base_of k.blocks) t k.stack)) self.new) }
+        ensures { OnOk result (Becomes (λ base. give base t) self.old self.new) }
     {
         self.operands.push(t)?;
         let height = height(self.operands.len())?;
@@ -120,7 +120,7 @@ impl Checker {
 
     /// Whatever follows isn't reached.
     pub fn diverge(&mut self)
-        ensures { (k : Parts) → Shows k self.old → Shows (with_stack k (diverge (base_of k.blocks) k.stack)) self.new }
+        ensures { Becomes (λ base. diverge base) self.old self.new }
     {
         self.operands.truncate(self.base);
         self.unreachable = true;
@@ -128,7 +128,7 @@ impl Checker {
 
     /// Operands of these types, the last one on the top, which are taken off.
     pub fn expect_all(&mut self, takes: &[ValType]) -> bool
-        ensures { (k : Parts) → Shows k self.old → After (expects (reverse takes.now) k.stack) result k self.new }
+        ensures { Steps (expects (reverse takes.now)) self.old result self.new }
     {
         let mut rest = takes;
         while let [front @ .., t] = rest {
@@ -142,7 +142,7 @@ impl Checker {
 
     /// An operand of this type, if there is a type.
     pub fn expect_values(&mut self, t: Option<ValType>) -> bool
-        ensures { (k : Parts) → Shows k self.old → After (expects (values t) k.stack) result k self.new }
+        ensures { Steps (expects (values t)) self.old result self.new }
     {
         match t {
             Some(t) => self.expect(t),
@@ -152,7 +152,7 @@ impl Checker {
 
     /// An operand of this type on the top, if there is a type.
     pub fn give_values(&mut self, t: Option<ValType>) -> Result<(), AllocError>
-        ensures { OnOk result ((k : Parts) → Shows k self.old → Shows (with_stack k (gives (base_of k.blocks) (values t) k.stack)) self.new) }
+        ensures { OnOk result (Becomes (λ base. gives base (values t)) self.old self.new) }
     {
         match t {
             Some(t) => self.give(Some(t)),
@@ -162,7 +162,7 @@ impl Checker {
 
     /// An instruction with these operands, the last one on the top, and this result.
     pub fn typed(&mut self, takes: &[ValType], t: Option<ValType>) -> Result<bool, AllocError>
-        ensures { IfOk result (λ b. (k : Parts) → Shows k self.old → After (apply (base_of k.blocks) (Fixed (reverse takes.now) (values t)) k.stack) b k self.new) }
+        ensures { IfOk result (λ b. Acts (λ _. Fixed (reverse takes.now) (values t)) self.old b self.new) }
     {
         if !self.expect_all(takes) {
             return Ok(false);
@@ -173,7 +173,7 @@ impl Checker {
 
     /// A jump, which needs these operands.
     pub fn jump(&mut self, t: Option<ValType>) -> bool
-        ensures { (k : Parts) → Shows k self.old → After (apply (base_of k.blocks) (Diverges (values t)) k.stack) result k self.new }
+        ensures { Acts (λ _. Diverges (values t)) self.old result self.new }
     {
         if !self.expect_values(t) {
             return false;
@@ -184,7 +184,7 @@ impl Checker {
 
     /// A branch where the top isn't 0, to a label that needs this.
     pub fn jump_if(&mut self, t: Option<ValType>) -> Result<bool, AllocError>
-        ensures { IfOk result (λ b. (k : Parts) → Shows k self.old → After (apply (base_of k.blocks) (Fixed (I32 ∷ values t) (values t)) k.stack) b k self.new) }
+        ensures { IfOk result (λ b. Acts (λ _. Fixed (I32 ∷ values t) (values t)) self.old b self.new) }
     {
         if !self.expect(ValType::I32) {
             return Ok(false);
@@ -198,7 +198,7 @@ impl Checker {
 
     /// A jump that the top chooses, to labels that need this.
     pub fn jump_by_index(&mut self, t: Option<ValType>) -> bool
-        ensures { (k : Parts) → Shows k self.old → After (apply (base_of k.blocks) (Diverges (I32 ∷ values t)) k.stack) result k self.new }
+        ensures { Acts (λ _. Diverges (I32 ∷ values t)) self.old result self.new }
     {
         if !self.expect(ValType::I32) {
             return false;
@@ -208,7 +208,7 @@ impl Checker {
 
     /// Of two operands of one type and a condition, the first or the second.
     pub fn select(&mut self) -> Result<bool, AllocError>
-        ensures { IfOk result (λ b. (k : Parts) → Shows k self.old → After (apply (base_of k.blocks) Selects k.stack) b k self.new) }
+        ensures { IfOk result (λ b. Acts (λ _. Selects) self.old b self.new) }
     {
         if !self.expect(ValType::I32) {
             return Ok(false);
@@ -236,7 +236,8 @@ impl Checker {
         second: Option<usize>,
         sequence: usize,
     ) -> Result<(), AllocError>
-        ensures { OnOk result ((r : Option ValType) (k : Parts) → Shows k self.old → Shows (opened r k label ends second sequence) self.new) }
+        ensures { OnOk result ((r : Option ValType) (k : Parts) → Shows k self.old
+            → Shows (opened r k label ends second sequence) self.new) }
     {
         self.frames.push(ControlFrame {
             label,
@@ -273,17 +274,18 @@ impl Checker {
 
     /// Whether exactly these results are left in the block.
     pub fn ends(&mut self, t: Option<ValType>) -> bool
-        ensures { (k : Parts) → Shows k self.old → After (leaves t (Some k.stack)) result k self.new }
+        ensures { Steps (λ s. leaves t (Some s)) self.old result self.new }
     {
         if !self.expect_values(t) {
             return false;
         }
-        self.operands.len() == self.base
+        self.base == self.operands.len()
     }
 
     /// Goes back around the inner code, which is over.
     pub fn leave(&mut self)
-        ensures { (k : Parts) (o : OpenBlock) (os : List OpenBlock) → Shows k self.old → k.blocks ≡ o ∷ os → k.stack.operands ≡ [] → Shows (outside o os k.stack) self.new }
+        ensures { (k : Parts) (o : OpenBlock) (os : List OpenBlock) → Shows k self.old
+            → k.blocks ≡ o ∷ os → k.stack.operands ≡ [] → Shows (outside o os k.stack) self.new }
     {
         let Some(frame) = self.frames.pop() else {
             return;

@@ -10,7 +10,7 @@ mod module;
 mod names;
 mod plain;
 mod step;
-mod valid;
+#[cfg(test)]
+mod tests;
+pub mod valid;
 mod walk;
-
-pub use valid::{Valid, ValidFault, validate};

@@ -9,7 +9,7 @@ ghost use Rattle.wasm_spec.specs.Typing as typing;
 ghost use Rattle.wasm_spec.specs.Typing.{values, Fixed, rule};
 ghost use Rattle.wasm_validate.specs.Check.{apply};
 ghost use Rattle.wasm_validate.specs.Subject.{HaveOneResult};
-ghost use Rattle.wasm_validate.specs.Walk.{Parts, Shows, After, base_of, labels_of, inside};
+ghost use Rattle.wasm_validate.specs.Walk.{Parts, Shows, Acts, labels_of};
 
 use crate::checker::{Checker, agrees};
 use crate::lookup;
@@ -88,7 +88,7 @@ pub fn same_values(t: Option<ValType>, u: Option<ValType>) -> bool
 impl Checker {
     /// A branch to a label, in a function with this result.
     pub fn branch(&mut self, body: Option<ValType>, l: u32) -> bool
-        ensures { (k : Parts) → Shows k self.old → After (apply (base_of k.blocks) (typing.branch (slice_get (labels_of body k.blocks) l)) k.stack) result k self.new }
+        ensures { Acts (λ k. typing.branch (slice_get (labels_of body k.blocks) l)) self.old result self.new }
     {
         match self.label(body, l) {
             Some(t) => self.jump(t),
@@ -98,7 +98,7 @@ impl Checker {
 
     /// A branch to a label where the top isn't 0.
     pub fn branch_if(&mut self, body: Option<ValType>, l: u32) -> Result<bool, AllocError>
-        ensures { IfOk result (λ b. (k : Parts) → Shows k self.old → After (apply (base_of k.blocks) (typing.branch_if (slice_get (labels_of body k.blocks) l)) k.stack) b k self.new) }
+        ensures { IfOk result (λ b. Acts (λ k. typing.branch_if (slice_get (labels_of body k.blocks) l)) self.old b self.new) }
     {
         match self.label(body, l) {
             Some(t) => self.jump_if(t),
@@ -108,7 +108,8 @@ impl Checker {
 
     /// Whether these labels are there, and need just this.
     pub fn are_labels(&self, body: Option<ValType>, names: &[u32], t: Option<ValType>) -> bool
-        ensures { (k : Parts) → Shows k self.now → result ≡ list_all (λ x. typing.is_label (values t) (slice_get (labels_of body k.blocks) x)) names.now }
+        ensures { (k : Parts) → Shows k self.now
+            → result ≡ list_all (λ x. typing.is_label (values t) (slice_get (labels_of body k.blocks) x)) names.now }
     {
         for x in names {
             if !self.is_label(body, *x, t) {
@@ -120,7 +121,8 @@ impl Checker {
 
     /// Whether this label is there, and needs just this.
     pub fn is_label(&self, body: Option<ValType>, l: u32, t: Option<ValType>) -> bool
-        ensures { (k : Parts) → Shows k self.now → result ≡ typing.is_label (values t) (slice_get (labels_of body k.blocks) l) }
+        ensures { (k : Parts) → Shows k self.now
+            → result ≡ typing.is_label (values t) (slice_get (labels_of body k.blocks) l) }
     {
         match self.label(body, l) {
             Some(other) => same_values(t, other),
@@ -130,7 +132,8 @@ impl Checker {
 
     /// A branch to one of these labels, or to the last one, by the top.
     pub fn branch_table(&mut self, body: Option<ValType>, names: &[u32], l: u32) -> bool
-        ensures { (k : Parts) → Shows k self.old → After (apply (base_of k.blocks) (typing.branch_table (labels_of body k.blocks) names.now (slice_get (labels_of body k.blocks) l)) k.stack) result k self.new }
+        ensures { Acts (λ k. let labels = labels_of body k.blocks in typing.branch_table labels names.now (slice_get labels l))
+            self.old result self.new }
     {
         match self.label(body, l) {
             Some(t) => {
@@ -144,8 +147,9 @@ impl Checker {
         }
     }
 
+    /// A read of a local of this type.
     pub fn local_get(&mut self, t: Option<ValType>) -> Result<bool, AllocError>
-        ensures { IfOk result (λ b. (k : Parts) → Shows k self.old → After (apply (base_of k.blocks) (typing.local_get t) k.stack) b k self.new) }
+        ensures { IfOk result (λ b. Acts (λ _. typing.local_get t) self.old b self.new) }
     {
         match t {
             Some(t) => self.typed(&[], Some(t)),
@@ -153,8 +157,9 @@ impl Checker {
         }
     }
 
+    /// A write of a local of this type.
     pub fn local_set(&mut self, t: Option<ValType>) -> Result<bool, AllocError>
-        ensures { IfOk result (λ b. (k : Parts) → Shows k self.old → After (apply (base_of k.blocks) (typing.local_set t) k.stack) b k self.new) }
+        ensures { IfOk result (λ b. Acts (λ _. typing.local_set t) self.old b self.new) }
     {
         match t {
             Some(t) => self.typed(&[t], None),
@@ -162,8 +167,9 @@ impl Checker {
         }
     }
 
+    /// A write of a local of this type, which leaves the value.
     pub fn local_tee(&mut self, t: Option<ValType>) -> Result<bool, AllocError>
-        ensures { IfOk result (λ b. (k : Parts) → Shows k self.old → After (apply (base_of k.blocks) (typing.local_tee t) k.stack) b k self.new) }
+        ensures { IfOk result (λ b. Acts (λ _. typing.local_tee t) self.old b self.new) }
     {
         match t {
             Some(t) => self.typed(&[t], Some(t)),
@@ -171,8 +177,9 @@ impl Checker {
         }
     }
 
+    /// A read of a global of this type.
     pub fn global_get(&mut self, g: Option<GlobalType>) -> Result<bool, AllocError>
-        ensures { IfOk result (λ b. (k : Parts) → Shows k self.old → After (apply (base_of k.blocks) (typing.global_get g) k.stack) b k self.new) }
+        ensures { IfOk result (λ b. Acts (λ _. typing.global_get g) self.old b self.new) }
     {
         match g {
             Some(g) => self.typed(&[], Some(g.value)),
@@ -180,8 +187,9 @@ impl Checker {
         }
     }
 
+    /// A write of a global of this type, which has to be a variable.
     pub fn global_set(&mut self, g: Option<GlobalType>) -> Result<bool, AllocError>
-        ensures { IfOk result (λ b. (k : Parts) → Shows k self.old → After (apply (base_of k.blocks) (typing.global_set g) k.stack) b k self.new) }
+        ensures { IfOk result (λ b. Acts (λ _. typing.global_set g) self.old b self.new) }
     {
         match g {
             Some(g) => {
@@ -202,7 +210,8 @@ impl Checker {
         takes: &[ValType],
         t: Option<ValType>,
     ) -> Result<bool, AllocError>
-        ensures { IfOk result (λ b. (k : Parts) → Shows k self.old → After (apply (base_of k.blocks) (typing.with_memory m.now.memories (Fixed (reverse takes.now) (values t))) k.stack) b k self.new) }
+        ensures { let by = Fixed (reverse takes.now) (values t) in
+            IfOk result (λ b. Acts (λ _. typing.with_memory m.now.memories by) self.old b self.new) }
     {
         if m.memories.is_empty() {
             return Ok(false);
@@ -220,11 +229,59 @@ impl Checker {
         t: Option<ValType>,
     ) -> Result<bool, AllocError>
         requires { bytes ≤ 8 }
-        ensures { IfOk result (λ b. (k : Parts) → Shows k self.old → After (apply (base_of k.blocks) (typing.access m.now.memories arg.now bytes (Fixed (reverse takes.now) (values t))) k.stack) b k self.new) }
+        ensures { let by = Fixed (reverse takes.now) (values t) in
+            IfOk result (λ b. Acts (λ _. typing.access m.now.memories arg.now bytes by) self.old b self.new) }
     {
         if !is_aligned(arg.align, bytes) {
             return Ok(false);
         }
         self.with_memory(m, takes, t)
+    }
+
+    /// A load of an integer of this width from so many bytes.
+    pub fn load(
+        &mut self,
+        m: &Module,
+        arg: &MemArg,
+        bytes: u32,
+        width: Width,
+    ) -> Result<bool, AllocError>
+        requires { bytes ≤ 8 }
+        ensures { let by = Fixed (I32 ∷ []) (typing.integer_type width ∷ []) in
+            IfOk result (λ b. Acts (λ _. typing.access m.now.memories arg.now bytes by) self.old b self.new) }
+    {
+        self.access(m, arg, bytes, &[ValType::I32], Some(integer_type(width)))
+    }
+
+    /// A store of an integer of this width into so many bytes.
+    pub fn store(
+        &mut self,
+        m: &Module,
+        arg: &MemArg,
+        bytes: u32,
+        width: Width,
+    ) -> Result<bool, AllocError>
+        requires { bytes ≤ 8 }
+        ensures { let by = Fixed (typing.integer_type width ∷ I32 ∷ []) [] in
+            IfOk result (λ b. Acts (λ _. typing.access m.now.memories arg.now bytes by) self.old b self.new) }
+    {
+        self.access(m, arg, bytes, &[ValType::I32, integer_type(width)], None)
+    }
+
+    /// An operator of one integer of this width, which gives this type.
+    pub fn unary(&mut self, width: Width, t: ValType) -> Result<bool, AllocError>
+        ensures { let operand = typing.integer_type width in
+            IfOk result (λ b. Acts (λ _. Fixed (operand ∷ []) (t ∷ [])) self.old b self.new) }
+    {
+        self.typed(&[integer_type(width)], Some(t))
+    }
+
+    /// An operator of two integers of this width, which gives this type.
+    pub fn binary(&mut self, width: Width, t: ValType) -> Result<bool, AllocError>
+        ensures { let operand = typing.integer_type width in
+            IfOk result (λ b. Acts (λ _. Fixed (operand ∷ operand ∷ []) (t ∷ [])) self.old b self.new) }
+    {
+        let integer = integer_type(width);
+        self.typed(&[integer, integer], Some(t))
     }
 }

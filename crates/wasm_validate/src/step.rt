@@ -8,7 +8,7 @@ ghost use Rattle.wasm_spec.specs.Typing.{values, Fixed, rule, calling, calling_i
 ghost use Rattle.wasm_spec.specs.Typing as typing;
 ghost use Rattle.wasm_validate.specs.Check.{apply};
 ghost use Rattle.wasm_validate.specs.Subject.{HaveOneResult};
-ghost use Rattle.wasm_validate.specs.Walk.{Parts, Shows, After, base_of, inside};
+ghost use Rattle.wasm_validate.specs.Walk.{Acts, inside};
 
 use crate::checker::Checker;
 use crate::lookup::{function_type, global_type, local_type, result_of, single_result, type_at};
@@ -22,7 +22,7 @@ impl Checker {
     /// An instruction that holds no other and calls none.
     pub fn plain(&mut self, m: &Module, f: &Function, i: &Instr) -> Result<bool, AllocError>
         requires { (function_tree f.now).locals ≡ [] }
-        ensures { IfOk result (λ b. (k : Parts) → Shows k self.old → After (apply (base_of k.blocks) (rule (inside m.now f.now k.blocks) i.now) k.stack) b k self.new) }
+        ensures { IfOk result (λ b. Acts (λ k. rule (inside m.now f.now k.blocks) i.now) self.old b self.new) }
     {
         match i {
             Instr::Unreachable => {
@@ -32,11 +32,7 @@ impl Checker {
             Instr::Nop => Ok(true),
             Instr::Br(l) => Ok(self.branch(result_of(m, f), *l)),
             Instr::BrIf(l) => self.branch_if(result_of(m, f), *l),
-            Instr::BrTable(names, l) => Ok(self.branch_table(
-                result_of(m, f),
-                names.as_slice(),
-                *l,
-            )),
+            Instr::BrTable(ls, l) => Ok(self.branch_table(result_of(m, f), ls.as_slice(), *l)),
             Instr::Return => Ok(self.jump(result_of(m, f))),
             Instr::Drop => Ok(self.discard()),
             Instr::Select => self.select(),
@@ -45,47 +41,17 @@ impl Checker {
             Instr::LocalTee(x) => self.local_tee(local_type(m, f, *x)),
             Instr::GlobalGet(x) => self.global_get(global_type(m, *x)),
             Instr::GlobalSet(x) => self.global_set(global_type(m, *x)),
-            Instr::Load(w, arg) => self.access(
-                m,
-                arg,
-                byte_width(*w),
-                &[ValType::I32],
-                Some(integer_type(*w)),
-            ),
-            Instr::LoadPacked(w, p, _, arg) => self.access(
-                m,
-                arg,
-                packed_width(*p),
-                &[ValType::I32],
-                Some(integer_type(*w)),
-            ),
-            Instr::Store(w, arg) => self.access(
-                m,
-                arg,
-                byte_width(*w),
-                &[ValType::I32, integer_type(*w)],
-                None,
-            ),
-            Instr::StorePacked(w, p, arg) => self.access(
-                m,
-                arg,
-                packed_width(*p),
-                &[ValType::I32, integer_type(*w)],
-                None,
-            ),
+            Instr::Load(w, arg) => self.load(m, arg, byte_width(*w), *w),
+            Instr::LoadPacked(w, size, _, arg) => self.load(m, arg, packed_width(*size), *w),
+            Instr::Store(w, arg) => self.store(m, arg, byte_width(*w), *w),
+            Instr::StorePacked(w, size, arg) => self.store(m, arg, packed_width(*size), *w),
             Instr::MemorySize => self.with_memory(m, &[], Some(ValType::I32)),
             Instr::MemoryGrow => self.with_memory(m, &[ValType::I32], Some(ValType::I32)),
             Instr::Const(v) => self.typed(&[], Some(type_of(*v))),
-            Instr::Eqz(w) => self.typed(&[integer_type(*w)], Some(ValType::I32)),
-            Instr::Compare(w, _) => self.typed(
-                &[integer_type(*w), integer_type(*w)],
-                Some(ValType::I32),
-            ),
-            Instr::Unary(w, _) => self.typed(&[integer_type(*w)], Some(integer_type(*w))),
-            Instr::Binary(w, _) => self.typed(
-                &[integer_type(*w), integer_type(*w)],
-                Some(integer_type(*w)),
-            ),
+            Instr::Eqz(w) => self.unary(*w, ValType::I32),
+            Instr::Compare(w, _) => self.binary(*w, ValType::I32),
+            Instr::Unary(w, _) => self.unary(*w, integer_type(*w)),
+            Instr::Binary(w, _) => self.binary(*w, integer_type(*w)),
             Instr::Wrap => self.typed(&[ValType::I64], Some(ValType::I32)),
             Instr::Extend(_) => self.typed(&[ValType::I32], Some(ValType::I64)),
             Instr::Float => Ok(false),
@@ -95,7 +61,8 @@ impl Checker {
     /// A call of a function.
     pub fn call(&mut self, m: &Module, x: u32) -> Result<bool, AllocError>
         requires { HaveOneResult m.now }
-        ensures { IfOk result (λ b. (k : Parts) → Shows k self.old → After (apply (base_of k.blocks) (calling (typing.function_type (module_tree m.now) x)) k.stack) b k self.new) }
+        ensures { let callee = typing.function_type (module_tree m.now) x in
+            IfOk result (λ b. Acts (λ _. calling callee) self.old b self.new) }
     {
         match function_type(m, x) {
             Some(t) => self.typed(t.params.as_slice(), single_result(t)),
@@ -109,7 +76,7 @@ impl Checker {
         takes: &[ValType],
         t: Option<ValType>,
     ) -> Result<bool, AllocError>
-        ensures { IfOk result (λ b. (k : Parts) → Shows k self.old → After (apply (base_of k.blocks) (Fixed (I32 ∷ reverse takes.now) (values t)) k.stack) b k self.new) }
+        ensures { IfOk result (λ b. Acts (λ _. Fixed (I32 ∷ reverse takes.now) (values t)) self.old b self.new) }
     {
         if !self.expect(ValType::I32) {
             return Ok(false);
@@ -121,7 +88,8 @@ impl Checker {
     /// A call of a function of this type that an index chooses from table 0.
     pub fn call_indirect(&mut self, m: &Module, x: u32) -> Result<bool, AllocError>
         requires { HaveOneResult m.now }
-        ensures { IfOk result (λ b. (k : Parts) → Shows k self.old → After (apply (base_of k.blocks) (calling_indirect m.now.tables (slice_get m.now.types x)) k.stack) b k self.new) }
+        ensures { let callee = slice_get m.now.types x in
+            IfOk result (λ b. Acts (λ _. calling_indirect m.now.tables callee) self.old b self.new) }
     {
         if m.tables.is_empty() {
             return Ok(false);

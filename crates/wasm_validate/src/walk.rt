@@ -5,7 +5,7 @@ ghost use Rattle.wasm_types.specs.Tree.{function_tree};
 ghost use Rattle.wasm_validate.specs.Check.{Stack};
 ghost use Rattle.wasm_validate.specs.Sequences.{ops_of, code_at, named_in};
 ghost use Rattle.wasm_validate.specs.Subject.{HaveOneResult};
-ghost use Rattle.wasm_validate.specs.Walk.{Leads, AfterTurn, weight, whole, Finds};
+ghost use Rattle.wasm_validate.specs.Walk.{Leads, Turns, whole, Finds};
 
 use crate::checker::Checker;
 use crate::lookup::result_of;
@@ -43,7 +43,7 @@ impl Checker {
         requires locals { (function_tree f.now).locals ≡ [] }
         requires is { slice_get (ops_of f.now.body self.old.sequence) self.old.place ≡ Some op.now }
         requires fits { self.old.place + 1 < 2 ^ 64 }
-        ensures { IfOk result (λ b. (r : Option Stack) → Leads m.now f.now self.old r → AfterTurn b m.now f.now self.new (weight f.now self.old) r) }
+        ensures { IfOk result (λ b. Turns m.now f.now self.old b self.new) }
     {
         self.place += 1;
         match op {
@@ -85,7 +85,7 @@ impl Checker {
     pub fn close(&mut self, m: &Module, f: &Function) -> Result<bool, AllocError>
         requires some { 0 < length self.old.frames.items }
         requires over { slice_get (ops_of f.now.body self.old.sequence) self.old.place ≡ None }
-        ensures { IfOk result (λ b. (r : Option Stack) → Leads m.now f.now self.old r → AfterTurn b m.now f.now self.new (weight f.now self.old) r) }
+        ensures { IfOk result (λ b. Turns m.now f.now self.old b self.new) }
     {
         let frame = self.frames[self.frames.len() - 1];
         if !self.ends(frame.ends) {
