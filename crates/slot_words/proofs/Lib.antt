@@ -1,0 +1,9 @@
+mod Allowed
+mod CountEvents
+mod KindSums
+mod Lookups
+mod Openings
+mod PassEvents
+mod ScanTrails
+mod ShownChanges
+mod SlotEvents

@@ -1,0 +1,14 @@
+use Rattle.std.proofs.Common.{rules, arith, ap, sym, subst, ◌∙◌, ◌∷◌, Some}
+use Rattle.atomic_table.specs.Table.{rest}
+use Rattle.slot_words.specs.declared.views.Bounds.{Bounds}
+use Rattle.slot_words.specs.Shows.{Suits}
+use Rattle.slot_words.proofs.Allowed.{releases_allowed}
+use Rattle.slot_words.proofs.words.Words.release.Goals as goal
+
+pub store-requires : goal.store-requires
+store-requires g c = let z = c.args.self.now.sized in let h = c.requires.number in let has = c.requires.holds in let v = c.args.pass.now.me.0 in (
+  search rules,
+  omega (arith, z.0),
+  releases_allowed g.V.Pooled.fits g.V.Pooled.room _ _ _ _ _ _ _ v c.args.lease.value c.args.to (c.exchange.ensures.3 ∙ (λ i. (v, (c.args.lease.number, Some c.args.lease.value) ∷ rest (has.1 i)))) c.pack.ensures.packed_is (let e = z.1 in omega arith) has.0
+      c.requires.target (subst (λ (b : Bounds). Suits g.V.Pooled.fits g.V.Pooled.room b.room c.args.to c.args.lease.value) (sym c.requires.own.1) c.requires.fits),
+)
