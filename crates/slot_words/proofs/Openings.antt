@@ -1,5 +1,5 @@
 -- The words at the start meet the rule.
-use Rattle.std.proofs.Common.{◌≡◌, ℕ, zero, suc, ◌+◌, ◌-◌, ◌*◌, ◌^◌, ◌<◌, ◌≤◌, List, [], ◌∷◌, map, length, replicate, refl, sym, ap, ◌∙◌, subst, arith}
+use Rattle.std.proofs.Common.{◌≡◌, ℕ, zero, suc, ◌+◌, ◌-◌, ◌*◌, ◌^◌, ◌<◌, ◌≤◌, true≢false, List, [], ◌∷◌, map, length, replicate, refl, sym, ap, ◌∙◌, subst, arith}
 use mathlib.Core.Option.{some, some-injective, some-ne-none}
 use lib.ListN.{get_elem?}
 use Rattle.std.specs.Prelude.{Option, Some}
@@ -21,8 +21,8 @@ module _ {V : Type 0} where
   -- each of the values lies at its place, and is as all of them are
   home_of : (P : V → Type 0) (xs : List V) → All P xs → (n : ℕ) → n < length xs → (x : V) × (get_elem? (map some (map Some xs)) n ≡ some (some (Some x))) × P x
   home_of P [] all n h = absurd (omega arith)
-  home_of P (x ∷ xs) all zero h = (x, refl, all.0)
-  home_of P (x ∷ xs) all (suc n) h = home_of P xs all.1 n (omega arith)
+  home_of P (x ∷ xs) all zero h = (x, refl, all 0 x (omega arith))
+  home_of P (x ∷ xs) all (suc n) h = home_of P xs (λ k d inside. all (suc k) d (omega arith)) n (omega arith)
 
   shows_opening : (fits : State → ℕ → V → Type 0) (room : V → List ℕ) (bounds : Bounds) (passes : ℕ) (xs : List V) → 1 ≤ passes → length xs + 2 * passes < 2 ^ 63
       → All (λ x. fits Cold 0 x × (room x ≡ bounds.room)) xs
@@ -46,6 +46,7 @@ module _ {V : Type 0} where
           seat_shows = elim [ zero ↦ refl | suc j ↦ get_or-replicate_same (passes - 1) (idle_seat Unmade) j ];
           at_home = λ m h free. let o = home_of (λ x. fits Cold 0 x × (room x ≡ bounds.room)) xs suits m (omega arith) in
               (o.0, o.1, subst (λ (w : StateWord). Suits fits room bounds.room w.target o.0) (sym (get_or-replicate_same n cold_word m)) o.2);
+          away = λ m h held. absurd (true≢false (sym held ∙ ap (λ (w : StateWord). w.held) (get_or-replicate_same n cold_word m)));
           unsplit_sum = omega arith;
           share_sum = omega arith;
           each = elim [

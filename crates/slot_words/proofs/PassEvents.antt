@@ -102,6 +102,7 @@ module _ {V : Type 0} (fits : State → ℕ → V → Type 0) (room : V → List
               (λ e. ap (λ (k : ℕ). (get_or ls k no_view).seat) e ∙ ap (λ (k : PassView). k.seat) (get_or-set_same vs id l no_view inside) ∙ sym (ap (λ (k : PassView). k.seat) was) ∙ ap (λ (k : ℕ). (get_or vs k no_view).seat) (sym e))
               (λ other. ap (λ (k : PassView). k.seat) (get_or-set_other vs id j l no_view other))));
           at_home = o.at_home;
+          away = o.away;
           unsplit_sum =
               let a : sum_by (λ (k : PassView). k.unsplit) ls + (get_or vs id no_view).unsplit ≡ sp + l.unsplit = sum_by-set (λ (k : PassView). k.unsplit) vs id l no_view inside in
               let b : sum_by (λ (k : PassView). k.unsplit) (ls ++ g ∷ []) ≡ sum_by (λ (k : PassView). k.unsplit) ls + 0 = sum_by_push (λ (k : PassView). k.unsplit) ls g in
@@ -151,6 +152,7 @@ module _ {V : Type 0} (fits : State → ℕ → V → Type 0) (room : V → List
               (λ e. ap (λ (k : ℕ). (get_or bs k no_view).seat) e ∙ ap (λ (k : PassView). k.seat) (get_or-set_same vs id b no_view inside) ∙ sym (ap (λ (k : PassView). k.seat) was) ∙ ap (λ (k : ℕ). (get_or vs k no_view).seat) (sym e))
               (λ ne'. ap (λ (k : PassView). k.seat) (get_or-set_other vs id j b no_view ne'))));
           at_home = o.at_home;
+          away = o.away;
           unsplit_sum =
               let x : ℕ = sum_by (λ (k : PassView). k.unsplit) vs in let e : x + length vs ≡ passes = o.unsplit_sum in
               let f : (get_or vs id no_view).unsplit ≡ v.unsplit = ap (λ (k : PassView). k.unsplit) was in let f' : (get_or bs other no_view).unsplit ≡ w.unsplit = ap (λ (k : PassView). k.unsplit) wis in

@@ -76,8 +76,9 @@ module _ {V : Type 0} (fits : State → ℕ → V → Type 0) (room : V → List
       → get_elem? s.views id ≡ some me → n < length c.words → is_live me.seat.stage ≡ true → IsSameView me w
       → x ≡ packed v → length homes ≡ length s.homes → ((m : ℕ) → m ≢ n → get_elem? homes m ≡ get_elem? s.homes m)
       → (v.held ≡ false → (y : V) × (get_elem? homes n ≡ some (some (Some y))) × Suits fits room bounds.room v.target y)
+      → (v.held ≡ true → get_elem? homes n ≡ some none)
       → Shows fits room bounds passes (core_changed c id w.seat n v) record { words = set s.words n x; homes = homes; views = set s.views id w }
-  shows_changed c s o id n x me w v homes at there live same is long others own =
+  shows_changed c s o id n x me w v homes at there live same is long others own gone =
       let ws : List StateWord = c.words in let wide = o.words_are in
       let lw : length (set ws n v) ≡ length ws = length-set ws n v in
       let lv : length (set s.views id w) ≡ length s.views = length-set s.views id w in
@@ -103,6 +104,9 @@ module _ {V : Type 0} (fits : State → ℕ → V → Type 0) (room : V → List
             let vm : get_or (set ws n v) m cold_word ≡ get_or ws m cold_word = get_or-set_other ws n m v cold_word e in
             let y = o.at_home m (omega arith) (ap (λ (u : StateWord). u.held) (sym vm) ∙ free) in
             (y.0, others m e ∙ y.1, subst (λ (u : StateWord). Suits fits room bounds.room u.target y.0) (sym vm) y.2));
+        away = λ m h held. dite (ℕ_discrete m n)
+            (λ e. ap (λ (k : ℕ). get_elem? homes k) e ∙ gone (ap (λ (u : StateWord). u.held) (sym (ap (λ (k : ℕ). get_or (set ws n v) k cold_word) e ∙ get_or-set_same ws n v cold_word there)) ∙ held))
+            (λ e. others m e ∙ o.away m (omega arith) (ap (λ (u : StateWord). u.held) (sym (get_or-set_other ws n m v cold_word e)) ∙ held));
         unsplit_sum = let e = sum_kept (λ (k : PassView). k.unsplit) s.views id me w at same.unsplit_is in let e4 = o.unsplit_sum in omega arith;
         share_sum = sum_kept (λ (k : PassView). k.share) s.views id me w at same.share_is ∙ o.share_sum;
         each = each_counted c s o id me w at same;
@@ -127,6 +131,7 @@ module _ {V : Type 0} (fits : State → ℕ → V → Type 0) (room : V → List
         clock_shows = w3;
         seat_shows = seats_shown c s o id me w at live;
         at_home = o.at_home;
+        away = o.away;
         unsplit_sum = let e = sum_kept (λ (k : PassView). k.unsplit) s.views id me w at same.unsplit_is in let e4 = o.unsplit_sum in omega arith;
         share_sum = sum_kept (λ (k : PassView). k.share) s.views id me w at same.share_is ∙ o.share_sum;
         each = each_counted c s o id me w at same;

@@ -61,14 +61,14 @@ module _ {V : Type 0} (fits : State → ℕ → V → Type 0) (room : V → List
           tt,
           subst (λ (c : PoolCore). Shows fits room bounds passes c (stepped s n x id me.1 w keeps)) (unchanged core id n me.0.seat seat)
               (shows_changed fits room bounds passes core s shows id n x me.0 w (word_at core n) s.homes at there live (same_view me.0 me.0.seat (operation.Load n x) refl)
-              (shows.word_shows n there) refl (λ m other. refl) (shows.at_home n there)),
+              (shows.word_shows n there) refl (λ m other. refl) (shows.at_home n there) (shows.away n there)),
           ((refl, refl), (word_at core n, record { packed_is = shows.word_shows n there; well_formed = law.words n })),
         ),
       )
 
   pub claims_are_events : ClaimsAreEvents fits room
   claims_are_events slots id n me below live rest bounds passes core s law shows wide at =
-      let there : n < length core.words = let e = shows.slots_are in omega arith in
+      let there : n < length core.words = let e = shows.slots_are in omega arith in let near : n < length s.homes = omega arith in
       let seat = seat_here fits room bounds passes core s shows id me.0 at in
       let x : ℕ = get_or s.words n 0 in let w : StateWord = word_at core n in
       let shown : x ≡ packed w = shows.word_shows n there in
@@ -86,7 +86,7 @@ module _ {V : Type 0} (fits : State → ℕ → V → Type 0) (room : V → List
               tt,
               subst (λ (z : PoolCore × ℕ). Shows fits room bounds passes z.0 (stepped s n z.1 id me.1 u keeps)) (λ k. ((unchanged core id n me.0.seat seat ∙ to) k, sym same k))
                   (shows_changed fits room bounds passes core s shows id n x me.0 u (word_at core n) s.homes at there live (same_view me.0 me.0.seat (operation.Claim n x) refl)
-                  shown refl (λ m other. refl) (shows.at_home n there)),
+                  shown refl (λ m other. refl) (shows.at_home n there) (shows.away n there)),
               (w, is, rw e (refl, refl)),
             )
         | false ↦ λ (e : w.held ≡ false).
@@ -99,7 +99,7 @@ module _ {V : Type 0} (fits : State → ℕ → V → Type 0) (room : V → List
               o.1,
               subst (λ (c : PoolCore). Shows fits room bounds passes c (stepped s n (bit_or x 1) id me.1 v (takes n (Some o.0)))) to
                   (shows_changed fits room bounds passes core s shows id n (bit_or x 1) me.0 v (held_word w) (set s.homes n none) at there live (same_view me.0 q (operation.Claim n x) refl)
-                  becomes (length-set s.homes n none) (λ m other. set_else s.homes n m none other) (λ f. absurd (true≢false f))),
+                  becomes (length-set s.homes n none) (λ m other. set_else s.homes n m none other) (λ f. absurd (true≢false f)) (λ _. set_here s.homes n none (omega arith))),
               (w, is, rw e (refl, (o.0, refl, subst (λ (j : Bounds). Suits fits room j.room w.target o.0) (sym k) o.2))),
             )
       ] in
@@ -122,7 +122,7 @@ module _ {V : Type 0} (fits : State → ℕ → V → Type 0) (room : V → List
           subst (λ (c : PoolCore). Shows fits room bounds passes c (stepped s n x id ((n, Some y) ∷ []) u gives)) to'
               (shows_changed fits room bounds passes core s shows id n x v u (free_word to) (set s.homes n (some (Some y))) there_is there live (same_view v q (operation.Release n x) refl)
               refl (length-set s.homes n (some (Some y))) (λ m other. set_else s.homes n m (some (Some y)) other)
-              (λ _. (y, set_here s.homes n (some (Some y)) near, subst (λ (j : Bounds). Suits fits room j.room to y) k suits))),
+              (λ _. (y, set_here s.homes n (some (Some y)) near, subst (λ (j : Bounds). Suits fits room j.room to y) k suits)) (λ f. absurd (true≢false (sym f)))),
           (refl, refl),
         ),
       )

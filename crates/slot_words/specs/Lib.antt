@@ -5,6 +5,7 @@ pub mod Leases
 pub mod Outcomes
 pub mod Owned
 pub mod Passes
+pub mod Rule
 pub mod Setups
 pub mod Shows
 pub mod Trails

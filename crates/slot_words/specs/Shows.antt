@@ -1,7 +1,7 @@
 -- The rule: what threads share shows one core, which is lawful.
-use Rattle.std.specs.Prelude.{◌≡◌, ℕ, ◌+◌, ◌*◌, ◌^◌, ◌<◌, ◌≤◌, false, Option, Some, List, length, slice_index_or}
+use Rattle.std.specs.Prelude.{◌≡◌, ℕ, ◌+◌, ◌*◌, ◌^◌, ◌<◌, ◌≤◌, true, false, Option, Some, List, length, slice_index_or}
 use Rattle.std.specs.List.{sum_by}
-use mathlib.Core.Option.{some}
+use mathlib.Core.Option.{none, some}
 use lib.ListN.{get_elem?}
 use Rattle.atomic_table.specs.Table.{State as TableState}
 use Rattle.pool_core.specs.declared.words.State.{State}
@@ -43,6 +43,8 @@ module _ {V : Type 0} (fits : State → ℕ → V → Type 0) (room : V → List
     -- the value of a number that is not held is at home, and fits its word
     pub at_home : (n : ℕ) → n < length core.words → (word_at core n).held ≡ false
         → (x : V) × (get_elem? s.homes n ≡ some (some (Some x))) × Suits bounds.room (word_at core n).target x
+    -- the slot of a held number is empty: its holder has the value, or what stands in its place
+    pub away : (n : ℕ) → n < length core.words → (word_at core n).held ≡ true → get_elem? s.homes n ≡ some none
     -- each seat that may ever be made is a view, or is still to be split off from one
     pub unsplit_sum : sum_by (λ v. v.unsplit) s.views + length s.views ≡ passes
     pub share_sum : sum_by (λ v. v.share) s.views ≡ passes

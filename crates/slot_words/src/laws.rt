@@ -1,5 +1,6 @@
 //! What holds of the definitions alone.
 ghost use Rattle.slot_words.specs.Events.{LoadsAreEvents, ClaimsAreEvents, ReleasesAreEvents, WarmLoadsAreEvents, WarmUpsAreEvents, WarmDownsAreEvents, StampsAreEvents, AwaitUpsAreEvents, AwaitDownsAreEvents, AwaitLoadsAreEvents, SplitsAreEvents, JoinsAreEvents, ClosesAreEvents, ExchangesAreEvents};
+ghost use Rattle.slot_words.specs.Rule.{OneHolder, NoHiddenSeat, AloneWithAll};
 
 use crate::pooled::Pooled;
 
@@ -19,4 +20,11 @@ pub fn steps_are_events<V: Pooled>()
     ensures await_ups { AwaitUpsAreEvents V.fits V.room }
     ensures await_downs { AwaitDownsAreEvents V.fits V.room }
     ensures await_loads { AwaitLoadsAreEvents V.fits V.room }
+{}
+
+/// What the rule says of each moment, for all passes together.
+pub fn passes_share_the_words<V: Pooled>()
+    ensures one_holder { OneHolder V.fits V.room }
+    ensures no_hidden_seat { NoHiddenSeat V.fits V.room }
+    ensures alone_with_all { AloneWithAll V.fits V.room }
 {}
