@@ -2,7 +2,7 @@
 use Rattle.std.proofs.Common.{◌≡◌, ℕ, ◌+◌, ◌-◌, ◌%◌, ◌^◌, ◌<◌, ◌||◌, Bool, true, false, ◌≤◌, List, [], ◌∷◌, length, refl, sym, ap, ◌∙◌, subst, arith}
 use mathlib.Core.Option.{none}
 use lib.Bits.{bit_or}
-use Rattle.std.specs.Prelude.{Option, Some, MatchBool}
+use Rattle.std.specs.Prelude.{Option, Some, None, MatchBool}
 use Rattle.atomic_table.specs.Table.{Me, step, Allows, Splits, Joins}
 use Rattle.pool_core.specs.declared.words.State.{State}
 use Rattle.pool_core.specs.declared.words.Target.{Target}
@@ -20,24 +20,15 @@ use Rattle.slot_words.specs.declared.views.PassView.{PassView}
 use Rattle.slot_words.specs.declared.views.Bounds.{Bounds}
 use Rattle.slot_words.specs.Views.{view_left, view_given, view_joined, spent_view}
 use Rattle.slot_words.specs.Shows.{ShowsLawful, Suits}
-use Rattle.slot_words.specs.Passes.{holding_seat}
 use Rattle.slot_words.specs.Outcomes.{Carrier, Loads, Claims, Releases, Loses, Wins, LoadsWarm, WarmsUp, WarmsDown, Stamps, AwaitsUp, AwaitsDown, LoadsAwait}
 use Rattle.slot_words.specs.Events.{IsEvent}
 use Rattle.slot_words.proofs.SlotEvents.{loads_are_events, claims_are_events, releases_are_events}
 use Rattle.slot_words.proofs.CountEvents.{warm_loads_are_events, warm_ups_are_events, warm_downs_are_events, stamps_are_events, await_ups_are_events, await_downs_are_events, await_loads_are_events}
 use Rattle.slot_words.proofs.PassEvents.{splits_are_events, joins_are_events}
 
-live_of : (p : Seat) → p ≡ idle_seat Live → is_live p.stage ≡ true
-live_of p e = ap (λ (q : Seat). is_live q.stage) e
-
-idle_of : (p : Seat) → p ≡ idle_seat Live → is_idle p ≡ true
-idle_of p e = ap is_idle e
-
-live_held : (p : Seat) (n : ℕ) (a b c : Bool) → p ≡ holding_seat n a b c → is_live p.stage ≡ true
-live_held p n a b c e = ap (λ (q : Seat). is_live q.stage) e
-
-held_number : (p : Seat) (n : ℕ) (a b c : Bool) → p ≡ holding_seat n a b c → p.holds ≡ Some n
-held_number p n a b c e = ap (λ (q : Seat). q.holds) e
+-- an idle seat, by its parts
+pub idle_seat_of : (p : Seat) → p.stage ≡ Live → p.holds ≡ None → p.out ≡ false → p.permit ≡ false → p.refusal ≡ false → p.mark ≡ false → p ≡ idle_seat Live
+idle_seat_of p a b c d e f = λ i. record { stage = a i; holds = b i; out = c i; permit = d i; refusal = e i; mark = f i }
 
 module _ {V : Type 0} (fits : State → ℕ → V → Type 0) (room : V → List ℕ) (bounds : Bounds) (passes : ℕ) where
   abbrev pub Allowed : ℕ → ℕ → Carrier V → ℕ → (ℕ → ℕ) → (ℕ → Carrier V → Type 0) → Type 0
@@ -53,18 +44,17 @@ module _ {V : Type 0} (fits : State → ℕ → V → Type 0) (room : V → List
 
   pub claims_allowed : (slots id n : ℕ) (me : Carrier V) → n < slots → me.0.seat ≡ idle_seat Live → Allowed slots id me n (λ x. bit_or x 1) (Claims fits room (step slots n 1 0 none) me)
   claims_allowed slots id n me below rest = allowed slots id me n (λ x. bit_or x 1) (Claim id n) (Claims fits room (step slots n 1 0 none) me)
-      (claims_are_events fits room slots id n me below (live_of me.0.seat rest) (idle_of me.0.seat rest))
+      (claims_are_events fits room slots id n me below (ap (λ (q : Seat). is_live q.stage) rest) (ap is_idle rest))
 
   -- of a pass whose slot has the value again
   pub releases_allowed : (slots id n x : ℕ) (me : Carrier V) (v : PassView) (y : V) (to : Target) → me ≡ (v, (n, Some y) ∷ []) → x ≡ packed (free_word to)
-      → n < slots → v.seat ≡ holding_seat n (is_warm to.state) false (is_awaiting to.state) → is_well_formed to ≡ true → Suits fits room v.bounds.room to y
+      → n < slots → is_live v.seat.stage ≡ true → v.seat.holds ≡ Some n → v.seat.out ≡ false → v.seat.permit ≡ is_warm to.state → v.seat.refusal ≡ false → v.seat.mark ≡ is_awaiting to.state → is_well_formed to ≡ true → Suits fits room v.bounds.room to y
       → Allowed slots id me n (λ _. x) (λ _. Releases (step slots n x 0 none) me x)
-  releases_allowed slots id n x me v y to is isx below holds well suits =
+  releases_allowed slots id n x me v y to is isx below live holds inside permit refusal mark well suits =
       let e : ℕ = packed (free_word to) in
       subst (λ (z : Carrier V × ℕ). Allowed slots id z.0 n (λ _. z.1) (λ _. Releases (step slots n z.1 0 none) z.0 z.1)) (λ i. (sym is i, sym isx i))
       (allowed slots id (v, (n, Some y) ∷ []) n (λ _. e) (Release id n to) (λ _. Releases (step slots n e 0 none) (v, (n, Some y) ∷ []) e)
-      (releases_are_events fits room slots id n v y to below (live_held v.seat n _ _ _ holds) (held_number v.seat n _ _ _ holds)
-      (ap (λ (q : Seat). q.out) holds) (ap (λ (q : Seat). q.permit) holds) (ap (λ (q : Seat). q.refusal) holds) (ap (λ (q : Seat). q.mark) holds) well suits))
+      (releases_are_events fits room slots id n v y to below live holds inside permit refusal mark well suits))
 
   pub warm_loads_allowed : (slots i id : ℕ) (me : Carrier V) → slots ≡ i → is_live me.0.seat.stage ≡ true → Allowed slots id me i (λ x. x) (LoadsWarm me)
   warm_loads_allowed slots i id me is live = subst (λ (j : ℕ). Allowed slots id me j (λ x. x) (LoadsWarm me)) is
@@ -74,39 +64,39 @@ module _ {V : Type 0} (fits : State → ℕ → V → Type 0) (room : V → List
   await_loads_allowed slots i id me is live = subst (λ (j : ℕ). Allowed slots id me (j + 1) (λ x. x) (LoadsAwait me)) is
       (allowed slots id me (slots + 1) (λ x. x) (AwaitLoad id) (LoadsAwait me) (await_loads_are_events fits room slots id me live))
 
-  pub warm_ups_allowed : (slots i id n : ℕ) (mark : Bool) (me : Carrier V) → slots ≡ i → me.0.seat ≡ holding_seat n false false mark → Allowed slots id me i (λ x. (x + 1) % 2 ^ 64) (WarmsUp me)
-  warm_ups_allowed slots i id n mark me is h = subst (λ (j : ℕ). Allowed slots id me j (λ x. (x + 1) % 2 ^ 64) (WarmsUp me)) is
+  pub warm_ups_allowed : (slots i id n : ℕ) (me : Carrier V) → slots ≡ i → is_live me.0.seat.stage ≡ true → me.0.seat.holds ≡ Some n → me.0.seat.permit ≡ false → me.0.seat.refusal ≡ false → Allowed slots id me i (λ x. (x + 1) % 2 ^ 64) (WarmsUp me)
+  warm_ups_allowed slots i id n me is live h no_permit no_refusal = subst (λ (j : ℕ). Allowed slots id me j (λ x. (x + 1) % 2 ^ 64) (WarmsUp me)) is
       (allowed slots id me slots (λ x. (x + 1) % 2 ^ 64) (WarmUp id) (WarmsUp me)
-      (warm_ups_are_events fits room slots id n me (live_held me.0.seat n _ _ _ h) (held_number me.0.seat n _ _ _ h) (ap (λ (q : Seat). q.permit) h) (ap (λ (q : Seat). q.refusal) h)))
+      (warm_ups_are_events fits room slots id n me live h no_permit no_refusal))
 
-  pub warm_downs_allowed : (slots i id n : ℕ) (permit refusal mark : Bool) (me : Carrier V) → slots ≡ i → me.0.seat ≡ holding_seat n permit refusal mark → (permit || refusal) ≡ true
+  pub warm_downs_allowed : (slots i id n : ℕ) (me : Carrier V) → slots ≡ i → is_live me.0.seat.stage ≡ true → me.0.seat.holds ≡ Some n → (me.0.seat.permit || me.0.seat.refusal) ≡ true
       → Allowed slots id me i (λ x. (x + (2 ^ 64 - 1)) % 2 ^ 64) (WarmsDown me)
-  warm_downs_allowed slots i id n permit refusal mark me is h has = subst (λ (j : ℕ). Allowed slots id me j (λ x. (x + (2 ^ 64 - 1)) % 2 ^ 64) (WarmsDown me)) is
+  warm_downs_allowed slots i id n me is live h has = subst (λ (j : ℕ). Allowed slots id me j (λ x. (x + (2 ^ 64 - 1)) % 2 ^ 64) (WarmsDown me)) is
       (allowed slots id me slots (λ x. (x + (2 ^ 64 - 1)) % 2 ^ 64) (WarmDown id) (WarmsDown me)
-      (warm_downs_are_events fits room slots id n me (live_held me.0.seat n _ _ _ h) (held_number me.0.seat n _ _ _ h) (ap (λ (q : Seat). q.permit || q.refusal) h ∙ has)))
+      (warm_downs_are_events fits room slots id n me live h has))
 
-  pub stamps_allowed : (slots i id n : ℕ) (permit refusal mark : Bool) (me : Carrier V) → slots ≡ i → me.0.seat ≡ holding_seat n permit refusal mark → Allowed slots id me (i + 2) (λ x. (x + 1) % 2 ^ 64) (Stamps me)
-  stamps_allowed slots i id n permit refusal mark me is h = subst (λ (j : ℕ). Allowed slots id me (j + 2) (λ x. (x + 1) % 2 ^ 64) (Stamps me)) is
+  pub stamps_allowed : (slots i id n : ℕ) (me : Carrier V) → slots ≡ i → is_live me.0.seat.stage ≡ true → me.0.seat.holds ≡ Some n → Allowed slots id me (i + 2) (λ x. (x + 1) % 2 ^ 64) (Stamps me)
+  stamps_allowed slots i id n me is live h = subst (λ (j : ℕ). Allowed slots id me (j + 2) (λ x. (x + 1) % 2 ^ 64) (Stamps me)) is
       (allowed slots id me (slots + 2) (λ x. (x + 1) % 2 ^ 64) (Stamp id) (Stamps me)
-      (stamps_are_events fits room slots id n me (live_held me.0.seat n _ _ _ h) (held_number me.0.seat n _ _ _ h)))
+      (stamps_are_events fits room slots id n me live h))
 
-  pub await_ups_allowed : (slots i id n : ℕ) (permit refusal : Bool) (me : Carrier V) → slots ≡ i → me.0.seat ≡ holding_seat n permit refusal false → Allowed slots id me (i + 1) (λ x. (x + 1) % 2 ^ 64) (AwaitsUp me)
-  await_ups_allowed slots i id n permit refusal me is h = subst (λ (j : ℕ). Allowed slots id me (j + 1) (λ x. (x + 1) % 2 ^ 64) (AwaitsUp me)) is
+  pub await_ups_allowed : (slots i id n : ℕ) (me : Carrier V) → slots ≡ i → is_live me.0.seat.stage ≡ true → me.0.seat.holds ≡ Some n → me.0.seat.mark ≡ false → Allowed slots id me (i + 1) (λ x. (x + 1) % 2 ^ 64) (AwaitsUp me)
+  await_ups_allowed slots i id n me is live h marked = subst (λ (j : ℕ). Allowed slots id me (j + 1) (λ x. (x + 1) % 2 ^ 64) (AwaitsUp me)) is
       (allowed slots id me (slots + 1) (λ x. (x + 1) % 2 ^ 64) (AwaitUp id) (AwaitsUp me)
-      (await_ups_are_events fits room slots id n me (live_held me.0.seat n _ _ _ h) (held_number me.0.seat n _ _ _ h) (ap (λ (q : Seat). q.mark) h)))
+      (await_ups_are_events fits room slots id n me live h marked))
 
-  pub await_downs_allowed : (slots i id n : ℕ) (permit refusal : Bool) (me : Carrier V) → slots ≡ i → me.0.seat ≡ holding_seat n permit refusal true → Allowed slots id me (i + 1) (λ x. (x + (2 ^ 64 - 1)) % 2 ^ 64) (AwaitsDown me)
-  await_downs_allowed slots i id n permit refusal me is h = subst (λ (j : ℕ). Allowed slots id me (j + 1) (λ x. (x + (2 ^ 64 - 1)) % 2 ^ 64) (AwaitsDown me)) is
+  pub await_downs_allowed : (slots i id n : ℕ) (me : Carrier V) → slots ≡ i → is_live me.0.seat.stage ≡ true → me.0.seat.holds ≡ Some n → me.0.seat.mark ≡ true → Allowed slots id me (i + 1) (λ x. (x + (2 ^ 64 - 1)) % 2 ^ 64) (AwaitsDown me)
+  await_downs_allowed slots i id n me is live h marked = subst (λ (j : ℕ). Allowed slots id me (j + 1) (λ x. (x + (2 ^ 64 - 1)) % 2 ^ 64) (AwaitsDown me)) is
       (allowed slots id me (slots + 1) (λ x. (x + (2 ^ 64 - 1)) % 2 ^ 64) (AwaitDown id) (AwaitsDown me)
-      (await_downs_are_events fits room slots id n me (live_held me.0.seat n _ _ _ h) (held_number me.0.seat n _ _ _ h) (ap (λ (q : Seat). q.mark) h)))
+      (await_downs_are_events fits room slots id n me live h marked))
 
   pub splits_allowed : (id : ℕ) (v : PassView) → v.seat ≡ idle_seat Live → 1 ≤ v.unsplit → 2 ≤ v.share → Splits (ShowsLawful fits room bounds passes) id v (view_left v) (view_given v)
-  splits_allowed id v rest unsplit share s r at = let o = splits_are_events fits room id v (live_of v.seat rest) (idle_of v.seat rest) unsplit share bounds passes r.core s r.lawful r.shows at in
+  splits_allowed id v rest unsplit share s r at = let o = splits_are_events fits room id v (ap (λ (q : Seat). is_live q.stage) rest) (ap is_idle rest) unsplit share bounds passes r.core s r.lawful r.shows at in
       record { core = core_after r.core (Split id (length s.views)); lawful = lawful_after r.core (Split id (length s.views)) r.lawful o.0; shows = o.1 }
 
   pub joins_allowed : (id other : ℕ) (v w : PassView) → v.seat ≡ idle_seat Live → w.seat ≡ idle_seat Live → Joins (ShowsLawful fits room bounds passes) id v other w (view_joined v w) spent_view
   joins_allowed id other v w rest rest' s r at apart at' =
-      let o = joins_are_events fits room id other v w (live_of v.seat rest) (idle_of v.seat rest) (live_of w.seat rest') (idle_of w.seat rest') bounds passes r.core s r.lawful r.shows at apart at' in
+      let o = joins_are_events fits room id other v w (ap (λ (q : Seat). is_live q.stage) rest) (ap is_idle rest) (ap (λ (q : Seat). is_live q.stage) rest') (ap is_idle rest') bounds passes r.core s r.lawful r.shows at apart at' in
       record { core = core_after r.core (Join id other); lawful = lawful_after r.core (Join id other) r.lawful o.0; shows = o.1 }
 
 module _ {V : Type 0} (fits : State → ℕ → V → Type 0) (room : V → List ℕ) (n : ℕ) (m : Carrier V) (r : ℕ) (m' : Carrier V) where

@@ -1,13 +1,13 @@
 use Rattle.std.proofs.Common.{rules, arith, sym, ap, ◌∙◌, ◌∷◌, Some}
 use Rattle.atomic_table.specs.Table.{rest}
-use Rattle.slot_words.proofs.Allowed.{claims_allowed, claim_won}
+use Rattle.slot_words.proofs.Allowed.{claims_allowed, claim_won, idle_seat_of}
 use Rattle.slot_words.proofs.words.Words.claim.Goals as goal
 
 pub fetch_or-read-requires : goal.fetch_or-read-requires
 fetch_or-read-requires g c = let z = c.args.self.now.sized in let h = c.requires.number in (
   search rules,
   omega (arith, z.0),
-  claims_allowed g.V.Pooled.fits g.V.Pooled.room _ _ _ _ _ _ (let e = z.1 in omega arith) c.requires.idle.0,
+  claims_allowed g.V.Pooled.fits g.V.Pooled.room _ _ _ _ _ _ (let e = z.1 in omega arith) (idle_seat_of _ c.requires.idle.0 c.requires.idle.1 c.requires.idle.2 c.requires.idle.4 c.requires.idle.5 c.requires.idle.6),
 )
 
 pub exchange-requires : goal.exchange-requires
