@@ -1,5 +1,5 @@
 -- Each event that no rule refuses keeps a pool lawful.
-use Rattle.std.proofs.Common.{is_none, ◌≡◌, ℕ, zero, suc, ◌+◌, ◌-◌, ◌<◌, ◌≤◌, Bool, true, false, true≢false, not, cond, ltb, ◌&&◌, ◌||◌, List, [], ◌∷◌, map, length, get_or, set, refl, sym, ap, ap₂, ◌∙◌, subst, arith}
+use Rattle.std.proofs.Common.{is_none, ◌≡◌, ℕ, zero, suc, ◌+◌, ◌-◌, ◌<◌, ◌≤◌, Bool, true, false, true≢false, not, cond, ltb, ◌&&◌, ◌||◌, List, [], ◌∷◌, map, length, get_or, set, refl, sym, ap, ◌∙◌, subst, arith}
 use Rattle.std.proofs.lemmas.List.Sums.{sum_by-cons, get_or-le-sum_by}
 use Rattle.std.proofs.lemmas.Bool.Decides.{nat_tests}
 use Rattle.std.specs.Prelude.{Option, Some, None}
@@ -11,11 +11,12 @@ use Rattle.pool_core.specs.declared.seats.Stage.{Stage}
 use Rattle.pool_core.specs.declared.seats.Stage.TheVariants.{Closed, Joined, Live, Unmade}
 use Rattle.pool_core.specs.declared.words.StateWord.{StateWord}
 use Rattle.pool_core.specs.declared.words.Target.{Target}
-use Rattle.pool_core.specs.EventEffects.{closed_seat, core_after, core_after_claim, winning_seat}
+use Rattle.pool_core.specs.EventEffects.{closed_seat, core_after, core_after_claim, winning_seat, with_seat, with_word}
 use Rattle.pool_core.specs.Lawful.{IsSoundSeat, Lawful, has_mark, has_permit, has_refusal}
 use Rattle.pool_core.specs.PoolCore.{PoolCore, idle_seat, is_away, is_holding, is_idle, is_live, is_unmade, seat_at, word_at}
 use Rattle.pool_core.specs.RefusalRules.{breaks_excess_rule, breaks_holder_rule, breaks_idle_rule, breaks_need_rule, breaks_place_rule, breaks_seat_rule, breaks_slot_rule, breaks_target_rule, refusal_of}
-use Rattle.pool_core.specs.StateWords.{bit, held_word, is_awaiting, is_warm, is_well_formed}
+use Rattle.pool_core.specs.Runs.{AllAllowed, core_after_all}
+use Rattle.pool_core.specs.StateWords.{bit, free_word, held_word, is_awaiting, is_warm, is_well_formed}
 use Rattle.pool_core.proofs.CoreChanges.{IsFairSeatChange, lawful_seat_change}
 use Rattle.pool_core.proofs.SeatChanges.{CanRelease, IsAtRest, at_rest_of, lawful_when_won, lawful_release, lawful_restage}
 
@@ -184,6 +185,31 @@ lawful_after c (AwaitDown s) law h = let a = no_rule_broken c (AwaitDown s) h in
     lawful_seat_change c s q c.warm (c.awaiting - 1) c.clock law here (fair_while_holding c p q at.0 c.warm (c.awaiting - 1) at.1 at.1 live refl (law.seats s).single refl (λ x u v. u) (omega arith))
 lawful_after c (AwaitLoad s) law h = law
 
+-- the pool that a claim of a free slot leaves
+pub claim_is : (c : PoolCore) (s n : ℕ) (p : Seat) (w : StateWord) (ps : List Seat) (ws : List StateWord) → p ≡ seat_at c s → w ≡ word_at c n → w.held ≡ false
+    → ps ≡ set c.seats s (winning_seat p n w) → ws ≡ set c.words n (held_word w)
+    → record { words = ws; seats = ps; warm = c.warm; awaiting = c.awaiting; clock = c.clock; limit = c.limit } ≡ core_after c (Claim s n)
+claim_is c s n p w ps ws p_is w_is free ps_is ws_is =
+    let v : StateWord = word_at c n in let x : PoolCore = with_seat (with_word c n (held_word v)) s (winning_seat (seat_at c s) n v) in
+    let unheld : v.held ≡ false = ap (λ (y : StateWord). y.held) (sym w_is) ∙ free in
+    let words : ws ≡ set c.words n (held_word v) = ws_is ∙ ap (λ (y : StateWord). set c.words n (held_word y)) w_is in
+    let seats : ps ≡ set c.seats s (winning_seat (seat_at c s) n v) = ps_is ∙ ap (λ (q : Seat). set c.seats s (winning_seat q n w)) p_is ∙ ap (λ (y : StateWord). set c.seats s (winning_seat (seat_at c s) n y)) w_is in
+    let is : record { words = ws; seats = ps; warm = c.warm; awaiting = c.awaiting; clock = c.clock; limit = c.limit } ≡ x =
+    λ i. record { words = words i; seats = seats i; warm = c.warm; awaiting = c.awaiting; clock = c.clock; limit = c.limit } in
+    is ∙ ap (λ (b : Bool). cond b c x) (sym unheld)
+
+-- and the one that a release leaves
+pub release_is : (c : PoolCore) (s n : ℕ) (to : Target) (p : Seat) (ps : List Seat) (ws : List StateWord) → p ≡ seat_at c s → ps ≡ set c.seats s (idle_seat p.stage) → ws ≡ set c.words n (free_word to)
+    → record { words = ws; seats = ps; warm = c.warm; awaiting = c.awaiting; clock = c.clock; limit = c.limit } ≡ core_after c (Release s n to)
+release_is c s n to p ps ws p_is ps_is ws_is =
+    let seats : ps ≡ set c.seats s (idle_seat (seat_at c s).stage) = ps_is ∙ ap (λ (q : Seat). set c.seats s (idle_seat q.stage)) p_is in
+    λ i. record { words = ws_is i; seats = seats i; warm = c.warm; awaiting = c.awaiting; clock = c.clock; limit = c.limit }
+
 -- what is the pool after an event is lawful
-pub lawful_after_is : (c d c' : PoolCore) (e e' : Event) → Lawful c → c' ≡ c → e' ≡ e → refusal_of c' e' ≡ 0 → d ≡ core_after c e → Lawful d
-lawful_after_is c d c' e e' law same is h to = subst Lawful (sym to) (lawful_after c e law (ap₂ refusal_of (sym same) (sym is) ∙ h))
+pub lawful_after_is : (c d c' : PoolCore) (e : Event) → Lawful c → c' ≡ c → refusal_of c' e ≡ 0 → d ≡ core_after c e → Lawful d
+lawful_after_is c d c' e law same allowed to = subst Lawful (sym to) (lawful_after c e law (ap (λ (x : PoolCore). refusal_of x e) (sym same) ∙ allowed))
+
+-- after a list of events too
+pub lawful_after_all : (c : PoolCore) (es : List Event) → Lawful c → AllAllowed c es → Lawful (core_after_all c es)
+lawful_after_all c [] law all = law
+lawful_after_all c (e ∷ es) law all = lawful_after_all (core_after c e) es (lawful_after c e law all.0) all.1

@@ -5,3 +5,5 @@ pub mod LawfulSteps
 pub mod Holders
 pub mod LawfulOpening
 mod RunLemmas
+mod LeastRule
+pub mod ChangeLemmas

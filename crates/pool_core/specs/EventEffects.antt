@@ -1,6 +1,5 @@
 -- What each event makes of a pool. All that a case does not name stays.
 use Rattle.std.specs.Prelude.{ℕ, ◌+◌, ◌-◌, ◌%◌, ◌^◌, true, false, not, cond, ltb, Some, map, slice_set}
-use Rattle.pool_core.specs.declared.words.Target.{Target}
 use Rattle.pool_core.specs.declared.words.StateWord.{StateWord}
 use Rattle.pool_core.specs.declared.seats.Stage.TheVariants.{Live, Joined, Closed}
 use Rattle.pool_core.specs.declared.seats.Seat.{Seat}

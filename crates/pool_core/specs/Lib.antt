@@ -4,3 +4,4 @@ pub mod EventEffects
 pub mod RefusalRules
 pub mod Lawful
 pub mod Runs
+pub mod Changes

@@ -1,5 +1,5 @@
 -- Which events a pool refuses, and by which of eight rules. An event is refused by the least rule that it breaks.
-use Rattle.std.specs.Prelude.{ℕ, ◌==◌, Bool, true, false, not, cond, ltb, ◌&&◌, ◌||◌, is_none, length}
+use Rattle.std.specs.Prelude.{◌≡◌, ℕ, ◌==◌, ◌<◌, Bool, true, false, not, cond, ltb, ◌&&◌, ◌||◌, is_none, [], ◌∷◌, length, slice_index_or}
 use Rattle.pool_core.specs.declared.events.Event.{Event}
 use Rattle.pool_core.specs.declared.events.Event.TheVariants.{Load, Claim, Out, Home, Release, Split, Join, Close, WarmLoad, WarmUp, WarmDown, Stamp, AwaitUp, AwaitDown, AwaitLoad}
 use Rattle.pool_core.specs.StateWords.{is_warm, is_awaiting, is_well_formed}
@@ -98,3 +98,14 @@ abbrev pub refusal_of : PoolCore → Event → ℕ
 refusal_of c e =
     cond (breaks_seat_rule c e) 1 (cond (breaks_slot_rule c e) 2 (cond (breaks_idle_rule c e) 3 (cond (breaks_holder_rule c e) 4
     (cond (breaks_place_rule c e) 5 (cond (breaks_need_rule c e) 6 (cond (breaks_excess_rule c e) 7 (cond (breaks_target_rule c e) 8 0)))))))
+
+-- rule 0 is none, and the others stand in their order
+abbrev pub breaks_rule : PoolCore → Event → ℕ → Bool
+breaks_rule c e r = slice_index_or (false ∷ breaks_seat_rule c e ∷ breaks_slot_rule c e ∷ breaks_idle_rule c e ∷ breaks_holder_rule c e
+    ∷ breaks_place_rule c e ∷ breaks_need_rule c e ∷ breaks_excess_rule c e ∷ breaks_target_rule c e ∷ []) r false
+
+-- the event breaks rule r and no lesser one, or r is 0 and it breaks none
+pub record IsLeastRule (c : PoolCore) (e : Event) (r : ℕ) : Type 0 where
+  pub broken : 0 < r → breaks_rule c e r ≡ true
+  pub least : (k : ℕ) → k < r → breaks_rule c e k ≡ false
+  pub none : r ≡ 0 → (k : ℕ) → breaks_rule c e k ≡ false

@@ -13,11 +13,15 @@ mod words;
 
 pub use events::Event;
 pub use laws::{
-    cores_are_within_their_limit, each_event_keeps_a_core_lawful, held_words_have_one_seat,
-    runs_keep_a_core_lawful, the_opening_is_lawful, words_are_read_back,
+    cores_are_within_their_limit, each_event_keeps_a_core_lawful, events_change_only_their_own,
+    held_words_have_one_seat, refusals_are_least, runs_keep_a_core_lawful, the_opening_is_lawful,
+    words_are_read_back,
 };
 pub use pool::{Core, NoMemory, step};
 pub use refusals::Unlawful;
 pub use replays::{ReplayFault, replay};
 pub use seats::{Seat, Stage};
 pub use words::{State, StateWord, Target, pack, unpack};
+
+#[cfg(test)]
+mod tests;

@@ -1,9 +1,10 @@
 //! A pool as plain data, and one event after another.
-ghost use Rattle.std.specs.Prelude.{◌≡◌, ◌+◌, ◌<◌, ◌≤◌, ltb, length, map, slice_set, IfOk, IfErr, OnOk, MatchOption};
-ghost use Rattle.pool_core.specs.StateWords.{IsWordOf};
+ghost use Rattle.std.specs.Prelude.{◌≡◌, ◌+◌, ◌<◌, ◌≤◌, true, ltb, length, map, slice_set, IfOk, IfErr, OnOk, MatchOption};
+ghost use Rattle.pool_core.specs.StateWords.{is_well_formed, IsWordOf};
 ghost use Rattle.pool_core.specs.PoolCore.{PoolCore, seat_at, word_at, opening_core};
 ghost use Rattle.pool_core.specs.EventEffects.{core_after, closed_seat};
 ghost use Rattle.pool_core.specs.RefusalRules.{refusal_of};
+ghost use Rattle.pool_core.specs.Lawful.{Lawful};
 ghost use Rattle.pool_core.specs.Runs.{Refuses};
 
 use crate::events::Event;
@@ -15,7 +16,7 @@ use std::marker::Model;
 use thiserror::Error;
 
 /// A pool as plain data. Between any two events it is lawful.
-#[derive(Drop)]
+#[derive(Debug, Drop)]
 pub struct Core {
     words: Vec<StateWord>,
     seats: Vec<Seat>,
@@ -128,6 +129,13 @@ impl Core {
         self.clock
     }
 
+    /// A pool is lawful between any two events. This does nothing: its contract is the law.
+    pub fn stays_lawful(&self)
+        ensures { Lawful self.now }
+    {
+        let _ = &self.limit;
+    }
+
     pub(crate) fn has_slot(&self, slot: u32) -> bool
         ensures { result ≡ ltb slot (length self.now.words) }
     {
@@ -150,7 +158,8 @@ impl Core {
     }
 
     pub(crate) fn word_at(&self, slot: u32) -> StateWord
-        ensures { result ≡ word_at self.now slot }
+        ensures is { result ≡ word_at self.now slot }
+        ensures well_formed { is_well_formed result.target ≡ true }
     {
         match self.words.get(slot as usize) {
             Some(word) => *word,

@@ -2,7 +2,17 @@
 ghost use Rattle.std.specs.Prelude.{◌≡◌, true};
 ghost use Rattle.pool_core.specs.StateWords.{is_cold, is_warm, is_awaiting, is_well_formed, state_code, IsWordOf};
 
+// What the lowest bit of each field stands for, and what its values stay below.
+const STATE_UNIT: u64 = 1 << 1;
+
+const STATE_LIMIT: u64 = 1 << 2;
+
+const TAG_UNIT: u64 = 1 << 3;
+
 const TAG_LIMIT: u32 = 1 << 12;
+
+const STAMP_UNIT: u64 = 1 << 15;
+
 const STAMP_LIMIT: u64 = 1 << 49;
 
 /// What the value in a slot was left as.
@@ -93,7 +103,10 @@ pub fn pack(word: Target, held: bool) -> u64
     requires { is_well_formed word ≡ true }
     ensures { IsWordOf result (record { target = word; held = held }) }
 {
-    u64::from(held) + 2 * word.state.code() + 8 * u64::from(word.tag) + 32768 * word.stamp
+    u64::from(held)
+        + STATE_UNIT * word.state.code()
+        + TAG_UNIT * u64::from(word.tag)
+        + STAMP_UNIT * word.stamp
 }
 
 /// What the 64 bits of a slot's word say: its target, and whether it is held.
@@ -101,15 +114,15 @@ pub fn unpack(word: u64) -> (Target, bool)
     requires { (w : StateWord) × IsWordOf word w }
     ensures { (w : StateWord) → IsWordOf word w → (result.0 ≡ w.target) × (result.1 ≡ w.held) }
 {
-    let state = match word / 2 % 4 {
+    let state = match word / STATE_UNIT % STATE_LIMIT {
         0 => State::Cold,
         1 => State::Warm,
         _ => State::Awaiting,
     };
     let target = Target {
         state,
-        tag: (word / 8 % 4096) as u32,
-        stamp: word / 32768,
+        tag: (word / TAG_UNIT % u64::from(TAG_LIMIT)) as u32,
+        stamp: word / STAMP_UNIT,
     };
     (target, word % 2 == 1)
 }

@@ -1,0 +1,7 @@
+use Rattle.std.proofs.Common.{sym}
+use Rattle.pool_core.specs.declared.events.Event.TheVariants.{Close}
+use Rattle.pool_core.proofs.LawfulSteps.{lawful_after_is}
+use Rattle.pool_core.proofs.pool.Core.close.Goals as goal
+
+pub invariant_of-self : goal.invariant_of-self
+invariant_of-self c = lawful_after_is _ _ _ (Close c.args.seat) c.self.invariant (sym c.self.view_is) c.requires (cc)
