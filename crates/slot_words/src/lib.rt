@@ -31,3 +31,6 @@ pub use setup::Setup;
 pub use views::{Bounds, Operation, Pass, PassView};
 pub use words::Words;
 
+#[cfg(test)]
+mod tests;
+

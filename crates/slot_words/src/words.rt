@@ -11,6 +11,7 @@ use std::alloc::Global;
 /// The state words, the count words and the values of the slots, shared by `&`.
 ///
 /// All words stand in one table: word n is slot n's, and then come the warm word, the await word and the clock word.
+#[derive(Drop)]
 pub struct Words<V: Pooled> {
     pub(crate) table: Table<Option<V>, PassView, Setup<V>, Ruled<V>, Global>,
     pub(crate) slots: usize,
