@@ -3,7 +3,7 @@ use Rattle.std.proofs.Common.{◌≡◌, ℕ, ◌+◌, ◌-◌, ◌%◌, ◌^◌
 use mathlib.Core.Option.{none}
 use lib.Bits.{bit_or}
 use Rattle.std.specs.Prelude.{Option, Some, None, MatchBool}
-use Rattle.atomic_table.specs.Table.{Me, step, Allows, Splits, Joins}
+use Rattle.atomic_table.specs.Table.{rest, step, Allows, Splits, Joins}
 use Rattle.pool_core.specs.declared.words.State.{State}
 use Rattle.pool_core.specs.declared.words.Target.{Target}
 use Rattle.pool_core.specs.declared.words.StateWord.{StateWord}
@@ -98,6 +98,10 @@ module _ {V : Type 0} (fits : State → ℕ → V → Type 0) (room : V → List
   joins_allowed id other v w rest rest' s r at apart at' =
       let o = joins_are_events fits room id other v w (ap (λ (q : Seat). is_live q.stage) rest) (ap is_idle rest) (ap (λ (q : Seat). is_live q.stage) rest') (ap is_idle rest') bounds passes r.core s r.lawful r.shows at apart at' in
       record { core = core_after r.core (Join id other); lawful = lawful_after r.core (Join id other) r.lawful o.0; shows = o.1 }
+
+-- the one slot that a pass has out, with its value in it again
+pub value_back : {V : Type 0} (me : Carrier V) (v : PassView) (n : ℕ) (y : V) (slots : List (ℕ × Option V)) → me ≡ (v, (n, Some y) ∷ rest slots) → slots ≡ (n, None) ∷ [] → me ≡ (v, (n, Some y) ∷ [])
+value_back me v n y slots is out = is ∙ (λ i. (v, (n, Some y) ∷ rest (out i)))
 
 module _ {V : Type 0} (fits : State → ℕ → V → Type 0) (room : V → List ℕ) (n : ℕ) (m : Carrier V) (r : ℕ) (m' : Carrier V) where
   -- the bit that was read tells that the claim was won

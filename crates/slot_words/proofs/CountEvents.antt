@@ -3,7 +3,6 @@ use Rattle.std.proofs.Common.{◌≡◌, ℕ, ◌+◌, ◌-◌, ◌*◌, ◌%◌
 use mathlib.Core.Option.{some}
 use lib.ListN.{get_elem?}
 use Rattle.std.specs.Prelude.{Option, Some}
-use Rattle.std.specs.List.{count_by}
 use Rattle.std.proofs.lemmas.List.Sums.{count_by-le-length, get_or-le-sum_by}
 use Rattle.atomic_table.specs.Table.{State as TableState, keeps, stepped}
 use Rattle.pool_core.specs.declared.words.State.{State}
@@ -77,7 +76,7 @@ down : (x : ℕ) → 1 ≤ x → x < 2 ^ 64 → (x + (2 ^ 64 - 1)) % 2 ^ 64 ≡ 
 down x positive small = omega arith
 
 module _ {V : Type 0} (fits : State → ℕ → V → Type 0) (room : V → List ℕ) (bounds : Bounds) (passes : ℕ) (core : PoolCore) (s : TableState (Option V) PassView) (shows : Shows fits room bounds passes core s) (slots id : ℕ) (v : PassView)
-      (wide : length s.homes ≡ slots) (at : get_elem? s.views id ≡ some v) (live : is_live v.seat.stage ≡ true) where
+    (wide : length s.homes ≡ slots) (at : get_elem? s.views id ≡ some v) (live : is_live v.seat.stage ≡ true) where
   slots_is : length core.words ≡ slots
   slots_is = sym shows.slots_are ∙ wide
 
@@ -125,8 +124,14 @@ module _ {V : Type 0} (fits : State → ℕ → V → Type 0) (room : V → List
       let x_is : x ≡ core.warm = warm_read fits room bounds passes core s shows slots id me.0 wide at live in
       let to : core_recounted core id me.0.seat x core.awaiting core.clock ≡ core = λ i. record { words = core.words; seats = reseated core id me.0.seat seat i; warm = x_is i; awaiting = core.awaiting; clock = core.clock; limit = core.limit } in (
         may_warm_load core id (ap (λ (p : Seat). is_live p.stage) seat ∙ live),
-        (u, keeps, tt, subst (λ (c : PoolCore). Shows fits room bounds passes c (stepped s slots x id me.1 u keeps)) to
-            (on_warm fits room bounds passes core s shows slots id me.0 wide at live x me.0.seat (operation.WarmLoad x) refl), (refl, refl)),
+        (
+          u,
+          keeps,
+          tt,
+          subst (λ (c : PoolCore). Shows fits room bounds passes c (stepped s slots x id me.1 u keeps)) to
+              (on_warm fits room bounds passes core s shows slots id me.0 wide at live x me.0.seat (operation.WarmLoad x) refl),
+          (refl, refl),
+        ),
       )
 
   pub await_loads_are_events : AwaitLoadsAreEvents fits room
@@ -136,8 +141,14 @@ module _ {V : Type 0} (fits : State → ℕ → V → Type 0) (room : V → List
       let x_is : x ≡ core.awaiting = await_read fits room bounds passes core s shows slots id me.0 wide at live in
       let to : core_recounted core id me.0.seat core.warm x core.clock ≡ core = λ i. record { words = core.words; seats = reseated core id me.0.seat seat i; warm = core.warm; awaiting = x_is i; clock = core.clock; limit = core.limit } in (
         may_await_load core id (ap (λ (p : Seat). is_live p.stage) seat ∙ live),
-        (u, keeps, tt, subst (λ (c : PoolCore). Shows fits room bounds passes c (stepped s (slots + 1) x id me.1 u keeps)) to
-            (on_await fits room bounds passes core s shows slots id me.0 wide at live x me.0.seat (operation.AwaitLoad x) refl), (refl, refl)),
+        (
+          u,
+          keeps,
+          tt,
+          subst (λ (c : PoolCore). Shows fits room bounds passes c (stepped s (slots + 1) x id me.1 u keeps)) to
+              (on_await fits room bounds passes core s shows slots id me.0 wide at live x me.0.seat (operation.AwaitLoad x) refl),
+          (refl, refl),
+        ),
       )
 
   pub warm_ups_are_events : WarmUpsAreEvents fits room
@@ -155,8 +166,14 @@ module _ {V : Type 0} (fits : State → ℕ → V → Type 0) (room : V → List
       let same_test : t ≡ ltb core.warm core.limit = ap (λ (q : ℕ × ℕ). ltb q.0 q.1) (λ i. (x_is i, lim i)) in
       let to : core_recounted core id q y core.awaiting core.clock ≡ core_after core (WarmUp id) = λ i. record { words = core.words; seats = set core.seats id (record (sym seat i) { permit = same_test i; refusal = not (same_test i) }); warm = y_is i; awaiting = core.awaiting; clock = core.clock; limit = core.limit } in (
         may_warm_up core id n (ap (λ (p : Seat). is_live p.stage) seat ∙ live) (ap (λ (p : Seat). p.holds) seat ∙ holds) (ap (λ (p : Seat). p.permit) seat ∙ no_permit) (ap (λ (p : Seat). p.refusal) seat ∙ no_refusal),
-        (u, keeps, tt, subst (λ (c : PoolCore). Shows fits room bounds passes c (stepped s slots y id me.1 u keeps)) to
-            (on_warm fits room bounds passes core s shows slots id me.0 wide at live y q (operation.WarmUp x) refl), (refl, refl)),
+        (
+          u,
+          keeps,
+          tt,
+          subst (λ (c : PoolCore). Shows fits room bounds passes c (stepped s slots y id me.1 u keeps)) to
+              (on_warm fits room bounds passes core s shows slots id me.0 wide at live y q (operation.WarmUp x) refl),
+          (refl, refl),
+        ),
       )
 
   pub warm_downs_are_events : WarmDownsAreEvents fits room
@@ -172,8 +189,14 @@ module _ {V : Type 0} (fits : State → ℕ → V → Type 0) (room : V → List
       let u : PassView = view_after me.0 q (operation.WarmDown x) in
       let to : core_recounted core id q y core.awaiting core.clock ≡ core_after core (WarmDown id) = λ i. record { words = core.words; seats = set core.seats id (record (sym seat i) { permit = false; refusal = false }); warm = y_is i; awaiting = core.awaiting; clock = core.clock; limit = core.limit } in (
         may_warm_down core id n (ap (λ (p : Seat). is_live p.stage) seat ∙ live) (ap (λ (p : Seat). p.holds) seat ∙ holds) has',
-        (u, keeps, tt, subst (λ (c : PoolCore). Shows fits room bounds passes c (stepped s slots y id me.1 u keeps)) to
-            (on_warm fits room bounds passes core s shows slots id me.0 wide at live y q (operation.WarmDown x) refl), (refl, refl)),
+        (
+          u,
+          keeps,
+          tt,
+          subst (λ (c : PoolCore). Shows fits room bounds passes c (stepped s slots y id me.1 u keeps)) to
+              (on_warm fits room bounds passes core s shows slots id me.0 wide at live y q (operation.WarmDown x) refl),
+          (refl, refl),
+        ),
       )
 
   pub stamps_are_events : StampsAreEvents fits room
@@ -185,8 +208,14 @@ module _ {V : Type 0} (fits : State → ℕ → V → Type 0) (room : V → List
       let u : PassView = view_after me.0 me.0.seat (operation.Stamp x) in
       let to : core_recounted core id me.0.seat core.warm core.awaiting y ≡ core_after core (Stamp id) = λ i. record { words = core.words; seats = reseated core id me.0.seat seat i; warm = core.warm; awaiting = core.awaiting; clock = (x_is i + 1) % 2 ^ 64; limit = core.limit } in (
         may_stamp core id n (ap (λ (p : Seat). is_live p.stage) seat ∙ live) (ap (λ (p : Seat). p.holds) seat ∙ holds),
-        (u, keeps, tt, subst (λ (c : PoolCore). Shows fits room bounds passes c (stepped s (slots + 2) y id me.1 u keeps)) to
-            (on_clock fits room bounds passes core s shows slots id me.0 wide at live y me.0.seat (operation.Stamp x) refl), (refl, refl)),
+        (
+          u,
+          keeps,
+          tt,
+          subst (λ (c : PoolCore). Shows fits room bounds passes c (stepped s (slots + 2) y id me.1 u keeps)) to
+              (on_clock fits room bounds passes core s shows slots id me.0 wide at live y me.0.seat (operation.Stamp x) refl),
+          (refl, refl),
+        ),
       )
 
   pub await_ups_are_events : AwaitUpsAreEvents fits room
@@ -200,8 +229,14 @@ module _ {V : Type 0} (fits : State → ℕ → V → Type 0) (room : V → List
       let u : PassView = view_after me.0 q (operation.AwaitUp x) in
       let to : core_recounted core id q core.warm y core.clock ≡ core_after core (AwaitUp id) = λ i. record { words = core.words; seats = set core.seats id (record (sym seat i) { mark = true }); warm = core.warm; awaiting = y_is i; clock = core.clock; limit = core.limit } in (
         may_await_up core id n (ap (λ (p : Seat). is_live p.stage) seat ∙ live) (ap (λ (p : Seat). p.holds) seat ∙ holds) (ap (λ (p : Seat). p.mark) seat ∙ unmarked),
-        (u, keeps, tt, subst (λ (c : PoolCore). Shows fits room bounds passes c (stepped s (slots + 1) y id me.1 u keeps)) to
-            (on_await fits room bounds passes core s shows slots id me.0 wide at live y q (operation.AwaitUp x) refl), (refl, refl)),
+        (
+          u,
+          keeps,
+          tt,
+          subst (λ (c : PoolCore). Shows fits room bounds passes c (stepped s (slots + 1) y id me.1 u keeps)) to
+              (on_await fits room bounds passes core s shows slots id me.0 wide at live y q (operation.AwaitUp x) refl),
+          (refl, refl),
+        ),
       )
 
   pub await_downs_are_events : AwaitDownsAreEvents fits room
@@ -217,6 +252,12 @@ module _ {V : Type 0} (fits : State → ℕ → V → Type 0) (room : V → List
       let u : PassView = view_after me.0 q (operation.AwaitDown x) in
       let to : core_recounted core id q core.warm y core.clock ≡ core_after core (AwaitDown id) = λ i. record { words = core.words; seats = set core.seats id (record (sym seat i) { mark = false }); warm = core.warm; awaiting = y_is i; clock = core.clock; limit = core.limit } in (
         may_await_down core id n (ap (λ (p : Seat). is_live p.stage) seat ∙ live) (ap (λ (p : Seat). p.holds) seat ∙ holds) marked',
-        (u, keeps, tt, subst (λ (c : PoolCore). Shows fits room bounds passes c (stepped s (slots + 1) y id me.1 u keeps)) to
-            (on_await fits room bounds passes core s shows slots id me.0 wide at live y q (operation.AwaitDown x) refl), (refl, refl)),
+        (
+          u,
+          keeps,
+          tt,
+          subst (λ (c : PoolCore). Shows fits room bounds passes c (stepped s (slots + 1) y id me.1 u keeps)) to
+              (on_await fits room bounds passes core s shows slots id me.0 wide at live y q (operation.AwaitDown x) refl),
+          (refl, refl),
+        ),
       )

@@ -1,5 +1,5 @@
 -- How many words can be held, by the shares of the seats.
-use Rattle.std.proofs.Common.{◌≡◌, ◌≢◌, ℕ, zero, suc, ◌+◌, ◌<◌, ◌≤◌, Bool, true, false, true≢false, List, [], ◌∷◌, length, get_or, set, refl, sym, ap, ◌∙◌, subst, arith, length-set, get_or-set_same, get_or-set_other}
+use Rattle.std.proofs.Common.{◌≡◌, ℕ, zero, suc, ◌+◌, ◌<◌, ◌≤◌, Bool, true, false, List, [], ◌∷◌, length, get_or, set, refl, sym, ap, ◌∙◌, subst, arith, length-set, get_or-set_same, get_or-set_other}
 use mathlib.Core.Logic.{dite}
 use mathlib.Core.Option.{some}
 use native.Mathlib.Decide.{ℕ_discrete}
@@ -24,7 +24,6 @@ use Rattle.slot_words.specs.KindCounts.{is_held}
 use Rattle.slot_words.specs.Shows.{Shows}
 use Rattle.slot_words.specs.Views.{no_view}
 use Rattle.slot_words.proofs.Lookups.{found}
-use Rattle.slot_words.proofs.ShownChanges.{seat_here}
 
 -- f 0 + .. + f (n - 1)
 abbrev total : (ℕ → ℕ) → ℕ → ℕ
@@ -126,7 +125,7 @@ module _ {V : Type 0} (fits : State → ℕ → V → Type 0) (room : V → List
       let h11 : sum_by (λ (w : PassView). w.share) vs ≡ passes = o.share_sum in
       let len : length (set vs id no_view) ≡ length vs = length-set vs id no_view in
       let h12 : sum_by f (set vs id no_view) ≤ sum_by (λ (w : PassView). w.share) (set vs id no_view) = sum_by-le-by_place f (λ w. w.share) (set vs id no_view) no_view
-          (λ i h. dite (ℕ_discrete i id)
-          (λ e. subst (λ (w : PassView). f w ≤ w.share) (sym (ap (λ (k : ℕ). get_or (set vs id no_view) k no_view) e ∙ get_or-set_same vs id no_view no_view here.0)) (let z : f no_view ≡ 0 = refl in omega arith))
-          (λ ne. subst (λ (w : PassView). f w ≤ w.share) (sym (get_or-set_other vs id i no_view no_view ne)) (share_of_holder c s law o i (omega arith)))) in
+      (λ i h. dite (ℕ_discrete i id)
+      (λ e. subst (λ (w : PassView). f w ≤ w.share) (sym (ap (λ (k : ℕ). get_or (set vs id no_view) k no_view) e ∙ get_or-set_same vs id no_view no_view here.0)) (let z : f no_view ≡ 0 = refl in omega arith))
+      (λ ne. subst (λ (w : PassView). f w ≤ w.share) (sym (get_or-set_other vs id i no_view no_view ne)) (share_of_holder c s law o i (omega arith)))) in
       omega arith

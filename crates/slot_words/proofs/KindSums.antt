@@ -1,8 +1,6 @@
 -- Counts that go over one word more.
-use Rattle.std.proofs.Common.{◌≡◌, ℕ, ◌+◌, ◌<◌, ◌≤◌, Bool, true, false, List, length, take, get_or, sym, ap, ◌∙◌, subst, arith}
-use Rattle.std.specs.List.{count_by}
-
-use Rattle.std.proofs.lemmas.List.Sums.{sum_by_more, count_by-le-length}
+use Rattle.std.proofs.Common.{◌≡◌, ℕ, ◌+◌, ◌<◌, ◌≤◌, Bool, true, false, List, length, take, get_or, arith}
+use Rattle.std.proofs.lemmas.List.Sums.{sum_by_more}
 use Rattle.pool_core.specs.declared.words.StateWord.{StateWord}
 use Rattle.pool_core.specs.StateWords.{bit, cold_word}
 use Rattle.pool_core.specs.Lawful.{is_free_warm, is_free_awaiting}

@@ -10,7 +10,7 @@ use Rattle.pool_core.specs.declared.words.State.{State}
 use Rattle.pool_core.specs.declared.words.State.TheVariants.{Cold}
 use Rattle.pool_core.specs.declared.words.StateWord.{StateWord}
 use Rattle.pool_core.specs.declared.seats.Stage.TheVariants.{Unmade}
-use Rattle.pool_core.specs.StateWords.{cold_word, cold_target, packed}
+use Rattle.pool_core.specs.StateWords.{cold_word, packed}
 use Rattle.pool_core.specs.PoolCore.{PoolCore, opening_core, idle_seat}
 use Rattle.pool_core.proofs.LawfulOpening.{lawful_opening, get_or-replicate_same}
 use Rattle.slot_words.specs.declared.views.Bounds.{Bounds}

@@ -1,10 +1,10 @@
 -- Splits, joins, closes and exchanges are events.
-use Rattle.std.proofs.Common.{◌≡◌, ◌≢◌, ℕ, zero, suc, ◌+◌, ◌<◌, ◌≤◌, ⊎_elim, Bool, false, ltb, true, true≢false, cond, List, [], ◌∷◌, ◌++◌, map, length, get_or, set, refl, sym, ap, ◌∙◌, subst, arith, length-set, length-append, get_or-set_same, get_or-set_other}
+use Rattle.std.proofs.Common.{◌≡◌, ◌≢◌, ℕ, zero, suc, ◌+◌, ◌<◌, ◌≤◌, ⊎_elim, Bool, false, true, true≢false, cond, List, [], ◌∷◌, ◌++◌, map, length, get_or, set, refl, sym, ap, ◌∙◌, subst, arith, length-set, length-append, get_or-set_same, get_or-set_other}
 use mathlib.Core.Logic.{dite}
 use mathlib.Core.Option.{some}
 use native.Mathlib.Decide.{ℕ_discrete}
 use lib.ListN.{get_elem?}
-use Rattle.std.specs.Prelude.{◌==◌, Option, Some}
+use Rattle.std.specs.Prelude.{◌==◌, Some}
 use Rattle.std.specs.List.{sum_by}
 use Rattle.std.proofs.lemmas.Bool.Decides.{nat_tests}
 use Rattle.std.proofs.lemmas.List.{get_or_past}
@@ -12,13 +12,11 @@ use Rattle.std.proofs.lemmas.List.Sums.{sum_by-set, sum_by_push, get_or-le-sum_b
 use Rattle.atomic_table.proofs.Lists.{at_set, at_snoc}
 use Rattle.pool_core.specs.declared.words.State.{State}
 use Rattle.pool_core.specs.declared.seats.Seat.{Seat}
-use Rattle.pool_core.specs.declared.seats.Stage.{Stage}
 use Rattle.pool_core.specs.declared.seats.Stage.TheVariants.{Unmade, Live, Joined, Closed}
 use Rattle.pool_core.specs.declared.events.Event.TheVariants.{Out, Home, Split, Join, Close}
 use Rattle.pool_core.specs.PoolCore.{PoolCore, seat_at, is_live, is_idle, idle_seat}
 use Rattle.pool_core.specs.EventEffects.{core_after, closed_seat}
 use Rattle.pool_core.specs.RefusalRules.{refusal_of}
-use Rattle.pool_core.specs.Lawful.{Lawful}
 use Rattle.pool_core.proofs.SeatChanges.{is_holding-self, held_by_seat, held_below_slots}
 use Rattle.pool_core.proofs.LawfulSteps.{lawful_after}
 use Rattle.slot_words.specs.declared.views.PassView.{PassView}
@@ -197,9 +195,9 @@ module _ {V : Type 0} (fits : State → ℕ → V → Type 0) (room : V → List
         λ i. record {
           words = core.words;
           seats = (ap (λ (p : Seat). set (set core.seats id q) id (record p { out = false })) q_is
-          ∙ set-set core.seats id q (record q { out = false })
-          ∙ ap (λ (b : Bool). set core.seats id (record (seat_at core id) { out = b })) (sym in')
-          ∙ set-get_or core.seats id (idle_seat Unmade)) i;
+              ∙ set-set core.seats id q (record q { out = false })
+              ∙ ap (λ (b : Bool). set core.seats id (record (seat_at core id) { out = b })) (sym in')
+              ∙ set-get_or core.seats id (idle_seat Unmade)) i;
           warm = core.warm;
           awaiting = core.awaiting;
           clock = core.clock;

@@ -1,45 +1,24 @@
 -- What the rule says of any moment.
-use Rattle.std.proofs.Common.{◌≡◌, ℕ, zero, suc, ◌+◌, ◌<◌, ◌≤◌, Bool, true, false, true≢false, List, [], ◌∷◌, length, get_or, set, refl, sym, ap, ◌∙◌, arith, length-set, get_or-set_other, lt_of_not-le}
+use Rattle.std.proofs.Common.{◌≡◌, ℕ, ◌+◌, ◌<◌, ◌≤◌, Bool, true, false, true≢false, List, length, get_or, set, refl, sym, ap, ◌∙◌, arith, length-set, get_or-set_other, lt_of_not-le}
 use mathlib.Core.Logic.{dite}
-use mathlib.Core.Option.{some}
 use native.Mathlib.Decide.{dec_le}
-use lib.ListN.{get_elem?}
-use Rattle.std.specs.Prelude.{Option, Some, None}
 use Rattle.std.specs.List.{sum_by}
 use Rattle.std.proofs.lemmas.List.{get_or_past, get_or_default}
 use Rattle.std.proofs.lemmas.List.Sums.{sum_by-set, get_or-le-sum_by}
 use Rattle.atomic_table.proofs.Lists.{at_index}
 use Rattle.pool_core.specs.declared.words.State.{State}
 use Rattle.pool_core.specs.declared.seats.Seat.{Seat}
-use Rattle.pool_core.specs.declared.seats.Stage.{Stage}
-use Rattle.pool_core.specs.declared.seats.Stage.TheVariants.{Unmade, Live}
-use Rattle.pool_core.specs.PoolCore.{PoolCore, seat_at, idle_seat, is_live, is_away}
+use Rattle.pool_core.specs.PoolCore.{is_live}
 use Rattle.pool_core.proofs.Holders.{one_holder}
 use Rattle.slot_words.specs.declared.views.PassView.{PassView}
 use Rattle.slot_words.specs.Views.{no_view}
 use Rattle.slot_words.specs.Rule.{OneHolder, NoHiddenSeat, AloneWithAll}
 use Rattle.slot_words.proofs.Lookups.{found, live_not_away}
 
-is_some : Option ℕ → Bool
-is_some None = false
-is_some (Some n) = true
-
-holds_none : (n : ℕ) → None ≡ Some n → ⊥
-unfolding is_some
-holds_none n e = true≢false (sym (ap is_some e))
-
--- a seat that holds a number is in the list
-holder_in_list : (ps : List Seat) (s n : ℕ) → (get_or ps s (idle_seat Unmade)).holds ≡ Some n → s < length ps
-holder_in_list [] s n e = absurd (holds_none n e)
-holder_in_list (p ∷ ps) zero n e = omega arith
-holder_in_list (p ∷ ps) (suc s) n e = let r = holder_in_list ps s n e in omega arith
-
 module _ {V : Type 0} (fits : State → ℕ → V → Type 0) (room : V → List ℕ) where
   pub one_holder_by_rule : OneHolder fits room
-  one_holder_by_rule bounds passes s r i j n hi hj = let c : PoolCore = r.core in
-      let hi' : (seat_at c i).holds ≡ Some n = ap (λ (p : Seat). p.holds) (r.shows.seat_shows i) ∙ hi in
-      let hj' : (seat_at c j).holds ≡ Some n = ap (λ (p : Seat). p.holds) (r.shows.seat_shows j) ∙ hj in
-      one_holder c i j n r.lawful (holder_in_list c.seats i n hi') (holder_in_list c.seats j n hj') hi' hj'
+  one_holder_by_rule bounds passes s r i j n hi hj =
+      one_holder r.core i j n r.lawful (ap (λ (p : Seat). p.holds) (r.shows.seat_shows i) ∙ hi) (ap (λ (p : Seat). p.holds) (r.shows.seat_shows j) ∙ hj)
 
   pub no_hidden_seat : NoHiddenSeat fits room
   no_hidden_seat bounds passes s r = let e = r.shows.unsplit_sum in omega arith

@@ -1,5 +1,5 @@
 -- What the words show as they are closed.
-use Rattle.std.specs.Prelude.{◌≡◌, ℕ, ◌+◌, ◌≤◌, length}
+use Rattle.std.specs.Prelude.{◌≡◌, ℕ, length}
 use Rattle.pool_core.specs.declared.events.Event.TheVariants.{Close}
 use Rattle.pool_core.specs.declared.seats.Stage.TheVariants.{Live}
 use Rattle.pool_core.specs.PoolCore.{PoolCore, seat_at, idle_seat}

@@ -44,7 +44,7 @@ module _ {V : Type 0} (fits : State → ℕ → V → Type 0) (room : V → List
       → v.seat.holds ≡ Some n → v.seat.out ≡ false → v.seat.permit ≡ is_warm to.state → v.seat.refusal ≡ false → v.seat.mark ≡ is_awaiting to.state
       → is_well_formed to ≡ true → Suits fits room v.bounds.room to y
       → IsEvent slots id (v, (n, Some y) ∷ []) n (λ _. packed (free_word to)) (Release id n to)
-          (λ _. Releases (step slots n (packed (free_word to)) 0 none) (v, (n, Some y) ∷ []) (packed (free_word to)))
+      (λ _. Releases (step slots n (packed (free_word to)) 0 none) (v, (n, Some y) ∷ []) (packed (free_word to)))
 
   -- a load of the warm word is WarmLoad
   abbrev pub WarmLoadsAreEvents : Type 0

@@ -1,5 +1,5 @@
 -- How many words there are of each kind. A held word counts as held alone.
-use Rattle.std.specs.Prelude.{◌≡◌, ℕ, ◌+◌, ◌<◌, Bool, not, ◌&&◌, List, length, slice_index_or}
+use Rattle.std.specs.Prelude.{ℕ, ◌+◌, ◌<◌, Bool, not, ◌&&◌, List, length, slice_index_or}
 use Rattle.std.specs.List.{count_by}
 use Rattle.pool_core.specs.declared.words.StateWord.{StateWord}
 use Rattle.pool_core.specs.StateWords.{bit, is_cold, cold_word, IsWordOf}

@@ -67,7 +67,11 @@ impl<V: Pooled> Words<V> {
             number,
             word: _,
         } = lease;
-        match self.table.shared.exchange(pass, number as usize, Some(value)) {
+        match self
+            .table
+            .shared
+            .exchange(pass, number as usize, Some(value))
+        {
             None => {}
             Some(_) => unreachable!(),
         }

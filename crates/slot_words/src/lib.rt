@@ -33,4 +33,3 @@ pub use words::Words;
 
 #[cfg(test)]
 mod tests;
-

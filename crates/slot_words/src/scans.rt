@@ -55,8 +55,6 @@ impl<V: Pooled> Words<V> {
         ensures same { IsSamePass pass.old pass.new × KeepsAll pass.old pass.new }
         ensures trail { trail pass.new ≡ trail pass.old ++ AwaitLoad result ∷ [] }
     {
-        self.table
-            .shared
-            .load::<AwaitLoading>(pass, self.slots + 1)
+        self.table.shared.load::<AwaitLoading>(pass, self.slots + 1)
     }
 }

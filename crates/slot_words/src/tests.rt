@@ -1,13 +1,12 @@
-ghost use Rattle.std.specs.Prelude.{◌≡◌, ◌<◌, ◌≤◌, [], false, length, IfOk, OnErr, ForSome};
-ghost use Rattle.std.specs.List.{All};
+ghost use Rattle.std.specs.Prelude.{◌≡◌, ◌<◌, [], false, IfOk, OnErr};
 ghost use Rattle.pool_core.specs.StateWords.{is_awaiting};
 ghost use Rattle.slot_words.specs.Passes.{IsIdle, Holds};
 ghost use Rattle.slot_words.specs.Leases.{lease_number};
-ghost use Rattle.slot_words.specs.Owned.{IsPassOf, slots_of, room_of};
+ghost use Rattle.slot_words.specs.Owned.{IsPassOf, slots_of};
 
 use crate::{Held, KindCounts, Lease, NoMemory, Pass, Pooled, Seen, Words};
 use pool_core::{State, Target, unpack};
-use std::alloc::{AllocError, Global};
+use std::alloc::Global;
 use std::test::Fail;
 use std::thread;
 
@@ -44,30 +43,19 @@ impl Pooled for Cell {
     ghost fits_own_tag = { λ s tag x warm fits. fits.1 };
 }
 
-fn cold_cells(alloc: Global, count: usize) -> Result<Vec<Cell>, AllocError>
-    ensures { IfOk result (λ v. (length v.items ≡ count) × All (λ x. (x.used ≡ false) × (x.tag ≡ 0)) v.items) }
-{
-    let mut cells = Vec::with_capacity(alloc, count)?;
-    for _ in 0..count {
-        cells.push_reserved(Cell {
-            used: false,
-            tag: 0,
-            visits: 0,
-        });
-    }
-    Ok(cells)
-}
+const NEW: Cell = Cell {
+    used: false,
+    tag: 0,
+    visits: 0,
+};
 
-// Two passes.
-fn opened(
-    alloc: Global,
-    slots: usize,
-    warm: u32,
-) -> Result<(Words<Cell>, Pass<Cell>, Pass<Cell>), NoMemory>
-    requires { (1 ≤ slots) × (slots ≤ 64) }
-    ensures { IfOk result (λ o. (slots_of o.0 ≡ slots) × IsPassOf (λ x. []) o.0 o.1 × IsIdle o.1 × IsPassOf (λ x. []) o.0 o.2 × IsIdle o.2) }
+// Two slots and two passes.
+fn opened(alloc: Global, warm: u32) -> Result<(Words<Cell>, Pass<Cell>, Pass<Cell>), NoMemory>
+    ensures { IfOk result (λ o. (slots_of o.0 ≡ 2) × IsPassOf (λ x. []) o.0 o.1 × IsIdle o.1 × IsPassOf (λ x. []) o.0 o.2 × IsIdle o.2) }
 {
-    let cells = cold_cells(alloc, slots)?;
+    let mut cells = Vec::with_capacity(alloc, 2)?;
+    cells.push_reserved(NEW);
+    cells.push_reserved(NEW);
     let (words, mut passes) = Words::open(alloc, &(), cells, warm, 2)?;
     let first = passes.pop().unwrap();
     let second = passes.pop().unwrap();
@@ -130,7 +118,7 @@ fn take_slot_1(words: &Words<Cell>, mut second: Pass<Cell>, keeps: bool) -> bool
 
 // One pass holds slot 0 while the other asks for slot 0, and then for slot 1.
 fn two_passes(alloc: Global, keeps: bool) -> Result<Ending, NoMemory> {
-    let (words, mut first, mut second) = opened(alloc, 2, 0)?;
+    let (words, mut first, mut second) = opened(alloc, 0)?;
     let Ok(lease) = take(&words, &mut first, 0) else {
         return Ok(Ending {
             won: [false; 3],
@@ -248,7 +236,7 @@ fn read_all(words: &Words<Cell>, pass: &mut Pass<Cell>) -> Reading
 
 #[test]
 fn a_slot_awaits_and_then_is_warm(rt: HostRuntime) -> Result<(), Fail> {
-    let (words, mut pass, _other) = opened(rt.alloc(), 2, 1)?;
+    let (words, mut pass, _other) = opened(rt.alloc(), 1)?;
     let read = leave_awaiting(&words, &mut pass)?;
     assert_eq!(rt; read, [0, 0]);
     let between = read_all(&words, &mut pass);
@@ -271,7 +259,7 @@ fn a_slot_awaits_and_then_is_warm(rt: HostRuntime) -> Result<(), Fail> {
 
 #[test]
 fn a_second_slot_is_refused_a_permit(rt: HostRuntime) -> Result<(), Fail> {
-    let (words, mut pass, _other) = opened(rt.alloc(), 2, 1)?;
+    let (words, mut pass, _other) = opened(rt.alloc(), 1)?;
     assert_eq!(rt; make_warm(&words, &mut pass, 0)?, true);
     assert_eq!(rt; make_warm(&words, &mut pass, 1)?, false);
     let end = read_all(&words, &mut pass);
@@ -305,17 +293,17 @@ fn visit(words: &Words<Cell>, mut pass: Pass<Cell>) -> (u32, Pass<Cell>)
 
 #[test]
 fn two_threads_never_have_one_slot_at_once(rt: HostRuntime) -> Result<(), Fail> {
-    let (words, first, second) = opened(rt.alloc(), 1, 0)?;
+    let (words, first, second) = opened(rt.alloc(), 0)?;
     let shared = &words;
     let ((won, mut first), (won_too, second)) = thread::join(
         &rt,
         || -> (u32, Pass<Cell>)
-            requires { IsPassOf (λ x. []) shared.now first × IsIdle first × (slots_of shared.now ≡ 1) }
-            ensures { IsPassOf (λ x. []) shared.now result.1 × IsIdle result.1 }
+            requires { IsPassOf (λ x. []) shared.now first × IsIdle first × (slots_of shared.now ≡ 2) }
+            ensures { IsPassOf (λ x. []) shared.entry.now result.1 × IsIdle result.1 }
         { visit(shared, first) },
         || -> (u32, Pass<Cell>)
-            requires { IsPassOf (λ x. []) shared.now second × IsIdle second × (slots_of shared.now ≡ 1) }
-            ensures { IsPassOf (λ x. []) shared.now result.1 × IsIdle result.1 }
+            requires { IsPassOf (λ x. []) shared.now second × IsIdle second × (slots_of shared.now ≡ 2) }
+            ensures { IsPassOf (λ x. []) shared.entry.now result.1 × IsIdle result.1 }
         { visit(shared, second) },
     );
     words.join_pass(&mut first, second);
@@ -323,7 +311,7 @@ fn two_threads_never_have_one_slot_at_once(rt: HostRuntime) -> Result<(), Fail> 
     assert_eq!(rt; lease.value.visits, won.wrapping_add(won_too));
     give(&words, &mut first, lease);
     let want = KindCounts {
-        cold: 1,
+        cold: 2,
         warm: 0,
         awaiting: 0,
         held: 0,

@@ -1,10 +1,9 @@
 use Rattle.std.proofs.Common.{◌≡◌, ◌+◌, ◌<◌, ℕ, List, length, get_or, sym, ap, ◌∙◌, subst, arith}
 use Rattle.std.specs.Slots.{slots_items}
-use Rattle.pool_core.specs.declared.words.Target.{Target}
 use Rattle.pool_core.specs.declared.words.StateWord.{StateWord}
 use Rattle.pool_core.specs.StateWords.{IsWordOf, cold_word}
 use Rattle.slot_words.specs.declared.kinds.KindCounts.{KindCounts}
-use Rattle.slot_words.specs.KindCounts.{counts_with, kind_counts, BeginsWith}
+use Rattle.slot_words.specs.KindCounts.{counts_with}
 use Rattle.slot_words.proofs.Lookups.{found}
 use Rattle.slot_words.proofs.KindSums.{kind_counts-more, counts_with-at_most, AreAtMost}
 use Rattle.slot_words.proofs.kinds.count_kinds.Goals as goal

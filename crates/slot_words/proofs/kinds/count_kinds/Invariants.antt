@@ -1,4 +1,4 @@
-use Rattle.std.proofs.Common.{◌≡◌, ◌≤◌, ◌<◌, ◌+◌, List, length, take}
+use Rattle.std.proofs.Common.{◌≡◌, ◌≤◌, List, length, take}
 use Rattle.std.specs.Slots.{slots_items}
 use Rattle.pool_core.specs.declared.words.StateWord.{StateWord}
 use Rattle.slot_words.specs.KindCounts.{kind_counts, BeginsWith}
