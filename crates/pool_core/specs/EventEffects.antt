@@ -10,17 +10,18 @@ use Rattle.pool_core.specs.PoolCore.{PoolCore, word_at, seat_at, idle_seat, is_l
 
 -- the seat that won the number n, whose word was w
 abbrev pub winning_seat : Seat → ℕ → StateWord → Seat
-winning_seat p n w = record p { holds = Some n; out = false; permit = is_warm w.target.state; refusal = false; mark = is_awaiting w.target.state }
+winning_seat seat n w = record seat { holds = Some n; out = false; permit = is_warm w.target.state; refusal = false; mark = is_awaiting w.target.state }
 
 -- the seat that read the count of warm slots, below the limit or not
 abbrev pub warmed_seat : PoolCore → Seat → Seat
-warmed_seat c p = record p { permit = ltb c.warm c.limit; refusal = not (ltb c.warm c.limit) }
+warmed_seat c seat = record seat { permit = ltb c.warm c.limit; refusal = not (ltb c.warm c.limit) }
 
+-- a live seat ends, and keeps what it holds
 abbrev pub closed_seat : Seat → Seat
-closed_seat p = cond (is_live p.stage) (record p { stage = Closed }) p
+closed_seat seat = cond (is_live seat.stage) (record seat { stage = Closed }) seat
 
 abbrev pub with_seat : PoolCore → ℕ → Seat → PoolCore
-with_seat c s p = record c { seats = slice_set c.seats s p }
+with_seat c s seat = record c { seats = slice_set c.seats s seat }
 
 abbrev pub with_word : PoolCore → ℕ → StateWord → PoolCore
 with_word c n w = record c { words = slice_set c.words n w }

@@ -13,25 +13,25 @@ abbrev pub is_free_awaiting : StateWord → Bool
 is_free_awaiting w = not w.held && is_awaiting w.target.state
 
 abbrev pub has_permit : Seat → Bool
-has_permit p = p.permit
+has_permit seat = seat.permit
 
 abbrev pub has_refusal : Seat → Bool
-has_refusal p = p.refusal
+has_refusal seat = seat.refusal
 
 abbrev pub has_mark : Seat → Bool
-has_mark p = p.mark
+has_mark seat = seat.mark
 
-pub record IsSoundSeat (p : Seat) : Type 0 where
+pub record IsSoundSeat (seat : Seat) : Type 0 where
   -- a seat that holds nothing has no value out, and no permit, refusal or await mark
-  pub empty : p.holds ≡ None → (p.out ≡ false) × (p.permit ≡ false) × (p.refusal ≡ false) × (p.mark ≡ false)
+  pub empty : seat.holds ≡ None → (seat.out ≡ false) × (seat.permit ≡ false) × (seat.refusal ≡ false) × (seat.mark ≡ false)
   -- a seat that is not made yet, or was joined away, holds nothing
-  pub away : is_away p.stage ≡ true → p.holds ≡ None
+  pub away : is_away seat.stage ≡ true → seat.holds ≡ None
   -- no seat has both a permit and a refusal
-  pub single : bit p.permit + bit p.refusal ≤ 1
+  pub single : bit seat.permit + bit seat.refusal ≤ 1
 
 pub record Lawful (c : PoolCore) : Type 0 where
   -- a held word's number is held by one seat, and any other word's by none
-  pub holders : (n : ℕ) → count_by (λ p. is_holding p.holds n) c.seats ≡ bit (word_at c n).held
+  pub holders : (n : ℕ) → count_by (λ seat. is_holding seat.holds n) c.seats ≡ bit (word_at c n).held
   pub seats : (s : ℕ) → IsSoundSeat (seat_at c s)
   -- the count of warm slots is that of the free warm words, the permits and the refusals
   pub warm : c.warm ≡ count_by is_free_warm c.words + (count_by has_permit c.seats + count_by has_refusal c.seats)

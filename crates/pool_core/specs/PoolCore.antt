@@ -20,7 +20,7 @@ pub record PoolCore : Type 0 where
 
 -- the seat that holds nothing and owes nothing
 abbrev pub idle_seat : Stage → Seat
-idle_seat st = record { stage = st; holds = None; out = false; permit = false; refusal = false; mark = false }
+idle_seat stage = record { stage = stage; holds = None; out = false; permit = false; refusal = false; mark = false }
 
 -- a place past the list reads as cold
 abbrev pub word_at : PoolCore → ℕ → StateWord
@@ -51,11 +51,11 @@ is_away Closed = false
 
 abbrev pub is_holding : Option ℕ → ℕ → Bool
 is_holding None n = false
-is_holding (Some m) n = m == n
+is_holding (Some held) n = held == n
 
 -- it holds nothing, and has no permit, refusal or await mark
 abbrev pub is_idle : Seat → Bool
-is_idle p = is_none p.holds && not p.permit && not p.refusal && not p.mark
+is_idle seat = is_none seat.holds && not seat.permit && not seat.refusal && not seat.mark
 
 -- the pool as it opens: every word is cold and free, and seat 0 alone is live
 abbrev pub opening_core : ℕ → ℕ → ℕ → PoolCore

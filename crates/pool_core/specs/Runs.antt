@@ -22,6 +22,11 @@ pub record Refuses (c : PoolCore) (e : Event) (rule number : ℕ) : Type 0 where
   pub least : rule ≡ refusal_of c e
   pub named : number ≡ number_of e
 
+-- the fault says that the event at this place was refused
+abbrev pub IsRefusedAt : ℕ → PoolCore → Event → ReplayFault → Type 0
+IsRefusedAt place c e (Unlawful at rule number) = (at ≡ place) × Refuses c e rule number
+IsRefusedAt place c e NoMemory = ⊥
+
 -- all events before the one at this place are allowed, and that one is refused
 abbrev pub IsReplayFault : PoolCore → List Event → ReplayFault → Type 0
 IsReplayFault c es (Unlawful at rule number) = AllAllowed c (take at es) × ((e : Event) × (slice_get es at ≡ Some e) × Refuses (core_after_all c (take at es)) e rule number)

@@ -1,7 +1,9 @@
 //! A list of events, one after another from the opening.
-ghost use Rattle.std.specs.Prelude.{◌≡◌, ◌≤◌, IfOk, IfErr};
+ghost use Rattle.std.specs.Prelude.{◌≡◌, ◌≤◌, IfOk, IfErr, OnOk};
 ghost use Rattle.pool_core.specs.PoolCore.{opening_core};
-ghost use Rattle.pool_core.specs.Runs.{core_after_all, AllAllowed, IsReplayFault};
+ghost use Rattle.pool_core.specs.EventEffects.{core_after};
+ghost use Rattle.pool_core.specs.RefusalRules.{refusal_of};
+ghost use Rattle.pool_core.specs.Runs.{core_after_all, AllAllowed, IsRefusedAt, IsReplayFault};
 
 use crate::events::Event;
 use crate::pool::{Core, step};
@@ -20,6 +22,17 @@ pub enum ReplayFault {
     NoMemory,
 }
 
+// Applies the event that stands at this place of the list.
+fn step_at(core: &mut Core, event: Event, at: usize) -> Result<(), ReplayFault>
+    ensures ok { OnOk result ((refusal_of core.old event ≡ 0) × (core.new ≡ core_after core.old event)) }
+    ensures err { IfErr result (IsRefusedAt at core.old event) }
+{
+    match step(core, event) {
+        Ok(()) => Ok(()),
+        Err(Unlawful { rule, number }) => Err(ReplayFault::Unlawful { at, rule, number }),
+    }
+}
+
 /// The pool after these events from its opening, or the first of them that it refuses.
 pub fn replay(
     alloc: Global,
@@ -36,9 +49,7 @@ pub fn replay(
         return Err(ReplayFault::NoMemory);
     };
     for at in 0..events.len() {
-        if let Err(Unlawful { rule, number }) = step(&mut core, events[at]) {
-            return Err(ReplayFault::Unlawful { at, rule, number });
-        }
+        step_at(&mut core, events[at], at)?;
     }
     Ok(core)
 }
