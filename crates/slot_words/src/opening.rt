@@ -48,26 +48,6 @@ impl<V: Pooled + Drop> Words<V> {
         ensures room { IfOk result (λ o. All (λ x. V.room x ≡ room_of V.room o.0) values.items) }
         ensures passes { IfOk result (λ o. (length o.1.items ≡ passes) × All (IsNewPassOf V.room o.0) o.1.items) }
     {
-        match Words::opened(alloc, values, warm, passes) {
-            Ok(opened) => Ok(opened),
-            Err(AllocError) => Err(NoMemory),
-        }
-    }
-
-    fn opened(
-        alloc: Global,
-        values: Vec<V>,
-        warm: u32,
-        passes: u32,
-    ) -> Result<(Words<V>, Vec<Pass<V>>), AllocError>
-        requires count { (1 ≤ length values.items) × (length values.items ≤ 64) }
-        requires passes { 1 ≤ passes }
-        requires cold { All (λ x. V.fits Cold 0 x) values.items }
-        requires room { (r : List ℕ) × All (λ x. V.room x ≡ r) values.items }
-        ensures words { IfOk result (λ o. (slots_of o.0 ≡ length values.items) × (limit_of o.0 ≡ warm) × (passes_of o.0 ≡ passes)) }
-        ensures room { IfOk result (λ o. All (λ x. V.room x ≡ room_of V.room o.0) values.items) }
-        ensures passes { IfOk result (λ o. (length o.1.items ≡ passes) × All (IsNewPassOf V.room o.0) o.1.items) }
-    {
         let count = values.len();
         let setup: Setup<V> = Setup {
             sample: Snapshot::of(&values[0]),
@@ -114,10 +94,9 @@ impl<V: Pooled + Drop> Words<V> {
         ensures count { length all.new.items ≡ passes }
         ensures each { All (IsNewPassOf V.room self.now) all.new.items }
     {
-        for i in 1..passes {
+        for _ in 1..passes {
             let next = self.split_pass(&mut first);
             all.push_reserved(next);
-            let _place = i;
         }
         all.push_reserved(first);
     }
