@@ -1,0 +1,125 @@
+-- A step that is an event keeps the rule.
+use Rattle.std.proofs.Common.{◌≡◌, ℕ, ◌+◌, ◌-◌, ◌%◌, ◌^◌, ◌<◌, ◌||◌, Bool, true, false, ◌≤◌, List, [], ◌∷◌, length, refl, sym, ap, ◌∙◌, subst, arith}
+use mathlib.Core.Option.{none}
+use lib.Bits.{bit_or}
+use Rattle.std.specs.Prelude.{Option, Some, None, MatchBool}
+use Rattle.atomic_table.specs.Table.{rest, step, Allows, Splits, Joins}
+use Rattle.pool_core.specs.declared.words.State.{State}
+use Rattle.pool_core.specs.declared.words.Target.{Target}
+use Rattle.pool_core.specs.declared.words.StateWord.{StateWord}
+use Rattle.pool_core.specs.declared.seats.Seat.{Seat}
+use Rattle.pool_core.specs.declared.seats.Stage.TheVariants.{Live}
+use Rattle.pool_core.specs.declared.events.Event.{Event}
+use Rattle.pool_core.specs.declared.events.Event.TheVariants.{Load, Claim, Release, Split, Join, WarmLoad, WarmUp, WarmDown, Stamp, AwaitUp, AwaitDown, AwaitLoad}
+use Rattle.pool_core.specs.StateWords.{bit, is_warm, is_awaiting, is_well_formed, IsWordOf, packed, free_word}
+use Rattle.pool_core.specs.PoolCore.{is_live, is_idle, idle_seat}
+use Rattle.pool_core.specs.EventEffects.{core_after}
+use Rattle.pool_core.proofs.LawfulSteps.{lawful_after}
+use Rattle.pool_core.proofs.WordBits.{packed-mod_2}
+use Rattle.slot_words.specs.declared.views.PassView.{PassView}
+use Rattle.slot_words.specs.declared.views.Bounds.{Bounds}
+use Rattle.slot_words.specs.Views.{view_left, view_given, view_joined, spent_view}
+use Rattle.slot_words.specs.Shows.{ShowsLawful, Suits}
+use Rattle.slot_words.specs.Outcomes.{Carrier, Loads, Claims, Releases, Loses, Wins, LoadsWarm, WarmsUp, WarmsDown, Stamps, AwaitsUp, AwaitsDown, LoadsAwait}
+use Rattle.slot_words.specs.Events.{IsEvent}
+use Rattle.slot_words.proofs.SlotEvents.{loads_are_events, claims_are_events, releases_are_events}
+use Rattle.slot_words.proofs.CountEvents.{warm_loads_are_events, warm_ups_are_events, warm_downs_are_events, stamps_are_events, await_ups_are_events, await_downs_are_events, await_loads_are_events}
+use Rattle.slot_words.proofs.PassEvents.{splits_are_events, joins_are_events}
+
+-- an idle seat, by its parts
+pub idle_seat_of : (p : Seat) → p.stage ≡ Live → p.holds ≡ None → p.out ≡ false → p.permit ≡ false → p.refusal ≡ false → p.mark ≡ false → p ≡ idle_seat Live
+idle_seat_of p a b c d e f = λ i. record { stage = a i; holds = b i; out = c i; permit = d i; refusal = e i; mark = f i }
+
+module _ {V : Type 0} (fits : State → ℕ → V → Type 0) (room : V → List ℕ) (bounds : Bounds) (passes : ℕ) where
+  abbrev pub Allowed : ℕ → ℕ → Carrier V → ℕ → (ℕ → ℕ) → (ℕ → Carrier V → Type 0) → Type 0
+  Allowed slots id me i f then = Allows (ShowsLawful fits room bounds passes) slots id me i f then
+
+  -- an event keeps the rule
+  pub allowed : (slots id : ℕ) (me : Carrier V) (i : ℕ) (f : ℕ → ℕ) (e : Event) (then : ℕ → Carrier V → Type 0) → IsEvent fits room slots id me i f e then → Allowed slots id me i f then
+  allowed slots id me i f e then is s r wide at small = let o = is bounds passes r.core s r.lawful r.shows wide at in
+      (o.1.0, o.1.1, o.1.2, record { core = core_after r.core e; lawful = lawful_after r.core e r.lawful o.0; shows = o.1.3 }, o.1.4)
+
+  pub loads_allowed : (slots id n : ℕ) (me : Carrier V) → n < slots → is_live me.0.seat.stage ≡ true → Allowed slots id me n (λ x. x) (Loads (step slots n 0 0 none) me)
+  loads_allowed slots id n me below live = allowed slots id me n (λ x. x) (Load id n) (Loads (step slots n 0 0 none) me) (loads_are_events fits room slots id n me below live)
+
+  pub claims_allowed : (slots id n : ℕ) (me : Carrier V) → n < slots → me.0.seat ≡ idle_seat Live → Allowed slots id me n (λ x. bit_or x 1) (Claims fits room (step slots n 1 0 none) me)
+  claims_allowed slots id n me below rest = allowed slots id me n (λ x. bit_or x 1) (Claim id n) (Claims fits room (step slots n 1 0 none) me)
+      (claims_are_events fits room slots id n me below (ap (λ (q : Seat). is_live q.stage) rest) (ap is_idle rest))
+
+  -- of a pass whose slot has the value again
+  pub releases_allowed : (slots id n x : ℕ) (me : Carrier V) (v : PassView) (y : V) (to : Target) → me ≡ (v, (n, Some y) ∷ []) → x ≡ packed (free_word to)
+      → n < slots → is_live v.seat.stage ≡ true → v.seat.holds ≡ Some n → v.seat.out ≡ false → v.seat.permit ≡ is_warm to.state → v.seat.refusal ≡ false → v.seat.mark ≡ is_awaiting to.state → is_well_formed to ≡ true → Suits fits room v.bounds.room to y
+      → Allowed slots id me n (λ _. x) (λ _. Releases (step slots n x 0 none) me x)
+  releases_allowed slots id n x me v y to is isx below live holds inside permit refusal mark well suits =
+      let e : ℕ = packed (free_word to) in
+      subst (λ (z : Carrier V × ℕ). Allowed slots id z.0 n (λ _. z.1) (λ _. Releases (step slots n z.1 0 none) z.0 z.1)) (λ i. (sym is i, sym isx i))
+      (allowed slots id (v, (n, Some y) ∷ []) n (λ _. e) (Release id n to) (λ _. Releases (step slots n e 0 none) (v, (n, Some y) ∷ []) e)
+      (releases_are_events fits room slots id n v y to below live holds inside permit refusal mark well suits))
+
+  pub warm_loads_allowed : (slots i id : ℕ) (me : Carrier V) → slots ≡ i → is_live me.0.seat.stage ≡ true → Allowed slots id me i (λ x. x) (LoadsWarm me)
+  warm_loads_allowed slots i id me is live = subst (λ (j : ℕ). Allowed slots id me j (λ x. x) (LoadsWarm me)) is
+      (allowed slots id me slots (λ x. x) (WarmLoad id) (LoadsWarm me) (warm_loads_are_events fits room slots id me live))
+
+  pub await_loads_allowed : (slots i id : ℕ) (me : Carrier V) → slots ≡ i → is_live me.0.seat.stage ≡ true → Allowed slots id me (i + 1) (λ x. x) (LoadsAwait me)
+  await_loads_allowed slots i id me is live = subst (λ (j : ℕ). Allowed slots id me (j + 1) (λ x. x) (LoadsAwait me)) is
+      (allowed slots id me (slots + 1) (λ x. x) (AwaitLoad id) (LoadsAwait me) (await_loads_are_events fits room slots id me live))
+
+  pub warm_ups_allowed : (slots i id n : ℕ) (me : Carrier V) → slots ≡ i → is_live me.0.seat.stage ≡ true → me.0.seat.holds ≡ Some n → me.0.seat.permit ≡ false → me.0.seat.refusal ≡ false → Allowed slots id me i (λ x. (x + 1) % 2 ^ 64) (WarmsUp me)
+  warm_ups_allowed slots i id n me is live h no_permit no_refusal = subst (λ (j : ℕ). Allowed slots id me j (λ x. (x + 1) % 2 ^ 64) (WarmsUp me)) is
+      (allowed slots id me slots (λ x. (x + 1) % 2 ^ 64) (WarmUp id) (WarmsUp me)
+      (warm_ups_are_events fits room slots id n me live h no_permit no_refusal))
+
+  pub warm_downs_allowed : (slots i id n : ℕ) (me : Carrier V) → slots ≡ i → is_live me.0.seat.stage ≡ true → me.0.seat.holds ≡ Some n → (me.0.seat.permit || me.0.seat.refusal) ≡ true
+      → Allowed slots id me i (λ x. (x + (2 ^ 64 - 1)) % 2 ^ 64) (WarmsDown me)
+  warm_downs_allowed slots i id n me is live h has = subst (λ (j : ℕ). Allowed slots id me j (λ x. (x + (2 ^ 64 - 1)) % 2 ^ 64) (WarmsDown me)) is
+      (allowed slots id me slots (λ x. (x + (2 ^ 64 - 1)) % 2 ^ 64) (WarmDown id) (WarmsDown me)
+      (warm_downs_are_events fits room slots id n me live h has))
+
+  pub stamps_allowed : (slots i id n : ℕ) (me : Carrier V) → slots ≡ i → is_live me.0.seat.stage ≡ true → me.0.seat.holds ≡ Some n → Allowed slots id me (i + 2) (λ x. (x + 1) % 2 ^ 64) (Stamps me)
+  stamps_allowed slots i id n me is live h = subst (λ (j : ℕ). Allowed slots id me (j + 2) (λ x. (x + 1) % 2 ^ 64) (Stamps me)) is
+      (allowed slots id me (slots + 2) (λ x. (x + 1) % 2 ^ 64) (Stamp id) (Stamps me)
+      (stamps_are_events fits room slots id n me live h))
+
+  pub await_ups_allowed : (slots i id n : ℕ) (me : Carrier V) → slots ≡ i → is_live me.0.seat.stage ≡ true → me.0.seat.holds ≡ Some n → me.0.seat.mark ≡ false → Allowed slots id me (i + 1) (λ x. (x + 1) % 2 ^ 64) (AwaitsUp me)
+  await_ups_allowed slots i id n me is live h marked = subst (λ (j : ℕ). Allowed slots id me (j + 1) (λ x. (x + 1) % 2 ^ 64) (AwaitsUp me)) is
+      (allowed slots id me (slots + 1) (λ x. (x + 1) % 2 ^ 64) (AwaitUp id) (AwaitsUp me)
+      (await_ups_are_events fits room slots id n me live h marked))
+
+  pub await_downs_allowed : (slots i id n : ℕ) (me : Carrier V) → slots ≡ i → is_live me.0.seat.stage ≡ true → me.0.seat.holds ≡ Some n → me.0.seat.mark ≡ true → Allowed slots id me (i + 1) (λ x. (x + (2 ^ 64 - 1)) % 2 ^ 64) (AwaitsDown me)
+  await_downs_allowed slots i id n me is live h marked = subst (λ (j : ℕ). Allowed slots id me (j + 1) (λ x. (x + (2 ^ 64 - 1)) % 2 ^ 64) (AwaitsDown me)) is
+      (allowed slots id me (slots + 1) (λ x. (x + (2 ^ 64 - 1)) % 2 ^ 64) (AwaitDown id) (AwaitsDown me)
+      (await_downs_are_events fits room slots id n me live h marked))
+
+  pub splits_allowed : (id : ℕ) (v : PassView) → v.seat ≡ idle_seat Live → 1 ≤ v.unsplit → 2 ≤ v.share → Splits (ShowsLawful fits room bounds passes) id v (view_left v) (view_given v)
+  splits_allowed id v rest unsplit share s r at = let o = splits_are_events fits room id v (ap (λ (q : Seat). is_live q.stage) rest) (ap is_idle rest) unsplit share bounds passes r.core s r.lawful r.shows at in
+      record { core = core_after r.core (Split id (length s.views)); lawful = lawful_after r.core (Split id (length s.views)) r.lawful o.0; shows = o.1 }
+
+  pub joins_allowed : (id other : ℕ) (v w : PassView) → v.seat ≡ idle_seat Live → w.seat ≡ idle_seat Live → Joins (ShowsLawful fits room bounds passes) id v other w (view_joined v w) spent_view
+  joins_allowed id other v w rest rest' s r at apart at' =
+      let o = joins_are_events fits room id other v w (ap (λ (q : Seat). is_live q.stage) rest) (ap is_idle rest) (ap (λ (q : Seat). is_live q.stage) rest') (ap is_idle rest') bounds passes r.core s r.lawful r.shows at apart at' in
+      record { core = core_after r.core (Join id other); lawful = lawful_after r.core (Join id other) r.lawful o.0; shows = o.1 }
+
+-- the one slot that a pass has out, with its value in it again
+pub value_back : {V : Type 0} (me : Carrier V) (v : PassView) (n : ℕ) (y : V) (slots : List (ℕ × Option V)) → me ≡ (v, (n, Some y) ∷ rest slots) → slots ≡ (n, None) ∷ [] → me ≡ (v, (n, Some y) ∷ [])
+value_back me v n y slots is out = is ∙ (λ i. (v, (n, Some y) ∷ rest (out i)))
+
+module _ {V : Type 0} (fits : State → ℕ → V → Type 0) (room : V → List ℕ) (n : ℕ) (m : Carrier V) (r : ℕ) (m' : Carrier V) where
+  -- the bit that was read tells that the claim was won
+  pub claim_won : (w : StateWord) × IsWordOf r w × MatchBool w.held (Loses m n r m') (Wins fits room m n r w m') → ¬ (r % 2 ≡ 1)
+      → (w : StateWord) × IsWordOf r w × (w.held ≡ false) × Wins fits room m n r w m'
+  claim_won c free = let w : StateWord = c.0 in let is = c.1 in
+      let odd : r % 2 ≡ bit w.held = ap (λ (k : ℕ). k % 2) is.packed_is ∙ packed-mod_2 w in
+      let split : (b : Bool) → w.held ≡ b → MatchBool w.held (Loses m n r m') (Wins fits room m n r w m') → (w.held ≡ false) × Wins fits room m n r w m' = elim [
+        | true ↦ λ e x. absurd (free (odd ∙ ap bit e))
+        | false ↦ λ e x. (e, rw e at x)
+      ] in let t = split w.held refl c.2 in (w, is, t.0, t.1)
+
+  -- or that it was lost
+  pub claim_lost : (w : StateWord) × IsWordOf r w × MatchBool w.held (Loses m n r m') (Wins fits room m n r w m') → r % 2 ≡ 1
+      → (w : StateWord) × IsWordOf r w × (w.held ≡ true) × Loses m n r m'
+  claim_lost c taken = let w : StateWord = c.0 in let is = c.1 in
+      let odd : r % 2 ≡ bit w.held = ap (λ (k : ℕ). k % 2) is.packed_is ∙ packed-mod_2 w in
+      let split : (b : Bool) → w.held ≡ b → MatchBool w.held (Loses m n r m') (Wins fits room m n r w m') → (w.held ≡ true) × Loses m n r m' = elim [
+        | true ↦ λ e x. (e, rw e at x)
+        | false ↦ λ e x. absurd (let z : r % 2 ≡ 0 = odd ∙ ap bit e in omega arith)
+      ] in let t = split w.held refl c.2 in (w, is, t.0, t.1)

@@ -1,0 +1,12 @@
+mod Allowed
+mod Closings
+mod CountEvents
+mod Holdings
+mod KindSums
+mod Lookups
+mod Openings
+mod PassEvents
+mod RuleLaws
+mod ScanTrails
+mod ShownChanges
+mod SlotEvents

@@ -1,0 +1,22 @@
+use Rattle.std.proofs.Common.{rules, ℕ, arith, subst}
+use Rattle.std.specs.Slots.{slots_items, slots_counts}
+use Rattle.slot_words.specs.Closing.{ClosesAs}
+use Rattle.slot_words.specs.Owned.{passes_of}
+use Rattle.slot_words.proofs.Allowed.{idle_seat_of}
+use Rattle.slot_words.proofs.Closings.{last_core}
+use Rattle.slot_words.proofs.words.Words.close.Goals as goal
+
+pub count_kinds-counts-requires : goal.count_kinds-counts-requires
+count_kinds-counts-requires g c = let z = c.close_with-closed.ensures in let row = c.close_with-closed.result.words in let n = (slots_counts row).0 in let k = z.counts.0 in let d = c.args.self.sized.0 in
+    let last = last_core g.V.Pooled.fits g.V.Pooled.room _ _ _ _ c.args.self.slots (slots_items row) _ (omega arith) (idle_seat_of _ c.requires.idle.0 c.requires.idle.1 c.requires.idle.2 c.requires.idle.4 c.requires.idle.5 c.requires.idle.6) z.values.2 in record {
+      full = search rules;
+      words = (last.core.words, last.slots_are, last.begins);
+    }
+
+pub returns : goal.returns
+returns g c = let z = c.close_with-closed.ensures in let row = c.close_with-closed.result.words in let n = (slots_counts row).0 in let k = z.counts.0 in let d = c.args.self.sized.0 in
+    let last = last_core g.V.Pooled.fits g.V.Pooled.room _ _ _ _ c.args.self.slots (slots_items row) _ (omega arith) (idle_seat_of _ c.requires.idle.0 c.requires.idle.1 c.requires.idle.2 c.requires.idle.4 c.requires.idle.5 c.requires.idle.6) z.values.2 in
+    let is = c.count_kinds-counts.ensures last.core.words last.slots_are last.begins in record {
+      counts = subst (λ (l : ℕ). ClosesAs c.args.self.slots l (passes_of c.args.self) c.args.pass.id c.count_kinds-counts.result) c.args.self.sized.2 (last.closes _ is);
+      held = last.held _ is;
+    }

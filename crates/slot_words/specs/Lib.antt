@@ -1,0 +1,12 @@
+pub mod Closing
+pub mod Events
+pub mod KindCounts
+pub mod Leases
+pub mod Outcomes
+pub mod Owned
+pub mod Passes
+pub mod Rule
+pub mod Setups
+pub mod Shows
+pub mod Trails
+pub mod Views

@@ -1,0 +1,82 @@
+//! Slots are taken and given back.
+ghost use Rattle.std.specs.Prelude.{◌≡◌, ℕ, ◌<◌, ◌++◌, [], ◌∷◌, true, false, IfOk, OnErr};
+ghost use Rattle.pool_core.specs.declared.words.StateWord.{StateWord};
+ghost use Rattle.pool_core.specs.StateWords.{is_warm, is_awaiting, is_well_formed, IsWordOf, packed, free_word};
+ghost use Rattle.slot_words.specs.declared.views.Operation.TheVariants.{Claim, Release};
+ghost use Rattle.slot_words.specs.Shows.{Suits};
+ghost use Rattle.slot_words.specs.Leases.{lease_number, lease_word};
+ghost use Rattle.slot_words.specs.Passes.{IsIdle, Holds, IsSamePass, trail};
+ghost use Rattle.slot_words.specs.Owned.{IsPassOf, slots_of, room_of};
+
+use crate::leases::{Held, Lease};
+use crate::outcomes::{Claiming, Releasing};
+use crate::pooled::Pooled;
+use crate::views::Pass;
+use crate::words::Words;
+use pool_core::{Target, pack};
+
+impl<V: Pooled> Words<V> {
+    /// Claims the slot of that number by one step, which sets the held bit of its word.
+    ///
+    /// # Errors
+    ///
+    /// [`Held`] exactly where the word that this step read had the bit: then nothing has changed, and another pass has the slot.
+    pub fn claim(&self, pass: &mut Pass<V>, n: u32) -> Result<Lease<V>, Held>
+        requires own { IsPassOf V.room self.now pass.old }
+        requires idle { IsIdle pass.old }
+        requires number { n < slots_of self.now }
+        ensures same { IsSamePass pass.old pass.new }
+
+        // the word read was not held: the pass has the slot, with the permit or the mark of that word, and its value fits that word
+        ensures won { IfOk result (λ l. (w : StateWord) × IsWordOf (lease_word l) w × (w.held ≡ false) × (lease_number l ≡ n)
+            × (trail pass.new ≡ trail pass.old ++ Claim n (lease_word l) ∷ [])
+            × Holds pass.new n (is_warm w.target.state) false (is_awaiting w.target.state)
+            × Suits V.fits V.room (room_of V.room self.now) w.target l.value) }
+
+        // the word read was held
+        ensures held { OnErr result ((w : StateWord) × (r : ℕ) × IsWordOf r w × (w.held ≡ true)
+            × (trail pass.new ≡ trail pass.old ++ Claim n r ∷ []) × IsIdle pass.new) }
+    {
+        let read = self.table.shared.fetch_or::<Claiming>(pass, n as usize, 1);
+        if read % 2 == 1 {
+            return Err(Held);
+        }
+        match self.table.shared.exchange(pass, n as usize, None) {
+            Some(value) => Ok(Lease {
+                value,
+                number: n,
+                word: read,
+            }),
+            None => unreachable!(),
+        }
+    }
+
+    /// Gives a slot back: its value goes home, and then its word becomes `to`, not held.
+    pub fn release(&self, pass: &mut Pass<V>, lease: Lease<V>, to: Target)
+        requires own { IsPassOf V.room self.now pass.old }
+        requires number { lease_number lease < slots_of self.now }
+        requires holds { Holds pass.old (lease_number lease) (is_warm to.state) false (is_awaiting to.state) }
+        requires target { is_well_formed to ≡ true }
+        requires fits { Suits V.fits V.room (room_of V.room self.now) to lease.value }
+        ensures same { IsSamePass pass.old pass.new }
+        ensures idle { IsIdle pass.new }
+        ensures trail { trail pass.new ≡ trail pass.old ++ Release (lease_number lease) (packed (free_word to)) ∷ [] }
+    {
+        let Lease {
+            value,
+            number,
+            word: _,
+        } = lease;
+        match self
+            .table
+            .shared
+            .exchange(pass, number as usize, Some(value))
+        {
+            None => {}
+            Some(_) => unreachable!(),
+        }
+        self.table
+            .shared
+            .store::<Releasing>(pass, number as usize, pack(to, false));
+    }
+}

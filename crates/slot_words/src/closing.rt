@@ -1,0 +1,46 @@
+//! How a `Words` is closed.
+ghost use Rattle.std.specs.Prelude.{◌+◌, ◌≤◌};
+ghost use Rattle.std.specs.Slots.{IsFull};
+ghost use Rattle.slot_words.specs.Closing.{ClosesAs};
+ghost use Rattle.slot_words.specs.Passes.{IsIdle, share_of, seat_number};
+ghost use Rattle.slot_words.specs.Owned.{IsPassOf, slots_of, limit_of, passes_of};
+
+use crate::kinds::{KindCounts, count_kinds};
+use crate::pooled::Pooled;
+use crate::views::Pass;
+use crate::words::Words;
+use atomic_table::Closed;
+use std::alloc::Global;
+
+fn discard<S: Drop>(mut closed: Closed<S, Global>)
+    requires { IsFull closed.slots }
+{
+    let mut i = 0;
+    while i < closed.slot_count() {
+        drop(closed.take(i));
+        i += 1;
+    }
+    closed.free();
+}
+
+impl<V: Pooled + Drop> Words<V> {
+    /// Ends all seats and counts the state words as they stand. The values are dropped.
+    ///
+    /// As many slots at most are still held as passes were not joined into this one: with all joined, none.
+    pub fn close(self, pass: Pass<V>) -> KindCounts
+        requires own { IsPassOf V.room self pass }
+        requires idle { IsIdle pass }
+        ensures counts { ClosesAs (slots_of self) (limit_of self) (passes_of self) (seat_number pass) result }
+        ensures held { result.held + share_of pass ≤ passes_of self }
+    {
+        let Words {
+            table,
+            slots,
+            limit: _,
+        } = self;
+        let closed = table.close_with(pass);
+        let counts = count_kinds(&closed, slots);
+        discard(closed);
+        counts
+    }
+}

@@ -1,0 +1,30 @@
+//! What holds of the definitions alone.
+ghost use Rattle.slot_words.specs.Events.{LoadsAreEvents, ClaimsAreEvents, ReleasesAreEvents, WarmLoadsAreEvents, WarmUpsAreEvents, WarmDownsAreEvents, StampsAreEvents, AwaitUpsAreEvents, AwaitDownsAreEvents, AwaitLoadsAreEvents, SplitsAreEvents, JoinsAreEvents, ClosesAreEvents, ExchangesAreEvents};
+ghost use Rattle.slot_words.specs.Rule.{OneHolder, NoHiddenSeat, AloneWithAll};
+
+use crate::pooled::Pooled;
+
+/// Each step of a pass is one event of the core that the words show, by that pass's seat.
+pub fn steps_are_events<V: Pooled>()
+    ensures loads { LoadsAreEvents V.fits V.room }
+    ensures claims { ClaimsAreEvents V.fits V.room }
+    ensures releases { ReleasesAreEvents V.fits V.room }
+    ensures exchanges { ExchangesAreEvents V.fits V.room }
+    ensures splits { SplitsAreEvents V.fits V.room }
+    ensures joins { JoinsAreEvents V.fits V.room }
+    ensures closes { ClosesAreEvents V.fits V.room }
+    ensures warm_loads { WarmLoadsAreEvents V.fits V.room }
+    ensures warm_ups { WarmUpsAreEvents V.fits V.room }
+    ensures warm_downs { WarmDownsAreEvents V.fits V.room }
+    ensures stamps { StampsAreEvents V.fits V.room }
+    ensures await_ups { AwaitUpsAreEvents V.fits V.room }
+    ensures await_downs { AwaitDownsAreEvents V.fits V.room }
+    ensures await_loads { AwaitLoadsAreEvents V.fits V.room }
+{}
+
+/// What the rule says of each moment, for all passes together.
+pub fn passes_share_the_words<V: Pooled>()
+    ensures one_holder { OneHolder V.fits V.room }
+    ensures no_hidden_seat { NoHiddenSeat V.fits V.room }
+    ensures alone_with_all { AloneWithAll V.fits V.room }
+{}

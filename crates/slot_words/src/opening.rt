@@ -1,0 +1,103 @@
+//! How a `Words` is opened.
+ghost use Rattle.std.specs.Prelude.{◌≡◌, ℕ, List, ◌+◌, ◌-◌, ◌^◌, ◌<◌, ◌≤◌, Some, [], map, length, vec_capacity, IfOk};
+ghost use Rattle.std.specs.List.{All};
+ghost use Rattle.pool_core.specs.declared.words.State.TheVariants.{Cold};
+ghost use Rattle.slot_words.specs.Views.{new_view, first_view};
+ghost use Rattle.slot_words.specs.Setups.{bounds_at};
+ghost use Rattle.slot_words.specs.Owned.{IsNewPassOf, slots_of, limit_of, passes_of, room_of};
+
+use crate::pooled::Pooled;
+use crate::setup::Setup;
+use crate::views::Pass;
+use crate::words::Words;
+use atomic_table::{Refused, Table};
+use pool_core::NoMemory;
+use std::alloc::{AllocError, Global};
+use std::snapshot::Snapshot;
+
+// A slot for each value.
+fn in_slots<V: Drop>(alloc: Global, mut values: Vec<V>) -> Result<Vec<Option<V>>, AllocError>
+    ensures { IfOk result (λ s. s.items ≡ map (λ x. Some x) values.items) }
+{
+    let mut slots = Vec::with_capacity(alloc, values.len())?;
+    while let Some(value) = values.pop() {
+        slots.push_reserved(Some(value));
+    }
+    slots.reverse();
+    Ok(slots)
+}
+
+impl<V: Pooled + Drop> Words<V> {
+    /// Puts each value into a slot of its own, cold and not held, and hands out as many passes as are asked for. No other pass of these words is ever made. At most `warm` slots may be warm. Whatever restores the values has the type of `images`.
+    ///
+    /// # Errors
+    ///
+    /// [`NoMemory`]: no memory was left. The values are dropped.
+    pub fn open(
+        alloc: Global,
+        _images: &V::Images,
+        values: Vec<V>,
+        warm: u32,
+        passes: u32,
+    ) -> Result<(Words<V>, Vec<Pass<V>>), NoMemory>
+        requires count { (1 ≤ length values.items) × (length values.items ≤ 64) }
+        requires passes { 1 ≤ passes }
+        requires cold { All (λ x. V.fits Cold 0 x) values.items }
+        requires room { (r : List ℕ) × All (λ x. V.room x ≡ r) values.items }
+        ensures words { IfOk result (λ o. (slots_of o.0 ≡ length values.items) × (limit_of o.0 ≡ warm) × (passes_of o.0 ≡ passes)) }
+        ensures room { IfOk result (λ o. All (λ x. V.room x ≡ room_of V.room o.0) values.items) }
+        ensures passes { IfOk result (λ o. (length o.1.items ≡ passes) × All (IsNewPassOf V.room o.0) o.1.items) }
+    {
+        let count = values.len();
+        let setup: Setup<V> = Setup {
+            sample: Snapshot::of(&values[0]),
+            limit: warm as u64,
+            passes: passes as u64,
+        };
+        let slots = in_slots(alloc, values)?;
+        let mut all = Vec::with_capacity(alloc, passes as usize)?;
+        let (words, first) = Words::start(alloc, &setup, slots, count)?;
+        words.deal(first, passes, &mut all);
+        Ok((words, all))
+    }
+
+    fn start(
+        alloc: Global,
+        setup: &Setup<V>,
+        slots: Vec<Option<V>>,
+        count: usize,
+    ) -> Result<(Words<V>, Pass<V>), AllocError>
+        requires count { (count ≤ 64) × (1 ≤ setup.now.passes) × (setup.now.passes < 2 ^ 32) }
+        requires values { (xs : List V) × (slots.items ≡ map (λ x. Some x) xs) × (length xs ≡ count)
+            × All (λ x. V.fits Cold 0 x × (V.room x ≡ V.room setup.now.sample.value)) xs }
+        ensures words { IfOk result (λ o. (o.0.table.shared.key ≡ setup.now) × (o.0.slots ≡ count)) }
+        ensures pass { IfOk result (λ o. (o.1.table_id ≡ o.0.table.shared.table_id) × (o.1.me ≡ (first_view (bounds_at V.room setup.now) setup.now.passes, []))) }
+    {
+        let words = Vec::from_elem(alloc, 0u64, count + 3)?;
+        match Table::new(alloc, words.as_slice(), slots, setup) {
+            Ok((table, pass)) => Ok((
+                Words {
+                    table,
+                    slots: count,
+                    limit: setup.limit,
+                },
+                pass,
+            )),
+            Err(Refused { slots: _ }) => Err(AllocError),
+        }
+    }
+
+    // Splits the first pass, which stands for all, into one pass for each.
+    fn deal(&self, mut first: Pass<V>, passes: u32, all: &mut Vec<Pass<V>>)
+        requires first { (first.table_id ≡ self.now.table.shared.table_id) × (first.me ≡ (first_view (bounds_at V.room self.now.table.shared.key) passes, [])) }
+        requires room { (1 ≤ passes) × (all.old.items ≡ []) × (passes ≤ vec_capacity all.old) }
+        ensures count { length all.new.items ≡ passes }
+        ensures each { All (IsNewPassOf V.room self.now) all.new.items }
+    {
+        for _ in 1..passes {
+            let next = self.split_pass(&mut first);
+            all.push_reserved(next);
+        }
+        all.push_reserved(first);
+    }
+}

@@ -1,0 +1,21 @@
+//! The rule that the words, the values and the passes keep at each moment.
+ghost use Rattle.slot_words.specs.Shows.{ShowsLawful};
+ghost use Rattle.slot_words.specs.Views.{first_view};
+ghost use Rattle.slot_words.specs.Setups.{bounds_at};
+
+use crate::pooled::Pooled;
+use crate::setup::Setup;
+use crate::views::PassView;
+use atomic_table::TableRule;
+use std::marker::PhantomData;
+
+/// At each moment the words, the values at home and the passes show one core, and that core is lawful.
+pub struct Ruled<V> {
+    marker: PhantomData<V>,
+}
+
+impl<V: Pooled> TableRule<Option<V>, PassView, Setup<V>> for Ruled<V> {
+    ghost holds = { λ k s. ShowsLawful V.fits V.room (bounds_at V.room k) k.passes s };
+
+    ghost first = { λ k. first_view (bounds_at V.room k) k.passes };
+}

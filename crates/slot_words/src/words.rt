@@ -1,0 +1,20 @@
+//! The words that threads share.
+ghost use Rattle.std.specs.Prelude.{◌≡◌, ◌+◌, ◌≤◌};
+
+use crate::pooled::Pooled;
+use crate::rule::Ruled;
+use crate::setup::Setup;
+use crate::views::PassView;
+use atomic_table::Table;
+use std::alloc::Global;
+
+/// The state words, the count words and the values of the slots, shared by `&`.
+///
+/// All words stand in one table: word n is slot n's, and then come the warm word, the await word and the clock word.
+#[derive(Drop)]
+pub struct Words<V: Pooled> {
+    pub(crate) table: Table<Option<V>, PassView, Setup<V>, Ruled<V>, Global>,
+    pub(crate) slots: usize,
+    pub(crate) limit: u64,
+    ghost sized: { (table.shared.table_id.words ≡ slots + 3) × (table.shared.table_id.slots ≡ slots) × (table.shared.key.limit ≡ limit) × (slots ≤ 64) },
+}
