@@ -12,5 +12,7 @@ mod plain;
 mod step;
 #[cfg(test)]
 mod tests;
-pub mod valid;
+mod valid;
 mod walk;
+
+pub use valid::{Valid, ValidFault, validate};

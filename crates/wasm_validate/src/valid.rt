@@ -1,6 +1,6 @@
 // Valid modules.
 
-ghost use Rattle.std.specs.Prelude.{map, ◌≡◌, ◌<◌, ◌↔◌, ℕ, List, length, slice_get, IfSome, IfNone, IfOk, OnOk, IsErrOf, MatchOption};
+ghost use Rattle.std.specs.Prelude.{◌≡◌, ◌<◌, ◌↔◌, ℕ, List, length, slice_get, IfSome, IfNone, IfOk, OnOk, IsErrOf, MatchOption, map};
 ghost use Rattle.wasm_types.specs.Tree.{module_tree};
 ghost use Rattle.wasm_spec.specs.Built.{IsBuilt};
 ghost use Rattle.wasm_spec.specs.Need.{need};
