@@ -1,5 +1,5 @@
 -- Entries and lines: what each step of a report shows.
-use Rattle.std.proofs.Common.{◌≡◌, ℕ, zero, suc, ◌+◌, ◌<◌, ◌≤◌, List, [], ◌∷◌, ◌++◌, Option, Some, None, Ok, Err, length, get_or, drop, refl, sym, ap, ◌∙◌, subst, arith, length-append, append_assoc, append-nil, drop-cons, add-one, cond}
+use Rattle.std.proofs.Common.{◌≡◌, ℕ, zero, suc, ◌+◌, ◌<◌, ◌≤◌, List, [], ◌∷◌, ◌++◌, Some, Ok, Err, length, get_or, drop, refl, sym, ap, ◌∙◌, subst, arith, length-append, append_assoc, append-nil, drop-cons, add-one, cond}
 use Rattle.std.proofs.lemmas.List.Sums.{sum_by-cons}
 use Rattle.std.proofs.lemmas.Option.{slice_get_within}
 use Rattle.std.specs.Prelude.{slice_get}
@@ -20,7 +20,7 @@ use Rattle.request_text.specs.declared.report.CallLine.{CallLine}
 use Rattle.request_text.specs.declared.report.CallLine.TheVariants as call_line
 use Rattle.request_text.specs.Lines as lines
 use Rattle.request_text.specs.Text.{IsPlacedFrom, call_count, is_call}
-use Rattle.host_run.specs.Report.{Limits, IsCallLine, IsModuleLine, ReportsFrom, answer_line, lane_of, load_limits, modules_of, run_limits}
+use Rattle.host_run.specs.Report.{Limits, IsCallLine, IsModuleLine, ReportsFrom, answer_line, lane_of, load_limits, modules_of}
 use Rattle.host_run.specs.Entries.{AreEntries, IsEntry}
 use Rattle.host_run.specs.Progress.{Progress}
 use Rattle.host_run.specs.declared.modules.Entry.{Entry}

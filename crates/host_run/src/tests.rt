@@ -15,111 +15,201 @@ struct Run {
 
 const RUN: &[&str] = &["poolhost", "run"];
 
+// A module that exports the addition of two i32 under the name add, and a call of it.
+const ADDITION: &[u8] =
+    b"module add 0061736d0100000001070160027f7f017f030201000707010361646400000a09010700200020016a0b
+call add add 100 i32:2 i32:3
+";
+
+const CALLS: &[u8] = b"# calls of an addition
+module add 0061736d0100000001070160027f7f017f030201000707010361646400000a09010700200020016a0b
+call add add 100 i32:2147483647 i32:1
+call add add 100 i32:4294967295 i32:1
+call add add 3 i32:2 i32:3
+call add add 2 i32:2 i32:3
+call add add 0 i32:2 i32:3
+call add add 100 i32:2
+call add sub 9 i32:1
+";
+
+const MODULES: &[u8] = b"module e 0061736d01000000
+call e x 1
+module cut 0061736d010000
+call cut x 1
+module p 0061736d0100000001058080808000
+module q 0061736d0100000001058080808010
+";
+
+const BAD_ARGUMENT: &[u8] =
+    b"module add 0061736d0100000001070160027f7f017f030201000707010361646400000a09010700200020016a0b
+call add add 1 i32:4294967296 i32:0
+";
+
+const USED_TWICE: &[u8] =
+    b"module add 0061736d0100000001070160027f7f017f030201000707010361646400000a09010700200020016a0b
+module add 0061736d0100000001070160027f7f017f030201000707010361646400000a09010700200020016a0b
+";
+
+const RUNS: [Run; 17] = [
+    // a call of an addition
+    Run {
+        words: RUN,
+        bytes: ADDITION,
+        source: (4096, &[]),
+        sink: (4096, &[]),
+        status: 0,
+        written: b"module add ok\n1 ok i32:5\n",
+    },
+    // in small pieces
+    Run {
+        words: RUN,
+        bytes: ADDITION,
+        source: (3, &[]),
+        sink: (1, &[]),
+        status: 0,
+        written: b"module add ok\n1 ok i32:5\n",
+    },
+    // by several workers
+    Run {
+        words: &["poolhost", "run", "--workers", "4"],
+        bytes: ADDITION,
+        source: (4096, &[]),
+        sink: (4096, &[]),
+        status: 0,
+        written: b"module add ok\n1 ok i32:5\n",
+    },
+    // sums, fuel, exports and arguments
+    Run {
+        words: RUN,
+        bytes: CALLS,
+        source: (4096, &[]),
+        sink: (4096, &[]),
+        status: 0,
+        written: b"module add ok\n1 ok i32:-2147483648\n2 ok i32:0\n3 ok i32:5\n4 fuel\n5 fuel\n6 refused args\n7 refused export\n",
+    },
+    // an empty module, one that is cut off, and padded counts
+    Run {
+        words: RUN,
+        bytes: MODULES,
+        source: (4096, &[]),
+        sink: (4096, &[]),
+        status: 0,
+        written: b"module e ok\n1 refused export\nmodule cut refused malformed\n2 refused module\nmodule p ok\nmodule q refused malformed\n",
+    },
+    // no line
+    Run {
+        words: RUN,
+        bytes: b"",
+        source: (4096, &[]),
+        sink: (4096, &[]),
+        status: 0,
+        written: b"",
+    },
+    // an unknown module
+    Run {
+        words: RUN,
+        bytes: b"call a f 1",
+        source: (4096, &[]),
+        sink: (4096, &[]),
+        status: 2,
+        written: b"line 1: unknown module\n",
+    },
+    // a bad argument in the second line
+    Run {
+        words: RUN,
+        bytes: BAD_ARGUMENT,
+        source: (4096, &[]),
+        sink: (4096, &[]),
+        status: 2,
+        written: b"line 2: bad argument\n",
+    },
+    // a name for two modules
+    Run {
+        words: RUN,
+        bytes: USED_TWICE,
+        source: (4096, &[]),
+        sink: (4096, &[]),
+        status: 2,
+        written: b"line 2: name used twice\n",
+    },
+    // a frame that is enough
+    Run {
+        words: &["poolhost", "run", "--frame", "5"],
+        bytes: ADDITION,
+        source: (4096, &[]),
+        sink: (4096, &[]),
+        status: 0,
+        written: b"module add ok\n1 ok i32:5\n",
+    },
+    // a frame that is too small
+    Run {
+        words: &["poolhost", "run", "--frame", "4"],
+        bytes: ADDITION,
+        source: (4096, &[]),
+        sink: (4096, &[]),
+        status: 0,
+        written: b"module add refused limit\n1 refused module\n",
+    },
+    // a read that fails
+    Run {
+        words: RUN,
+        bytes: ADDITION,
+        source: (16, &[3]),
+        sink: (4096, &[]),
+        status: 3,
+        written: b"",
+    },
+    // a write that fails
+    Run {
+        words: RUN,
+        bytes: ADDITION,
+        source: (4096, &[]),
+        sink: (5, &[2]),
+        status: 4,
+        written: b"modul",
+    },
+    // several workers and one memory, unread
+    Run {
+        words: &["poolhost", "run", "--workers", "2", "--memories", "1"],
+        bytes: b"abc",
+        source: (16, &[1]),
+        sink: (4096, &[]),
+        status: 2,
+        written: b"refused words\n",
+    },
+    // too many workers
+    Run {
+        words: &["poolhost", "run", "--workers", "17"],
+        bytes: b"",
+        source: (4096, &[]),
+        sink: (4096, &[]),
+        status: 2,
+        written: b"refused words\n",
+    },
+    // no command
+    Run {
+        words: &["poolhost"],
+        bytes: b"",
+        source: (4096, &[]),
+        sink: (4096, &[]),
+        status: 2,
+        written: b"refused words\n",
+    },
+    // a refusal in part
+    Run {
+        words: &["poolhost", "run", "run"],
+        bytes: b"",
+        source: (4096, &[]),
+        sink: (5, &[3]),
+        status: 4,
+        written: b"refused wo",
+    },
+];
+
 #[test]
 fn runs_end_with_their_status_and_text(rt: HostRuntime) -> Result<(), Fail> {
     let alloc = rt.alloc();
-    let runs = [
-        // a report
-        Run {
-            words: RUN,
-            bytes: b"abcdefghij",
-            source: (99, &[]),
-            sink: (99, &[]),
-            status: 0,
-            written: b"jihgfedcba",
-        },
-        // small pieces
-        Run {
-            words: RUN,
-            bytes: b"abcdefghij",
-            source: (3, &[]),
-            sink: (1, &[]),
-            status: 0,
-            written: b"jihgfedcba",
-        },
-        // an empty file
-        Run {
-            words: RUN,
-            bytes: b"",
-            source: (99, &[]),
-            sink: (99, &[]),
-            status: 0,
-            written: b"",
-        },
-        // a refused line
-        Run {
-            words: RUN,
-            bytes: b"!bcd",
-            source: (2, &[]),
-            sink: (5, &[]),
-            status: 2,
-            written: b"line 1: bad byte\n",
-        },
-        // a read that fails
-        Run {
-            words: RUN,
-            bytes: b"abcdefghij",
-            source: (4, &[3]),
-            sink: (99, &[]),
-            status: 3,
-            written: b"",
-        },
-        // a write that fails
-        Run {
-            words: RUN,
-            bytes: b"abcdefghij",
-            source: (99, &[]),
-            sink: (5, &[2]),
-            status: 4,
-            written: b"jihgf",
-        },
-        // no command
-        Run {
-            words: &["poolhost"],
-            bytes: b"abc",
-            source: (99, &[]),
-            sink: (5, &[]),
-            status: 2,
-            written: b"refused words\n",
-        },
-        // several workers, and one memory to share
-        Run {
-            words: &["poolhost", "run", "--workers", "2", "--memories", "1"],
-            bytes: b"abc",
-            source: (99, &[]),
-            sink: (5, &[]),
-            status: 2,
-            written: b"refused words\n",
-        },
-        // other options
-        Run {
-            words: &["poolhost", "run", "--workers=2", "--tables", "3"],
-            bytes: b"abc",
-            source: (99, &[]),
-            sink: (5, &[]),
-            status: 0,
-            written: b"cba",
-        },
-        // another command, unread
-        Run {
-            words: &["poolhost", "make"],
-            bytes: b"abc",
-            source: (99, &[1]),
-            sink: (5, &[]),
-            status: 2,
-            written: b"refused words\n",
-        },
-        // a refusal in part
-        Run {
-            words: &["poolhost", "run", "run"],
-            bytes: b"abc",
-            source: (99, &[]),
-            sink: (5, &[3]),
-            status: 4,
-            written: b"refused wo",
-        },
-    ];
-    for (at, run) in runs.into_iter().enumerate() {
+    for (at, run) in RUNS.into_iter().enumerate() {
         let mut source = MemSource::new(
             run.bytes.to_vec(alloc)?,
             run.source.0.max(1),

@@ -7,7 +7,8 @@ ghost use Rattle.pool_host.specs.LoadWords.{FirstOver, FitsFrame, IsRefused, lim
 use std::alloc::Global;
 use std::marker::Model;
 use thiserror::Error;
-use wasm_decode::{DecodeFault, decode};
+use wasm_decode::decode::decode;
+use wasm_decode::fault::DecodeFault;
 use wasm_validate::{Valid, ValidFault, validate};
 
 /// What a module may ask for: pages of 65,536 bytes, elements of a table, and entries of a function's frame.

@@ -1,4 +1,4 @@
-use Rattle.std.proofs.Common.{◌≡◌, ◌∙◌}
+use Rattle.std.proofs.Common.{◌∙◌}
 use Rattle.std.proofs.lemmas.List.{drop_all}
 use Rattle.host_run.specs.Report.{limits_of}
 use Rattle.host_run.proofs.ReportLemmas.{finished, next_directive}

@@ -1,6 +1,5 @@
-use Rattle.std.proofs.Common.{◌≡◌, ◌∙◌, arith, length}
 use Rattle.host_run.specs.Report.{modules_of}
-use Rattle.host_run.proofs.ReportLemmas.{length-entries, entry_at, entry_there, module_at, module_told, placed_below, called_module, call_told}
+use Rattle.host_run.proofs.ReportLemmas.{entry_at, entry_there, module_at, module_told, called_module, call_told}
 use Rattle.host_run.proofs.reporting.write_directive.Goals as goal
 
 pub entry_at-requires : goal.entry_at-requires

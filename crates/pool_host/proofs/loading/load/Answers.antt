@@ -1,17 +1,21 @@
-use Rattle.std.proofs.Common.{rules, ap}
+use Rattle.std.proofs.Common.{ap, subst}
 use Rattle.wasm_types.specs.Tree.{module_tree}
+use Rattle.wasm_spec.specs.Built.{SpellsBuilt}
+use Rattle.wasm_decode.specs.Decoding.{IsNone}
+use Rattle.wasm_decode.specs.declared.fault.DecodeFault.TheVariants.{Malformed}
 use Rattle.wasm_types.specs.declared.module.Module.{Module}
 use Rattle.pool_host.specs.LoadWords.{limits_of}
 use Rattle.pool_host.proofs.LoadLemmas.{within_limits, past_frame}
 use Rattle.pool_host.proofs.loading.load.Goals as goal
 
 pub returns-in-Err-Malformed-clause-refused : goal.returns-in-Err-Malformed-clause-refused
-returns-in-Err-Malformed-clause-refused c = c.in-Err-Malformed.ensures.malformed (search rules)
+returns-in-Err-Malformed-clause-refused c =
+    let none : IsNone (SpellsBuilt c.args.bytes.now) Malformed = subst (IsNone (SpellsBuilt c.args.bytes.now)) c.in-Err-Malformed.field-0-is c.in-Err-Malformed.ensures in none
 
 pub returns-in-Some-clause-refused : goal.returns-in-Some-clause-refused
 returns-in-Some-clause-refused c =
     let valid = c.in-Ok-validate.ensures in
-    let spelled = c.in-Ok.ensures.ok in
+    let spelled = c.in-Ok.ensures in
     let needs = rw valid.ok at c.frame_needs.ensures in (
       module_tree c.in-Ok.module,
       spelled,
@@ -25,7 +29,7 @@ returns-in-Some-clause-refused c =
 pub returns-in-None-clause-loaded : goal.returns-in-None-clause-loaded
 returns-in-None-clause-loaded c =
     let valid = c.in-Ok-validate.ensures in
-    let spelled = c.in-Ok.ensures.ok in
+    let spelled = c.in-Ok.ensures in
     let needs = rw valid.ok at c.frame_needs.ensures in (
       module_tree c.in-Ok.module,
       spelled,
