@@ -3,7 +3,6 @@
 ghost use Rattle.std.specs.Prelude.{◌≡◌};
 ghost use Rattle.wasm_decode.specs.declared.fault.DecodeFault.TheVariants as fault;
 
-use leb_read::cursor;
 use std::alloc::{AllocError, AllocFailed};
 
 /// Why a module isn't decoded.
@@ -32,14 +31,5 @@ impl<T: Drop> From<AllocFailed<T>> for DecodeFault {
     fn from(error: AllocFailed<T>) -> Self {
         let _ = error;
         DecodeFault::NoMemory
-    }
-}
-
-impl From<cursor::Malformed> for DecodeFault {
-    ghost from_gives = { λ _ e. e ≡ fault.Malformed };
-
-    fn from(error: cursor::Malformed) -> Self {
-        let _ = error;
-        DecodeFault::Malformed
     }
 }

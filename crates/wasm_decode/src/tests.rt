@@ -3,7 +3,7 @@
 use crate::decode::decode;
 use crate::fault::DecodeFault;
 use wasm_types::instr::{BinaryOp, Instr, Op, Width};
-use wasm_types::module::ExportDesc;
+use wasm_types::module::{ExportDesc, Module};
 use wasm_types::types::ValType;
 
 /// A module that exports `add`, a function of two i32 that adds them.
@@ -96,41 +96,51 @@ fn sections_and_their_contents(rt: HostRuntime) {
     }
 }
 
+/// Whether the only type is that of two i32 to one.
+fn takes_two_and_gives_one(module: &Module) -> bool {
+    let [signature] = module.types.as_slice() else {
+        return false;
+    };
+    matches!(signature.params.as_slice(), [ValType::I32, ValType::I32])
+        && matches!(signature.results.as_slice(), [ValType::I32])
+}
+
+/// Whether the only export is the function 0, as `add`.
+fn exports_add(module: &Module) -> bool {
+    let [export] = module.exports.as_slice() else {
+        return false;
+    };
+    matches!(export.name.as_slice(), b"add") && matches!(export.desc, ExportDesc::Func(0))
+}
+
+/// Whether the only function has type 0, no locals, and adds its parameters.
+fn adds(module: &Module) -> bool {
+    let [function] = module.functions.as_slice() else {
+        return false;
+    };
+    let [sequence] = function.body.sequences.as_slice() else {
+        return false;
+    };
+    let [Op::Plain(first), Op::Plain(second), Op::Plain(third)] = sequence.as_slice() else {
+        return false;
+    };
+    function.type_index == 0
+        && function.locals.is_empty()
+        && matches!(first, Instr::LocalGet(0))
+        && matches!(second, Instr::LocalGet(1))
+        && matches!(third, Instr::Binary(Width::W32, BinaryOp::Add))
+}
+
 #[test]
 fn a_function_that_adds(rt: HostRuntime) {
-    let Ok(module) = decode(rt.alloc(), ADD) else {
-        panic!(rt; "it was refused");
-    };
-    let [signature] = module.types.as_slice() else {
-        panic!(rt; "it has one type");
-    };
-    assert_eq!(rt;
-        signature.params.as_slice(),
-        [ValType::I32, ValType::I32].as_slice()
-    );
-    assert_eq!(rt; signature.results.as_slice(), [ValType::I32].as_slice());
-    let [export] = module.exports.as_slice() else {
-        panic!(rt; "it has one export");
-    };
-    assert_eq!(rt; export.name.as_slice(), b"add".as_slice());
-    assert_eq!(rt; export.desc, ExportDesc::Func(0));
-    let [function] = module.functions.as_slice() else {
-        panic!(rt; "it has one function");
-    };
-    assert_eq!(rt; function.type_index, 0);
-    assert!(rt; function.locals.is_empty());
-    let [sequence] = function.body.sequences.as_slice() else {
-        panic!(rt; "its code is one sequence");
-    };
-    let adds = matches!(
-        sequence.as_slice(),
-        [
-            Op::Plain(Instr::LocalGet(0)),
-            Op::Plain(Instr::LocalGet(1)),
-            Op::Plain(Instr::Binary(Width::W32, BinaryOp::Add))
-        ]
-    );
-    assert!(rt; adds);
+    match decode(rt.alloc(), ADD) {
+        Ok(module) => {
+            assert!(rt; takes_two_and_gives_one(&module));
+            assert!(rt; exports_add(&module));
+            assert!(rt; adds(&module));
+        }
+        Err(fault) => panic!(rt; "{fault}"),
+    }
 }
 
 #[test]
