@@ -1,3 +1,4 @@
 pub mod DueLemmas
-pub mod StreamLemmas
+pub mod LineLemmas
 pub mod ReportLemmas
+pub mod StreamLemmas

@@ -4,6 +4,7 @@
 mod answer;
 mod due;
 mod file_limit;
+pub mod laws;
 mod modules;
 mod reporting;
 mod serving;

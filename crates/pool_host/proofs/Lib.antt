@@ -1,3 +1,4 @@
+pub mod AnswerLemmas
 pub mod ArgumentLemmas
-pub mod LoadLemmas
 pub mod CallLemmas
+pub mod LoadLemmas

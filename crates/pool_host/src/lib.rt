@@ -3,6 +3,7 @@
 
 mod arguments;
 mod lane;
+pub mod laws;
 mod loading;
 
 pub use lane::{LaneAnswer, LaneHost};

@@ -11,6 +11,7 @@ ghost use Rattle.wasm_machine.specs.OperandStack.{with_values};
 ghost use Rattle.wasm_machine.specs.Straight.{Finishes, IsRunnable, state_of};
 
 use crate::operands::Operands;
+use wasm_numeric::i32_operators::i32_add;
 use wasm_types::instr::{BinaryOp, Instr, Op, Width};
 use wasm_types::outcome::Val;
 
@@ -35,7 +36,7 @@ fn add_i32(operands: &mut Operands)
 {
     let second = pop_i32(operands);
     let first = pop_i32(operands);
-    operands.push(Val::I32(first.wrapping_add(second)));
+    operands.push(Val::I32(i32_add(first, second)));
 }
 
 // The local's value on the top.

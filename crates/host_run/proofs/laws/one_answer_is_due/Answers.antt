@@ -1,0 +1,5 @@
+use Rattle.host_run.proofs.LineLemmas.{one_due}
+use Rattle.host_run.proofs.laws.one_answer_is_due.Goals as goal
+
+pub returns : goal.returns
+returns c = one_due

@@ -1,0 +1,5 @@
+use Rattle.host_run.proofs.LineLemmas.{one_module_line}
+use Rattle.host_run.proofs.laws.same_module_line.Goals as goal
+
+pub returns : goal.returns
+returns c = one_module_line

@@ -1,0 +1,63 @@
+-- A call has one answer.
+use Rattle.std.proofs.Common.{◌≡◌, ◌≢◌, ℕ, ◌<◌, ◌≤◌, List, Option, Some, None, map, refl, sym, ap, ◌∙◌, subst, arith, ◌⊎◌, inl, inr}
+use Rattle.std.specs.Prelude.{slice_get}
+use Rattle.std.proofs.lemmas.Bool.{cases_lt}
+use Rattle.std.proofs.lemmas.Option.{get_or_from_slice_get, slice_get_within}
+use Rattle.wasm_types.specs.declared.types.FuncType.{FuncType}
+use Rattle.wasm_types.specs.declared.outcome.Val.{Val}
+use Rattle.wasm_types.specs.declared.module.Export.{Export}
+use Rattle.wasm_types.specs.declared.module.ExportDesc.{ExportDesc}
+use Rattle.wasm_types.specs.declared.module.ExportDesc.TheVariants as desc
+use Rattle.wasm_types.specs.Tree.{ModuleTree}
+use Rattle.wasm_spec.specs.Execution.{RunLimits}
+use Rattle.wasm_spec.specs.Validity.{Exports, IsValid}
+use Rattle.pool_host.specs.CallWords.{IsAnswer, IsExported}
+use Rattle.pool_host.specs.declared.lane.LaneAnswer.{LaneAnswer}
+use Rattle.pool_host.specs.declared.lane.LaneAnswer.TheVariants.{Done, NoExport, BadArgs}
+
+differ : (m : ModuleTree) (name : List ℕ) (i j : ℕ) (e f : Export) → IsValid m → slice_get m.exports i ≡ Some e → slice_get m.exports j ≡ Some f
+    → e.name ≡ name → f.name ≡ name → i < j → ⊥
+differ m name i j e f valid at at' is is' lt =
+    let name_of : Export → List ℕ = λ (x : Export). x.name in
+    valid.names_differ i j e lt (slice_get_within m.exports j f at')
+    (ap name_of (get_or_from_slice_get m.exports i e e at) ∙ is ∙ sym is' ∙ sym (ap name_of (get_or_from_slice_get m.exports j f e at')))
+
+one_place : (m : ModuleTree) (name : List ℕ) (i j : ℕ) (e f : Export) → IsValid m → slice_get m.exports i ≡ Some e → slice_get m.exports j ≡ Some f
+    → e.name ≡ name → f.name ≡ name → i ≡ j
+one_place m name i j e f valid at at' is is' = elim (cases_lt i j) [
+  | inl lt ↦ absurd (differ m name i j e f valid at at' is is' lt)
+  | inr le ↦ elim (cases_lt j i) [ inl lt ↦ absurd (differ m name j i f e valid at' at is' is lt) | inr ge ↦ omega arith ]
+]
+
+pub one_export : (m : ModuleTree) (name : List ℕ) (x y : ℕ) → IsValid m → Exports m name x → Exports m name y → x ≡ y
+one_export m name x y valid h g =
+    let (i, e, at, named, is) = h in
+    let (j, f, at', named', is') = g in
+    let same : i ≡ j = one_place m name i j e f valid at at' named named' in
+    let there : slice_get m.exports j ≡ Some e = subst (λ (k : ℕ). slice_get m.exports k ≡ Some e) same at in
+    let one : e ≡ f = cc in
+    let d : desc.Func x ≡ desc.Func y = sym is ∙ ap (λ (k : Export). k.desc) one ∙ is' in cc
+
+module _ (m : ModuleTree) (limits : RunLimits) (export : List ℕ) (args : List Val) (fuel : ℕ) (valid : IsValid m) where
+  one_type : (x y : ℕ) (t u : FuncType) → IsExported m export x t → IsExported m export y u → (x ≡ y) × (t ≡ u)
+  one_type x y t u h g =
+      let same : x ≡ y = one_export m export x y valid h.exported g.exported in
+      let typed : Some t ≡ Some u = sym (rw same at h.typed) ∙ g.typed in
+      (same, cc)
+
+  pub one_answer : (a b : LaneAnswer) → IsAnswer m limits export args fuel a → IsAnswer m limits export args fuel b → a ≡ b
+  one_answer NoExport NoExport h g = refl
+  one_answer NoExport BadArgs h (x, t, g, bad) = absurd (h x g.exported)
+  one_answer NoExport (Done o) h (x, t, g, fit, r, done, is) = absurd (h x g.exported)
+  one_answer BadArgs NoExport (x, t, h, bad) g = absurd (g x h.exported)
+  one_answer BadArgs BadArgs h g = refl
+  one_answer BadArgs (Done o) (x, t, h, bad) (y, u, g, fit, r, done, is) =
+      let (same, types) = one_type x y t u h g in absurd (bad (rw types fit))
+  one_answer (Done p) NoExport (x, t, h, fit, r, done, is) g = absurd (g x h.exported)
+  one_answer (Done p) BadArgs (x, t, h, fit, r, done, is) (y, u, g, bad) =
+      let (same, types) = one_type x y t u h g in absurd (bad (rw (← types) fit))
+  one_answer (Done p) (Done o) (x, t, h, fit, r, done, is) (y, u, g, fit', s, done', is') =
+      let (same, types) = one_type x y t u h g in
+      let ends : Some r ≡ Some s = sym (rw same at done) ∙ done' in
+      let one : r ≡ s = cc in
+      ap Done (is ∙ ap (λ k. k.outcome) one ∙ sym is')

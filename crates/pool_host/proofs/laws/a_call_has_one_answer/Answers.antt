@@ -1,0 +1,5 @@
+use Rattle.pool_host.proofs.AnswerLemmas.{one_answer}
+use Rattle.pool_host.proofs.laws.a_call_has_one_answer.Goals as goal
+
+pub returns : goal.returns
+returns c = λ m limits export args fuel a b valid h g. one_answer m limits export args fuel valid a b h g
