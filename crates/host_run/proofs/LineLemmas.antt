@@ -1,14 +1,12 @@
 -- Each line is decided, and so is the whole answer.
-use Rattle.std.proofs.Common.{◌≡◌, ℕ, ◌+◌, List, [], ◌∷◌, ◌++◌, Bool, true, false, Option, Some, None, Ok, Err, refl, sym, ap, ◌∙◌, subst}
-use Rattle.std.specs.Prelude.{Result, slice_get}
+use Rattle.std.proofs.Common.{◌≡◌, ℕ, ◌+◌, List, [], ◌∷◌, ◌++◌, Bool, true, false, Ok, Err, refl, sym, ap, ◌∙◌, subst}
+use Rattle.std.specs.Prelude.{Result}
 use Rattle.wasm_types.specs.declared.outcome.Val.{Val}
 use Rattle.wasm_types.specs.Tree.{ModuleTree}
-use Rattle.wasm_spec.specs.Loading.{LoadLimits, Refusal}
-use Rattle.wasm_spec.specs.Loading as loading
+use Rattle.wasm_spec.specs.Loading.{Refusal}
 use Rattle.wasm_spec.specs.Built.{LoadsBuilt}
 use Rattle.wasm_spec.specs.Validity.{IsValid}
 use Rattle.wasm_spec.proofs.Loading.{loads_built-unique}
-use Rattle.pool_host.specs.declared.lane.LaneAnswer.{LaneAnswer}
 use Rattle.pool_host.proofs.AnswerLemmas.{one_answer}
 use Rattle.request_text.specs.declared.request.Directive.{Directive}
 use Rattle.request_text.specs.declared.request.Directive.TheVariants.{Module, Call}
@@ -19,8 +17,8 @@ use Rattle.request_text.specs.Text as text
 use Rattle.request_text.specs.Text.{requests_of}
 use Rattle.command_line.specs.Words.{is_accepted, options_of}
 use Rattle.command_line.specs.declared.options.Options.{Options}
-use Rattle.host_run.specs.Report.{Limits, IsCallLine, IsModuleLine, IsReport, ReportsFrom, ShowsCall, answer_line, limits_of, load_limits, loading_line, modules_of, run_limits}
-use Rattle.host_run.specs.Serving.{Answer, IsAnswer, IsDue, refused, refused_words}
+use Rattle.host_run.specs.Report.{Limits, IsCallLine, IsModuleLine, ReportsFrom, ShowsCall, answer_line, limits_of, load_limits, loading_line, modules_of, run_limits}
+use Rattle.host_run.specs.Serving.{Answer, IsAnswer, IsDue}
 
 pub one_module_line : (limits : Limits) (bytes : List ℕ) (a b : ModuleLine) → IsModuleLine limits bytes a → IsModuleLine limits bytes b → a ≡ b
 one_module_line limits bytes a b h g =

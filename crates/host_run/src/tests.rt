@@ -1,5 +1,6 @@
 use crate::{refuse_words, serve};
-use host_edge::{Failed, MemSink, MemSource, OpenGate, Sink};
+use host_edge::{Failed, Gate, MemSink, MemSource, OpenGate, Sink};
+use std::sync::atomic::{AtomicU64, Ordering};
 use std::test::Fail;
 
 // A run over a source and a sink in memory. Of each: the size of its pieces, and the calls that fail.
@@ -259,4 +260,36 @@ fn each_write_is_handed_all_that_is_left(rt: HostRuntime) {
     assert_eq!(rt; refuse_words(&mut sink), 2);
     assert_eq!(rt; sink.inner.bytes(), b"refused words\n".as_slice());
     assert_eq!(rt; sink.handed, [14, 9, 4, 0]);
+}
+
+// A gate that counts what it is told.
+#[derive(Drop)]
+struct CountingGate {
+    entered: AtomicU64,
+    answered: AtomicU64,
+}
+
+impl Gate for CountingGate {
+    fn entered(&self, _call: u64) {
+        self.entered.fetch_add(1, Ordering::SeqCst);
+    }
+
+    fn answered(&self, _call: u64) {
+        self.answered.fetch_add(1, Ordering::SeqCst);
+    }
+}
+
+#[test]
+fn the_gate_is_told_of_each_call_and_of_each_that_begins(rt: HostRuntime) -> Result<(), Fail> {
+    let alloc = rt.alloc();
+    let gate = CountingGate {
+        entered: AtomicU64::new(0),
+        answered: AtomicU64::new(0),
+    };
+    let mut source = MemSource::new(CALLS.to_vec(alloc)?, 4096, Vec::new(alloc));
+    let mut sink = MemSink::new(alloc, 4096, Vec::new(alloc));
+    assert_eq!(rt; serve(&rt, alloc, RUN, &mut source, &mut sink, &gate), 0);
+    assert_eq!(rt; gate.entered.load(Ordering::SeqCst), 5);
+    assert_eq!(rt; gate.answered.load(Ordering::SeqCst), 7);
+    Ok(())
 }
