@@ -262,20 +262,24 @@ fn each_write_is_handed_all_that_is_left(rt: HostRuntime) {
     assert_eq!(rt; sink.handed, [14, 9, 4, 0]);
 }
 
-// A gate that counts what it is told.
+// A gate that counts what it is told: hex digit K of each number says how often it was told of call K.
 #[derive(Drop)]
 struct CountingGate {
     entered: AtomicU64,
     answered: AtomicU64,
 }
 
+fn count(digits: &AtomicU64, call: u64) {
+    digits.fetch_add(1 << (call % 16 * 4), Ordering::SeqCst);
+}
+
 impl Gate for CountingGate {
-    fn entered(&self, _call: u64) {
-        self.entered.fetch_add(1, Ordering::SeqCst);
+    fn entered(&self, call: u64) {
+        count(&self.entered, call);
     }
 
-    fn answered(&self, _call: u64) {
-        self.answered.fetch_add(1, Ordering::SeqCst);
+    fn answered(&self, call: u64) {
+        count(&self.answered, call);
     }
 }
 
@@ -289,7 +293,7 @@ fn the_gate_is_told_of_each_call_and_of_each_that_begins(rt: HostRuntime) -> Res
     let mut source = MemSource::new(CALLS.to_vec(alloc)?, 4096, Vec::new(alloc));
     let mut sink = MemSink::new(alloc, 4096, Vec::new(alloc));
     assert_eq!(rt; serve(&rt, alloc, RUN, &mut source, &mut sink, &gate), 0);
-    assert_eq!(rt; gate.entered.load(Ordering::SeqCst), 5);
-    assert_eq!(rt; gate.answered.load(Ordering::SeqCst), 7);
+    assert_eq!(rt; gate.entered.load(Ordering::SeqCst), 0x11_1110);
+    assert_eq!(rt; gate.answered.load(Ordering::SeqCst), 0x1111_1110);
     Ok(())
 }
