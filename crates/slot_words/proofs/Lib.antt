@@ -1,9 +1,11 @@
 mod Allowed
 mod Closings
+mod Conservation
 mod CountEvents
 mod Holdings
 mod KindSums
 mod Lookups
+mod OneCount
 mod Openings
 mod PassEvents
 mod RuleLaws

@@ -1,21 +1,41 @@
--- What the words show as they are closed.
-use Rattle.std.specs.Prelude.{◌≡◌, ℕ, length}
+-- What the words say as they are closed.
+use Rattle.std.specs.Prelude.{◌≡◌, ℕ, ◌+◌, ◌≤◌, true, List, ◌++◌, length, flat_map, slice_index_or}
+use Rattle.pool_core.specs.declared.words.StateWord.{StateWord}
 use Rattle.pool_core.specs.declared.events.Event.TheVariants.{Close}
 use Rattle.pool_core.specs.declared.seats.Stage.TheVariants.{Live}
+use Rattle.pool_core.specs.StateWords.{is_well_formed, cold_word}
 use Rattle.pool_core.specs.PoolCore.{PoolCore, seat_at, idle_seat}
 use Rattle.pool_core.specs.EventEffects.{core_after}
 use Rattle.pool_core.specs.RefusalRules.{refusal_of}
 use Rattle.pool_core.specs.Lawful.{Lawful}
 use Rattle.slot_words.specs.declared.kinds.KindCounts.{KindCounts}
+use Rattle.slot_words.specs.declared.views.Operation.{Operation}
+use Rattle.slot_words.specs.declared.words.Words.{Words}
 use Rattle.slot_words.specs.KindCounts.{kind_counts}
+use Rattle.slot_words.specs.LeftWords.{AreLeft}
+use Rattle.slot_words.specs.Passes.{Pass, operations, seat_number, share_of}
+use Rattle.slot_words.specs.Owned.{slots_of, limit_of, passes_of}
 
--- A core of so many slots and seats under this limit, lawful as this idle seat closes it by Close, has words of these kinds.
-pub record ClosesAs (slots limit passes seat : ℕ) (counts : KindCounts) : Type 0 where
+-- the counts of so many words, which these operations left
+pub record CountsLeft (slots : ℕ) (done : List Operation) (counts : KindCounts) : Type 0 where
+  pub words : List StateWord
+  pub slots_are : length words ≡ slots
+  pub well_formed : (n : ℕ) → is_well_formed (slice_index_or words n cold_word).target ≡ true
+  pub left : AreLeft done words
+  pub counted : counts ≡ kind_counts words
+
+-- A core of all the slots and seats, lawful as this idle pass closes it by Close, has words of these kinds.
+pub record ClosesAs {V I : Type 0} (self : Words V I) (pass : Pass V) (counts : KindCounts) : Type 0 where
   pub core : PoolCore
   pub lawful : Lawful core
-  pub slots_are : length core.words ≡ slots
-  pub limit_is : core.limit ≡ limit
-  pub seats_are : length core.seats ≡ passes
-  pub seat_is : seat_at core seat ≡ idle_seat Live
-  pub allowed : refusal_of core (Close seat) ≡ 0
-  pub counted : counts ≡ kind_counts (core_after core (Close seat)).words
+  pub slots_are : length core.words ≡ slots_of self
+  pub limit_is : core.limit ≡ limit_of self
+  pub seats_are : length core.seats ≡ passes_of self
+  pub seat_is : seat_at core (seat_number pass) ≡ idle_seat Live
+  pub allowed : refusal_of core (Close (seat_number pass)) ≡ 0
+  -- what the passes did that this one does not stand for
+  pub others : List (List Operation)
+  pub few : length others + share_of pass ≤ passes_of self
+  -- the words are those that its operations and theirs left
+  pub left : AreLeft (operations pass ++ flat_map (λ os. os) others) (core_after core (Close (seat_number pass))).words
+  pub counted : counts ≡ kind_counts (core_after core (Close (seat_number pass))).words

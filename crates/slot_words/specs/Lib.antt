@@ -2,6 +2,7 @@ pub mod Closing
 pub mod Events
 pub mod KindCounts
 pub mod Leases
+pub mod LeftWords
 pub mod Outcomes
 pub mod Owned
 pub mod Passes

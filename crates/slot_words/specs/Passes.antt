@@ -4,6 +4,7 @@ use Rattle.atomic_table.specs.declared.shared.Seat.{Seat as TableSeat}
 use Rattle.pool_core.specs.declared.seats.Stage.TheVariants.{Live}
 use Rattle.slot_words.specs.declared.views.PassView.{PassView}
 use Rattle.slot_words.specs.declared.views.Operation.{Operation}
+use Rattle.slot_words.specs.Views.{operations_of}
 
 -- a seat at values of this type; antt has no name for a Rust alias
 abbrev pub Pass : Type 0 → Type 0
@@ -13,6 +14,14 @@ module _ {V : Type 0} where
   -- the pass's operations on words so far, each with what it read or stored
   abbrev pub trail : Pass V → List Operation
   trail p = p.me.0.trail
+
+  -- the operations of the passes that were joined into it, one trail after another
+  abbrev pub joined_trail : Pass V → List Operation
+  joined_trail p = p.me.0.joined_trail
+
+  -- all that it did, and the passes that were joined into it
+  abbrev pub operations : Pass V → List Operation
+  operations p = operations_of p.me.0
 
   -- how many of the passes that were handed out it stands for
   abbrev pub share_of : Pass V → ℕ
@@ -49,9 +58,9 @@ module _ {V : Type 0} where
   abbrev pub IsHolding : Pass V → Type 0
   IsHolding p = (n : ℕ) × (p.me.0.seat.holds ≡ Some n)
 
-  -- the pass stays that seat of those words
+  -- the pass stays that seat of those words, and joins no other
   abbrev pub IsSamePass : Pass V → Pass V → Type 0
-  IsSamePass p q = (q.table_id ≡ p.table_id) × (q.id ≡ p.id) × (q.me.0.bounds ≡ p.me.0.bounds) × (q.me.0.unsplit ≡ p.me.0.unsplit) × (q.me.0.share ≡ p.me.0.share) × (q.me.0.seat.stage ≡ p.me.0.seat.stage)
+  IsSamePass p q = (q.table_id ≡ p.table_id) × (q.id ≡ p.id) × (q.me.0.bounds ≡ p.me.0.bounds) × (q.me.0.unsplit ≡ p.me.0.unsplit) × (q.me.0.share ≡ p.me.0.share) × (q.me.0.seat.stage ≡ p.me.0.seat.stage) × (joined_trail q ≡ joined_trail p)
 
   -- it holds what it did, and has these of permit, refusal and await mark
   abbrev pub KeepsWith : Pass V → Pass V → Bool → Bool → Bool → Type 0

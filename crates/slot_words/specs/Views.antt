@@ -1,5 +1,5 @@
 -- What passes know, at the start and after each change.
-use Rattle.std.specs.Prelude.{ℕ, ◌+◌, ◌-◌, [], ◌∷◌, ◌++◌}
+use Rattle.std.specs.Prelude.{ℕ, ◌+◌, ◌-◌, List, [], ◌∷◌, ◌++◌}
 use Rattle.pool_core.specs.declared.seats.Seat.{Seat}
 use Rattle.pool_core.specs.declared.seats.Stage.TheVariants.{Unmade, Live, Joined}
 use Rattle.pool_core.specs.PoolCore.{idle_seat}
@@ -7,9 +7,13 @@ use Rattle.slot_words.specs.declared.views.PassView.{PassView}
 use Rattle.slot_words.specs.declared.views.Bounds.{Bounds}
 use Rattle.slot_words.specs.declared.views.Operation.{Operation}
 
+-- all that the pass did, and the passes that were joined into it
+abbrev pub operations_of : PassView → List Operation
+operations_of v = v.trail ++ v.joined_trail
+
 -- an idle pass that has done nothing yet
 abbrev pub new_view : Bounds → ℕ → ℕ → PassView
-new_view b unsplit share = record { seat = idle_seat Live; bounds = b; unsplit = unsplit; share = share; trail = [] }
+new_view b unsplit share = record { seat = idle_seat Live; bounds = b; unsplit = unsplit; share = share; trail = []; joined_trail = [] }
 
 -- the one pass of a table of so many, before the others are split off
 abbrev pub first_view : Bounds → ℕ → PassView
@@ -20,19 +24,19 @@ no_bounds = record { room = []; limit = 0 }
 
 -- the view of a seat that no pass has
 abbrev pub no_view : PassView
-no_view = record { seat = idle_seat Unmade; bounds = no_bounds; unsplit = 0; share = 0; trail = [] }
+no_view = record { seat = idle_seat Unmade; bounds = no_bounds; unsplit = 0; share = 0; trail = []; joined_trail = [] }
 
 -- the view of a seat that was joined into another
 abbrev pub spent_view : PassView
-spent_view = record { seat = idle_seat Joined; bounds = no_bounds; unsplit = 0; share = 0; trail = [] }
+spent_view = record { seat = idle_seat Joined; bounds = no_bounds; unsplit = 0; share = 0; trail = []; joined_trail = [] }
 
 -- the view after one operation, which leaves the seat as this
 abbrev pub view_after : PassView → Seat → Operation → PassView
-view_after v seat o = record { seat = seat; bounds = v.bounds; unsplit = v.unsplit; share = v.share; trail = v.trail ++ o ∷ [] }
+view_after v seat o = record { seat = seat; bounds = v.bounds; unsplit = v.unsplit; share = v.share; trail = v.trail ++ o ∷ []; joined_trail = v.joined_trail }
 
 -- what is left where one seat is split off
 abbrev pub view_left : PassView → PassView
-view_left v = record { seat = v.seat; bounds = v.bounds; unsplit = v.unsplit - 1; share = v.share - 1; trail = v.trail }
+view_left v = record { seat = v.seat; bounds = v.bounds; unsplit = v.unsplit - 1; share = v.share - 1; trail = v.trail; joined_trail = v.joined_trail }
 
 -- what the seat that is split off knows
 abbrev pub view_given : PassView → PassView
@@ -40,4 +44,4 @@ view_given v = new_view v.bounds 0 1
 
 -- a pass that took another in
 abbrev pub view_joined : PassView → PassView → PassView
-view_joined v w = record { seat = v.seat; bounds = v.bounds; unsplit = v.unsplit + w.unsplit; share = v.share + w.share; trail = v.trail }
+view_joined v w = record { seat = v.seat; bounds = v.bounds; unsplit = v.unsplit + w.unsplit; share = v.share + w.share; trail = v.trail; joined_trail = v.joined_trail ++ operations_of w }

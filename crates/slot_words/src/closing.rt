@@ -1,9 +1,9 @@
 //! How a `Words` is closed.
-ghost use Rattle.std.specs.Prelude.{◌+◌, ◌≤◌};
+ghost use Rattle.std.specs.Prelude.{◌≡◌, ◌+◌, ◌≤◌};
 ghost use Rattle.std.specs.Slots.{IsFull};
-ghost use Rattle.slot_words.specs.Closing.{ClosesAs};
-ghost use Rattle.slot_words.specs.Passes.{IsIdle, share_of, seat_number};
-ghost use Rattle.slot_words.specs.Owned.{IsPassOf, slots_of, limit_of, passes_of};
+ghost use Rattle.slot_words.specs.Closing.{ClosesAs, CountsLeft};
+ghost use Rattle.slot_words.specs.Passes.{IsIdle, operations, share_of};
+ghost use Rattle.slot_words.specs.Owned.{IsPassOf, slots_of, passes_of};
 
 use crate::kinds::{KindCounts, count_kinds};
 use crate::pooled::Pooled;
@@ -26,11 +26,12 @@ fn discard<S: Drop>(mut closed: Closed<S, Global>)
 impl<V: Pooled + Drop> Words<V> {
     /// Ends all seats and counts the state words as they stand. The values are dropped.
     ///
-    /// As many slots at most are still held as passes were not joined into this one: with all joined, none.
+    /// With all passes joined into this one, the words are those that their operations left, and none is held. Else they are those that its operations left together with what the other passes did, of which each may still hold one slot.
     pub fn close(self, pass: Pass<V>) -> KindCounts
         requires own { IsPassOf V.room self pass }
         requires idle { IsIdle pass }
-        ensures counts { ClosesAs (slots_of self) (limit_of self) (passes_of self) (seat_number pass) result }
+        ensures counts { ClosesAs self pass result }
+        ensures joined { share_of pass ≡ passes_of self → CountsLeft (slots_of self) (operations pass) result }
         ensures held { result.held + share_of pass ≤ passes_of self }
     {
         let Words {

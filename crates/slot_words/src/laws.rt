@@ -1,8 +1,13 @@
 //! What holds of the definitions alone.
+ghost use Rattle.std.specs.Prelude.{◌≡◌, ℕ, List};
+ghost use Rattle.slot_words.specs.declared.kinds.KindCounts.{KindCounts};
+ghost use Rattle.slot_words.specs.declared.views.Operation.{Operation};
+ghost use Rattle.slot_words.specs.Closing.{CountsLeft};
 ghost use Rattle.slot_words.specs.Events.{LoadsAreEvents, ClaimsAreEvents, ReleasesAreEvents, WarmLoadsAreEvents, WarmUpsAreEvents, WarmDownsAreEvents, StampsAreEvents, AwaitUpsAreEvents, AwaitDownsAreEvents, AwaitLoadsAreEvents, SplitsAreEvents, JoinsAreEvents, ClosesAreEvents, ExchangesAreEvents};
 ghost use Rattle.slot_words.specs.Rule.{OneHolder, NoHiddenSeat, AloneWithAll};
 
 use crate::pooled::Pooled;
+use pool_core::words_are_read_back;
 
 /// Each step of a pass is one event of the core that the words show, by that pass's seat.
 pub fn steps_are_events<V: Pooled>()
@@ -28,3 +33,10 @@ pub fn passes_share_the_words<V: Pooled>()
     ensures no_hidden_seat { NoHiddenSeat V.fits V.room }
     ensures alone_with_all { AloneWithAll V.fits V.room }
 {}
+
+/// Operations leave one count of the words alone, in whatever order they came.
+pub fn one_count_is_left()
+    ensures { (slots : ℕ) (done : List Operation) (k l : KindCounts) → CountsLeft slots done k → CountsLeft slots done l → k ≡ l }
+{
+    words_are_read_back();
+}

@@ -21,7 +21,7 @@ mod views;
 mod words;
 
 pub use kinds::KindCounts;
-pub use laws::{passes_share_the_words, steps_are_events};
+pub use laws::{one_count_is_left, passes_share_the_words, steps_are_events};
 pub use leases::{Held, Lease};
 pub use pool_core::NoMemory;
 pub use pooled::Pooled;

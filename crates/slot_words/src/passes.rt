@@ -1,7 +1,7 @@
 //! Seats are split off and joined.
-ghost use Rattle.std.specs.Prelude.{◌≡◌, ◌+◌, ◌≤◌, []};
+ghost use Rattle.std.specs.Prelude.{◌≡◌, ◌+◌, ◌++◌, ◌≤◌, []};
 ghost use Rattle.slot_words.specs.Views.{view_left, view_given, view_joined, spent_view};
-ghost use Rattle.slot_words.specs.Passes.{IsIdle, trail, share_of, seat_number};
+ghost use Rattle.slot_words.specs.Passes.{IsIdle, trail, joined_trail, operations, share_of, seat_number};
 ghost use Rattle.slot_words.specs.Owned.{IsPassOf};
 
 use crate::pooled::Pooled;
@@ -44,6 +44,7 @@ impl<V: Pooled> Words<V> {
         ensures idle { IsIdle pass.new }
         ensures share { share_of pass.new ≡ share_of pass.old + share_of other }
         ensures trail { (trail pass.new ≡ trail pass.old) × (seat_number pass.new ≡ seat_number pass.old) }
+        ensures joined { joined_trail pass.new ≡ joined_trail pass.old ++ operations other }
     {
         self.table.shared.join_seat::<Joining>(pass, other);
     }

@@ -272,6 +272,22 @@ fn a_second_slot_is_refused_a_permit(rt: HostRuntime) -> Result<(), Fail> {
     Ok(())
 }
 
+#[test]
+fn closing_counts_awaiting_and_warm_slots_of_joined_passes(rt: HostRuntime) -> Result<(), Fail> {
+    let (words, mut first, mut second) = opened(rt.alloc(), 1)?;
+    let _read = leave_awaiting(&words, &mut first)?;
+    assert_eq!(rt; make_warm(&words, &mut second, 1)?, true);
+    words.join_pass(&mut first, second);
+    let want = KindCounts {
+        cold: 0,
+        warm: 1,
+        awaiting: 1,
+        held: 0,
+    };
+    assert_eq!(rt; words.close(first), want);
+    Ok(())
+}
+
 // Claims slot 0 a thousand times, and counts in its value and beside it how often it was won.
 fn visit(words: &Words<Cell>, mut pass: Pass<Cell>) -> (u32, Pass<Cell>)
     requires own { IsPassOf (λ x. []) words.now pass }

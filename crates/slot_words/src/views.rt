@@ -34,6 +34,8 @@ pub struct PassView {
     pub share: u64,
     /// Its operations on words so far.
     pub trail: LinkedList<Operation>,
+    /// The operations of the passes that were joined into it, one trail after another.
+    pub joined_trail: LinkedList<Operation>,
 }
 
 /// One seat at a [`Words`](crate::Words) of values `V`. It has no bytes.

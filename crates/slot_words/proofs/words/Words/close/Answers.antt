@@ -1,9 +1,10 @@
-use Rattle.std.proofs.Common.{rules, ℕ, arith, subst}
+use Rattle.std.proofs.Common.{rules, ℕ, ◌+◌, ◌≤◌, ◌∙◌, ap, sym, subst, arith}
 use Rattle.std.specs.Slots.{slots_items, slots_counts}
-use Rattle.slot_words.specs.Closing.{ClosesAs}
+use Rattle.slot_words.specs.declared.kinds.KindCounts.{KindCounts}
+use Rattle.slot_words.specs.Passes.{operations}
 use Rattle.slot_words.specs.Owned.{passes_of}
 use Rattle.slot_words.proofs.Allowed.{idle_seat_of}
-use Rattle.slot_words.proofs.Closings.{last_core}
+use Rattle.slot_words.proofs.Closings.{last_core, left_alone}
 use Rattle.slot_words.proofs.words.Words.close.Goals as goal
 
 pub count_kinds-counts-requires : goal.count_kinds-counts-requires
@@ -17,6 +18,25 @@ pub returns : goal.returns
 returns g c = let z = c.close_with-closed.ensures in let row = c.close_with-closed.result.words in let n = (slots_counts row).0 in let k = z.counts.0 in let d = c.args.self.sized.0 in
     let last = last_core g.V.Pooled.fits g.V.Pooled.room _ _ _ _ c.args.self.slots (slots_items row) _ (omega arith) (idle_seat_of _ c.requires.idle.0 c.requires.idle.1 c.requires.idle.2 c.requires.idle.4 c.requires.idle.5 c.requires.idle.6) z.values.2 in
     let is = c.count_kinds-counts.ensures last.core.words last.slots_are last.begins in record {
-      counts = subst (λ (l : ℕ). ClosesAs c.args.self.slots l (passes_of c.args.self) c.args.pass.id c.count_kinds-counts.result) c.args.self.sized.2 (last.closes _ is);
-      held = last.held _ is;
+      counts = record {
+        core = last.core;
+        lawful = last.lawful;
+        slots_are = last.slots_are;
+        limit_is = last.limit_is ∙ c.args.self.sized.2;
+        seats_are = last.seats_are;
+        seat_is = last.seat_is;
+        allowed = last.allowed;
+        others = last.left.others;
+        few = last.left.few;
+        left = last.left.left;
+        counted = is;
+      };
+      joined = λ all. record {
+        words = last.core.words;
+        slots_are = last.slots_are;
+        well_formed = last.lawful.words;
+        left = left_alone (operations c.args.pass) last.left.others c.args.pass.me.0.share (passes_of c.args.self) last.core.words last.left.few all last.left.left;
+        counted = is;
+      };
+      held = subst (λ (x : ℕ). x + c.args.pass.me.0.share ≤ passes_of c.args.self) (sym (ap (λ (k : KindCounts). k.held) is)) last.held;
     }
