@@ -1,15 +1,17 @@
 -- The same operations leave the same counts.
-use Rattle.std.proofs.Common.{◌≡◌, ℕ, suc, ◌%◌, ◌<◌, ◌⊎◌, inl, inr, ⊎_elim, Bool, true, false, List, [], ◌∷◌, length, get_or, refl, sym, ap, ◌∙◌, arith, lt_of_not-le}
+use Rattle.std.proofs.Common.{◌≡◌, ℕ, suc, ◌+◌, ◌*◌, ◌%◌, ◌<◌, ◌⊎◌, inl, inr, ⊎_elim, Bool, true, false, List, [], ◌∷◌, length, replicate, get_or, refl, sym, ap, ◌∙◌, subst, arith, lt_of_not-le}
 use mathlib.Core.Logic.{dite}
 use native.Mathlib.Decide.{dec_le}
 use Rattle.std.specs.Prelude.{◌==◌}
 use Rattle.std.specs.List.{count_by}
 use Rattle.std.proofs.lemmas.Bool.Decides.{nat_tests}
-use Rattle.std.proofs.lemmas.List.{get_or_past}
+use Rattle.std.proofs.lemmas.List.{get_or_past, length-replicate}
+use Rattle.std.proofs.lemmas.List.Folds.{sum_by-replicate}
 use Rattle.std.proofs.lemmas.List.Sums.{sum_by-cons}
 use Rattle.pool_core.specs.declared.words.StateWord.{StateWord}
 use Rattle.pool_core.specs.StateWords.{bit, cold_word, packed, is_well_formed, IsWordOf}
 use Rattle.pool_core.specs.Lawful.{is_free_warm, is_free_awaiting}
+use Rattle.pool_core.proofs.LawfulOpening.{get_or-replicate_same}
 use Rattle.pool_core.proofs.WordBits.{packed-mod_2}
 use Rattle.slot_words.specs.declared.kinds.KindCounts.{KindCounts}
 use Rattle.slot_words.specs.declared.views.Operation.{Operation}
@@ -71,3 +73,22 @@ module _ (read_back : (bits : ℕ) (w v : StateWord) → IsWordOf bits w → IsW
         held = counts_alike is_held a.words b.words (λ w v h h'. h ∙ sym h') len alike i;
       })
       ∙ sym b.counted
+
+  -- the cold words that each slot has at first are what no operation leaves
+  all_cold : (slots : ℕ) → CountsLeft slots [] record { cold = slots; warm = 0; awaiting = 0; held = 0 }
+  all_cold slots = let words : List StateWord = replicate slots cold_word in
+      let none : slots * 0 ≡ 0 = omega arith in let all : slots * 1 ≡ slots = omega arith in record {
+        words = words;
+        slots_are = length-replicate slots cold_word;
+        well_formed = λ n. subst (λ (w : StateWord). is_well_formed w.target ≡ true) (sym (get_or-replicate_same slots cold_word n)) refl;
+        left = λ n bits h free. ap (λ (w : StateWord). 0 + bit (packed w == bits)) (sym (get_or-replicate_same slots cold_word n));
+        counted = λ i. record {
+          cold = sym (sum_by-replicate (λ (w : StateWord). bit (is_free_cold w)) slots cold_word ∙ all) i;
+          warm = sym (sum_by-replicate (λ (w : StateWord). bit (is_free_warm w)) slots cold_word ∙ none) i;
+          awaiting = sym (sum_by-replicate (λ (w : StateWord). bit (is_free_awaiting w)) slots cold_word ∙ none) i;
+          held = sym (sum_by-replicate (λ (w : StateWord). bit (is_held w)) slots cold_word ∙ none) i;
+        };
+      }
+
+  pub nothing_done : (slots : ℕ) (k : KindCounts) → CountsLeft slots [] k → k ≡ record { cold = slots; warm = 0; awaiting = 0; held = 0 }
+  nothing_done slots k left = one_count slots [] k _ left (all_cold slots)

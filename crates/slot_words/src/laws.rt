@@ -1,5 +1,5 @@
 //! What holds of the definitions alone.
-ghost use Rattle.std.specs.Prelude.{◌≡◌, ℕ, List};
+ghost use Rattle.std.specs.Prelude.{◌≡◌, ℕ, List, []};
 ghost use Rattle.slot_words.specs.declared.kinds.KindCounts.{KindCounts};
 ghost use Rattle.slot_words.specs.declared.views.Operation.{Operation};
 ghost use Rattle.slot_words.specs.Closing.{CountsLeft};
@@ -37,6 +37,13 @@ pub fn passes_share_the_words<V: Pooled>()
 /// Operations leave one count of the words alone, in whatever order they came.
 pub fn one_count_is_left()
     ensures { (slots : ℕ) (done : List Operation) (k l : KindCounts) → CountsLeft slots done k → CountsLeft slots done l → k ≡ l }
+{
+    words_are_read_back();
+}
+
+/// Where nothing was done, all slots are cold.
+pub fn nothing_done_leaves_all_cold()
+    ensures { (slots : ℕ) (k : KindCounts) → CountsLeft slots [] k → k ≡ record { cold = slots; warm = 0; awaiting = 0; held = 0 } }
 {
     words_are_read_back();
 }

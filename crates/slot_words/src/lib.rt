@@ -21,7 +21,9 @@ mod views;
 mod words;
 
 pub use kinds::KindCounts;
-pub use laws::{one_count_is_left, passes_share_the_words, steps_are_events};
+pub use laws::{
+    nothing_done_leaves_all_cold, one_count_is_left, passes_share_the_words, steps_are_events,
+};
 pub use leases::{Held, Lease};
 pub use pool_core::NoMemory;
 pub use pooled::Pooled;

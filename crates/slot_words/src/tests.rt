@@ -2,9 +2,11 @@ ghost use Rattle.std.specs.Prelude.{◌≡◌, ◌<◌, [], false, IfOk, OnErr};
 ghost use Rattle.pool_core.specs.StateWords.{is_awaiting};
 ghost use Rattle.slot_words.specs.Passes.{IsIdle, Holds};
 ghost use Rattle.slot_words.specs.Leases.{lease_number};
-ghost use Rattle.slot_words.specs.Owned.{IsPassOf, slots_of};
+ghost use Rattle.slot_words.specs.Owned.{IsPassOf, IsNewPassOf, slots_of, passes_of};
 
-use crate::{Held, KindCounts, Lease, NoMemory, Pass, Pooled, Seen, Words};
+use crate::{
+    Held, KindCounts, Lease, NoMemory, Pass, Pooled, Seen, Words, nothing_done_leaves_all_cold,
+};
 use pool_core::{State, Target, unpack};
 use std::alloc::Global;
 use std::test::Fail;
@@ -51,7 +53,7 @@ const NEW: Cell = Cell {
 
 // Two slots and two passes.
 fn opened(alloc: Global, warm: u32) -> Result<(Words<Cell>, Pass<Cell>, Pass<Cell>), NoMemory>
-    ensures { IfOk result (λ o. (slots_of o.0 ≡ 2) × IsPassOf (λ x. []) o.0 o.1 × IsIdle o.1 × IsPassOf (λ x. []) o.0 o.2 × IsIdle o.2) }
+    ensures { IfOk result (λ o. (slots_of o.0 ≡ 2) × (passes_of o.0 ≡ 2) × IsNewPassOf (λ x. []) o.0 o.1 × IsNewPassOf (λ x. []) o.0 o.2) }
 {
     let mut cells = Vec::with_capacity(alloc, 2)?;
     cells.push_reserved(NEW);
@@ -269,6 +271,28 @@ fn a_second_slot_is_refused_a_permit(rt: HostRuntime) -> Result<(), Fail> {
         words: [42, 0],
     };
     assert_eq!(rt; end, want);
+    Ok(())
+}
+
+// Opens two slots, joins the two passes and closes. By the contracts alone, both slots are counted cold.
+fn opened_and_closed(alloc: Global) -> Result<KindCounts, NoMemory>
+    ensures { IfOk result (λ k. k ≡ record { cold = 2; warm = 0; awaiting = 0; held = 0 }) }
+{
+    nothing_done_leaves_all_cold();
+    let (words, mut first, second) = opened(alloc, 0)?;
+    words.join_pass(&mut first, second);
+    Ok(words.close(first))
+}
+
+#[test]
+fn closing_counts_untouched_slots_as_cold(rt: HostRuntime) -> Result<(), Fail> {
+    let want = KindCounts {
+        cold: 2,
+        warm: 0,
+        awaiting: 0,
+        held: 0,
+    };
+    assert_eq!(rt; opened_and_closed(rt.alloc())?, want);
     Ok(())
 }
 

@@ -39,4 +39,6 @@ pub struct PassView {
 }
 
 /// One seat at a [`Words`](crate::Words) of values `V`. It has no bytes.
+///
+/// An idle pass that is needed no more is joined into another: what a dropped one did, `Words::close` can't know.
 pub type Pass<V> = TableSeat<Option<V>, PassView>;
