@@ -1,6 +1,6 @@
+mod AccountSteps
 mod Allowed
 mod Closings
-mod Conservation
 mod CountEvents
 mod Holdings
 mod KindSums

@@ -16,7 +16,7 @@ use Rattle.pool_core.proofs.WordBits.{packed-mod_2}
 use Rattle.slot_words.specs.declared.kinds.KindCounts.{KindCounts}
 use Rattle.slot_words.specs.declared.views.Operation.{Operation}
 use Rattle.slot_words.specs.KindCounts.{is_free_cold, is_held}
-use Rattle.slot_words.specs.LeftWords.{AreLeft}
+use Rattle.slot_words.specs.Accounts.{AreLeft}
 use Rattle.slot_words.specs.Closing.{CountsLeft}
 
 -- two words are counted alike

@@ -2,7 +2,7 @@
 use Rattle.std.proofs.Common.{◌≡◌, ℕ, zero, suc, ◌+◌, ◌-◌, ◌*◌, ◌^◌, ◌<◌, ◌≤◌, true≢false, List, [], ◌∷◌, map, length, replicate, refl, sym, ap, ◌∙◌, subst, arith}
 use mathlib.Core.Option.{some, some-injective, some-ne-none}
 use lib.ListN.{get_elem?}
-use Rattle.std.specs.Prelude.{◌==◌, Option, Some}
+use Rattle.std.specs.Prelude.{Option, Some}
 use Rattle.std.specs.List.{All}
 use Rattle.std.proofs.lemmas.List.{length-replicate, length-map}
 use Rattle.atomic_table.specs.Table.{opening}
@@ -10,12 +10,13 @@ use Rattle.pool_core.specs.declared.words.State.{State}
 use Rattle.pool_core.specs.declared.words.State.TheVariants.{Cold}
 use Rattle.pool_core.specs.declared.words.StateWord.{StateWord}
 use Rattle.pool_core.specs.declared.seats.Stage.TheVariants.{Unmade}
-use Rattle.pool_core.specs.StateWords.{bit, cold_word, packed}
+use Rattle.pool_core.specs.StateWords.{cold_word, packed}
 use Rattle.pool_core.specs.PoolCore.{PoolCore, opening_core, idle_seat}
 use Rattle.pool_core.proofs.LawfulOpening.{lawful_opening, get_or-replicate_same}
 use Rattle.slot_words.specs.declared.views.Bounds.{Bounds}
 use Rattle.slot_words.specs.Views.{first_view}
 use Rattle.slot_words.specs.Shows.{ShowsLawful, Suits, IsCounted}
+use Rattle.slot_words.proofs.AccountSteps.{accounts_at_opening}
 
 module _ {V : Type 0} where
   -- each of the values lies at its place, and is as all of them are
@@ -50,11 +51,11 @@ module _ {V : Type 0} where
           unsplit_sum = omega arith;
           share_sum = omega arith;
           each = elim [
-            | zero ↦ λ v e. subst (IsCounted bounds) (some-injective _ v e) record { bounds_is = λ _. refl; share_is = λ _. some_pass; away_is = λ _. refl }
+            | zero ↦ λ v e. subst (IsCounted bounds) (some-injective _ v e) record { bounds_is = λ _. refl; share_is = λ _. some_pass }
             | suc j ↦ λ v e. absurd (some-ne-none v (sym e))
           ];
         };
-        left = λ m bits h free. ap (λ (w : StateWord). 0 + bit (packed w == bits)) (sym (get_or-replicate_same n cold_word m));
+        accounts = accounts_at_opening bounds passes n;
       }
 
   -- the same of lists that are those

@@ -112,9 +112,9 @@ module _ {V : Type 0} (fits : State → ℕ → V → Type 0) (room : V → List
               let b : sum_by (λ (k : PassView). k.share) (ls ++ g ∷ []) ≡ sum_by (λ (k : PassView). k.share) ls + 1 = sum_by_push (λ (k : PassView). k.share) ls g in omega arith;
           each = λ j u e. ⊎_elim
               (λ (h : get_elem? ls j ≡ some u). ⊎_elim
-              (λ (y : (j ≡ id) × (l ≡ u)). subst (IsCounted bounds) y.1 record { bounds_is = (o.each id v at).bounds_is; share_is = λ _. omega arith; away_is = (o.each id v at).away_is })
+              (λ (y : (j ≡ id) × (l ≡ u)). subst (IsCounted bounds) y.1 record { bounds_is = (o.each id v at).bounds_is; share_is = λ _. omega arith })
               (λ (y : (j ≢ id) × (get_elem? vs j ≡ some u)). o.each j u y.1) (at_set vs id j l u h))
-              (λ (h : g ≡ u). subst (IsCounted bounds) h record { bounds_is = λ _. (o.each id v at).bounds_is (live_not_away v.seat.stage live); share_is = λ _. omega arith; away_is = λ _. refl })
+              (λ (h : g ≡ u). subst (IsCounted bounds) h record { bounds_is = λ _. (o.each id v at).bounds_is (live_not_away v.seat.stage live); share_is = λ _. omega arith })
               (at_snoc ls g u j e);
         },
       )
@@ -162,9 +162,9 @@ module _ {V : Type 0} (fits : State → ℕ → V → Type 0) (room : V → List
               let a : sum_by (λ (k : PassView). k.share) bs + (get_or vs id no_view).share ≡ x + b.share = sum_by-set (λ (k : PassView). k.share) vs id b no_view inside in
               let a' : sum_by (λ (k : PassView). k.share) (set bs other spent_view) + (get_or bs other no_view).share ≡ sum_by (λ (k : PassView). k.share) bs + 0 = sum_by-set (λ (k : PassView). k.share) bs other spent_view no_view inside' in omega arith;
           each = λ j u e. ⊎_elim
-              (λ (h : (j ≡ other) × (spent_view ≡ u)). subst (IsCounted bounds) h.1 record { bounds_is = λ l. absurd (true≢false l); share_is = λ l. absurd (true≢false l); away_is = λ _. refl })
+              (λ (h : (j ≡ other) × (spent_view ≡ u)). subst (IsCounted bounds) h.1 record { bounds_is = λ l. absurd (true≢false l); share_is = λ l. absurd (true≢false l) })
               (λ (h : (j ≢ other) × (get_elem? bs j ≡ some u)). ⊎_elim
-              (λ (y : (j ≡ id) × (b ≡ u)). let p = (o.each id v at).share_is (live_not_away v.seat.stage live) in subst (IsCounted bounds) y.1 record { bounds_is = (o.each id v at).bounds_is; share_is = λ _. omega arith; away_is = λ l. absurd (true≢false (sym l ∙ live_not_away v.seat.stage live)) })
+              (λ (y : (j ≡ id) × (b ≡ u)). let p = (o.each id v at).share_is (live_not_away v.seat.stage live) in subst (IsCounted bounds) y.1 record { bounds_is = (o.each id v at).bounds_is; share_is = λ _. omega arith })
               (λ (y : (j ≢ id) × (get_elem? vs j ≡ some u)). o.each j u y.1) (at_set vs id j b u h.1))
               (at_set bs other j spent_view u e);
         },

@@ -1,5 +1,5 @@
 -- What the table shows after a change of one word and one view.
-use Rattle.std.proofs.Common.{◌≡◌, ◌≢◌, ℕ, ◌+◌, ◌*◌, ◌^◌, ◌<◌, ◌≤◌, ⊎_elim, true, false, true≢false, List, length, get_or, set, sym, ap, ◌∙◌, subst, arith, length-set, get_or-set_same, get_or-set_other}
+use Rattle.std.proofs.Common.{◌≡◌, ◌≢◌, ℕ, ◌+◌, ◌*◌, ◌^◌, ◌<◌, ◌≤◌, ⊎_elim, true, false, List, length, get_or, set, sym, ap, ◌∙◌, subst, arith, length-set, get_or-set_same, get_or-set_other}
 use mathlib.Core.Logic.{dite}
 use mathlib.Core.Option.{none, some}
 use mathlib.Core.Option as maybe
@@ -20,7 +20,7 @@ use Rattle.slot_words.specs.declared.views.PassView.{PassView}
 use Rattle.slot_words.specs.declared.views.Bounds.{Bounds}
 use Rattle.slot_words.specs.Views.{no_view}
 use Rattle.slot_words.specs.Shows.{Shows, Suits, IsCounted}
-use Rattle.slot_words.proofs.Lookups.{found, live_in_list, live_not_away}
+use Rattle.slot_words.proofs.Lookups.{found, live_in_list}
 
 -- the core with one seat, one word and the counts changed
 abbrev pub core_changed : PoolCore → ℕ → Seat → ℕ → StateWord → PoolCore
@@ -49,13 +49,12 @@ module _ {V : Type 0} (fits : State → ℕ → V → Type 0) (room : V → List
   seat_within c s o id me at live = live_in_list c.seats id (ap (λ (p : Seat). is_live p.stage) (seat_here c s o id me at) ∙ live)
 
   -- each view is still counted
-  each_counted : (c : PoolCore) (s : S) → Shows fits room bounds passes c s → (id : ℕ) (me w : PassView) → get_elem? s.views id ≡ some me → is_live me.seat.stage ≡ true → IsSameView me w
+  each_counted : (c : PoolCore) (s : S) → Shows fits room bounds passes c s → (id : ℕ) (me w : PassView) → get_elem? s.views id ≡ some me → IsSameView me w
       → (j : ℕ) (u : PassView) → get_elem? (set s.views id w) j ≡ some u → IsCounted bounds u
-  each_counted c s o id me w at live same j u e = ⊎_elim
+  each_counted c s o id me w at same j u e = ⊎_elim
       (λ (t : (j ≡ id) × (w ≡ u)). let v = o.each id me at in subst (IsCounted bounds) t.1 record {
         bounds_is = λ l. same.bounds_is ∙ v.bounds_is (sym (ap is_away same.stage_is) ∙ l);
         share_is = λ l. subst (λ (k : ℕ). 1 ≤ k) (sym same.share_is) (v.share_is (sym (ap is_away same.stage_is) ∙ l));
-        away_is = λ l. absurd (true≢false (sym l ∙ ap is_away same.stage_is ∙ live_not_away me.seat.stage live));
       })
       (λ (t : (j ≢ id) × (get_elem? s.views j ≡ some u)). o.each j u t.1) (at_set s.views id j w u e)
 
@@ -110,7 +109,7 @@ module _ {V : Type 0} (fits : State → ℕ → V → Type 0) (room : V → List
             (λ e. others m e ∙ o.away m (omega arith) (ap (λ (u : StateWord). u.held) (sym (get_or-set_other ws n m v cold_word e)) ∙ held));
         unsplit_sum = let e = sum_kept (λ (k : PassView). k.unsplit) s.views id me w at same.unsplit_is in let e4 = o.unsplit_sum in omega arith;
         share_sum = sum_kept (λ (k : PassView). k.share) s.views id me w at same.share_is ∙ o.share_sum;
-        each = each_counted c s o id me w at live same;
+        each = each_counted c s o id me w at same;
       }
 
   -- one count word and one view change
@@ -135,5 +134,5 @@ module _ {V : Type 0} (fits : State → ℕ → V → Type 0) (room : V → List
         away = o.away;
         unsplit_sum = let e = sum_kept (λ (k : PassView). k.unsplit) s.views id me w at same.unsplit_is in let e4 = o.unsplit_sum in omega arith;
         share_sum = sum_kept (λ (k : PassView). k.share) s.views id me w at same.share_is ∙ o.share_sum;
-        each = each_counted c s o id me w at live same;
+        each = each_counted c s o id me w at same;
       }

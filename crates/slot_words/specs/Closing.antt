@@ -1,5 +1,6 @@
 -- What the words say as they are closed.
-use Rattle.std.specs.Prelude.{◌≡◌, ℕ, ◌+◌, ◌≤◌, true, List, ◌++◌, length, flat_map, slice_index_or}
+use Rattle.std.specs.Prelude.{◌≡◌, ℕ, ◌+◌, ◌≤◌, true, List, ◌++◌, length, slice_index_or}
+use Rattle.std.specs.List.{All}
 use Rattle.pool_core.specs.declared.words.StateWord.{StateWord}
 use Rattle.pool_core.specs.declared.events.Event.TheVariants.{Close}
 use Rattle.pool_core.specs.declared.seats.Stage.TheVariants.{Live}
@@ -12,7 +13,7 @@ use Rattle.slot_words.specs.declared.kinds.KindCounts.{KindCounts}
 use Rattle.slot_words.specs.declared.views.Operation.{Operation}
 use Rattle.slot_words.specs.declared.words.Words.{Words}
 use Rattle.slot_words.specs.KindCounts.{kind_counts}
-use Rattle.slot_words.specs.LeftWords.{AreLeft}
+use Rattle.slot_words.specs.Accounts.{AreLeft, AreKept, KeepsOneAtMost, in_one}
 use Rattle.slot_words.specs.Passes.{Pass, operations, seat_number, share_of}
 use Rattle.slot_words.specs.Owned.{slots_of, limit_of, passes_of}
 
@@ -33,9 +34,12 @@ pub record ClosesAs {V I : Type 0} (self : Words V I) (pass : Pass V) (counts : 
   pub seats_are : length core.seats ≡ passes_of self
   pub seat_is : seat_at core (seat_number pass) ≡ idle_seat Live
   pub allowed : refusal_of core (Close (seat_number pass)) ≡ 0
-  -- what the passes did that this one does not stand for
+  pub counted : counts ≡ kind_counts (core_after core (Close (seat_number pass))).words
+  -- what each of the passes did that this one does not stand for
   pub others : List (List Operation)
   pub few : length others + share_of pass ≤ passes_of self
   -- the words are those that its operations and theirs left
-  pub left : AreLeft (operations pass ++ flat_map (λ os. os) others) (core_after core (Close (seat_number pass))).words
-  pub counted : counts ≡ kind_counts (core_after core (Close (seat_number pass))).words
+  pub left : AreLeft (operations pass ++ in_one others) (core_after core (Close (seat_number pass))).words
+  -- each of them kept one slot at most, and these are the held ones
+  pub one_each : All KeepsOneAtMost others
+  pub kept : AreKept (in_one others) counts.held

@@ -1,8 +1,8 @@
+pub mod Accounts
 pub mod Closing
 pub mod Events
 pub mod KindCounts
 pub mod Leases
-pub mod LeftWords
 pub mod Outcomes
 pub mod Owned
 pub mod Passes

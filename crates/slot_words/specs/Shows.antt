@@ -1,5 +1,5 @@
 -- The rule: what threads share shows one core, which is lawful.
-use Rattle.std.specs.Prelude.{◌≡◌, ℕ, ◌+◌, ◌*◌, ◌^◌, ◌<◌, ◌≤◌, true, false, Option, Some, List, [], length, flat_map, slice_index_or}
+use Rattle.std.specs.Prelude.{◌≡◌, ℕ, ◌+◌, ◌*◌, ◌^◌, ◌<◌, ◌≤◌, true, false, Option, Some, List, length, slice_index_or}
 use Rattle.std.specs.List.{sum_by}
 use mathlib.Core.Option.{none, some}
 use lib.ListN.{get_elem?}
@@ -12,18 +12,17 @@ use Rattle.pool_core.specs.PoolCore.{PoolCore, word_at, seat_at, is_away}
 use Rattle.pool_core.specs.Lawful.{Lawful}
 use Rattle.slot_words.specs.declared.views.PassView.{PassView}
 use Rattle.slot_words.specs.declared.views.Bounds.{Bounds}
-use Rattle.slot_words.specs.LeftWords.{AreLeft}
-use Rattle.slot_words.specs.Views.{no_view, operations_of}
+use Rattle.slot_words.specs.Accounts.{AccountsFor}
+use Rattle.slot_words.specs.Views.{no_view}
 
 -- the seat whose view is the j-th; a number that no view has is of a seat that is not made
 abbrev pub shown_seat : List PassView → ℕ → Seat
 shown_seat vs j = (slice_index_or vs j no_view).seat
 
--- a seat that is neither unmade nor joined away knows the bounds, and stands for a pass at least; any other has no operations
+-- a seat that is neither unmade nor joined away knows the bounds, and stands for a pass at least
 pub record IsCounted (bounds : Bounds) (v : PassView) : Type 0 where
   pub bounds_is : is_away v.seat.stage ≡ false → v.bounds ≡ bounds
   pub share_is : is_away v.seat.stage ≡ false → 1 ≤ v.share
-  pub away_is : is_away v.seat.stage ≡ true → operations_of v ≡ []
 
 module _ {V : Type 0} (fits : State → ℕ → V → Type 0) (room : V → List ℕ) where
   -- the value may lie in a slot whose word says this
@@ -52,9 +51,9 @@ module _ {V : Type 0} (fits : State → ℕ → V → Type 0) (room : V → List
     pub share_sum : sum_by (λ v. v.share) s.views ≡ passes
     pub each : (j : ℕ) (v : PassView) → get_elem? s.views j ≡ some v → IsCounted bounds v
 
-  -- they show one core, it is lawful, and its words are those that the operations of all passes left
+  -- they show one core, it is lawful, and the operations of the passes account for it
   pub record ShowsLawful (bounds : Bounds) (passes : ℕ) (s : TableState (Option V) PassView) : Type 0 where
     pub core : PoolCore
     pub lawful : Lawful core
     pub shows : Shows bounds passes core s
-    pub left : AreLeft (flat_map operations_of s.views) core.words
+    pub accounts : AccountsFor s.views core.words

@@ -26,7 +26,7 @@ fn discard<S: Drop>(mut closed: Closed<S, Global>)
 impl<V: Pooled + Drop> Words<V> {
     /// Ends all seats and counts the state words as they stand. The values are dropped.
     ///
-    /// With all passes joined into this one, the words are those that their operations left, and none is held. Else they are those that its operations left together with what the other passes did, of which each may still hold one slot.
+    /// With all passes joined into this one, the words are those that their operations left, and none is held. Else they are those that its operations left together with those of the other passes, and the held ones are what these kept, each one slot at most.
     pub fn close(self, pass: Pass<V>) -> KindCounts
         requires own { IsPassOf V.room self pass }
         requires idle { IsIdle pass }

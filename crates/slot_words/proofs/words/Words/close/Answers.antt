@@ -1,6 +1,8 @@
-use Rattle.std.proofs.Common.{rules, ℕ, ◌+◌, ◌≤◌, ◌∙◌, ap, sym, subst, arith}
+use Rattle.std.proofs.Common.{rules, ◌≡◌, ◌∙◌, ap, sym, subst, arith}
 use Rattle.std.specs.Slots.{slots_items, slots_counts}
 use Rattle.slot_words.specs.declared.kinds.KindCounts.{KindCounts}
+use Rattle.slot_words.specs.Accounts.{AreKept, in_one}
+use Rattle.slot_words.specs.KindCounts.{kind_counts}
 use Rattle.slot_words.specs.Passes.{operations}
 use Rattle.slot_words.specs.Owned.{passes_of}
 use Rattle.slot_words.proofs.Allowed.{idle_seat_of}
@@ -17,7 +19,8 @@ count_kinds-counts-requires g c = let z = c.close_with-closed.ensures in let row
 pub returns : goal.returns
 returns g c = let z = c.close_with-closed.ensures in let row = c.close_with-closed.result.words in let n = (slots_counts row).0 in let k = z.counts.0 in let d = c.args.self.sized.0 in
     let last = last_core g.V.Pooled.fits g.V.Pooled.room _ _ _ _ c.args.self.slots (slots_items row) _ (omega arith) (idle_seat_of _ c.requires.idle.0 c.requires.idle.1 c.requires.idle.2 c.requires.idle.4 c.requires.idle.5 c.requires.idle.6) z.values.2 in
-    let is = c.count_kinds-counts.ensures last.core.words last.slots_are last.begins in record {
+    let is = c.count_kinds-counts.ensures last.core.words last.slots_are last.begins in
+    let held : (kind_counts last.core.words).held ≡ c.count_kinds-counts.result.held = sym (ap (λ (k : KindCounts). k.held) is) in record {
       counts = record {
         core = last.core;
         lawful = last.lawful;
@@ -29,6 +32,8 @@ returns g c = let z = c.close_with-closed.ensures in let row = c.close_with-clos
         others = last.left.others;
         few = last.left.few;
         left = last.left.left;
+        one_each = last.left.one_each;
+        kept = subst (AreKept (in_one last.left.others)) held last.left.kept;
         counted = is;
       };
       joined = λ all. record {
@@ -38,5 +43,5 @@ returns g c = let z = c.close_with-closed.ensures in let row = c.close_with-clos
         left = left_alone (operations c.args.pass) last.left.others c.args.pass.me.0.share (passes_of c.args.self) last.core.words last.left.few all last.left.left;
         counted = is;
       };
-      held = subst (λ (x : ℕ). x + c.args.pass.me.0.share ≤ passes_of c.args.self) (sym (ap (λ (k : KindCounts). k.held) is)) last.held;
+      held = let few = last.left.few in let within = last.left.within in omega arith;
     }
