@@ -87,8 +87,8 @@ module _ {V : Type 0} (fits : State → ℕ → V → Type 0) (room : V → List
       let none : bit (is_some me.0.seat.holds) ≡ 0 = ap (λ (q : Seat). bit (is_some q.holds)) rest in
       let here : is_away me.0.seat.stage ≡ false = ap (λ (q : Seat). is_away q.stage) rest in
       let split : (b : Bool) → r % 2 ≡ bit b → MatchBool b (Loses me n r m) (Wins fits room me n r w m) → NotesTurn core.words me.0 m.0 (core_after core (Claim id n)).words = elim [
-        | true ↦ λ e lost. record { seat = me.0.seat; operation = operation.Claim n r; noted = lost.1; turns = turns; holds = (let z = odd_is_lost r e in omega arith); stays = here }
-        | false ↦ λ e won. record { seat = winning_seat me.0.seat n w; operation = operation.Claim n r; noted = won.0; turns = turns; holds = (let z = even_is_won r e in omega arith); stays = here }
+        | true ↦ λ e lost. record { seat = me.0.seat; operation = operation.Claim n r; noted = lost.1; turns = turns; holds = (let no_win = odd_is_lost r e in omega arith); stays = here }
+        | false ↦ λ e won. record { seat = winning_seat me.0.seat n w; operation = operation.Claim n r; noted = won.0; turns = turns; holds = (let win = even_is_won r e in omega arith); stays = here }
       ] in split w.held odd told.2
 
   releases_tell : (slots id n : ℕ) (v : PassView) (y : V) (to : Target) → n < slots → is_live v.seat.stage ≡ true → v.seat.holds ≡ Some n

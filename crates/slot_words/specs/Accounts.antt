@@ -39,6 +39,7 @@ is_won_claim o = false
 abbrev pub AreKept : List Operation → ℕ → Type 0
 AreKept done kept = count_by is_won_claim done ≡ count_by is_release done + kept
 
+-- one of them at most was not given back
 abbrev pub KeepsOneAtMost : List Operation → Type 0
 KeepsOneAtMost done = (kept : ℕ) × AreKept done kept × (kept ≤ 1)
 
