@@ -101,6 +101,7 @@ module _ (bounds : Bounds) where
     pub left : AreLeft (operations_of v ++ in_one others) words
     pub one_each : All KeepsOneAtMost others
     pub kept : AreKept (in_one others) held
+    pub own : AreKept (operations_of v) 0
     pub within : held ≤ length others
 
   left_by : (passes : ℕ) (views : List PassView) (id : ℕ) (v : PassView) (words : List StateWord) (held : ℕ) → AreCounted views → sum_by (λ v. v.share) views ≡ passes → get_elem? views id ≡ some v → v.seat ≡ idle_seat Live
@@ -123,6 +124,7 @@ module _ (bounds : Bounds) where
             left;
         one_each = ls.1.one_each;
         kept = subst (AreKept (in_one others)) are ls.1.kept;
+        own = subst (AreKept (operations_of v)) (ap holdings rest) (each id v at).1.held;
         within = subst (λ (k : ℕ). k ≤ length others) are ls.1.holders;
       }
 

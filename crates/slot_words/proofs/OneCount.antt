@@ -82,6 +82,7 @@ module _ (read_back : (bits : ℕ) (w v : StateWord) → IsWordOf bits w → IsW
         slots_are = length-replicate slots cold_word;
         well_formed = λ n. subst (λ (w : StateWord). is_well_formed w.target ≡ true) (sym (get_or-replicate_same slots cold_word n)) refl;
         left = λ n bits h free. ap (λ (w : StateWord). 0 + bit (packed w == bits)) (sym (get_or-replicate_same slots cold_word n));
+        kept = refl;
         counted = λ i. record {
           cold = sym (sum_by-replicate (λ (w : StateWord). bit (is_free_cold w)) slots cold_word ∙ all) i;
           warm = sym (sum_by-replicate (λ (w : StateWord). bit (is_free_warm w)) slots cold_word ∙ none) i;

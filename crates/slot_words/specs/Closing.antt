@@ -17,12 +17,13 @@ use Rattle.slot_words.specs.Accounts.{AreLeft, AreKept, KeepsOneAtMost, in_one}
 use Rattle.slot_words.specs.Passes.{Pass, operations, seat_number, share_of}
 use Rattle.slot_words.specs.Owned.{slots_of, limit_of, passes_of}
 
--- the counts of so many words, which these operations left
+-- the counts of so many words, which these operations left; the held ones are those that were claimed and not given back
 pub record CountsLeft (slots : ℕ) (done : List Operation) (counts : KindCounts) : Type 0 where
   pub words : List StateWord
   pub slots_are : length words ≡ slots
   pub well_formed : (n : ℕ) → is_well_formed (slice_index_or words n cold_word).target ≡ true
   pub left : AreLeft done words
+  pub kept : AreKept done counts.held
   pub counted : counts ≡ kind_counts words
 
 -- A core of all the slots and seats, lawful as this idle pass closes it by Close, has words of these kinds.

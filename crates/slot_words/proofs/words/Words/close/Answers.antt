@@ -41,6 +41,7 @@ returns g c = let z = c.close_with-closed.ensures in let row = c.close_with-clos
         slots_are = last.slots_are;
         well_formed = last.lawful.words;
         left = left_alone (operations c.args.pass) last.left.others c.args.pass.me.0.share (passes_of c.args.self) last.core.words last.left.few all last.left.left;
+        kept = let few = last.left.few in let within = last.left.within in let none : 0 ≡ c.count_kinds-counts.result.held = omega arith in subst (AreKept (operations c.args.pass)) none last.left.own;
         counted = is;
       };
       held = let few = last.left.few in let within = last.left.within in omega arith;
