@@ -26,7 +26,7 @@ use Rattle.slot_words.specs.declared.views.Operation.{Operation}
 use Rattle.slot_words.specs.declared.views.Operation.TheVariants.{Claim, Release}
 use Rattle.slot_words.specs.Accounts.{gives_word, finds_word, AreLeft, is_release, is_won_claim, IsAccounted, AccountsFor}
 use Rattle.slot_words.specs.Views.{no_view, operations_of, view_after, first_view, view_left, view_given, view_joined, spent_view}
-use Rattle.slot_words.proofs.Lookups.{found}
+use Rattle.slot_words.proofs.Lookups.{apart_test, found}
 
 -- what is left depends on how often each operation was done, and not on the order
 pub left_by_counts : (done other : List Operation) (words : List StateWord) → ((p : Operation → Bool) → count_by p done ≡ count_by p other) → AreLeft done words → AreLeft other words
@@ -179,12 +179,9 @@ even_is_won r e = ap (λ (k : ℕ). bit (k == 0)) e
 same_test : (a b : ℕ) → a ≡ b → (a == b) ≡ true
 same_test a b e = grind (arith, nat_tests)
 
-other_test : (a b : ℕ) → a ≢ b → (a == b) ≡ false
-other_test a b n = grind (arith, nat_tests)
-
 -- a held word is no free one
 held_is_not_free : (w : StateWord) (bits : ℕ) → w.held ≡ true → bits % 2 ≡ 0 → (packed w == bits) ≡ false
-held_is_not_free w bits held free = other_test (packed w) bits (λ e.
+held_is_not_free w bits held free = apart_test (packed w) bits (λ e.
     let a : packed w % 2 ≡ 1 = packed-mod_2 w ∙ ap bit held in let b : packed w % 2 ≡ bits % 2 = ap (λ (k : ℕ). k % 2) e in absurd (omega arith))
 
 and_false : (b : Bool) → (b && false) ≡ false
@@ -220,7 +217,7 @@ claim_turn c s n r below read = let w : StateWord = word_at c n in
                 omega arith)
                 (λ apart.
                 let now : bit (packed (get_or (set c.words n (held_word w)) m cold_word) == bits) ≡ bit (packed (word_at c m) == bits) = ap (λ (u : StateWord). bit (packed u == bits)) (word_else c.words n (held_word w) below m apart) in
-                let none : bit ((n == m) && (r == bits)) ≡ 0 = ap (λ (b : Bool). bit (b && (r == bits))) (other_test n m (λ e. apart (sym e))) in
+                let none : bit ((n == m) && (r == bits)) ≡ 0 = ap (λ (b : Bool). bit (b && (r == bits))) (apart_test n m (λ e. apart (sym e))) in
                 omega arith);
           }
     ] in split w.held refl
@@ -237,6 +234,6 @@ release_turn c n to below held = record {
       omega arith)
       (λ apart.
       let now : bit (packed (get_or (set c.words n (free_word to)) m cold_word) == bits) ≡ bit (packed (word_at c m) == bits) = ap (λ (u : StateWord). bit (packed u == bits)) (word_else c.words n (free_word to) below m apart) in
-      let none : bit ((n == m) && (x == bits)) ≡ 0 = ap (λ (b : Bool). bit (b && (x == bits))) (other_test n m (λ e. apart (sym e))) in
+      let none : bit ((n == m) && (x == bits)) ≡ 0 = ap (λ (b : Bool). bit (b && (x == bits))) (apart_test n m (λ e. apart (sym e))) in
       omega arith);
 }

@@ -195,13 +195,3 @@ module _ {V : Type 0} (fits : State → ℕ → V → Type 0) (room : V → List
         | true ↦ λ e x. absurd (free (odd ∙ ap bit e))
         | false ↦ λ e x. (e, rw e at x)
       ] in let t = split w.held refl c.2 in (w, is, t.0, t.1)
-
-  -- or that it was lost
-  pub claim_lost : (w : StateWord) × IsWordOf r w × MatchBool w.held (Loses m n r m') (Wins fits room m n r w m') → r % 2 ≡ 1
-      → (w : StateWord) × IsWordOf r w × (w.held ≡ true) × Loses m n r m'
-  claim_lost c taken = let w : StateWord = c.0 in let is = c.1 in
-      let odd : r % 2 ≡ bit w.held = ap (λ (k : ℕ). k % 2) is.packed_is ∙ packed-mod_2 w in
-      let split : (b : Bool) → w.held ≡ b → MatchBool w.held (Loses m n r m') (Wins fits room m n r w m') → (w.held ≡ true) × Loses m n r m' = elim [
-        | true ↦ λ e x. (e, rw e at x)
-        | false ↦ λ e x. absurd (let z : r % 2 ≡ 0 = odd ∙ ap bit e in omega arith)
-      ] in let t = split w.held refl c.2 in (w, is, t.0, t.1)

@@ -2,7 +2,7 @@
 use Rattle.std.proofs.Common.{◌≡◌, ◌≢◌, ℕ, suc, ◌+◌, ◌≤◌, ⊎_elim, Bool, true, false, true≢false, List, [], ◌∷◌, ◌++◌, length, get_or, set, refl, sym, ap, ◌∙◌, subst, arith}
 use mathlib.Core.Option.{some}
 use lib.ListN.{get_elem?}
-use Rattle.std.specs.Prelude.{Option, Some, None, is_some, flat_map}
+use Rattle.std.specs.Prelude.{Option, is_some, flat_map}
 use Rattle.std.specs.List.{All, count_by, sum_by}
 use Rattle.std.proofs.lemmas.List.Elements.{All-nil, All-cons}
 use Rattle.std.proofs.lemmas.List.Sums.{sum_by-append, sum_by-cons, sum_by-set}
@@ -26,6 +26,7 @@ use Rattle.slot_words.specs.Views.{no_view, operations_of}
 use Rattle.slot_words.specs.Shows.{IsCounted, ShowsLawful}
 use Rattle.slot_words.proofs.AccountSteps.{left_by_counts, count_by-set_view}
 use Rattle.slot_words.proofs.Holdings.{holdings, held-are-holdings}
+use Rattle.slot_words.proofs.KindSums.{bit_at_most_one}
 use Rattle.slot_words.proofs.Lookups.{found}
 use Rattle.slot_words.proofs.PassEvents.{closes_are_events}
 use Rattle.slot_words.proofs.ShownChanges.{seat_here}
@@ -33,10 +34,6 @@ use Rattle.slot_words.proofs.ShownChanges.{seat_here}
 -- what a pass holds
 abbrev holds_of : PassView → ℕ
 holds_of v = holdings v.seat
-
-at_most_one : (h : Option ℕ) → bit (is_some h) ≤ 1
-at_most_one None = omega arith
-at_most_one (Some n) = omega arith
 
 module _ (bounds : Bounds) where
   abbrev AreCounted : List PassView → Type 0
@@ -56,7 +53,7 @@ module _ (bounds : Bounds) where
       let few : length trails ≤ sum_by (λ v. v.share) vs = rest.1.few in let holders : sum_by holds_of vs ≤ length trails = rest.1.holders in
       let kept : count_by is_won_claim (in_one trails) ≡ count_by is_release (in_one trails) + sum_by holds_of vs = rest.1.kept in
       let mine : count_by is_won_claim (operations_of v) ≡ count_by is_release (operations_of v) + holds_of v = own.1.held in
-      let low : holds_of v ≤ 1 = at_most_one v.seat.holds in
+      let low : holds_of v ≤ 1 = bit_at_most_one (is_some v.seat.holds) in
       let shares : sum_by (λ v. v.share) (v ∷ vs) ≡ v.share + sum_by (λ v. v.share) vs = sum_by-cons (λ v. v.share) v vs in
       let holds : sum_by holds_of (v ∷ vs) ≡ holds_of v + sum_by holds_of vs = sum_by-cons holds_of v vs in
       let split : (b : Bool) → is_away v.seat.stage ≡ b → (ts : List (List Operation)) × AreTrailsOf (v ∷ vs) ts = elim [

@@ -19,7 +19,7 @@ kind_counts-more ws i h = λ k. record {
 abbrev pub AreAtMost : KindCounts → ℕ → Type 0
 AreAtMost k i = (k.cold ≤ i) × (k.warm ≤ i) × (k.awaiting ≤ i) × (k.held ≤ i)
 
-bit_at_most_one : (b : Bool) → bit b ≤ 1
+pub bit_at_most_one : (b : Bool) → bit b ≤ 1
 bit_at_most_one true = omega arith
 bit_at_most_one false = omega arith
 

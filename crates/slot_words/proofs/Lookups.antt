@@ -1,7 +1,8 @@
 -- Looking a seat or a word up.
-use Rattle.std.proofs.Common.{◌≡◌, ℕ, zero, suc, ◌<◌, true, false, true≢false, ltb, List, [], ◌∷◌, length, get_or, set, refl, sym, arith}
+use Rattle.std.proofs.Common.{◌≡◌, ◌≢◌, ℕ, zero, suc, ◌<◌, true, false, true≢false, ltb, List, [], ◌∷◌, length, get_or, set, refl, sym, arith}
 use mathlib.Core.Option.{some, some-injective, some-ne-none}
 use lib.ListN.{get_elem?}
+use Rattle.std.specs.Prelude.{◌==◌}
 use Rattle.std.proofs.lemmas.Bool.Decides.{nat_tests}
 use Rattle.pool_core.specs.declared.seats.Seat.{Seat}
 use Rattle.pool_core.specs.declared.seats.Stage.{Stage}
@@ -20,6 +21,9 @@ module _ {A : Type 0} where
   set-get_or [] i d = refl
   set-get_or (x ∷ xs) zero d = refl
   set-get_or (x ∷ xs) (suc i) d = λ k. x ∷ set-get_or xs i d k
+
+pub apart_test : (a b : ℕ) → a ≢ b → (a == b) ≡ false
+apart_test a b n = grind (arith, nat_tests)
 
 pub ltb_of_lt : (n k : ℕ) → n < k → ltb n k ≡ true
 ltb_of_lt n k h = grind (arith, nat_tests)

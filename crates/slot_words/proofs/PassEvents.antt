@@ -4,9 +4,8 @@ use mathlib.Core.Logic.{dite}
 use mathlib.Core.Option.{some}
 use native.Mathlib.Decide.{ℕ_discrete}
 use lib.ListN.{get_elem?}
-use Rattle.std.specs.Prelude.{◌==◌, Some}
+use Rattle.std.specs.Prelude.{Some}
 use Rattle.std.specs.List.{sum_by}
-use Rattle.std.proofs.lemmas.Bool.Decides.{nat_tests}
 use Rattle.std.proofs.lemmas.List.{get_or_past}
 use Rattle.std.proofs.lemmas.List.Sums.{sum_by-set, sum_by_push, get_or-le-sum_by}
 use Rattle.atomic_table.proofs.Lists.{at_set, at_snoc}
@@ -23,7 +22,7 @@ use Rattle.slot_words.specs.declared.views.PassView.{PassView}
 use Rattle.slot_words.specs.Views.{no_view, view_left, view_given, view_joined, spent_view}
 use Rattle.slot_words.specs.Shows.{IsCounted}
 use Rattle.slot_words.specs.Events.{SplitsAreEvents, JoinsAreEvents, ClosesAreEvents, ExchangesAreEvents}
-use Rattle.slot_words.proofs.Lookups.{found, ltb_of_lt, live_not_away, set-get_or}
+use Rattle.slot_words.proofs.Lookups.{apart_test, found, ltb_of_lt, live_not_away, set-get_or}
 use Rattle.slot_words.proofs.ShownChanges.{seat_here, seat_within}
 
 module _ {A : Type 0} where
@@ -44,9 +43,6 @@ module _ {A : Type 0} where
 
 may_split : (c : PoolCore) (s t : ℕ) → is_live (seat_at c s).stage ≡ true → t < length c.seats → seat_at c t ≡ idle_seat Unmade → is_idle (seat_at c s) ≡ true → refusal_of c (Split s t) ≡ 0
 may_split c s t live h un rest = rw (live, ltb_of_lt t (length c.seats) h, un, rest) refl
-
-apart_test : (s t : ℕ) → ¬ (s ≡ t) → (s == t) ≡ false
-apart_test s t n = grind (arith, nat_tests)
 
 may_join : (c : PoolCore) (s t : ℕ) → ¬ (s ≡ t) → is_live (seat_at c s).stage ≡ true → is_idle (seat_at c s) ≡ true → is_live (seat_at c t).stage ≡ true → is_idle (seat_at c t) ≡ true → refusal_of c (Join s t) ≡ 0
 may_join c s t n live rest live' rest' = rw (live, live', apart_test s t n, rest, rest') refl
