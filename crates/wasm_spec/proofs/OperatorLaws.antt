@@ -19,21 +19,6 @@ use Rattle.wasm_types.specs.declared.instr.Width.TheVariants.{W32, W64}
 pub use Rattle.wasm_spec.specs.Operators.{int_width}
 use Rattle.wasm_spec.specs.Operators.{bit_width, binary_digits, signed, unsigned, sub, rotl, rotr, clz, ctz, popcnt}
 
--- ---- signed values
-
-pub signed-cast : (w : Width) (i : ℕ) → i < 2 ^ bit_width w → signed (bit_width w) i ≡ cast_signed (int_width w) i
-signed-cast W32 i h = grind (arith, ints)
-signed-cast W64 i h = grind (arith, ints)
-
-pub unsigned-cast : (w : Width) (j : ℤ) → unsigned (bit_width w) j ≡ cast_unsigned (int_width w) j
-unsigned-cast W32 (pos j) = refl
-unsigned-cast W32 (negsuc j) = refl
-unsigned-cast W64 (pos j) = refl
-unsigned-cast W64 (negsuc j) = refl
-
-pub sub-wrapping : (n a b : ℕ) → b ≤ 2 ^ n → sub n a b ≡ (a + (2 ^ n - b)) % 2 ^ n
-sub-wrapping n a b h = let e : a + 2 ^ n - b ≡ a + (2 ^ n - b) = omega arith in ap (λ (x : ℕ). x % 2 ^ n) e
-
 -- ---- counts
 
 abbrev zero_digit : ℕ → Bool
@@ -64,7 +49,7 @@ popcnt-count_ones (suc n) i h =
     ∙ ap (λ (x : ℕ). x + ones (i / 2)) (zero-add (i % 2))
     ∙ sym (ones_step i)
 
-digits-length : (n i : ℕ) → length (binary_digits n i) ≡ n
+pub digits-length : (n i : ℕ) → length (binary_digits n i) ≡ n
 unfolding binary_digits
 digits-length zero i = refl
 digits-length (suc n) i = ap suc (digits-length n (i / 2))
@@ -102,7 +87,7 @@ clz-leading_zeros (suc n) (suc i) h =
 -- ---- rotations
 
 -- the digits that stay, moved up
-moved-up : (a m k : ℕ) → a * 2 ^ k % 2 ^ (m + k) ≡ a % 2 ^ m * 2 ^ k
+pub moved-up : (a m k : ℕ) → a * 2 ^ k % 2 ^ (m + k) ≡ a % 2 ^ m * 2 ^ k
 moved-up a m k =
     mod-pow-add (a * 2 ^ k) m k
     ∙ ap₂ (λ (x y : ℕ). x % 2 ^ m * 2 ^ k + y) (mul-div_cancel a (pow_pos k)) (mul-mod_left a (2 ^ k))
