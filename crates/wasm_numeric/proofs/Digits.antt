@@ -7,7 +7,7 @@ use Rattle.std.proofs.Math.Path.{ap₂}
 use Rattle.std.proofs.Math.Pow.{shr_lt}
 use Rattle.std.proofs.Math.Seq.{take-append_seam, drop-append_seam}
 use Rattle.wasm_spec.specs.Operators.{binary_digits}
-use Rattle.wasm_spec.proofs.OperatorLaws.{digits-length, moved-up}
+use Rattle.wasm_numeric.proofs.StdOperators.{digits-length, moved-up}
 
 pub digits-zero : (n : ℕ) → binary_digits n 0 ≡ replicate n 0
 unfolding binary_digits

@@ -4,7 +4,7 @@ use Rattle.std.specs.Prelude.{◌==◌, ◌↔◌, ℤ, pos, negsuc, ◌+ℤ◌,
 use Rattle.std.specs.Int.Signed.{mag, mag_rem}
 use Rattle.std.proofs.Math.IntN.{neg_ℤ}
 use Rattle.std.proofs.lemmas.Bool.Decides.{nat_tests}
-use Rattle.std.proofs.lemmas.Int.{ints, mag-neg, quot-rem, rem_below}
+use Rattle.std.proofs.lemmas.Int.{ints, quot-rem, rem_below}
 use Rattle.std.proofs.lemmas.Nat.{pow_pos}
 use Rattle.std.proofs.Math.Nat.{div-le_self, div-mul-le_self, div-one}
 use Rattle.std.proofs.Math.Path.{ap₂}
@@ -13,6 +13,10 @@ use Rattle.wasm_spec.specs.Operators.{signed, unsigned, overflows, div_s, rem_s}
 use Rattle.wasm_numeric.proofs.Signed.{signed-high, twice, unsigned-signed, signed-unsigned, mag-signed, signed-some}
 
 -- ---- quotients of numbers of n bits
+
+mag-neg : (n : ℕ) → mag (neg_ℤ (pos n)) ≡ n - 1
+mag-neg zero = refl
+mag-neg (suc n) = omega arith
 
 -- by 2 or more, a quotient is at most half
 halved : (a b h : ℕ) → suc a ≤ h → suc a / suc (suc b) < h

@@ -5,7 +5,6 @@ pub mod UnambiguousModules
 pub mod GrammarExamples
 pub mod Loading
 pub mod TypingExamples
-pub mod OperatorLaws
 pub mod OperatorExamples
 pub mod FuelLaws
 pub mod Equations
