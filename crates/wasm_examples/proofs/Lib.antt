@@ -1,9 +1,11 @@
 pub mod Modules
-pub mod Examples
+pub mod CallExamples
 pub mod GrammarExamples
 pub mod OperatorExamples
-pub mod ProgramExamples
+pub mod ControlExamples
 pub mod TypingExamples
 pub mod LoadingExamples
+pub mod NeedExamples
+pub mod ValidityExamples
 pub mod TreeExamples
 pub mod OpcodeExamples
