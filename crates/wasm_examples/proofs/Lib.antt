@@ -8,4 +8,3 @@ pub mod LoadingExamples
 pub mod NeedExamples
 pub mod ValidityExamples
 pub mod TreeExamples
-pub mod OpcodeExamples
