@@ -1,6 +1,7 @@
 pub mod Modules
 pub mod CallExamples
 pub mod GrammarExamples
+pub mod SpelledModule
 pub mod OperatorExamples
 pub mod ControlExamples
 pub mod TypingExamples
