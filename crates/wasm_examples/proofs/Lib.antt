@@ -1,5 +1,6 @@
 pub mod Modules
 pub mod CallExamples
+pub mod NumberExamples
 pub mod GrammarExamples
 pub mod SpelledModule
 pub mod OperatorExamples

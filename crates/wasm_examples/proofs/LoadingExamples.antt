@@ -1,13 +1,17 @@
 -- Worked examples of floats, limits and segments.
-use Rattle.std.specs.Prelude.{◌≡◌, ℕ, List, [], ◌∷◌, ◌++◌, Option, Some, None, Bool, true, false, replicate, codes, refl}
+use Rattle.std.proofs.Common.{arith}
+use Rattle.std.specs.Prelude.{◌≡◌, ℕ, List, [], ◌∷◌, ◌++◌, Option, Some, None, Ok, Err, Bool, true, false, replicate, codes, refl}
 use Rattle.wasm_types.specs.declared.types.ValType.TheVariants as type
 use Rattle.wasm_types.specs.declared.outcome.Val.TheVariants.{I32, I64}
 use Rattle.wasm_types.specs.declared.instr.Instr.TheVariants as instr
 use Rattle.wasm_types.specs.Tree.{Code, End, Plain, Block, Loop, If, Call, CallIndirect, ModuleTree}
-use Rattle.wasm_spec.specs.Validity.{uses_floats, offset_value}
+use Rattle.wasm_types.specs.declared.module.ImportDesc.TheVariants as import
+use Rattle.wasm_spec.specs.Validity.{IsSupported, uses_floats, offset_value}
 use Rattle.wasm_spec.specs.Store.{Element, Data, first_misfit}
 use Rattle.wasm_types.specs.declared.limits.LoadLimits.{LoadLimits}
-use Rattle.wasm_spec.specs.Loading.{Refusal, OverLimit, Segment, Pages, Elements, Globals, Frame, late_refusal}
+use Rattle.wasm_spec.specs.Loading.{Refusal, Malformed, Unsupported, Invalid, Answers, Loads, OverLimit, Segment, Pages, Elements, Globals, Frame, late_refusal}
+use Rattle.wasm_examples.proofs.GrammarExamples.{add_spelled, header_cut_off}
+use Rattle.wasm_examples.proofs.TypingExamples.{add, add_valid, add_supported}
 use Rattle.wasm_examples.proofs.Modules.{straight, i32_const, function_type, function_of, at_least, bare, empty_type, constant_type}
 
 abbrev usual : LoadLimits
@@ -158,3 +162,36 @@ float_init_of_a_global = refl
 
 float_offset_of_elements : uses_floats (record (bare [] [] []) { element_segments = record { table = 0; offset = straight (instr.Float ∷ []) End; functions = [] } ∷ [] }) ≡ true
 float_offset_of_elements = refl
+
+-- ---- what loading answers
+
+abbrev add_bytes : List ℕ
+add_bytes =
+    0x00 ∷ 0x61 ∷ 0x73 ∷ 0x6D ∷ 0x01 ∷ 0x00 ∷ 0x00 ∷ 0x00 ∷ 0x01 ∷ 0x07 ∷ 0x01 ∷ 0x60 ∷ 0x02 ∷ 0x7F ∷ 0x7F ∷ 0x01 ∷ 0x7F
+    ∷ 0x03 ∷ 0x02 ∷ 0x01 ∷ 0x00 ∷ 0x07 ∷ 0x07 ∷ 0x01 ∷ 0x03 ∷ 0x61 ∷ 0x64 ∷ 0x64 ∷ 0x00 ∷ 0x00
+    ∷ 0x0A ∷ 0x09 ∷ 0x01 ∷ 0x07 ∷ 0x00 ∷ 0x20 ∷ 0x00 ∷ 0x20 ∷ 0x01 ∷ 0x6A ∷ 0x0B ∷ []
+
+add_is_loaded : Loads add_bytes usual (Ok add)
+add_is_loaded = record { tree = add; spells = add_spelled; answers = (record { runs = add_supported; valid = add_valid; late_is = refl }, refl) }
+
+abbrev narrow : LoadLimits
+narrow = record { pages = 32; elements = 1024; frame = 4 }
+
+add_is_over_its_frame : Loads add_bytes narrow (Err (OverLimit (record { which = Frame 0; value = 5; limit = 4 })))
+add_is_over_its_frame = record { tree = add; spells = add_spelled; answers = record { runs = add_supported; valid = add_valid; late_is = refl } }
+
+header_cut_off_is_malformed : Loads (0x00 ∷ 0x61 ∷ 0x73 ∷ 0x6D ∷ 0x01 ∷ 0x00 ∷ 0x00 ∷ []) usual (Err Malformed)
+header_cut_off_is_malformed = header_cut_off
+
+-- it imports, has two memories, and asks for too many pages
+abbrev bad_in_three_ways : ModuleTree
+bad_in_three_ways = record (bare [] [] []) {
+  imports = record { module_name = []; item_name = []; desc = import.Func 0 } ∷ [];
+  memories = at_least 33 ∷ at_least 33 ∷ [];
+}
+
+unsupported_comes_first : Answers IsSupported usual bad_in_three_ways (Err Unsupported)
+unsupported_comes_first s = let e = s.no_import in cc (e)
+
+invalid_comes_next : Answers IsSupported usual (record bad_in_three_ways { imports = [] }) (Err Invalid)
+invalid_comes_next = (record { no_import = refl; no_float = refl }, λ v. let few = v.one_memory in omega (arith, few))
