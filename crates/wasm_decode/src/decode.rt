@@ -1,35 +1,36 @@
 // Modules.
 
-ghost use Rattle.std.specs.Prelude.{◌≡◌, ◌↔◌, IsTrue, ◌∷◌, ◌++◌, List, ℕ, map, option_map, MatchResult, MatchOption};
+ghost use Rattle.std.specs.Prelude.{◌≡◌, ◌++◌, ℕ, List, map, IfOk, MatchOption, MatchResult};
 ghost use Rattle.wasm_types.specs.Tree.{module_tree};
+ghost use Rattle.wasm_spec.specs.Grammar.{Spells};
 ghost use Rattle.wasm_decode.specs.Decoding.{IsNone};
 ghost use Rattle.wasm_decode.specs.Sections.{section_of};
-ghost use Rattle.wasm_spec.specs.Built.{SpellsBuilt};
-ghost use Rattle.wasm_decode.specs.Trees.{HasOnlyBuilt, SpellsNothing, SpellsBuiltFields};
+ghost use Rattle.wasm_decode.specs.Fields.{SpellsFields};
 
 use crate::fault::DecodeFault;
-use crate::function::decode_functions;
-use crate::section::{Section, find_contents, read_sections};
-use crate::vector::decode_section;
-use leb_read::cursor::Cursor;
-use std::alloc::Global;
+use crate::function::{SizedBody, join};
+use crate::section::{Section, are_in_order, decode_section, decode_start, read_sections};
+use crate::types::TableType;
+use std::alloc::{AllocError, Global};
 use wasm_types::items::Items;
 use wasm_types::module::Module;
+use wasm_types::types::Limits;
 
 /// The magic bytes and the version.
 const HEADER: [u8; 8] = [0x00, 0x61, 0x73, 0x6D, 0x01, 0x00, 0x00, 0x00];
 
-/// The module that these bytes spell. `Malformed` where they spell none that is built. Source: Core Specification
-/// 1.0, section 5.5.15.
+/// The module that these bytes spell. Source: Core Specification 1.0, section 5.5.15.
 pub fn decode(alloc: Global, bytes: &[u8]) -> Result<Module, DecodeFault>
-    ensures { MatchResult result (λ m. SpellsBuilt bytes.now (module_tree m)) (IsNone (SpellsBuilt bytes.now)) }
+    ensures { MatchResult result (λ m. Spells bytes.now (module_tree m)) (IsNone (Spells bytes.now)) }
 {
     let Some(after) = after_header(bytes) else {
         return Err(DecodeFault::Malformed);
     };
-    match read_sections(alloc, after) {
-        Ok(sections) => decode_fields(alloc, sections.as_slice()),
-        Err(fault) => Err(fault),
+    let sections = read_sections(alloc, after)?;
+    if are_in_order(sections.as_slice()) {
+        decode_fields(alloc, sections.as_slice())
+    } else {
+        Err(DecodeFault::Malformed)
     }
 }
 
@@ -40,70 +41,47 @@ fn after_header(bytes: &[u8]) -> Option<&[u8]>
     bytes.strip_prefix(&HEADER)
 }
 
-/// Whether a section has no items, or isn't there.
-fn has_no_items(contents: Option<&[u8]>) -> bool
-    ensures { IsTrue result ↔ SpellsNothing (option_map (λ c. c.now) contents.entry) }
+/// The limits of these tables.
+fn limits(alloc: Global, tables: &[TableType]) -> Result<Items<Limits>, AllocError>
+    ensures { IfOk result (λ ls. ls ≡ map (λ t. t.limits) tables.now) }
 {
-    let Some(contents) = contents else {
-        return true;
-    };
-    let mut cursor = Cursor::new(contents);
-    match cursor.u32() {
-        Ok(count) => count == 0 && cursor.is_at_end(),
-        Err(_) => false,
+    let mut limits = Vec::new(alloc);
+    for table in tables {
+        limits.push(table.limits)?;
     }
-}
-
-/// Whether only the sections that are built have items.
-fn has_only_built(sections: &[Section]) -> bool
-    ensures { IsTrue result ↔ HasOnlyBuilt (map section_of sections.now) }
-{
-    has_no_items(find_contents(sections, 2))
-        && has_no_items(find_contents(sections, 4))
-        && has_no_items(find_contents(sections, 5))
-        && has_no_items(find_contents(sections, 6))
-        && find_contents(sections, 8).is_none()
-        && has_no_items(find_contents(sections, 9))
-        && has_no_items(find_contents(sections, 11))
+    Ok(Items::new(limits))
 }
 
 /// The module whose sections these are.
 fn decode_fields(alloc: Global, sections: &[Section]) -> Result<Module, DecodeFault>
-    ensures { MatchResult result (λ m. SpellsBuiltFields (map section_of sections.now) (module_tree m)) (IsNone (SpellsBuiltFields (map section_of sections.now))) }
+    ensures { MatchResult result (λ m. SpellsFields (map section_of sections.now) (module_tree m)) (IsNone (SpellsFields (map section_of sections.now))) }
 {
-    if !has_only_built(sections) {
+    let types = decode_section(alloc, sections, 1)?;
+    let imports = decode_section(alloc, sections, 2)?;
+    let type_indices: Items<u32> = decode_section(alloc, sections, 3)?;
+    let tables: Items<TableType> = decode_section(alloc, sections, 4)?;
+    let memories = decode_section(alloc, sections, 5)?;
+    let globals = decode_section(alloc, sections, 6)?;
+    let exports = decode_section(alloc, sections, 7)?;
+    let start = decode_start(alloc, sections)?;
+    let element_segments = decode_section(alloc, sections, 9)?;
+    let bodies: Items<SizedBody> = decode_section(alloc, sections, 10)?;
+    let data_segments = decode_section(alloc, sections, 11)?;
+    if type_indices.len() != bodies.len() {
         return Err(DecodeFault::Malformed);
     }
-    let types = match decode_section(alloc, find_contents(sections, 1)) {
-        Ok(types) => types,
-        Err(fault) => return Err(fault),
-    };
-    let type_indices: Vec<u32> = match decode_section(alloc, find_contents(sections, 3)) {
-        Ok(type_indices) => type_indices,
-        Err(fault) => return Err(fault),
-    };
-    let exports = match decode_section(alloc, find_contents(sections, 7)) {
-        Ok(exports) => exports,
-        Err(fault) => return Err(fault),
-    };
-    let functions = match decode_functions(
-        alloc,
-        type_indices.as_slice(),
-        find_contents(sections, 10),
-    ) {
-        Ok(functions) => functions,
-        Err(fault) => return Err(fault),
-    };
+    let functions = join(alloc, type_indices.as_slice(), bodies.into_vec())?;
+    let tables = limits(alloc, tables.as_slice())?;
     Ok(Module {
-        types: Items::new(types),
-        imports: Items::new(Vec::new(alloc)),
+        types,
+        imports,
         functions: Items::new(functions),
-        tables: Items::new(Vec::new(alloc)),
-        memories: Items::new(Vec::new(alloc)),
-        globals: Items::new(Vec::new(alloc)),
-        exports: Items::new(exports),
-        start: None,
-        element_segments: Items::new(Vec::new(alloc)),
-        data_segments: Items::new(Vec::new(alloc)),
+        tables,
+        memories,
+        globals,
+        exports,
+        start,
+        element_segments,
+        data_segments,
     })
 }

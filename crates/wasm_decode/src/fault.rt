@@ -3,6 +3,7 @@
 ghost use Rattle.std.specs.Prelude.{◌≡◌};
 ghost use Rattle.wasm_decode.specs.declared.fault.DecodeFault.TheVariants as fault;
 
+use leb_read::cursor::Malformed;
 use std::alloc::{AllocError, AllocFailed};
 
 /// Why a module isn't decoded.
@@ -14,6 +15,15 @@ pub enum DecodeFault {
     /// Memory was refused.
     #[error("out of memory")]
     NoMemory,
+}
+
+impl From<Malformed> for DecodeFault {
+    ghost from_gives = { λ _ e. e ≡ fault.Malformed };
+
+    fn from(error: Malformed) -> Self {
+        let _ = error;
+        DecodeFault::Malformed
+    }
 }
 
 impl From<AllocError> for DecodeFault {

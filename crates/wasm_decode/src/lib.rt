@@ -5,12 +5,14 @@
 
 mod code;
 pub mod decode;
-mod export;
 pub mod fault;
 mod function;
+mod instr;
 mod item;
+mod module;
+mod nest;
 mod section;
 #[cfg(test)]
 mod tests;
+mod token;
 mod types;
-mod vector;
