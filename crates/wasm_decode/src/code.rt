@@ -10,7 +10,7 @@ use crate::nest::Nest;
 use crate::token::{Token, read_token};
 use leb_read::cursor::Cursor;
 use std::alloc::Global;
-use wasm_types::instr::Expr;
+use wasm_types::Expr;
 
 /// Instructions up to their end. Source: Core Specification 1.0, section 5.4.6.
 impl Item for Expr {

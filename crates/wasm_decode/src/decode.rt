@@ -12,9 +12,9 @@ use crate::function::{SizedBody, join};
 use crate::section::{Section, are_in_order, decode_section, decode_start, read_sections};
 use crate::types::TableType;
 use std::alloc::{AllocError, Global};
-use wasm_types::items::Items;
-use wasm_types::module::Module;
-use wasm_types::types::Limits;
+use wasm_types::Items;
+use wasm_types::Module;
+use wasm_types::Limits;
 
 /// The magic bytes and the version.
 const HEADER: [u8; 8] = [0x00, 0x61, 0x73, 0x6D, 0x01, 0x00, 0x00, 0x00];

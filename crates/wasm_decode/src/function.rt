@@ -11,10 +11,10 @@ use crate::fault::DecodeFault;
 use crate::item::{Item, decode_whole, read_bytes};
 use leb_read::cursor::Cursor;
 use std::alloc::{AllocError, Global};
-use wasm_types::instr::Expr;
-use wasm_types::items::Items;
-use wasm_types::module::{Function, LocalRun};
-use wasm_types::types::ValType;
+use wasm_types::Expr;
+use wasm_types::Items;
+use wasm_types::{Function, LocalRun};
+use wasm_types::ValType;
 
 /// Source: Core Specification 1.0, section 5.5.13.
 impl Item for LocalRun {

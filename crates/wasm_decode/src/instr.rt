@@ -10,9 +10,9 @@ use crate::fault::DecodeFault;
 use crate::item::Item;
 use leb_read::cursor::Cursor;
 use std::alloc::Global;
-use wasm_types::instr::{BinaryOp, CompareOp, Instr, MemArg, PackSize, Sign, UnaryOp, Width};
-use wasm_types::items::Items;
-use wasm_types::outcome::Val;
+use wasm_types::{BinaryOp, CompareOp, Instr, MemArg, PackSize, Sign, UnaryOp, Width};
+use wasm_types::Items;
+use wasm_types::Val;
 
 /// The comparison of a number, from `eqz` on.
 fn comparison(width: Width, number: u8) -> Option<Instr>

@@ -10,7 +10,7 @@ ghost use Rattle.wasm_decode.specs.Pairs.{TakesPair, pair-unique};
 use crate::fault::DecodeFault;
 use leb_read::cursor::Cursor;
 use std::alloc::Global;
-use wasm_types::items::Items;
+use wasm_types::Items;
 
 /// An item of the binary format.
 pub(crate) trait Item: Sized + Drop {

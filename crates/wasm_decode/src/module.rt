@@ -16,12 +16,12 @@ use crate::item::{Item, read_bytes};
 use crate::types::TableType;
 use leb_read::cursor::Cursor;
 use std::alloc::Global;
-use wasm_types::instr::Expr;
-use wasm_types::items::Items;
-use wasm_types::module::{
+use wasm_types::Expr;
+use wasm_types::Items;
+use wasm_types::{
     DataSegment, ElementSegment, Export, ExportDesc, Global as GlobalItem, Import, ImportDesc,
 };
-use wasm_types::types::{GlobalType, Limits};
+use wasm_types::{GlobalType, Limits};
 
 /// A name, as its bytes.
 #[derive(Drop)]

@@ -8,9 +8,9 @@ ghost use Rattle.wasm_decode.specs.Nesting.{Spot, Stands, Becomes, after_leaf, o
 use crate::token::Opener;
 use std::alloc::{AllocError, Global};
 use std::mem;
-use wasm_types::instr::{Expr, Op};
-use wasm_types::items::Items;
-use wasm_types::types::ValType;
+use wasm_types::{Expr, Op};
+use wasm_types::Items;
+use wasm_types::ValType;
 
 /// What an open inner sequence is, and, for the second of an `if`, the number of the first.
 #[derive(Clone, Copy)]

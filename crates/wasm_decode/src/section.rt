@@ -11,7 +11,7 @@ use crate::fault::DecodeFault;
 use crate::item::{Item, decode_whole, read_bytes};
 use leb_read::cursor::Cursor;
 use std::alloc::Global;
-use wasm_types::items::Items;
+use wasm_types::Items;
 
 /// A section: its id, and its contents. Source: Core Specification 1.0, section 5.5.2.
 #[derive(Clone, Copy)]

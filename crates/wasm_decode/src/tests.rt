@@ -2,9 +2,9 @@
 
 use crate::decode::decode;
 use crate::fault::DecodeFault;
-use wasm_types::instr::{BinaryOp, Instr, Op, Width};
-use wasm_types::module::{ExportDesc, Module};
-use wasm_types::types::ValType;
+use wasm_types::{BinaryOp, Instr, Op, Width};
+use wasm_types::{ExportDesc, Module};
+use wasm_types::ValType;
 
 /// A module that exports `add`, a function of two i32 that adds them.
 const ADD: &[u8] =

@@ -10,8 +10,8 @@ use crate::instr::read_instr;
 use crate::types::read_block_type;
 use leb_read::cursor::Cursor;
 use std::alloc::Global;
-use wasm_types::instr::Op;
-use wasm_types::types::ValType;
+use wasm_types::Op;
+use wasm_types::ValType;
 
 /// What opens an inner sequence.
 #[derive(Clone, Copy)]
