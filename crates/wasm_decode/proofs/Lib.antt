@@ -1,6 +1,6 @@
 pub mod Reading
-pub mod Nesting
-pub mod Going
+pub mod Contexts
+pub mod Completions
 pub mod Opcodes
 pub mod Shapes
 pub mod SectionList

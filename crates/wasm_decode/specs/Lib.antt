@@ -1,7 +1,7 @@
 pub mod Decoding
 pub mod Pairs
 pub mod Tokens
-pub mod Nesting
+pub mod Contexts
 pub mod Opcodes
 pub mod Bodies
 pub mod Sections

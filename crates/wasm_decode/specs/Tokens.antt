@@ -5,8 +5,8 @@ use Rattle.wasm_types.specs.declared.instr.Op.TheVariants as op
 use Rattle.wasm_spec.specs.Numbers.{TakesUnsigned}
 use Rattle.wasm_spec.specs.TypeGrammar.{TakesBlockType}
 use Rattle.wasm_spec.specs.InstrGrammar.{TakesInstr}
-use Rattle.wasm_decode.specs.declared.token.Opener.{Opener}
-use Rattle.wasm_decode.specs.declared.token.Opener.TheVariants as opener
+use Rattle.wasm_decode.specs.declared.token.BlockKind.{BlockKind}
+use Rattle.wasm_decode.specs.declared.token.BlockKind.TheVariants as block_kind
 use Rattle.wasm_decode.specs.declared.token.Token.{Token}
 use Rattle.wasm_decode.specs.declared.token.Token.TheVariants as token
 
@@ -20,14 +20,14 @@ TakesLeaf (op.Call x) bytes rest = (after : List ℕ) × (bytes ≡ 0x10 ∷ aft
 TakesLeaf (op.CallIndirect x) bytes rest = (after : List ℕ) × (bytes ≡ 0x11 ∷ after) × TakesUnsigned 32 x after (0 ∷ rest)
 TakesLeaf _ bytes rest = ⊥
 
-abbrev pub opener_byte : Opener → ℕ
-opener_byte opener.Block = 0x02
-opener_byte opener.Loop = 0x03
-opener_byte opener.If = 0x04
+abbrev pub block_byte : BlockKind → ℕ
+block_byte block_kind.Block = 0x02
+block_byte block_kind.Loop = 0x03
+block_byte block_kind.If = 0x04
 
 abbrev pub TakesToken : Token → List ℕ → List ℕ → Type 0
 TakesToken (token.Leaf o) bytes rest = TakesLeaf o bytes rest
-TakesToken (token.Open o t) bytes rest = (after : List ℕ) × (bytes ≡ opener_byte o ∷ after) × TakesBlockType t after rest
+TakesToken (token.Open o t) bytes rest = (after : List ℕ) × (bytes ≡ block_byte o ∷ after) × TakesBlockType t after rest
 TakesToken token.Else bytes rest = bytes ≡ 0x05 ∷ rest
 TakesToken token.End bytes rest = bytes ≡ 0x0B ∷ rest
 

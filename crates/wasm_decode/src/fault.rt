@@ -1,9 +1,9 @@
-// Why a module isn't decoded.
+//! Why a module isn't decoded.
 
 ghost use Rattle.std.specs.Prelude.{◌≡◌};
 ghost use Rattle.wasm_decode.specs.declared.fault.DecodeFault.TheVariants as fault;
 
-use leb_read::cursor::Malformed;
+use leb_read::Malformed;
 use std::alloc::{AllocError, AllocFailed};
 
 /// Why a module isn't decoded.

@@ -1,4 +1,4 @@
-// Functions: their locals and their code.
+//! Functions: their locals and their code.
 
 ghost use Rattle.std.specs.Prelude.{◌≡◌, ◌↔◌, ◌<◌, ◌^◌, IsTrue, IfOk, flat_map, length, map};
 ghost use Rattle.wasm_types.specs.declared.module.LocalRun.{LocalRun as LocalRunTree};
@@ -9,14 +9,14 @@ ghost use Rattle.wasm_decode.specs.Bodies.{body_tree};
 
 use crate::fault::DecodeFault;
 use crate::item::{Item, decode_whole, read_bytes};
-use leb_read::cursor::Cursor;
+use leb_read::Cursor;
 use std::alloc::{AllocError, Global};
 use wasm_types::Expr;
 use wasm_types::Items;
 use wasm_types::{Function, LocalRun};
 use wasm_types::ValType;
 
-/// Source: Core Specification 1.0, section 5.5.13.
+// Source: Core Specification 1.0, section 5.5.13.
 impl Item for LocalRun {
     ghost Tree = { LocalRunTree };
 
@@ -32,14 +32,14 @@ impl Item for LocalRun {
     }
 }
 
-/// A function's locals and its code.
+// A function's locals and its code.
 #[derive(Drop)]
 pub(crate) struct Body {
-    pub locals: Items<LocalRun>,
-    pub code: Expr,
+    pub(crate) locals: Items<LocalRun>,
+    pub(crate) code: Expr,
 }
 
-/// Whether there are fewer than 2^32 locals.
+// Whether there are fewer than 2^32 locals.
 fn are_few(runs: &[LocalRun]) -> bool
     ensures { IsTrue result ↔ (length (flat_map locals_of runs.now) < 2 ^ 32) }
 {
@@ -53,7 +53,7 @@ fn are_few(runs: &[LocalRun]) -> bool
     true
 }
 
-/// Source: section 5.5.13.
+// Source: section 5.5.13.
 impl Item for Body {
     ghost Tree = { BodyTree };
 
@@ -73,10 +73,10 @@ impl Item for Body {
     }
 }
 
-/// A body behind its size.
+// A body behind its size.
 #[derive(Drop)]
 pub(crate) struct SizedBody {
-    pub body: Body,
+    pub(crate) body: Body,
 }
 
 impl Item for SizedBody {
@@ -95,7 +95,7 @@ impl Item for SizedBody {
     }
 }
 
-/// The functions of these types and bodies.
+// The functions of these types and bodies.
 pub(crate) fn join(
     alloc: Global,
     type_indices: &[u32],

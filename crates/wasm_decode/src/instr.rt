@@ -1,4 +1,4 @@
-// Plain instructions, by their opcodes.
+//! Plain instructions, by their opcodes.
 
 ghost use Rattle.std.specs.Prelude.{◌≡◌, ◌≤◌, length, get_or, MatchResult};
 ghost use Rattle.wasm_spec.specs.InstrGrammar.{shape, comparisons, operators, NotPlain, WithLabels, TakesShape};
@@ -8,13 +8,13 @@ ghost use Rattle.wasm_decode.specs.Opcodes.{made_alone, made_with_index, made_wi
 
 use crate::fault::DecodeFault;
 use crate::item::Item;
-use leb_read::cursor::Cursor;
+use leb_read::Cursor;
 use std::alloc::Global;
 use wasm_types::{BinaryOp, CompareOp, Instr, MemArg, PackSize, Sign, UnaryOp, Width};
 use wasm_types::Items;
 use wasm_types::Val;
 
-/// The comparison of a number, from `eqz` on.
+// The comparison of a number, from `eqz` on.
 fn comparison(width: Width, number: u8) -> Option<Instr>
     ensures { result ≡ made_alone (get_or (comparisons width) number NotPlain) }
 {
@@ -34,7 +34,7 @@ fn comparison(width: Width, number: u8) -> Option<Instr>
     }
 }
 
-/// The operator of a number, from `clz` on.
+// The operator of a number, from `clz` on.
 fn operator(width: Width, number: u8) -> Option<Instr>
     ensures { result ≡ made_alone (get_or (operators width) number NotPlain) }
 {
@@ -61,7 +61,7 @@ fn operator(width: Width, number: u8) -> Option<Instr>
     }
 }
 
-/// The instruction of an opcode that nothing follows. Source: Core Specification 1.0, section 5.4.
+// The instruction of an opcode that nothing follows. Source: Core Specification 1.0, section 5.4.
 #[tactic(auto, unfolding(wasm_spec::specs::InstrGrammar::shape))]
 pub(crate) fn alone(opcode: u8) -> Option<Instr>
     ensures { result ≡ made_alone (shape opcode) }
@@ -87,7 +87,7 @@ pub(crate) fn alone(opcode: u8) -> Option<Instr>
     }
 }
 
-/// The instruction of an opcode that an index follows.
+// The instruction of an opcode that an index follows.
 #[tactic(auto, unfolding(wasm_spec::specs::InstrGrammar::shape))]
 pub(crate) fn with_index(opcode: u8, index: u32) -> Option<Instr>
     ensures { result ≡ made_with_index (shape opcode) index }
@@ -104,7 +104,7 @@ pub(crate) fn with_index(opcode: u8, index: u32) -> Option<Instr>
     }
 }
 
-/// The instruction of an opcode that a place in memory follows.
+// The instruction of an opcode that a place in memory follows.
 #[tactic(auto, unfolding(wasm_spec::specs::InstrGrammar::shape))]
 pub(crate) fn with_address(opcode: u8, arg: MemArg) -> Option<Instr>
     ensures { result ≡ made_with_address (shape opcode) arg }
@@ -141,7 +141,7 @@ pub(crate) fn with_address(opcode: u8, arg: MemArg) -> Option<Instr>
     Some(instr)
 }
 
-/// What follows an opcode.
+// What follows an opcode.
 #[derive(Clone, Copy)]
 pub(crate) enum Immediate {
     Nothing,
@@ -154,7 +154,7 @@ pub(crate) enum Immediate {
     Bytes(usize),
 }
 
-/// What follows an opcode, if it is that of a plain instruction.
+// What follows an opcode, if it is that of a plain instruction.
 #[tactic(auto, unfolding(wasm_spec::specs::InstrGrammar::shape))]
 pub(crate) fn immediate_at(opcode: u8) -> Option<Immediate>
     ensures { result ≡ immediate_of (shape opcode) }
@@ -182,7 +182,7 @@ pub(crate) fn immediate_at(opcode: u8) -> Option<Immediate>
     Some(immediate)
 }
 
-/// The labels of a `br_table`.
+// The labels of a `br_table`.
 fn labels(alloc: Global, cursor: &mut Cursor) -> Result<Instr, DecodeFault>
     ensures { MatchResult result (IsRead (TakesShape WithLabels) cursor.old cursor.new) (BeginsWithNone (TakesShape WithLabels) (rest cursor.old)) }
 {
@@ -190,7 +190,7 @@ fn labels(alloc: Global, cursor: &mut Cursor) -> Result<Instr, DecodeFault>
     Ok(Instr::BrTable(labels, label))
 }
 
-/// The instruction of an opcode that a zero byte follows.
+// The instruction of an opcode that a zero byte follows.
 #[tactic(auto, unfolding(wasm_spec::specs::InstrGrammar::shape))]
 fn with_zero(opcode: u8) -> Option<Instr>
     ensures { result ≡ made_with_zero (shape opcode) }
@@ -202,7 +202,7 @@ fn with_zero(opcode: u8) -> Option<Instr>
     }
 }
 
-/// The plain instruction of an opcode, with what follows that.
+// The plain instruction of an opcode, with what follows that.
 pub(crate) fn read_instr(
     alloc: Global,
     cursor: &mut Cursor,

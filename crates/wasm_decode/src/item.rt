@@ -1,4 +1,4 @@
-// Items of the binary format: what stands alone, in a row, and in a vector.
+//! Items of the binary format: what stands alone, in a row, and in a vector.
 
 ghost use Rattle.std.specs.Prelude.{◌≡◌, ℕ, List, [], map, MatchResult};
 ghost use Rattle.wasm_spec.specs.Numbers.{TakesUnsigned, TakesVec, TakesBytes, IsUnambiguous};
@@ -8,11 +8,11 @@ ghost use Rattle.wasm_decode.specs.Decoding.{IsNone, BeginsWithNone};
 ghost use Rattle.wasm_decode.specs.Pairs.{TakesPair, pair-unique};
 
 use crate::fault::DecodeFault;
-use leb_read::cursor::Cursor;
+use leb_read::Cursor;
 use std::alloc::Global;
 use wasm_types::Items;
 
-/// An item of the binary format.
+// An item of the binary format.
 pub(crate) trait Item: Sized + Drop {
     // what the grammar spells, and what this stands for of it
     ghost Tree: { Type 0 };
@@ -21,7 +21,7 @@ pub(crate) trait Item: Sized + Drop {
 
     ghost Takes: { Tree → List ℕ → List ℕ → Type 0 };
 
-    /// The item at the cursor, which then stands just after it.
+    // The item at the cursor, which then stands just after it.
     fn decode(alloc: Global, cursor: &mut Cursor) -> Result<Self, DecodeFault>
         ensures { MatchResult result (λ x. IsRead Takes cursor.old cursor.new (tree x)) (BeginsWithNone Takes (rest cursor.old)) };
 
@@ -58,7 +58,7 @@ impl Item for u32 {
     }
 }
 
-/// One after the other.
+// One after the other.
 impl<A: Item, B: Item> Item for (A, B) {
     ghost Tree = { A.Tree × B.Tree };
 
@@ -75,7 +75,7 @@ impl<A: Item, B: Item> Item for (A, B) {
     }
 }
 
-/// A vector: a count, and that many. Source: Core Specification 1.0, section 5.1.3.
+// A vector: a count, and that many. Source: Core Specification 1.0, section 5.1.3.
 impl<T: Item> Item for Items<T> {
     ghost Tree = { List T.Tree };
 
@@ -96,7 +96,7 @@ impl<T: Item> Item for Items<T> {
     }
 }
 
-/// A size, and that many bytes.
+// A size, and that many bytes.
 pub(crate) fn read_bytes<'a>(cursor: &mut Cursor<'a>) -> Result<&'a [u8], DecodeFault>
     ensures { MatchResult result (λ xs. IsRead TakesBytes cursor.old cursor.new xs.now) (BeginsWithNone TakesBytes (rest cursor.old)) }
 {
@@ -104,7 +104,7 @@ pub(crate) fn read_bytes<'a>(cursor: &mut Cursor<'a>) -> Result<&'a [u8], Decode
     Ok(cursor.take(size as usize)?)
 }
 
-/// The item that is all of these bytes.
+// The item that is all of these bytes.
 pub(crate) fn decode_whole<T: Item>(alloc: Global, bytes: &[u8]) -> Result<T, DecodeFault>
     ensures { MatchResult result (λ x. T.Takes (T.tree x) bytes.now []) (IsNone (λ x. T.Takes x bytes.now [])) }
 {

@@ -4,15 +4,18 @@
 #![tactic(auto)]
 
 mod code;
-pub mod decode;
-pub mod fault;
+mod decoder;
+mod expr_builder;
+mod fault;
 mod function;
 mod instr;
 mod item;
 mod module;
-mod nest;
 mod section;
 #[cfg(test)]
 mod tests;
 mod token;
 mod types;
+
+pub use decoder::decode;
+pub use fault::DecodeFault;

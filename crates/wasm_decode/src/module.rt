@@ -1,4 +1,4 @@
-// The items of a module's sections.
+//! The items of a module's sections.
 
 ghost use Rattle.std.specs.Prelude.{ℕ, List};
 ghost use Rattle.wasm_types.specs.declared.module.Import.{Import as ImportTree};
@@ -14,7 +14,7 @@ ghost use Rattle.wasm_spec.proofs.UnambiguousModules.{import_desc-unique, import
 use crate::fault::DecodeFault;
 use crate::item::{Item, read_bytes};
 use crate::types::TableType;
-use leb_read::cursor::Cursor;
+use leb_read::Cursor;
 use std::alloc::Global;
 use wasm_types::Expr;
 use wasm_types::Items;
@@ -23,13 +23,13 @@ use wasm_types::{
 };
 use wasm_types::{GlobalType, Limits};
 
-/// A name, as its bytes.
+// A name, as its bytes.
 #[derive(Drop)]
 pub(crate) struct Name {
-    pub bytes: Items<u8>,
+    pub(crate) bytes: Items<u8>,
 }
 
-/// Source: Core Specification 1.0, section 5.2.4.
+// Source: Core Specification 1.0, section 5.2.4.
 impl Item for Name {
     ghost Tree = { List ℕ };
 
@@ -47,10 +47,10 @@ impl Item for Name {
     }
 }
 
-/// A vector of bytes.
+// A vector of bytes.
 #[derive(Drop)]
 pub(crate) struct Bytes {
-    pub bytes: Items<u8>,
+    pub(crate) bytes: Items<u8>,
 }
 
 impl Item for Bytes {
@@ -70,7 +70,7 @@ impl Item for Bytes {
     }
 }
 
-/// Source: section 5.5.5.
+// Source: section 5.5.5.
 impl Item for ImportDesc {
     ghost Tree = { ImportDescTree };
 
@@ -104,7 +104,7 @@ impl Item for ImportDesc {
     }
 }
 
-/// Source: section 5.5.5.
+// Source: section 5.5.5.
 impl Item for Import {
     ghost Tree = { ImportTree };
 
@@ -124,7 +124,7 @@ impl Item for Import {
     }
 }
 
-/// Source: section 5.5.10.
+// Source: section 5.5.10.
 impl Item for ExportDesc {
     ghost Tree = { ExportDescTree };
 
@@ -146,7 +146,7 @@ impl Item for ExportDesc {
     }
 }
 
-/// Source: section 5.5.10.
+// Source: section 5.5.10.
 impl Item for Export {
     ghost Tree = { ExportTree };
 
@@ -165,7 +165,7 @@ impl Item for Export {
     }
 }
 
-/// Source: section 5.5.9.
+// Source: section 5.5.9.
 impl Item for GlobalItem {
     ghost Tree = { GlobalTree };
 
@@ -181,7 +181,7 @@ impl Item for GlobalItem {
     }
 }
 
-/// Source: section 5.5.12.
+// Source: section 5.5.12.
 impl Item for ElementSegment {
     ghost Tree = { ElementTree };
 
@@ -201,7 +201,7 @@ impl Item for ElementSegment {
     }
 }
 
-/// Source: section 5.5.14.
+// Source: section 5.5.14.
 impl Item for DataSegment {
     ghost Tree = { DataTree };
 

@@ -1,4 +1,4 @@
-// The sections of a module.
+//! The sections of a module.
 
 ghost use Rattle.std.specs.Prelude.{◌≡◌, ◌↔◌, ◌<◌, ℕ, [], IsTrue, IfOk, map, option_map, MatchResult};
 ghost use Rattle.wasm_spec.specs.Numbers.{TakesEach};
@@ -9,18 +9,18 @@ ghost use Rattle.wasm_decode.specs.Sections.{section_of};
 
 use crate::fault::DecodeFault;
 use crate::item::{Item, decode_whole, read_bytes};
-use leb_read::cursor::Cursor;
+use leb_read::Cursor;
 use std::alloc::Global;
 use wasm_types::Items;
 
-/// A section: its id, and its contents. Source: Core Specification 1.0, section 5.5.2.
+// A section: its id, and its contents. Source: Core Specification 1.0, section 5.5.2.
 #[derive(Clone, Copy)]
 pub(crate) struct Section<'a> {
-    pub id: u8,
-    pub contents: &'a [u8],
+    pub(crate) id: u8,
+    pub(crate) contents: &'a [u8],
 }
 
-/// The section at the cursor, which then stands just after it.
+// The section at the cursor, which then stands just after it.
 fn read_section<'a>(cursor: &mut Cursor<'a>) -> Result<Section<'a>, DecodeFault>
     ensures section { MatchResult result (λ s. IsRead TakesSection cursor.old cursor.new (section_of s)) (BeginsWithNone TakesSection (rest cursor.old)) }
     ensures forth { IfOk result (λ _. cursor.old.place < cursor.new.place) }
@@ -30,7 +30,7 @@ fn read_section<'a>(cursor: &mut Cursor<'a>) -> Result<Section<'a>, DecodeFault>
     Ok(Section { id, contents })
 }
 
-/// All sections.
+// All sections.
 pub(crate) fn read_sections<'a>(
     alloc: Global,
     bytes: &'a [u8],
@@ -46,7 +46,7 @@ pub(crate) fn read_sections<'a>(
     Ok(sections)
 }
 
-/// Whether these are the contents of a custom section: a name, and then any bytes. Source: section 5.5.3.
+// Whether these are the contents of a custom section: a name, and then any bytes. Source: section 5.5.3.
 fn is_custom(contents: &[u8]) -> bool
     ensures { IsTrue result ↔ IsCustom contents.now }
 {
@@ -56,7 +56,7 @@ fn is_custom(contents: &[u8]) -> bool
     }
 }
 
-/// Whether custom sections have names, and the ids of the others rise. Source: section 5.5.15.
+// Whether custom sections have names, and the ids of the others rise. Source: section 5.5.15.
 pub(crate) fn are_in_order(sections: &[Section]) -> bool
     ensures { IsTrue result ↔ IsOrderedAbove 0 (map section_of sections.now) }
 {
@@ -76,7 +76,7 @@ pub(crate) fn are_in_order(sections: &[Section]) -> bool
     true
 }
 
-/// The contents of the section of an id.
+// The contents of the section of an id.
 pub(crate) fn find_contents<'a>(sections: &[Section<'a>], id: u8) -> Option<&'a [u8]>
     ensures { option_map (λ c. c.now) result ≡ option_map (λ s. s.contents) (section id (map section_of sections.now)) }
 {
@@ -88,7 +88,7 @@ pub(crate) fn find_contents<'a>(sections: &[Section<'a>], id: u8) -> Option<&'a 
     None
 }
 
-/// The items of the section of an id; none without the section. Source: section 5.5.2.
+// The items of the section of an id; none without the section. Source: section 5.5.2.
 pub(crate) fn decode_section<T: Item>(
     alloc: Global,
     sections: &[Section],
@@ -102,7 +102,7 @@ pub(crate) fn decode_section<T: Item>(
     }
 }
 
-/// The start function, if there is a start section. Source: section 5.5.11.
+// The start function, if there is a start section. Source: section 5.5.11.
 pub(crate) fn decode_start(alloc: Global, sections: &[Section]) -> Result<Option<u32>, DecodeFault>
     ensures { MatchResult result (λ x. SpellsStart x (section 8 (map section_of sections.now))) (IsNone (λ x. SpellsStart x (section 8 (map section_of sections.now)))) }
 {

@@ -1,16 +1,15 @@
-// A module of every section that is built, and bytes that are none.
+//! A module of every section that is built, and bytes that are none.
 
-use crate::decode::decode;
-use crate::fault::DecodeFault;
+use crate::{DecodeFault, decode};
 use wasm_types::{BinaryOp, Instr, Op, Width};
 use wasm_types::{ExportDesc, Module};
 use wasm_types::ValType;
 
-/// A module that exports `add`, a function of two i32 that adds them.
+// A module that exports `add`, a function of two i32 that adds them.
 const ADD: &[u8] =
     b"\0asm\x01\0\0\0\x01\x07\x01\x60\x02\x7f\x7f\x01\x7f\x03\x02\x01\0\x07\x07\x01\x03add\0\0\x0a\x09\x01\x07\0\x20\0\x20\x01\x6a\x0b";
 
-/// What follows the eight header bytes, and whether node's engine takes the module.
+// What follows the eight header bytes, and whether node's engine takes the module.
 const AFTER_HEADER: &[(&[u8], bool)] = &[
     // no section; custom sections; empty sections of every kind that has items
     (b"", true),
@@ -114,7 +113,7 @@ fn sections_and_their_contents(rt: HostRuntime) {
     }
 }
 
-/// Whether the only type is that of two i32 to one.
+// Whether the only type is that of two i32 to one.
 fn takes_two_and_gives_one(module: &Module) -> bool {
     let [signature] = module.types.as_slice() else {
         return false;
@@ -123,7 +122,7 @@ fn takes_two_and_gives_one(module: &Module) -> bool {
         && matches!(signature.results.as_slice(), [ValType::I32])
 }
 
-/// Whether the only export is the function 0, as `add`.
+// Whether the only export is the function 0, as `add`.
 fn exports_add(module: &Module) -> bool {
     let [export] = module.exports.as_slice() else {
         return false;
@@ -131,7 +130,7 @@ fn exports_add(module: &Module) -> bool {
     matches!(export.name.as_slice(), b"add") && matches!(export.desc, ExportDesc::Func(0))
 }
 
-/// Whether the only function has type 0, no locals, and adds its parameters.
+// Whether the only function has type 0, no locals, and adds its parameters.
 fn adds(module: &Module) -> bool {
     let [function] = module.functions.as_slice() else {
         return false;

@@ -1,4 +1,4 @@
-// The tokens that code is made of.
+//! The tokens that code is made of.
 
 ghost use Rattle.std.specs.Prelude.{◌<◌, IfOk, MatchResult};
 ghost use Rattle.leb_read.specs.Reading.{rest, IsRead};
@@ -8,30 +8,28 @@ ghost use Rattle.wasm_decode.specs.Tokens.{TakesToken, TakesIndexAndZero};
 use crate::fault::DecodeFault;
 use crate::instr::read_instr;
 use crate::types::read_block_type;
-use leb_read::cursor::Cursor;
+use leb_read::Cursor;
 use std::alloc::Global;
-use wasm_types::Op;
-use wasm_types::ValType;
+use wasm_types::{Op, ValType};
 
-/// What opens an inner sequence.
+// What opens a sequence inside another.
 #[derive(Clone, Copy)]
-pub(crate) enum Opener {
+pub(crate) enum BlockKind {
     Block,
     Loop,
     If,
 }
 
-/// A token of code.
+// A token of code. A leaf is a plain instruction or a call.
 #[derive(Drop)]
 pub(crate) enum Token {
-    /// A plain instruction or a call.
     Leaf(Op),
-    Open(Opener, Option<ValType>),
+    Open(BlockKind, Option<ValType>),
     Else,
     End,
 }
 
-/// The operands of a `call_indirect`, a type and a zero byte.
+// The operands of a `call_indirect`, a type and a zero byte.
 fn call_indirect(cursor: &mut Cursor) -> Result<u32, DecodeFault>
     ensures { MatchResult result (IsRead TakesIndexAndZero cursor.old cursor.new) (BeginsWithNone TakesIndexAndZero (rest cursor.old)) }
 {
@@ -43,7 +41,7 @@ fn call_indirect(cursor: &mut Cursor) -> Result<u32, DecodeFault>
     }
 }
 
-/// The token at the cursor. Source: Core Specification 1.0, section 5.4.
+// The token at the cursor. Source: Core Specification 1.0, section 5.4.
 pub(crate) fn read_token(alloc: Global, cursor: &mut Cursor) -> Result<Token, DecodeFault>
     ensures token { MatchResult result (IsRead TakesToken cursor.old cursor.new) (BeginsWithNone TakesToken (rest cursor.old)) }
     ensures forth { IfOk result (λ _. cursor.old.place < cursor.new.place) }
@@ -51,16 +49,16 @@ pub(crate) fn read_token(alloc: Global, cursor: &mut Cursor) -> Result<Token, De
     let opcode = cursor.u8()?;
     match opcode {
         0x02 => {
-            let value = read_block_type(cursor)?;
-            Ok(Token::Open(Opener::Block, value))
+            let block_type = read_block_type(cursor)?;
+            Ok(Token::Open(BlockKind::Block, block_type))
         }
         0x03 => {
-            let value = read_block_type(cursor)?;
-            Ok(Token::Open(Opener::Loop, value))
+            let block_type = read_block_type(cursor)?;
+            Ok(Token::Open(BlockKind::Loop, block_type))
         }
         0x04 => {
-            let value = read_block_type(cursor)?;
-            Ok(Token::Open(Opener::If, value))
+            let block_type = read_block_type(cursor)?;
+            Ok(Token::Open(BlockKind::If, block_type))
         }
         0x05 => Ok(Token::Else),
         0x0B => Ok(Token::End),

@@ -1,4 +1,4 @@
-// Types.
+//! Types.
 
 ghost use Rattle.std.specs.Prelude.{◌≡◌, MatchOption, MatchResult};
 ghost use Rattle.wasm_types.specs.declared.types.ValType.{ValType as ValTypeTree};
@@ -12,12 +12,12 @@ ghost use Rattle.wasm_decode.specs.Decoding.{BeginsWithNone};
 
 use crate::fault::DecodeFault;
 use crate::item::Item;
-use leb_read::cursor::Cursor;
+use leb_read::Cursor;
 use std::alloc::Global;
 use wasm_types::Items;
 use wasm_types::{FuncType, GlobalType, Limits, ValType};
 
-/// The value type of a byte. Source: Core Specification 1.0, section 5.3.1.
+// The value type of a byte. Source: Core Specification 1.0, section 5.3.1.
 pub(crate) fn value_type(byte: u8) -> Option<ValType>
     ensures { MatchOption result ((t : ValTypeTree) → value_type_byte t ≡ byte → ⊥) (λ t. value_type_byte t ≡ byte) }
 {
@@ -30,7 +30,7 @@ pub(crate) fn value_type(byte: u8) -> Option<ValType>
     }
 }
 
-/// Source: section 5.3.1.
+// Source: section 5.3.1.
 impl Item for ValType {
     ghost Tree = { ValTypeTree };
 
@@ -50,7 +50,7 @@ impl Item for ValType {
     }
 }
 
-/// The type of a block. Source: section 5.3.2.
+// The type of a block. Source: section 5.3.2.
 pub(crate) fn read_block_type(cursor: &mut Cursor) -> Result<Option<ValType>, DecodeFault>
     ensures { MatchResult result (IsRead TakesBlockType cursor.old cursor.new) (BeginsWithNone TakesBlockType (rest cursor.old)) }
 {
@@ -64,7 +64,7 @@ pub(crate) fn read_block_type(cursor: &mut Cursor) -> Result<Option<ValType>, De
     }
 }
 
-/// Source: section 5.3.3.
+// Source: section 5.3.3.
 impl Item for FuncType {
     ghost Tree = { FuncTypeTree };
 
@@ -86,7 +86,7 @@ impl Item for FuncType {
     }
 }
 
-/// A memory's type is its limits. Source: sections 5.3.4 and 5.3.5.
+// A memory's type is its limits. Source: sections 5.3.4 and 5.3.5.
 impl Item for Limits {
     ghost Tree = { LimitsTree };
 
@@ -114,10 +114,10 @@ impl Item for Limits {
     }
 }
 
-/// A table's type: its limits, behind the type of its elements. Source: section 5.3.6.
+// A table's type: its limits, behind the type of its elements. Source: section 5.3.6.
 #[derive(Drop)]
 pub(crate) struct TableType {
-    pub limits: Limits,
+    pub(crate) limits: Limits,
 }
 
 impl Item for TableType {
@@ -139,7 +139,7 @@ impl Item for TableType {
     }
 }
 
-/// Source: section 5.3.7.
+// Source: section 5.3.7.
 impl Item for GlobalType {
     ghost Tree = { GlobalTypeTree };
 

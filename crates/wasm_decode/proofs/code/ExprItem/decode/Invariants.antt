@@ -1,17 +1,17 @@
 use Rattle.std.proofs.Common.{◌≡◌, ◌-◌, ◌≤◌, length}
 use Rattle.leb_read.specs.Reading.{rest}
-use Rattle.wasm_decode.specs.Nesting.{Spot, Stands}
-use Rattle.wasm_decode.proofs.Going.{Same, start}
+use Rattle.wasm_decode.specs.Contexts.{Context, Represents}
+use Rattle.wasm_decode.proofs.Completions.{SameCompletions, start}
 use Rattle.wasm_decode.proofs.code.ExprItem.decode.Given as goal
 
-abbrev pub invariant-loop-nest : goal.invariant-loop-nest
-invariant-loop-nest l = record {
+abbrev pub invariant-loop-builder : goal.invariant-loop-builder
+invariant-loop-builder l = record {
   whole : l.cursor.whole ≡ l.initial.cursor.whole;
   forth : l.initial.cursor.place ≤ l.cursor.place;
-  spot : Spot;
-  stands : Stands l.nest spot;
-  same : Same start (rest l.initial.cursor) spot (rest l.cursor);
+  context : Context;
+  stands : Represents l.builder context;
+  same : SameCompletions start (rest l.initial.cursor) context (rest l.cursor);
 }
 
-abbrev pub decreases-loop-nest : goal.decreases-loop-nest
-decreases-loop-nest l = length l.cursor.whole - l.cursor.place
+abbrev pub decreases-loop-builder : goal.decreases-loop-builder
+decreases-loop-builder l = length l.cursor.whole - l.cursor.place

@@ -7,7 +7,7 @@ use Rattle.wasm_decode.specs.Sections.{section_of}
 use Rattle.wasm_decode.specs.Fields.{SpellsFields}
 use Rattle.wasm_decode.proofs.Reading.{none-through}
 use Rattle.wasm_decode.proofs.Modules.{spells, sections-are}
-use Rattle.wasm_decode.proofs.decode.decode.Goals as goal
+use Rattle.wasm_decode.proofs.decoder.decode.Goals as goal
 
 pub returns-then-are_in_order : goal.returns-then-are_in_order
 returns-then-are_in_order c =

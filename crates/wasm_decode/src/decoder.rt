@@ -1,4 +1,4 @@
-// Modules.
+//! Modules.
 
 ghost use Rattle.std.specs.Prelude.{◌≡◌, ◌++◌, ℕ, List, map, IfOk, MatchOption, MatchResult};
 ghost use Rattle.wasm_types.specs.Tree.{module_tree};
@@ -16,7 +16,7 @@ use wasm_types::Items;
 use wasm_types::Module;
 use wasm_types::Limits;
 
-/// The magic bytes and the version.
+// The magic bytes and the version.
 const HEADER: [u8; 8] = [0x00, 0x61, 0x73, 0x6D, 0x01, 0x00, 0x00, 0x00];
 
 /// The module that these bytes spell. Source: Core Specification 1.0, section 5.5.15.
@@ -34,14 +34,14 @@ pub fn decode(alloc: Global, bytes: &[u8]) -> Result<Module, DecodeFault>
     }
 }
 
-/// The bytes after the header.
+// The bytes after the header.
 fn after_header(bytes: &[u8]) -> Option<&[u8]>
     ensures { MatchOption result ((after : List ℕ) → bytes.now ≡ HEADER ++ after → ⊥) (λ after. bytes.now ≡ HEADER ++ after.now) }
 {
     bytes.strip_prefix(&HEADER)
 }
 
-/// The limits of these tables.
+// The limits of these tables.
 fn limits(alloc: Global, tables: &[TableType]) -> Result<Items<Limits>, AllocError>
     ensures { IfOk result (λ ls. ls ≡ map (λ t. t.limits) tables.now) }
 {
@@ -52,7 +52,7 @@ fn limits(alloc: Global, tables: &[TableType]) -> Result<Items<Limits>, AllocErr
     Ok(Items::new(limits))
 }
 
-/// The module whose sections these are.
+// The module whose sections these are.
 fn decode_fields(alloc: Global, sections: &[Section]) -> Result<Module, DecodeFault>
     ensures { MatchResult result (λ m. SpellsFields (map section_of sections.now) (module_tree m)) (IsNone (SpellsFields (map section_of sections.now))) }
 {

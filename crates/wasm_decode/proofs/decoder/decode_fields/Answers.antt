@@ -11,7 +11,7 @@ use Rattle.wasm_spec.specs.Grammar.{Body, TakesImport, TakesGlobal, TakesExport,
 use Rattle.wasm_decode.specs.Sections.{section_of}
 use Rattle.wasm_decode.specs.Bodies.{body_tree}
 use Rattle.wasm_decode.proofs.Modules.{exits-field, same-length}
-use Rattle.wasm_decode.proofs.decode.decode_fields.Goals as goal
+use Rattle.wasm_decode.proofs.decoder.decode_fields.Goals as goal
 
 pub returns-in_err-types : goal.returns-in_err-types
 returns-in_err-types c =
