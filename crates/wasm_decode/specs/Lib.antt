@@ -5,4 +5,3 @@ pub mod Contexts
 pub mod Opcodes
 pub mod Bodies
 pub mod Sections
-pub mod Fields

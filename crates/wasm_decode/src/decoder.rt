@@ -1,25 +1,27 @@
-//! Modules.
+//! Modules, from their sections.
 
 ghost use Rattle.std.specs.Prelude.{◌≡◌, ◌++◌, ℕ, List, map, IfOk, MatchOption, MatchResult};
 ghost use Rattle.wasm_types.specs.Tree.{module_tree};
-ghost use Rattle.wasm_spec.specs.Grammar.{Spells};
+ghost use Rattle.wasm_spec.specs.Grammar.{SpellsFields, Spells};
 ghost use Rattle.wasm_decode.specs.Decoding.{IsNone};
 ghost use Rattle.wasm_decode.specs.Sections.{section_of};
-ghost use Rattle.wasm_decode.specs.Fields.{SpellsFields};
 
 use crate::fault::DecodeFault;
 use crate::function::{SizedBody, join};
 use crate::section::{Section, are_in_order, decode_section, decode_start, read_sections};
 use crate::types::TableType;
 use std::alloc::{AllocError, Global};
-use wasm_types::Items;
-use wasm_types::Module;
-use wasm_types::Limits;
+use wasm_types::{Items, Limits, Module};
 
 // The magic bytes and the version.
 const HEADER: [u8; 8] = [0x00, 0x61, 0x73, 0x6D, 0x01, 0x00, 0x00, 0x00];
 
-/// The module that these bytes spell. Source: Core Specification 1.0, section 5.5.15.
+/// The module whose tree these bytes spell (`Spells`). Nothing recurses on the bytes, and the memory that is taken grows
+/// with those that have been read. Source: Core Specification 1.0, section 5.5.15.
+///
+/// # Errors
+///
+/// `Malformed` exactly where the bytes spell no module; `NoMemory` only where memory was refused.
 pub fn decode(alloc: Global, bytes: &[u8]) -> Result<Module, DecodeFault>
     ensures { MatchResult result (λ m. Spells bytes.now (module_tree m)) (IsNone (Spells bytes.now)) }
 {

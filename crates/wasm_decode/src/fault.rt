@@ -6,7 +6,7 @@ ghost use Rattle.wasm_decode.specs.declared.fault.DecodeFault.TheVariants as fau
 use leb_read::Malformed;
 use std::alloc::{AllocError, AllocFailed};
 
-/// Why a module isn't decoded.
+///! Why a module isn't decoded.
 #[derive(Clone, Copy, Debug, PartialEq, Eq, thiserror::Error)]
 pub enum DecodeFault {
     /// The bytes spell no module.

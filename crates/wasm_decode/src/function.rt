@@ -11,10 +11,7 @@ use crate::fault::DecodeFault;
 use crate::item::{Item, decode_whole, read_bytes};
 use leb_read::Cursor;
 use std::alloc::{AllocError, Global};
-use wasm_types::Expr;
-use wasm_types::Items;
-use wasm_types::{Function, LocalRun};
-use wasm_types::ValType;
+use wasm_types::{Expr, Function, Items, LocalRun, ValType};
 
 // Source: Core Specification 1.0, section 5.5.13.
 impl Item for LocalRun {

@@ -10,9 +10,7 @@ use crate::fault::DecodeFault;
 use crate::item::Item;
 use leb_read::Cursor;
 use std::alloc::Global;
-use wasm_types::{BinaryOp, CompareOp, Instr, MemArg, PackSize, Sign, UnaryOp, Width};
-use wasm_types::Items;
-use wasm_types::Val;
+use wasm_types::{BinaryOp, CompareOp, Instr, Items, MemArg, PackSize, Sign, UnaryOp, Val, Width};
 
 // The comparison of a number, from `eqz` on.
 fn comparison(width: Width, number: u8) -> Option<Instr>

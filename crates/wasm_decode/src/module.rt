@@ -16,12 +16,10 @@ use crate::item::{Item, read_bytes};
 use crate::types::TableType;
 use leb_read::Cursor;
 use std::alloc::Global;
-use wasm_types::Expr;
-use wasm_types::Items;
 use wasm_types::{
-    DataSegment, ElementSegment, Export, ExportDesc, Global as GlobalItem, Import, ImportDesc,
+    DataSegment, ElementSegment, Export, ExportDesc, Expr, Global as GlobalItem, GlobalType,
+    Import, ImportDesc, Items, Limits,
 };
-use wasm_types::{GlobalType, Limits};
 
 // A name, as its bytes.
 #[derive(Drop)]

@@ -14,8 +14,7 @@ use crate::fault::DecodeFault;
 use crate::item::Item;
 use leb_read::Cursor;
 use std::alloc::Global;
-use wasm_types::Items;
-use wasm_types::{FuncType, GlobalType, Limits, ValType};
+use wasm_types::{FuncType, GlobalType, Items, Limits, ValType};
 
 // The value type of a byte. Source: Core Specification 1.0, section 5.3.1.
 pub(crate) fn value_type(byte: u8) -> Option<ValType>

@@ -15,7 +15,7 @@ use Rattle.wasm_types.specs.Tree.{Code, FunctionTree, GlobalTree, ElementTree, D
 use Rattle.wasm_spec.specs.Numbers.{TakesUnsigned, TakesEach, TakesVec, TakesBytes, TakesName, IsUnambiguous}
 use Rattle.wasm_spec.specs.TypeGrammar.{TakesValType, TakesFuncType, TakesLimits, TakesMemoryType, TakesTableType, TakesGlobalType}
 use Rattle.wasm_spec.specs.InstrGrammar.{TakesExpr}
-use Rattle.wasm_spec.specs.Grammar.{TakesImportDesc, TakesImport, TakesGlobal, TakesExportDesc, TakesExport, TakesElement, TakesLocalRun, Body, TakesBody, TakesSizedBody, body_of, type_index_of, TakesData, Section, TakesSection, section, SpellsVec, SpellsStart, Spells}
+use Rattle.wasm_spec.specs.Grammar.{TakesImportDesc, TakesImport, TakesGlobal, TakesExportDesc, TakesExport, TakesElement, TakesLocalRun, Body, TakesBody, TakesSizedBody, body_of, type_index_of, TakesData, Section, TakesSection, section, SpellsVec, SpellsStart, SpellsFields, Spells}
 use Rattle.wasm_spec.proofs.UnambiguousNumbers.{same_first, same_others, unsigned-unique, vec-unique, bytes-unique, name-unique}
 use Rattle.wasm_spec.proofs.UnambiguousTypes.{val_type-unique, func_type-unique, limits-unique, table_type-unique, global_type-unique}
 use Rattle.wasm_spec.proofs.UnambiguousInstrs.{expr-unique}
@@ -173,33 +173,19 @@ functions-equal (f ∷ fs) (g ∷ gs) e h =
 abbrev eight_off : List ℕ → List ℕ
 eight_off l = tail_of (tail_of (tail_of (tail_of (tail_of (tail_of (tail_of (tail_of l)))))))
 
-pub spells-unique : (bytes : List ℕ) (m n : ModuleTree) → Spells bytes m → Spells bytes n → m ≡ n
-spells-unique bytes m n a b =
-    let rests : a.after ≡ b.after = ap eight_off (sym a.header ∙ b.header) in
-    let e : a.sections ≡ b.sections = sections-unique a.sections b.sections a.after a.whole (subst (λ (l : List ℕ). TakesEach TakesSection b.sections l []) (sym rests) b.whole) in
-    let at : (k : ℕ) → section k a.sections ≡ section k b.sections = λ k. ap (λ (ss : List Section). section k ss) e in
-    let types = spelled_vec-unique TakesFuncType func_type-unique m.types n.types (section 1 a.sections) a.types
-    (subst (λ (o : Option Section). SpellsVec TakesFuncType n.types o) (sym (at 1)) b.types) in
-    let imports = spelled_vec-unique TakesImport import-unique m.imports n.imports (section 2 a.sections) a.imports
-    (subst (λ (o : Option Section). SpellsVec TakesImport n.imports o) (sym (at 2)) b.imports) in
-    let indices = spelled_vec-unique (TakesUnsigned 32) (unsigned-unique 32) (map type_index_of m.functions) (map type_index_of n.functions) (section 3 a.sections) a.function_types
-    (subst (λ (o : Option Section). SpellsVec (TakesUnsigned 32) (map type_index_of n.functions) o) (sym (at 3)) b.function_types) in
-    let tables = spelled_vec-unique TakesTableType table_type-unique m.tables n.tables (section 4 a.sections) a.tables
-    (subst (λ (o : Option Section). SpellsVec TakesTableType n.tables o) (sym (at 4)) b.tables) in
-    let memories = spelled_vec-unique TakesMemoryType limits-unique m.memories n.memories (section 5 a.sections) a.memories
-    (subst (λ (o : Option Section). SpellsVec TakesMemoryType n.memories o) (sym (at 5)) b.memories) in
-    let globals = spelled_vec-unique TakesGlobal global-unique m.globals n.globals (section 6 a.sections) a.globals
-    (subst (λ (o : Option Section). SpellsVec TakesGlobal n.globals o) (sym (at 6)) b.globals) in
-    let exports = spelled_vec-unique TakesExport export-unique m.exports n.exports (section 7 a.sections) a.exports
-    (subst (λ (o : Option Section). SpellsVec TakesExport n.exports o) (sym (at 7)) b.exports) in
-    let start = start-unique m.start n.start (section 8 a.sections) a.start
-    (subst (λ (o : Option Section). SpellsStart n.start o) (sym (at 8)) b.start) in
-    let elements = spelled_vec-unique TakesElement element-unique m.element_segments n.element_segments (section 9 a.sections) a.element_segments
-    (subst (λ (o : Option Section). SpellsVec TakesElement n.element_segments o) (sym (at 9)) b.element_segments) in
-    let bodies = spelled_vec-unique TakesSizedBody sized_body-unique (map body_of m.functions) (map body_of n.functions) (section 10 a.sections) a.bodies
-    (subst (λ (o : Option Section). SpellsVec TakesSizedBody (map body_of n.functions) o) (sym (at 10)) b.bodies) in
-    let datas = spelled_vec-unique TakesData data-unique m.data_segments n.data_segments (section 11 a.sections) a.data_segments
-    (subst (λ (o : Option Section). SpellsVec TakesData n.data_segments o) (sym (at 11)) b.data_segments) in
+pub fields-unique : (sections : List Section) (m n : ModuleTree) → SpellsFields sections m → SpellsFields sections n → m ≡ n
+fields-unique sections m n a b =
+    let types = spelled_vec-unique TakesFuncType func_type-unique m.types n.types (section 1 sections) a.types b.types in
+    let imports = spelled_vec-unique TakesImport import-unique m.imports n.imports (section 2 sections) a.imports b.imports in
+    let indices = spelled_vec-unique (TakesUnsigned 32) (unsigned-unique 32) (map type_index_of m.functions) (map type_index_of n.functions) (section 3 sections) a.function_types b.function_types in
+    let tables = spelled_vec-unique TakesTableType table_type-unique m.tables n.tables (section 4 sections) a.tables b.tables in
+    let memories = spelled_vec-unique TakesMemoryType limits-unique m.memories n.memories (section 5 sections) a.memories b.memories in
+    let globals = spelled_vec-unique TakesGlobal global-unique m.globals n.globals (section 6 sections) a.globals b.globals in
+    let exports = spelled_vec-unique TakesExport export-unique m.exports n.exports (section 7 sections) a.exports b.exports in
+    let start = start-unique m.start n.start (section 8 sections) a.start b.start in
+    let elements = spelled_vec-unique TakesElement element-unique m.element_segments n.element_segments (section 9 sections) a.element_segments b.element_segments in
+    let bodies = spelled_vec-unique TakesSizedBody sized_body-unique (map body_of m.functions) (map body_of n.functions) (section 10 sections) a.bodies b.bodies in
+    let datas = spelled_vec-unique TakesData data-unique m.data_segments n.data_segments (section 11 sections) a.data_segments b.data_segments in
     let functions = functions-equal m.functions n.functions indices bodies in
     λ i. record {
       types = types i;
@@ -213,3 +199,15 @@ spells-unique bytes m n a b =
       element_segments = elements i;
       data_segments = datas i;
     }
+
+-- bytes after the same header have the same sections
+pub sections-are : (bytes after : List ℕ) (sections : List Section) (m : ModuleTree) → bytes ≡ 0x00 ∷ 0x61 ∷ 0x73 ∷ 0x6D ∷ 0x01 ∷ 0x00 ∷ 0x00 ∷ 0x00 ∷ after
+    → TakesEach TakesSection sections after [] → (h : Spells bytes m) → h.sections ≡ sections
+sections-are bytes after sections m e whole h =
+    let rests : h.after ≡ after = ap eight_off (sym h.header ∙ e) in
+    sections-unique h.sections sections after (subst (λ (l : List ℕ). TakesEach TakesSection h.sections l []) rests h.whole) whole
+
+pub spells-unique : (bytes : List ℕ) (m n : ModuleTree) → Spells bytes m → Spells bytes n → m ≡ n
+spells-unique bytes m n a b =
+    let e = sections-are bytes b.after b.sections m b.header b.whole a in
+    fields-unique b.sections m n (subst (λ (ss : List Section). SpellsFields ss m) e a.fields) b.fields
