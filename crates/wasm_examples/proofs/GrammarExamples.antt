@@ -42,17 +42,19 @@ header_alone = record {
   header = refl;
   whole = refl;
   ordered = tt;
-  types = refl;
-  imports = refl;
-  function_types = refl;
-  tables = refl;
-  memories = refl;
-  globals = refl;
-  exports = refl;
-  start = refl;
-  element_segments = refl;
-  bodies = refl;
-  data_segments = refl;
+  fields = record {
+    types = refl;
+    imports = refl;
+    function_types = refl;
+    tables = refl;
+    memories = refl;
+    globals = refl;
+    exports = refl;
+    start = refl;
+    element_segments = refl;
+    bodies = refl;
+    data_segments = refl;
+  };
 }
 
 abbrev sum_of_both : Code
@@ -214,17 +216,19 @@ add_spelled = record {
   header = refl;
   whole = sections_follow;
   ordered = sections_rise;
-  types = type_spelled;
-  imports = refl;
-  function_types = index_spelled;
-  tables = refl;
-  memories = refl;
-  globals = refl;
-  exports = export_spelled;
-  start = refl;
-  element_segments = refl;
-  bodies = body_spelled;
-  data_segments = refl;
+  fields = record {
+    types = type_spelled;
+    imports = refl;
+    function_types = index_spelled;
+    tables = refl;
+    memories = refl;
+    globals = refl;
+    exports = export_spelled;
+    start = refl;
+    element_segments = refl;
+    bodies = body_spelled;
+    data_segments = refl;
+  };
 }
 
 -- ---- what is no module
