@@ -6,6 +6,7 @@ pub mod SpelledModule
 pub mod OperatorExamples
 pub mod ControlExamples
 pub mod TypingExamples
+pub mod TypingRows
 pub mod LoadingExamples
 pub mod NeedExamples
 pub mod ValidityExamples
