@@ -1,4 +1,5 @@
 pub mod Modules
+pub mod SequenceExamples
 pub mod CallExamples
 pub mod NumberExamples
 pub mod GrammarExamples
