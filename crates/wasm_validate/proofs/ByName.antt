@@ -9,7 +9,7 @@ use Rattle.std.specs.Ordering.{is_eq, is_lt, ordering_index, ordering_reverse}
 use Rattle.std.specs.declared.cmp.Ordering.{Ordering}
 use Rattle.std.specs.declared.cmp.Ordering.TheVariants.{Less, Equal, Greater}
 use Rattle.std.proofs.lemmas.Cmp.{nat_list_cmp_total}
-use Rattle.std.proofs.lemmas.Bool.{cases_order}
+use Rattle.std.proofs.lemmas.Bool.{cases_order, false_from_ne_true}
 use Rattle.std.proofs.lemmas.List.{get_or-map, length-map, get_or_default}
 use Rattle.std.proofs.lemmas.List.FromFn.{length-range_with_len, get_or-range_with_len, fill_by_all}
 use Rattle.std.proofs.lemmas.List.Sorted.{IsPermutation-map, Contains-permutation, IsPermutation-sym, searchable_from_sorted}
@@ -30,15 +30,11 @@ equal_names xs ys e = (bytes_eq-Decides xs ys).0 (sym (is_eq-slice_cmp xs ys) �
 same_compare : (xs ys : List ℕ) → xs ≡ ys → is_eq (compare xs ys) ≡ true
 same_compare xs ys e = is_eq-slice_cmp xs ys ∙ (bytes_eq-Decides xs ys).1 e
 
-different : (b : Bool) → (b ≡ true → ⊥) → b ≡ false
-different true h = absurd (h refl)
-different false h = refl
-
 abbrev same : List ℕ → List ℕ → Bool
 same xs ys = is_eq (compare xs ys)
 
 same_not : (xs ys : List ℕ) → xs ≢ ys → same xs ys ≡ false
-same_not xs ys h = different (same xs ys) (λ t. h ((bytes_eq-Decides xs ys).0 (sym (is_eq-slice_cmp xs ys) ∙ t)))
+same_not xs ys h = false_from_ne_true (same xs ys) (λ t. h ((bytes_eq-Decides xs ys).0 (sym (is_eq-slice_cmp xs ys) ∙ t)))
 
 reversed : (o : Ordering) → is_eq (ordering_reverse o) ≡ is_eq o
 reversed Less = refl
