@@ -39,10 +39,10 @@ add_function = function_of (Plain (instr.LocalGet 0) (Plain (instr.LocalGet 1) (
 abbrev add_export : Export
 add_export = record { name = 97 ∷ 100 ∷ 100 ∷ []; desc = desc.Func 0 }
 
-abbrev add_type : FuncType
+abbrev pub add_type : FuncType
 add_type = record { params = I32 ∷ I32 ∷ []; results = I32 ∷ [] }
 
-abbrev add : ModuleTree
+abbrev pub add : ModuleTree
 add = module_of add_type add_function (add_export ∷ [])
 
 add_typed : IsTypedFunction add add_function
@@ -51,7 +51,7 @@ add_typed = (refl, (I32 ∷ [], ([], refl, refl), (I32 ∷ I32 ∷ [], (I32 ∷ 
 one_pair : {X : Type 0} (R : X → X → Type 0) (x : X) → AllPairs R (x ∷ [])
 one_pair R x i j d lt le = absurd (omega arith)
 
-add_valid : IsValid add
+pub add_valid : IsValid add
 add_valid = record {
   function_types = All-cons (λ (t : FuncType). length t.results ≤ 1) add_type [] (omega arith) (All-nil (λ (t : FuncType). length t.results ≤ 1));
   functions = All-cons (IsTypedFunction add) add_function [] add_typed (All-nil (IsTypedFunction add));
@@ -67,7 +67,7 @@ add_valid = record {
   names_differ = one_pair (λ (a b : Export). a.name ≢ b.name) add_export;
 }
 
-add_supported : IsSupported add
+pub add_supported : IsSupported add
 add_supported = record { no_import = refl; no_float = refl }
 
 add_need : need add add_function ≡ 5

@@ -5,4 +5,3 @@
 
 pub mod grammar_laws;
 pub mod laws;
-pub mod loading_laws;

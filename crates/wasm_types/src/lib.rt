@@ -5,6 +5,19 @@
 
 pub mod instr;
 pub mod items;
+pub mod limits;
 pub mod module;
 pub mod outcome;
+pub mod sequences;
 pub mod types;
+
+pub use instr::{BinaryOp, CompareOp, Expr, Instr, MemArg, Op, PackSize, Sign, UnaryOp, Width};
+pub use items::Items;
+pub use limits::{LoadLimits, RunLimits};
+pub use module::{
+    DataSegment, ElementSegment, Export, ExportDesc, Function, Global, Import, ImportDesc,
+    LocalRun, Module,
+};
+pub use outcome::{NoMemory, Outcome, TrapKind, Val};
+pub use sequences::{named, op_at};
+pub use types::{FuncType, GlobalType, Limits, ValType, same_function_types};
