@@ -1,5 +1,5 @@
 -- What the bytes of a memory stand for.
-use Rattle.std.specs.Prelude.{◌≡◌, ℕ, ◌+◌, ◌-◌, ◌*◌, ◌<◌, ◌≤◌, List, ◌++◌, false, Option, Some, None, length, take, drop, replicate}
+use Rattle.std.specs.Prelude.{◌≡◌, ℕ, ◌+◌, ◌-◌, ◌*◌, ◌/◌, ◌<◌, ◌≤◌, List, ◌++◌, false, Option, Some, None, length, take, drop, replicate}
 use Rattle.wasm_spec.specs.Store.{page_size}
 use Rattle.linear_memory.specs.declared.memory.Memory.{Memory}
 use Rattle.linear_memory.specs.Marks.{block_size}

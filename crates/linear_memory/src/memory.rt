@@ -6,7 +6,7 @@ ghost use Rattle.linear_memory.specs.Bytes.{Grows, IsMemory, IsZeroed, shown};
 ghost use Rattle.linear_memory.specs.Marks.{MarksChanges, block_size};
 
 use std::alloc::{AllocError, Global};
-use wasm_types::outcome::NoMemory;
+use wasm_types::NoMemory;
 
 /// How many bytes a page has (Core Specification 1.0, section 4.2.8).
 pub const PAGE_SIZE: u64 = 65536;
