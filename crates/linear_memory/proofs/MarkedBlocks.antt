@@ -1,8 +1,8 @@
 -- Blocks that are marked.
-use Rattle.std.proofs.Common.{◌≡◌, ℕ, zero, suc, ◌+◌, ◌-◌, ◌*◌, ◌/◌, ◌<◌, ◌≤◌, ◌⊎◌, ⊎_elim, inl, inr, List, [], ◌∷◌, Bool, true, false, length, set, get_or, refl, sym, ap, ◌∙◌, arith}
+use Rattle.std.proofs.Common.{◌≡◌, ℕ, zero, suc, ◌+◌, ◌-◌, ◌*◌, ◌/◌, ◌<◌, ◌≤◌, ◌⊎◌, ⊎_elim, inl, inr, List, [], ◌∷◌, Bool, true, false, length, set, take, drop, replicate, get_or, refl, sym, ap, ◌∙◌, arith}
 use Rattle.std.specs.Prelude.{cond, count_by}
 use Rattle.std.proofs.lemmas.Bool.{cases_lt}
-use Rattle.std.proofs.lemmas.List.{length-set}
+use Rattle.std.proofs.lemmas.List.{get_or-drop, get_or-take, get_or_past, length-set, length-take}
 use Rattle.std.proofs.lemmas.List.Sums.{sum_by-set}
 use Rattle.wasm_spec.specs.Store.{page_size, written}
 use Rattle.linear_memory.specs.declared.memory.Memory.{Memory}
@@ -74,6 +74,28 @@ changes_more a b c n k j p q e = record {
   counted = let x = p.counted in let y = q.counted in omega arith;
   room = record { bytes = q.room.bytes ∙ p.room.bytes; marks = q.room.marks ∙ p.room.marks };
 }
+
+-- ---- what is shown
+
+all_alike : (n i d : ℕ) → get_or (replicate n d) i d ≡ d
+all_alike zero i d = refl
+all_alike (suc n) zero d = refl
+all_alike (suc n) (suc i) d = all_alike n i d
+
+-- past the size all is zero, as past the end of what is shown
+shown_byte : (most : ℕ) (memory : Memory) → IsMemory most memory → (i : ℕ) → get_or (shown memory) i 0 ≡ get_or memory.bytes.items i 0
+shown_byte most memory is i =
+    let size = size_of memory in
+    let bytes = memory.bytes.items in
+    let beyond : size ≤ i → get_or (shown memory) i 0 ≡ get_or bytes i 0 = λ le.
+        let none : get_or (shown memory) i 0 ≡ 0 = get_or_past (take size bytes) i 0 (omega (arith, length-take size bytes)) in
+        let rest : get_or bytes i 0 ≡ get_or (drop size bytes) (i - size) 0 = ap (λ (n : ℕ). get_or bytes n 0) (omega arith) ∙ sym (get_or-drop size bytes (i - size) 0) in
+        none ∙ sym (rest ∙ ap (λ (l : List ℕ). get_or l (i - size) 0) is.zeros ∙ all_alike (length bytes - size) (i - size) 0) in
+    ⊎_elim (λ (lt : i < size). get_or-take size bytes i 0 lt) beyond (cases_lt i size)
+
+-- the same of what is shown
+pub shown_unmarked : (most n : ℕ) (old new : Memory) → IsMemory most new → MarksChanges old new n → KeepsUnmarked old.bytes.items (shown new) old.marks.items new.marks.items
+shown_unmarked most n old new is changes = record { bytes = λ i u. shown_byte most new is i ∙ changes.unmarked.bytes i u; marks = changes.unmarked.marks }
 
 -- ---- a piece that is written within the size
 

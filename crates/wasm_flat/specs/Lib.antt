@@ -1,9 +1,0 @@
-pub mod Parts
-pub mod Flat
-pub mod Sound
-pub mod Lent
-pub mod Steps
-pub mod Calls
-pub mod Room
-pub mod Ends
-pub mod Kinds
