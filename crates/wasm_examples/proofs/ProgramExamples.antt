@@ -18,7 +18,7 @@ use Rattle.wasm_types.specs.declared.instr.Instr.TheVariants as instr
 use Rattle.wasm_types.specs.Tree.{Code, End, Block, Loop, If, Call, CallIndirect, FunctionTree, ModuleTree}
 use Rattle.wasm_spec.specs.Execution.{exec}
 use Rattle.wasm_spec.specs.Result.{CallResult, call_result}
-use Rattle.wasm_spec.proofs.Modules.{straight, i32_const, function_type, at_least, bare}
+use Rattle.wasm_examples.proofs.Modules.{straight, i32_const, function_type, at_least, bare}
 
 abbrev access : ℕ → MemArg
 access offset = record { align = 0; offset = offset }

@@ -1,4 +1,4 @@
--- The operators in the words of Rust's integer methods.
+-- The operators in the words of std, whose calls the code makes.
 use Rattle.std.proofs.Common.{◌≡◌, ℕ, zero, suc, ◌+◌, ◌-◌, ◌*◌, ◌/◌, ◌%◌, ◌^◌, ◌<◌, ◌≤◌, List, [], ◌∷◌, length, Bool, refl, sym, ap, ◌∙◌, subst, arith, zero-add}
 use Rattle.std.specs.Prelude.{ℤ, pos, negsuc, reverse, ◌==◌, cond, bit_or}
 use Rattle.std.specs.List.{prefix_len, suffix_len}
@@ -16,23 +16,8 @@ use Rattle.std.proofs.Math.Path.{ap₂}
 use Rattle.std.proofs.Math.Pow.{shr_lt}
 use Rattle.wasm_types.specs.declared.instr.Width.{Width}
 use Rattle.wasm_types.specs.declared.instr.Width.TheVariants.{W32, W64}
-pub use Rattle.wasm_spec.specs.Operators.{int_width}
+use Rattle.wasm_spec.specs.Operators.{int_width}
 use Rattle.wasm_spec.specs.Operators.{bit_width, binary_digits, signed, unsigned, sub, rotl, rotr, clz, ctz, popcnt}
-
--- ---- signed values
-
-pub signed-cast : (w : Width) (i : ℕ) → i < 2 ^ bit_width w → signed (bit_width w) i ≡ cast_signed (int_width w) i
-signed-cast W32 i h = grind (arith, ints)
-signed-cast W64 i h = grind (arith, ints)
-
-pub unsigned-cast : (w : Width) (j : ℤ) → unsigned (bit_width w) j ≡ cast_unsigned (int_width w) j
-unsigned-cast W32 (pos j) = refl
-unsigned-cast W32 (negsuc j) = refl
-unsigned-cast W64 (pos j) = refl
-unsigned-cast W64 (negsuc j) = refl
-
-pub sub-wrapping : (n a b : ℕ) → b ≤ 2 ^ n → sub n a b ≡ (a + (2 ^ n - b)) % 2 ^ n
-sub-wrapping n a b h = let e : a + 2 ^ n - b ≡ a + (2 ^ n - b) = omega arith in ap (λ (x : ℕ). x % 2 ^ n) e
 
 -- ---- counts
 
@@ -43,10 +28,10 @@ trailing-step : (d : ℕ) (rest : List ℕ) (t : ℕ) → prefix_len zero_digit 
 trailing-step zero rest t e = ap (λ (x : ℕ). 1 + x) e ∙ omega arith
 trailing-step (suc d) rest t e = grind (arith, nat_tests)
 
-pub ctz-trailing_zeros : (n i : ℕ) → ctz n i ≡ count_trailing_zeros n i
+pub ctz_in_std : (n i : ℕ) → ctz n i ≡ count_trailing_zeros n i
 unfolding binary_digits count_trailing_zeros
-ctz-trailing_zeros zero i = refl
-ctz-trailing_zeros (suc n) i = trailing-step (i % 2) (binary_digits n (i / 2)) (count_trailing_zeros n (i / 2)) (ctz-trailing_zeros n (i / 2))
+ctz_in_std zero i = refl
+ctz_in_std (suc n) i = trailing-step (i % 2) (binary_digits n (i / 2)) (count_trailing_zeros n (i / 2)) (ctz_in_std n (i / 2))
 
 half-below : (n i : ℕ) → i < 2 ^ suc n → i / 2 < 2 ^ n
 half-below n i h = let e : 2 ^ suc n ≡ 2 ^ n * 2 = pow-suc 2 n in omega arith
@@ -55,16 +40,16 @@ no-ones : (i : ℕ) → i < 2 ^ 0 → 0 ≡ ones i
 unfolding ones
 no-ones i h = let e : 0 ≡ i = omega arith in ap ones e
 
-pub popcnt-count_ones : (n i : ℕ) → i < 2 ^ n → popcnt n i ≡ ones i
+pub popcnt_in_std : (n i : ℕ) → i < 2 ^ n → popcnt n i ≡ ones i
 unfolding binary_digits
-popcnt-count_ones zero i h = no-ones i h
-popcnt-count_ones (suc n) i h =
+popcnt_in_std zero i h = no-ones i h
+popcnt_in_std (suc n) i h =
     sum_by_from (λ x. x) (0 + i % 2) (binary_digits n (i / 2))
-    ∙ ap (λ (x : ℕ). 0 + i % 2 + x) (popcnt-count_ones n (i / 2) (half-below n i h))
+    ∙ ap (λ (x : ℕ). 0 + i % 2 + x) (popcnt_in_std n (i / 2) (half-below n i h))
     ∙ ap (λ (x : ℕ). x + ones (i / 2)) (zero-add (i % 2))
     ∙ sym (ones_step i)
 
-digits-length : (n i : ℕ) → length (binary_digits n i) ≡ n
+pub digits-length : (n i : ℕ) → length (binary_digits n i) ≡ n
 unfolding binary_digits
 digits-length zero i = refl
 digits-length (suc n) i = ap suc (digits-length n (i / 2))
@@ -88,21 +73,21 @@ leading-odd n i c h e =
     let odd : c ≡ n → suc i % 2 ≡ 1 = λ same. let none = leading-all n (suc i / 2) h (e ∙ same) in omega (arith, none) in
     grind (arith, nat_tests)
 
-pub clz-leading_zeros : (n i : ℕ) → i < 2 ^ n → clz n i ≡ count_leading_zeros n i
+pub clz_in_std : (n i : ℕ) → i < 2 ^ n → clz n i ≡ count_leading_zeros n i
 unfolding binary_digits count_leading_zeros
-clz-leading_zeros zero i h = refl
-clz-leading_zeros (suc n) zero h =
-    leading-step n 0 n (binary_digits n 0) (digits-length n 0) (clz-leading_zeros n 0 (half-below n 0 h) ∙ leading_of_zero n)
+clz_in_std zero i h = refl
+clz_in_std (suc n) zero h =
+    leading-step n 0 n (binary_digits n 0) (digits-length n 0) (clz_in_std n 0 (half-below n 0 h) ∙ leading_of_zero n)
     ∙ grind (arith, nat_tests)
-clz-leading_zeros (suc n) (suc i) h =
+clz_in_std (suc n) (suc i) h =
     let c : ℕ = count_leading_zeros n (suc i / 2) in
-    leading-step n (suc i % 2) c (binary_digits n (suc i / 2)) (digits-length n (suc i / 2)) (clz-leading_zeros n (suc i / 2) (half-below n (suc i) h))
+    leading-step n (suc i % 2) c (binary_digits n (suc i / 2)) (digits-length n (suc i / 2)) (clz_in_std n (suc i / 2) (half-below n (suc i) h))
     ∙ leading-odd n i c (half-below n (suc i) h) refl
 
 -- ---- rotations
 
 -- the digits that stay, moved up
-moved-up : (a m k : ℕ) → a * 2 ^ k % 2 ^ (m + k) ≡ a % 2 ^ m * 2 ^ k
+pub moved-up : (a m k : ℕ) → a * 2 ^ k % 2 ^ (m + k) ≡ a % 2 ^ m * 2 ^ k
 moved-up a m k =
     mod-pow-add (a * 2 ^ k) m k
     ∙ ap₂ (λ (x y : ℕ). x % 2 ^ m * 2 ^ k + y) (mul-div_cancel a (pow_pos k)) (mul-mod_left a (2 ^ k))
@@ -137,10 +122,10 @@ rotated-right n a (suc k) h lt =
     ap (λ (x : ℕ). a / 2 ^ suc k + x) up ∙ add_comm (a / 2 ^ suc k) (a % 2 ^ suc k * 2 ^ m)
     ∙ sym (ap (λ (y : ℕ). bit_or (a / 2 ^ suc k) y) (same ∙ up) ∙ or_shifted_r (a % 2 ^ suc k) m (a / 2 ^ suc k) fits)
 
-pub rotl-rotate_left : (w : Width) (a b : ℕ) → a < 2 ^ bit_width w → rotl (bit_width w) a b ≡ rotate_left (int_width w) a b
-rotl-rotate_left W32 a b h = rotated 32 a (b % 32) h (omega arith)
-rotl-rotate_left W64 a b h = rotated 64 a (b % 64) h (omega arith)
+pub rotl_in_std : (w : Width) (a b : ℕ) → a < 2 ^ bit_width w → rotl (bit_width w) a b ≡ rotate_left (int_width w) a b
+rotl_in_std W32 a b h = rotated 32 a (b % 32) h (omega arith)
+rotl_in_std W64 a b h = rotated 64 a (b % 64) h (omega arith)
 
-pub rotr-rotate_right : (w : Width) (a b : ℕ) → a < 2 ^ bit_width w → rotr (bit_width w) a b ≡ rotate_right (int_width w) a b
-rotr-rotate_right W32 a b h = rotated-right 32 a (b % 32) h (omega arith)
-rotr-rotate_right W64 a b h = rotated-right 64 a (b % 64) h (omega arith)
+pub rotr_in_std : (w : Width) (a b : ℕ) → a < 2 ^ bit_width w → rotr (bit_width w) a b ≡ rotate_right (int_width w) a b
+rotr_in_std W32 a b h = rotated-right 32 a (b % 32) h (omega arith)
+rotr_in_std W64 a b h = rotated-right 64 a (b % 64) h (omega arith)

@@ -9,7 +9,7 @@ use Rattle.wasm_types.specs.Tree.{ModuleTree}
 use Rattle.wasm_spec.specs.Store.{Data, first_misfit, fresh_store}
 use Rattle.wasm_spec.specs.Execution.{exec}
 use Rattle.wasm_spec.specs.Result.{CallResult, call_result}
-use Rattle.wasm_spec.proofs.Modules.{add_module, bump_module, poke_module, wrap_module, grown_module, grow_module, div_module, indirect_module, recursive_module, count_module, next_module, start_module, spin_module, misfit_module, overlap_module}
+use Rattle.wasm_examples.proofs.Modules.{add_module, bump_module, poke_module, wrap_module, grown_module, grow_module, div_module, indirect_module, recursive_module, count_module, next_module, start_module, spin_module, misfit_module, overlap_module}
 
 abbrev ending : Option CallResult → Option (Outcome × ℕ)
 ending None = None

@@ -1,0 +1,9 @@
+pub mod Modules
+pub mod Examples
+pub mod GrammarExamples
+pub mod OperatorExamples
+pub mod ProgramExamples
+pub mod TypingExamples
+pub mod LoadingExamples
+pub mod TreeExamples
+pub mod OpcodeExamples
