@@ -88,9 +88,9 @@ shown_byte most memory is i =
     let size = size_of memory in
     let bytes = memory.bytes.items in
     let beyond : size ≤ i → get_or (shown memory) i 0 ≡ get_or bytes i 0 = λ le.
-        let none : get_or (shown memory) i 0 ≡ 0 = get_or_past (take size bytes) i 0 (omega (arith, length-take size bytes)) in
-        let rest : get_or bytes i 0 ≡ get_or (drop size bytes) (i - size) 0 = ap (λ (n : ℕ). get_or bytes n 0) (omega arith) ∙ sym (get_or-drop size bytes (i - size) 0) in
-        none ∙ sym (rest ∙ ap (λ (l : List ℕ). get_or l (i - size) 0) is.zeros ∙ all_alike (length bytes - size) (i - size) 0) in
+    let none : get_or (shown memory) i 0 ≡ 0 = get_or_past (take size bytes) i 0 (omega (arith, length-take size bytes)) in
+    let rest : get_or bytes i 0 ≡ get_or (drop size bytes) (i - size) 0 = ap (λ (n : ℕ). get_or bytes n 0) (omega arith) ∙ sym (get_or-drop size bytes (i - size) 0) in
+    none ∙ sym (rest ∙ ap (λ (l : List ℕ). get_or l (i - size) 0) is.zeros ∙ all_alike (length bytes - size) (i - size) 0) in
     ⊎_elim (λ (lt : i < size). get_or-take size bytes i 0 lt) beyond (cases_lt i size)
 
 -- the same of what is shown

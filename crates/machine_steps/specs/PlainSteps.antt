@@ -88,4 +88,3 @@ pub record HasLocal (machine : Machine) (x : ℕ) : Type 0 where
   pub represents : Represents configuration machine
   pub value : Val
   pub there : slice_get configuration.locals x ≡ Some value
-

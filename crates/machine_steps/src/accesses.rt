@@ -19,9 +19,8 @@ ghost use Rattle.machine_steps.specs.PlainSteps.{CanExecute, Executes};
 use crate::machine::Machine;
 use crate::operands::{number32, number64};
 use linear_memory::Memory;
-use wasm_numeric::conversions::i64_extend_i32_s;
-use wasm_types::{Instr, PackSize, Sign, Width};
-use wasm_types::{TrapKind, Val};
+use wasm_numeric::i64_extend_i32_s;
+use wasm_types::{Instr, PackSize, Sign, TrapKind, Val, Width};
 
 // Signed numbers of 8, 16 and 32 bits in more.
 fn i32_extend8_s(n: u8) -> u32
@@ -189,7 +188,7 @@ fn store_value(memory: &mut Memory, instr: &Instr, at: u64, v: Val) -> bool
 }
 
 impl Machine {
-    /// A load from the topmost operand and this offset.
+    // A load from the topmost operand and this offset.
     pub(crate) fn load(&mut self, memory: &Memory, instr: &Instr, offset: u32) -> Option<TrapKind>
         requires kind { IsLoad instr.now }
         requires offset { offset ≡ offset_of instr.now }
@@ -209,7 +208,7 @@ impl Machine {
         }
     }
 
-    /// A store of the topmost operand to the one under it and this offset.
+    // A store of the topmost operand to the one under it and this offset.
     pub(crate) fn store(
         &mut self,
         memory: &mut Memory,
@@ -235,7 +234,7 @@ impl Machine {
         }
     }
 
-    /// Puts the memory's size in pages on the top.
+    // Puts the memory's size in pages on the top.
     pub(crate) fn memory_size(&mut self, memory: &Memory)
         requires free { vec_len self.old.values < vec_capacity self.old.values }
         requires memory { (most : ℕ) × IsMemory most memory.now }
@@ -246,7 +245,7 @@ impl Machine {
         self.push(Val::I32(memory.pages));
     }
 
-    /// Grows the memory by as many pages as the topmost operand says, if there are then at most `most`.
+    // Grows the memory by as many pages as the topmost operand says, if there are then at most `most`.
     pub(crate) fn memory_grow(&mut self, memory: &mut Memory, most: u32)
         requires can { CanExecute instr.MemoryGrow self.old }
         requires memory { (limit : ℕ) × IsMemory limit memory.old × (most ≤ limit) }

@@ -31,7 +31,7 @@ fn put_at(values: &mut Vec<Val>, i: usize, v: Val)
 }
 
 impl Machine {
-    /// Puts a local's value on the top.
+    // Puts a local's value on the top.
     pub(crate) fn get_local(&mut self, x: u32)
         requires can { CanExecute (instr.LocalGet x) self.old }
         requires free { vec_len self.old.values < vec_capacity self.old.values }
@@ -52,7 +52,7 @@ impl Machine {
         put_at(&mut self.values, self.at.locals + x as usize, v);
     }
 
-    /// Gives a local the topmost operand, which is taken off.
+    // Gives a local the topmost operand, which is taken off.
     pub(crate) fn set_local(&mut self, x: u32)
         requires { CanExecute (instr.LocalSet x) self.old }
         ensures does { (m : ModuleTree) (limits : RunLimits) (store : Store) → Executes m limits (instr.LocalSet x) self.old store None self.new store }
@@ -62,7 +62,7 @@ impl Machine {
         self.put_local(x, v);
     }
 
-    /// Gives a local the topmost operand.
+    // Gives a local the topmost operand.
     pub(crate) fn tee_local(&mut self, x: u32)
         requires { CanExecute (instr.LocalTee x) self.old }
         ensures does { (m : ModuleTree) (limits : RunLimits) (store : Store) → Executes m limits (instr.LocalTee x) self.old store None self.new store }
@@ -73,7 +73,7 @@ impl Machine {
         self.push(v);
     }
 
-    /// Puts a global's value on the top.
+    // Puts a global's value on the top.
     pub(crate) fn get_global(&mut self, globals: &[Val], x: u32)
         requires there { x < length globals.now }
         requires free { vec_len self.old.values < vec_capacity self.old.values }
@@ -84,7 +84,7 @@ impl Machine {
         self.push(value_at(globals, x as usize));
     }
 
-    /// Gives a global the topmost operand, which is taken off.
+    // Gives a global the topmost operand, which is taken off.
     pub(crate) fn set_global(&mut self, globals: &mut [Val], x: u32)
         requires can { CanExecute (instr.GlobalSet x) self.old }
         requires there { x < length globals.old }

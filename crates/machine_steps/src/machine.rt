@@ -42,11 +42,7 @@ impl Machine {
     ghost use Rattle.machine_steps.specs.PlainSteps.{in_block};
 
     /// A machine with room for so many values and labels, and so many calls. It stands nowhere.
-    pub fn with_room(
-        alloc: Global,
-        entries: usize,
-        calls: usize,
-    ) -> Result<Machine, AllocError>
+    pub fn with_room(alloc: Global, entries: usize, calls: usize) -> Result<Machine, AllocError>
         ensures values { IfOk result (λ machine. entries ≤ vec_capacity machine.values) }
         ensures labels { IfOk result (λ machine. entries ≤ vec_capacity machine.labels) }
         ensures frames { IfOk result (λ machine. calls ≤ vec_capacity machine.frames) }

@@ -16,10 +16,11 @@ ghost use Rattle.machine_steps.specs.PlainSteps.{CanExecute, Executes, HasNumber
 
 use crate::machine::Machine;
 use crate::stack;
-use wasm_numeric::by_name::{binary32, binary64, compare32, compare64, unary32, unary64};
-use wasm_numeric::conversions::{i32_wrap_i64, i64_extend_i32_s, i64_extend_i32_u};
-use wasm_types::{BinaryOp, CompareOp, Instr, Sign, UnaryOp, Width};
-use wasm_types::{TrapKind, Val};
+use wasm_numeric::{
+    binary32, binary64, compare32, compare64, i32_wrap_i64, i64_extend_i32_s, i64_extend_i32_u,
+    unary32, unary64,
+};
+use wasm_types::{BinaryOp, CompareOp, Instr, Sign, TrapKind, UnaryOp, Val, Width};
 
 // The number of an i32.
 pub(crate) fn number32(v: Val) -> u32
@@ -146,7 +147,7 @@ fn two(instr: &Instr, first: Val, second: Val) -> Result<Val, TrapKind>
 }
 
 impl Machine {
-    /// Puts an operand on the top.
+    // Puts an operand on the top.
     pub(crate) fn push(&mut self, v: Val)
         requires { vec_len self.old.values < vec_capacity self.old.values }
         ensures represents { (k : Configuration) → Represents k self.old → Represents (record k { operands = v ∷ k.operands }) self.new }
@@ -155,7 +156,7 @@ impl Machine {
         stack::push(&mut self.values, v);
     }
 
-    /// Takes the topmost operand off.
+    // Takes the topmost operand off.
     pub(crate) fn pop(&mut self) -> Val
         requires { HasOperand self.old }
         ensures represents { (k : Configuration) (x : AVal) (vs : List AVal) → Represents k self.old → k.operands ≡ x ∷ vs
@@ -180,7 +181,7 @@ impl Machine {
         }
     }
 
-    /// An instruction that makes a number of the topmost operand.
+    // An instruction that makes a number of the topmost operand.
     pub(crate) fn on_one(&mut self, instr: &Instr)
         requires kind { IsOfOne instr.now }
         requires can { CanExecute instr.now self.old }
@@ -191,7 +192,7 @@ impl Machine {
         self.push(one(instr, v));
     }
 
-    /// An instruction that makes a number of the two topmost operands, or traps.
+    // An instruction that makes a number of the two topmost operands, or traps.
     pub(crate) fn on_two(&mut self, instr: &Instr) -> Option<TrapKind>
         requires kind { IsOfTwo instr.now }
         requires can { CanExecute instr.now self.old }
@@ -209,7 +210,7 @@ impl Machine {
         }
     }
 
-    /// Keeps the first of two operands where the topmost one isn't 0, and else the second.
+    // Keeps the first of two operands where the topmost one isn't 0, and else the second.
     pub(crate) fn select(&mut self)
         requires { CanExecute instr.Select self.old }
         ensures does { (m : ModuleTree) (limits : RunLimits) (store : Store) → Executes m limits instr.Select self.old store None self.new store }

@@ -10,6 +10,7 @@ use Rattle.machine_steps.specs.declared.machine.Label.{Label}
 use Rattle.machine_steps.specs.declared.machine.Machine.{Machine}
 use Rattle.machine_steps.specs.Configuration.{OpenBlock, Configuration}
 use Rattle.machine_steps.specs.StackLayout.{operands_under, bottom_of, label_of, labels_of, labels_under, Represents}
+use Rattle.machine_steps.proofs.StackLayoutLemmas.{labels-length}
 
 -- ---- values of types
 
@@ -103,4 +104,3 @@ label_place k machine l index g sh lt ei =
       label = λ d. ap (λ (x : List Label). get_or x index d) e ∙ get_or_at front here i.0 d index at;
       before = ap (take index) e ∙ take_at front (here ∷ i.0) index at;
     }
-

@@ -19,7 +19,7 @@ use Rattle.wasm_machine.specs.Simulation.{ByReturn, HasExitOperands, Simulates, 
 use Rattle.machine_steps.proofs.StackLists.{put_back}
 use Rattle.wasm_machine.proofs.RemainingLemmas.{kept_on, leave_blocks-Returned}
 use Rattle.wasm_machine.proofs.LabelLemmas.{Cut, types_cut, map-append}
-use Rattle.machine_steps.proofs.StackLayoutLemmas.{room_kept}
+use Rattle.machine_steps.proofs.StackLayoutLemmas.{room_kept, values_on}
 
 abbrev pub configuration_of : (x q p : ℕ) (ls vs : List Val) (os : List OpenBlock) (cs : List Activation) → Configuration
 configuration_of x q p ls vs os cs = record { function = x; sequence = q; place = p; locals = ls; operands = vs; blocks = os; activations = cs }

@@ -39,9 +39,9 @@ module _ (r : ℕ → Ended) (old : Memory) where
       → ((g : ℕ) → spent + g < bound → result_of (r (spent + g)) ≡ Some (y g)) → ((g : ℕ) → (y g).store.memory ≡ shown new) → AreMarkedBelow bound r old new
   marked_from spent bound most n new y below is changes ends memory fuel x lt e =
       let later : spent ≤ fuel → KeepsUnmarked old.bytes.items x.store.memory old.marks.items new.marks.items = λ le.
-          let at : spent + (fuel - spent) ≡ fuel = omega arith in
-          let there : result_of (r fuel) ≡ Some (y (fuel - spent)) = ap (λ (k : ℕ). result_of (r k)) (sym at) ∙ ends (fuel - spent) (omega arith) in
-          marked_at most n new x (y (fuel - spent)) (result_of (r fuel)) is changes there (memory (fuel - spent)) e in
+      let at : spent + (fuel - spent) ≡ fuel = omega arith in
+      let there : result_of (r fuel) ≡ Some (y (fuel - spent)) = ap (λ (k : ℕ). result_of (r k)) (sym at) ∙ ends (fuel - spent) (omega arith) in
+      marked_at most n new x (y (fuel - spent)) (result_of (r fuel)) is changes there (memory (fuel - spent)) e in
       ⊎_elim (λ (l : fuel < spent). below fuel x l e) later (cases_lt fuel spent)
 
 -- ---- fuel

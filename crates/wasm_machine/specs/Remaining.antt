@@ -11,7 +11,6 @@ use Rattle.wasm_spec.specs.Store.{Store}
 use Rattle.wasm_spec.specs.Execution.{State, Ended, Continuation, leave, return, exec}
 use Rattle.wasm_spec.specs.Result.{finish}
 use Rattle.wasm_types.specs.Sequences.{code_at}
-
 use Rattle.machine_steps.specs.Configuration.{OpenBlock, Activation, Configuration, state}
 
 -- a function that isn't there has no code

@@ -3,12 +3,12 @@
 
 mod calls;
 mod control;
+mod invocation;
 mod lookup;
-mod run;
 mod running;
 mod stacks;
 
+pub use invocation::{RunEnd, run};
 pub use linear_memory::Memory;
-pub use run::{RunEnd, run};
 pub use stacks::Stacks;
 pub use wasm_types::RunLimits;

@@ -47,7 +47,11 @@ fn arm_of(condition: u32, first: usize, second: usize) -> usize
 fn unless_over(over: bool) -> Step
     ensures { result ≡ step_unless_over over }
 {
-    if over { Step::Finishes } else { Step::Continues }
+    if over {
+        Step::Finishes
+    } else {
+        Step::Continues
+    }
 }
 
 // Whether a run stops.
@@ -69,7 +73,12 @@ fn fetch<'m>(machine: &mut Machine, m: &'m Module) -> Option<&'m Op>
     ensures fits { IfSome result (λ _. machine.new.at.place + 1 < 2 ^ 64) }
 {
     loop {
-        match op_of(m, machine.at.function, machine.at.sequence, machine.at.place) {
+        match op_of(
+            m,
+            machine.at.function,
+            machine.at.sequence,
+            machine.at.place,
+        ) {
             Some(op) => return Some(op),
             None => {
                 if end_sequence(machine, m) {

@@ -7,8 +7,8 @@ pop32-n-requires c =
     let e = c.requires in
     number_there c.args.m.now e.limits e.frame c.args.machine.now e.store e.here c.args.l e.to e.before
 
-pub branch-self-requires : goal.branch-self-requires
-branch-self-requires c =
+pub branch-machine-requires : goal.branch-machine-requires
+branch-machine-requires c =
     let e = c.requires in
     record {
       limits = e.limits;
@@ -24,4 +24,4 @@ returns-then-n-eq0-clause-steps c limits frame store here r b =
 
 pub returns-else-n-eq0-clause-steps : goal.returns-else-n-eq0-clause-steps
 returns-else-n-eq0-clause-steps c limits frame store here r b =
-    c.branch-self.ensures.steps limits frame store (paid r) (br_if_leaves c.args.m.now limits frame c.args.machine.now c.pop32-n.new.self store here c.args.l c.pop32-n.result r b c.pop32-n.ensures.represents c.if-n-eq0.false c.pop32-n.ensures.room)
+    c.branch-machine.ensures.steps limits frame store (paid r) (br_if_leaves c.args.m.now limits frame c.args.machine.now c.pop32-n.new.self store here c.args.l c.pop32-n.result r b c.pop32-n.ensures.represents c.if-n-eq0.false c.pop32-n.ensures.room)

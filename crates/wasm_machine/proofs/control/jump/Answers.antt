@@ -14,8 +14,8 @@ use Rattle.wasm_machine.proofs.control.jump.Goals as goal
 as_instr : (m : Module) (limits : RunLimits) (frame : ℕ) (machine : Machine) (store : Store) (here : ℕ) (i j : Instr) (r : ℕ → Ended) → i ≡ j → HasFetched m limits frame machine store here (op.Plain i) r → HasFetched m limits frame machine store here (op.Plain j) r
 as_instr m limits frame machine store here i j r e b = subst (λ (x : Instr). HasFetched m limits frame machine store here (op.Plain x) r) e b
 
-pub branch-self-requires : goal.branch-self-requires
-branch-self-requires c =
+pub branch-machine-requires : goal.branch-machine-requires
+branch-machine-requires c =
     let h = c.requires.can in
     record {
       limits = h.limits;
@@ -40,7 +40,7 @@ return_from_function-requires c =
 
 pub returns-in-Br-clause-steps : goal.returns-in-Br-clause-steps
 returns-in-Br-clause-steps c limits frame store here r b =
-    c.branch-self.ensures.steps limits frame store (paid r)
+    c.branch-machine.ensures.steps limits frame store (paid r)
     (br_leaves c.args.m.now limits frame c.args.machine.now store here c.in-Br.l r (as_instr c.args.m.now limits frame c.args.machine.now store here c.args.instr.now (instr.Br c.in-Br.l) r c.in-Br.is b))
 
 pub returns-in-BrIf-clause-steps : goal.returns-in-BrIf-clause-steps

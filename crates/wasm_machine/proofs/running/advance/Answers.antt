@@ -91,7 +91,7 @@ returns-in-Finishes-clause-marked c frame r run simulates =
     let most = room_for m.memories limits.pages in
     let at = c.in-Some.ensures.steps limits frame store (after c.loop-spent.spent r) (i.simulates frame r run simulates) in
     let next = c.loop-spent.spent + 1 in
-    let below = marked_next r c.args.memory.now m limits frame c.fetch.new.machine store c.in-Some.op.now c.loop-spent.spent most (2 * c.loop-spent.spent) 2 c.loop-spent.memory c.execute.new.memory (i.marked frame r run simulates) i.memory i.marks refl at.0 at.1 c.in-Finishes.ensures.marks in
+    let below = marked_next m limits frame r c.args.memory.now c.fetch.new.machine store c.in-Some.op.now c.loop-spent.spent most (2 * c.loop-spent.spent) 2 c.loop-spent.memory c.execute.new.memory (i.marked frame r run simulates) i.memory i.marks refl at.0 at.1 c.in-Finishes.ensures.marks in
     marked_over r c.args.memory.now m c.execute.new.machine store' next (c.args.fuel + 1) most (2 * next) c.execute.new.memory below c.in-Finishes.ensures.memory
     (changes_more c.args.memory.now c.loop-spent.memory c.execute.new.memory (2 * c.loop-spent.spent) 2 (2 * next) i.marks c.in-Finishes.ensures.marks (omega arith)) refl
     (over_paid m limits frame c.execute.new.machine store' r c.loop-spent.spent next refl (c.in-Finishes.ensures.steps frame (after c.loop-spent.spent r) run at.0))
@@ -125,7 +125,7 @@ returns-in-Traps-clause-marked c frame r run simulates =
     let most = room_for m.memories limits.pages in
     let at = c.in-Some.ensures.steps limits frame store (after c.loop-spent.spent r) (i.simulates frame r run simulates) in
     let next = c.loop-spent.spent + 1 in
-    let below = marked_next r c.args.memory.now m limits frame c.fetch.new.machine store c.in-Some.op.now c.loop-spent.spent most (2 * c.loop-spent.spent) 2 c.loop-spent.memory c.execute.new.memory (i.marked frame r run simulates) i.memory i.marks refl at.0 at.1 c.in-Traps.ensures.marks in
+    let below = marked_next m limits frame r c.args.memory.now c.fetch.new.machine store c.in-Some.op.now c.loop-spent.spent most (2 * c.loop-spent.spent) 2 c.loop-spent.memory c.execute.new.memory (i.marked frame r run simulates) i.memory i.marks refl at.0 at.1 c.in-Traps.ensures.marks in
     marked_trap r c.args.memory.now c.in-Traps.t store' next (c.args.fuel + 1) most (2 * next) c.execute.new.memory below c.in-Traps.ensures.memory
     (changes_more c.args.memory.now c.loop-spent.memory c.execute.new.memory (2 * c.loop-spent.spent) 2 (2 * next) i.marks c.in-Traps.ensures.marks (omega arith)) refl
     (trap_paid m limits frame c.in-Traps.t store' r c.loop-spent.spent next refl (c.in-Traps.ensures.steps frame (after c.loop-spent.spent r) run at.0))
@@ -153,7 +153,7 @@ loop-spent-preserved c = record {
       let store = store_of c.loop-spent.memory c.args.table.now c.loop-spent.globals in
       let i = c.loop-spent.invariant in
       let at = c.in-Some.ensures.steps c.args.limits frame store (after c.loop-spent.spent r) (i.simulates frame r run simulates) in
-      marked_next r c.args.memory.now c.args.m.now c.args.limits frame c.fetch.new.machine store c.in-Some.op.now c.loop-spent.spent (room_for c.args.m.now.memories c.args.limits.pages) (2 * c.loop-spent.spent) 2 c.loop-spent.memory c.execute.new.memory (i.marked frame r run simulates) i.memory i.marks refl at.0 at.1 c.in-Continues.ensures.marks;
+      marked_next c.args.m.now c.args.limits frame r c.args.memory.now c.fetch.new.machine store c.in-Some.op.now c.loop-spent.spent (room_for c.args.m.now.memories c.args.limits.pages) (2 * c.loop-spent.spent) 2 c.loop-spent.memory c.execute.new.memory (i.marked frame r run simulates) i.memory i.marks refl at.0 at.1 c.in-Continues.ensures.marks;
   unspent = λ e. absurd (omega (arith, e));
   room = record {
     values = omega (arith, c.in-Some.ensures.room.values, c.in-Continues.ensures.room.values);

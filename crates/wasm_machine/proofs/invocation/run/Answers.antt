@@ -4,7 +4,7 @@ use Rattle.wasm_machine.specs.Room.{StacksView}
 use Rattle.wasm_machine.specs.Calls.{FitsFrame}
 use Rattle.wasm_machine.specs.TypedConfiguration.{IsRunnable}
 use Rattle.wasm_machine.proofs.ResultLemmas.{less_room}
-use Rattle.wasm_machine.proofs.run.run.Goals as goal
+use Rattle.wasm_machine.proofs.invocation.run.Goals as goal
 
 pub run_machine-requires-clause-runs : goal.run_machine-requires-clause-runs
 run_machine-requires-clause-runs c =

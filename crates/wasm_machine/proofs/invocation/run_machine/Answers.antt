@@ -5,7 +5,7 @@ use Rattle.wasm_types.specs.Tree.{module_tree}
 use Rattle.wasm_spec.specs.Result.{run_function}
 use Rattle.machine_steps.specs.Lent.{store_of}
 use Rattle.wasm_machine.proofs.ResultLemmas.{first_frame, done_result, trap_result, fuel_result}
-use Rattle.wasm_machine.proofs.run.run_machine.Goals as goal
+use Rattle.wasm_machine.proofs.invocation.run_machine.Goals as goal
 
 pub begin-requires : goal.begin-requires
 begin-requires c =
