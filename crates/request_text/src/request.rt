@@ -1,5 +1,4 @@
-// What a request file asks for, and why one is refused.
-
+//! What a request file asks for, and why one is refused.
 ghost use Rattle.std.specs.Prelude.{◌≡◌, Some};
 ghost use Rattle.request_text.specs.Lines.{reason_text};
 

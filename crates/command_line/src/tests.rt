@@ -1,13 +1,13 @@
 //! Words that are taken, and words that are refused.
-use super::*;
+use crate::{Command, WordsFault, read_command};
 use std::test::Fail;
 
 const REFUSED: Result<[u32; 10], WordsFault> = Err(WordsFault::Refused);
 
 // In the order of the struct: workers, instances, memories, tables, warm, batch, pages, elements,
 // depth, frame.
-fn numbers(options: Options) -> [u32; 10] {
-    let o = options;
+fn numbers(command: Command) -> [u32; 10] {
+    let Command::Run(o) = command;
     [
         o.workers,
         o.instances,
@@ -81,7 +81,7 @@ fn reads_or_refuses_each_command_line(rt: HostRuntime) -> Result<(), Fail> {
             words.push(word)?;
         }
         assert_eq!(rt;
-            read_options(rt.alloc(), &words).map(numbers),
+            read_command(rt.alloc(), &words).map(numbers),
             want,
             "at {line}"
         );
