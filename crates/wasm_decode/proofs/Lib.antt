@@ -1,5 +1,6 @@
 pub mod Reading
 pub mod Contexts
+pub mod Tokens
 pub mod Completions
 pub mod Opcodes
 pub mod Shapes

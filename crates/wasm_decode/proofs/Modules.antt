@@ -1,12 +1,12 @@
 -- Modules and their sections.
-use Rattle.std.proofs.Common.{◌≡◌, ℕ, List, [], ◌∷◌, ◌++◌, length, map, refl, ap, subst, arith}
+use Rattle.std.proofs.Common.{◌≡◌, ℕ, List, length, map, ap, arith}
 use Rattle.std.specs.Prelude.{Result, MatchResult, IsErrAnd}
 use Rattle.std.proofs.lemmas.List.{length-map}
 use Rattle.wasm_types.specs.Tree.{ModuleTree}
-use Rattle.wasm_spec.specs.Numbers.{TakesUnsigned, TakesEach}
+use Rattle.wasm_spec.specs.Numbers.{TakesUnsigned}
 use Rattle.wasm_spec.specs.Grammar.{Body, TakesSizedBody, body_of, type_index_of, Section, section, SpellsVec, SpellsFields}
-use Rattle.wasm_spec.proofs.UnambiguousNumbers.{unsigned-unique, same_others}
-use Rattle.wasm_spec.proofs.UnambiguousModules.{sized_body-unique, sections-unique, spelled_vec-unique}
+use Rattle.wasm_spec.proofs.UnambiguousNumbers.{unsigned-unique}
+use Rattle.wasm_spec.proofs.UnambiguousModules.{sized_body-unique, spelled_vec-unique}
 use Rattle.wasm_decode.specs.Decoding.{IsNone}
 use Rattle.wasm_decode.specs.declared.fault.DecodeFault.{DecodeFault}
 use Rattle.wasm_decode.proofs.Reading.{exits, none-through}

@@ -1,6 +1,5 @@
 use Rattle.std.proofs.Common.{List, [], map, subst, IsTrue, rules}
 use Rattle.std.proofs.lemmas.Result.{MatchResult-weaker}
-use Rattle.wasm_types.specs.Tree.{module_tree}
 use Rattle.wasm_spec.specs.Numbers.{TakesEach}
 use Rattle.wasm_spec.specs.Grammar.{Section, TakesSection, IsOrderedAbove, SpellsFields, Spells}
 use Rattle.wasm_spec.proofs.UnambiguousModules.{sections-are}
