@@ -1,9 +1,14 @@
 pub mod Modules
-pub mod Examples
+pub mod SequenceExamples
+pub mod CallExamples
+pub mod NumberExamples
 pub mod GrammarExamples
+pub mod SpelledModule
 pub mod OperatorExamples
-pub mod ProgramExamples
+pub mod ControlExamples
 pub mod TypingExamples
+pub mod TypingRows
 pub mod LoadingExamples
+pub mod NeedExamples
+pub mod ValidityExamples
 pub mod TreeExamples
-pub mod OpcodeExamples
