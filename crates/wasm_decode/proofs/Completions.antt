@@ -12,7 +12,7 @@ use Rattle.wasm_decode.specs.Tokens.{TakesLeaf, TakesToken}
 use Rattle.wasm_decode.specs.declared.expr_builder.ExprBuilder.{ExprBuilder}
 use Rattle.wasm_decode.specs.declared.fault.DecodeFault.{DecodeFault}
 use Rattle.wasm_decode.specs.Decoding.{BeginsWithNone}
-use Rattle.wasm_decode.proofs.Reading.{begins-through}
+use Rattle.wasm_decode.proofs.Decoding.{begins-through}
 use Rattle.wasm_decode.proofs.Tokens.{Arms, first-token, behind, from-leaf}
 use Rattle.wasm_decode.specs.Contexts.{prepend, Enclosing, LastArm, ThenArm, Context, Represents, pushed, opened, BeginsElseAt, BeginsElse, EndsAt, Ends}
 

@@ -19,7 +19,7 @@ use Rattle.wasm_decode.specs.declared.token.Token.TheVariants as token
 use Rattle.wasm_decode.specs.Tokens.{block_byte, TakesLeaf, TakesToken, TakesIndexAndZero}
 use Rattle.wasm_decode.specs.declared.fault.DecodeFault.{DecodeFault}
 use Rattle.wasm_decode.specs.Decoding.{BeginsWithNone}
-use Rattle.wasm_decode.proofs.Reading.{begins-through}
+use Rattle.wasm_decode.proofs.Decoding.{begins-through}
 use Rattle.wasm_decode.specs.Contexts.{prepend}
 
 -- what a token begins with
