@@ -1,15 +1,15 @@
--- Modules and their sections.
-use Rattle.std.proofs.Common.{◌≡◌, ℕ, List, [], ◌∷◌, ◌++◌, length, map, refl, ap, subst, arith}
+-- What the sections of a module say of it.
+use Rattle.std.proofs.Common.{◌≡◌, ℕ, List, length, map, ap, arith}
 use Rattle.std.specs.Prelude.{Result, MatchResult, IsErrAnd}
 use Rattle.std.proofs.lemmas.List.{length-map}
 use Rattle.wasm_types.specs.Tree.{ModuleTree}
-use Rattle.wasm_spec.specs.Numbers.{TakesUnsigned, TakesEach}
+use Rattle.wasm_spec.specs.Numbers.{TakesUnsigned}
 use Rattle.wasm_spec.specs.Grammar.{Body, TakesSizedBody, body_of, type_index_of, Section, section, SpellsVec, SpellsFields}
-use Rattle.wasm_spec.proofs.UnambiguousNumbers.{unsigned-unique, same_others}
-use Rattle.wasm_spec.proofs.UnambiguousModules.{sized_body-unique, sections-unique, spelled_vec-unique}
+use Rattle.wasm_spec.proofs.UnambiguousNumbers.{unsigned-unique}
+use Rattle.wasm_spec.proofs.UnambiguousModules.{sized_body-unique, spelled_vec-unique}
 use Rattle.wasm_decode.specs.Decoding.{IsNone}
 use Rattle.wasm_decode.specs.declared.fault.DecodeFault.{DecodeFault}
-use Rattle.wasm_decode.proofs.Reading.{exits, none-through}
+use Rattle.wasm_decode.proofs.Decoding.{exits, none-through}
 
 -- the exit of a `?` behind a section that spells no items
 pub exits-field : {T A : Type 0} (P : A → Type 0) (sections : List Section) (r : Result T DecodeFault) (Found : T → Type 0) (fault : DecodeFault)
