@@ -10,7 +10,7 @@ use Rattle.wasm_types.specs.SameTypes.{same_type}
 use Rattle.wasm_types.specs.Tree.{Code, End, Plain, Block, Loop, If, Call, CallIndirect, FunctionTree, ModuleTree}
 use Rattle.wasm_spec.specs.Store.{Store}
 use Rattle.wasm_types.specs.declared.limits.RunLimits.{RunLimits}
-use Rattle.wasm_spec.specs.Execution.{State, Signal, Next, Branch, Returned, Trapped, OutOfFuel, Stuck, Ended, Continuation, plain, pay, and_then, unless, keep, leave_by, leave, arity, pop_index, choose, inside, return_by, return, entered, invoke, with_type, if_there, with_function, with_element, exec_within, exec}
+use Rattle.wasm_spec.specs.Execution.{element_call, typed_call, call, State, Signal, Next, Branch, Returned, Trapped, OutOfFuel, Stuck, Ended, Continuation, plain, pay, and_then, unless, keep, leave_by, leave, arity, pop_index, choose, inside, arm, return_by, return, entered, callee, invoke, with_type, if_there, with_function, with_element, exec_within, exec}
 
 -- ---- fuel only falls
 
@@ -58,10 +58,6 @@ return-spends n caller below (Trapped t store) fuel g next h le = le
 return-spends n caller below (OutOfFuel store) fuel g next h le = le
 return-spends n caller below Stuck fuel g next h le = le
 
--- a call, once its operands are there and its depth is one that may be
-abbrev callee : FunctionTree → FuncType → Continuation → Continuation → Continuation
-callee f t run next s fuel = return (length t.results) s (drop (length t.params) s.operands) (run (entered f t s) fuel) next
-
 callee-spends : (f : FunctionTree) (t : FuncType) (run next : Continuation) → Spends run → Spends next → Spends (callee f t run next)
 callee-spends f t run next hr h s fuel =
     let inner : Ended = run (entered f t s) fuel in
@@ -104,21 +100,23 @@ module _ (m : ModuleTree) (limits : RunLimits) where
       leave (arity t) s.operands (exec_within m limits n body depth (inside s) fuel) (exec_within m limits n rest depth) (exec_within m limits n rest depth)
 
   abbrev within_arm : ℕ → ℕ → Option ValType → Code → Code → Code → ℕ → Continuation
-  within_arm n depth t first second rest c s fuel =
-      leave (arity t) s.operands (choose c (exec_within m limits n first depth) (exec_within m limits n second depth) (inside s) fuel)
-      (exec_within m limits n rest depth) (exec_within m limits n rest depth)
+  within_arm n depth t first second rest =
+      arm t (exec_within m limits n first depth) (exec_within m limits n second depth) (exec_within m limits n rest depth)
+
+  abbrev within_body : ℕ → ℕ → Code → Continuation
+  within_body n depth c = exec_within m limits n c (depth + 1)
 
   abbrev within_call : ℕ → ℕ → Code → FunctionTree → FuncType → Continuation
-  within_call n depth rest f t = invoke limits depth f t (exec_within m limits n f.body (depth + 1)) (exec_within m limits (suc n) rest depth)
+  within_call n depth rest = call m limits depth (within_body n depth) (exec_within m limits (suc n) rest depth)
 
   abbrev within_typed_call : ℕ → ℕ → Code → FuncType → FunctionTree → FuncType → Continuation
-  within_typed_call n depth rest u f t s = unless (not (same_type u t)) (Trapped trap.Signature s.store) (within_call n depth rest f t) s
+  within_typed_call n depth rest = typed_call m limits depth (within_body n depth) (exec_within m limits (suc n) rest depth)
 
   abbrev within_element : ℕ → ℕ → ℕ → Code → ℕ → Continuation
   within_element n depth x rest y = with_type m x (λ u. with_function m y (within_typed_call n depth rest u))
 
   abbrev within_element_call : ℕ → ℕ → ℕ → Code → ℕ → Continuation
-  within_element_call n depth x rest i s = with_element (slice_get s.store.table i) (within_element n depth x rest) s
+  within_element_call n depth x rest = element_call m limits depth (within_body n depth) (exec_within m limits (suc n) rest depth) x
 
   pub within-spends : (n : ℕ) (c : Code) (depth : ℕ) → Spends (exec_within m limits n c depth)
   within-spends n End depth s fuel = omega arith

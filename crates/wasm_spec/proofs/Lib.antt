@@ -2,16 +2,9 @@ pub mod UnambiguousNumbers
 pub mod UnambiguousTypes
 pub mod UnambiguousInstrs
 pub mod UnambiguousModules
-pub mod GrammarExamples
 pub mod Loading
-pub mod TypingExamples
-pub mod OperatorLaws
-pub mod OperatorExamples
 pub mod FuelLaws
 pub mod Equations
 pub mod StoreLaws
 pub mod ResultLaws
 pub mod MoreFuel
-pub mod Modules
-pub mod Examples
-pub mod ProgramExamples

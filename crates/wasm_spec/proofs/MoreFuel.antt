@@ -12,7 +12,7 @@ use Rattle.wasm_types.specs.SameTypes.{same_type}
 use Rattle.wasm_spec.specs.Typing.{function_at}
 use Rattle.wasm_spec.specs.Store.{Store}
 use Rattle.wasm_types.specs.declared.limits.RunLimits.{RunLimits}
-use Rattle.wasm_spec.specs.Execution.{State, Signal, Next, Branch, Returned, Trapped, OutOfFuel, Stuck, Ended, ended, Continuation, plain, pay, and_then, unless, keep, leave_by, leave, arity, pop_index, choose, inside, return_by, return, entered, invoke, if_there, with_type, with_function, with_element, exec_within, exec}
+use Rattle.wasm_spec.specs.Execution.{State, Signal, Next, Branch, Returned, Trapped, OutOfFuel, Stuck, Ended, ended, Continuation, plain, pay, and_then, unless, keep, leave_by, leave, arity, pop_index, choose, inside, return_by, return, entered, callee, invoke, if_there, with_type, with_function, with_element, exec_within, exec}
 use Rattle.wasm_spec.specs.Result.{CallResult, finish, run_function, result_by, result_of, function_result, if_done_by, if_done, after_start, result_from}
 use Rattle.wasm_spec.specs.MoreFuel.{is_fuel, is_fuel_end, with_more}
 use Rattle.wasm_spec.proofs.FuelLaws.{Spends, within-spends, within-exec, choose-spends, exec-spends}
@@ -92,9 +92,6 @@ module _ (d : ℕ) where
   return-in n caller below (Trapped t store) fuel next out = refl
   return-in n caller below (OutOfFuel store) fuel next out = out
   return-in n caller below Stuck fuel next out = refl
-
-  abbrev callee : FunctionTree → FuncType → Continuation → Continuation → Continuation
-  callee f t run next s fuel = return (length t.results) s (drop (length t.params) s.operands) (run (entered f t s) fuel) next
 
   callee-more : (k : ℕ) (f : FunctionTree) (t : FuncType) (run next : Continuation) → Spends run → Grows k run → Grows k next → Grows k (callee f t run next)
   callee-more k f t run next spends hr h s fuel lt out =

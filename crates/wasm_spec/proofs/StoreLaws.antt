@@ -18,7 +18,7 @@ use Rattle.wasm_spec.specs.Typing.{function_at}
 use Rattle.wasm_spec.specs.Operators.{bit_width, int_width, pack_width, pack_bits, binary, wrap}
 use Rattle.wasm_spec.specs.Store.{Store, page_size, written}
 use Rattle.wasm_types.specs.declared.limits.RunLimits.{RunLimits}
-use Rattle.wasm_spec.specs.Execution.{State, Signal, Next, Branch, Returned, Trapped, OutOfFuel, Stuck, Ended, Continuation, number, given, with_operands, pop, pop_two, pop_three, if_zero, or_trap, memory_set, store_number, pages_of, most_pages, grow, plain, pay, and_then, unless, keep, leave_by, arity, pop_index, choose, inside, return_by, return, entered, invoke, if_there, with_type, with_function, with_element, exec_within, exec}
+use Rattle.wasm_spec.specs.Execution.{State, Signal, Next, Branch, Returned, Trapped, OutOfFuel, Stuck, Ended, Continuation, number, given, with_operands, pop, pop_two, pop_three, if_zero, or_trap, memory_set, store_number, pages_of, most_pages, grow, plain, pay, and_then, unless, keep, leave_by, arity, pop_index, choose, inside, return_by, return, entered, callee, invoke, if_there, with_type, with_function, with_element, exec_within, exec}
 
 -- the store in which a sequence ends has this property
 abbrev pub KeptIn : (Store → Type 0) → Signal → Type 0
@@ -118,9 +118,6 @@ module _ (P : Store → Type 0) where
   return-keeps n caller below (Trapped t store) fuel next h p = p
   return-keeps n caller below (OutOfFuel store) fuel next h p = p
   return-keeps n caller below Stuck fuel next h p = tt
-
-  abbrev callee : FunctionTree → FuncType → Continuation → Continuation → Continuation
-  callee f t run next s fuel = return (length t.results) s (drop (length t.params) s.operands) (run (entered f t s) fuel) next
 
   -- a call, where its body's run keeps the property
   pub invoke-keeps_at : (limits : RunLimits) (depth : ℕ) (f : FunctionTree) (t : FuncType) (run next : Continuation) (s : State) (fuel : ℕ)

@@ -5,8 +5,8 @@
 -- left is not executed.
 --
 -- The operands are those of the innermost block alone, the topmost first: a block's inner sequence begins with none, and
--- what lay below comes back when it is left. So a missing operand is met exactly where the standard's rules have no step,
--- which is `Stuck`.
+-- what lay below comes back when it is left. A run is `Stuck` where it asks for an operand, a local, a global, a function
+-- or a type that isn't there, or that has another type. No run of a valid module is.
 use Rattle.wasm_types.specs.declared.limits.RunLimits.{RunLimits}
 use Rattle.std.specs.Prelude.{ℕ, zero, suc, ◌+◌, ◌-◌, ◌*◌, ◌/◌, ◌^◌, List, [], ◌∷◌, ◌++◌, Bool, true, false, Result, Ok, Err, Option, Some, None, nat_lt, nat_le, not, if◌then◌else◌, ◌&&◌, slice_get, slice_set, length, take, drop, reverse, map, replicate, min, unwrap_or}
 use Rattle.std.specs.Int as int
@@ -38,7 +38,7 @@ pub record State : Type 0 where
   pub store : Store
 
 -- how a sequence of instructions ends: at its end, on the way to a label (the innermost is 0) or out of the function, by a
--- trap, for want of fuel, or where the standard has no step
+-- trap, for want of fuel, or where something that it asks for isn't there
 pub data Signal : Type 0 where
   Next : (s : State) → Signal
   Branch : (l : ℕ) (s : State) → Signal
@@ -280,12 +280,15 @@ return n caller below inner next = return_by n caller below inner.signal inner.f
 abbrev pub entered : FunctionTree → FuncType → State → State
 entered f t s = record s { locals = reverse (take (length t.params) s.operands) ++ map zero_of f.locals; operands = [] }
 
+-- a function's body, and then the caller again
+abbrev pub callee : FunctionTree → FuncType → Continuation → Continuation → Continuation
+callee f t run next s fuel = return (length t.results) s (drop (length t.params) s.operands) (run (entered f t s) fuel) next
+
 -- A call of a function of this type, whose body `run` executes, from so many calls that are open.
 abbrev pub invoke : RunLimits → ℕ → FunctionTree → FuncType → Continuation → Continuation → Continuation
-invoke limits depth f t run next s fuel =
-    let n = length t.params in
-    unless (nat_lt (length s.operands) n) Stuck (unless (nat_le limits.depth depth) (Trapped trap.Exhausted s.store) (λ s fuel.
-    return (length t.results) s (drop n s.operands) (run (entered f t s) fuel) next)) s fuel
+invoke limits depth f t run next s =
+    unless (nat_lt (length s.operands) (length t.params)) Stuck
+    (unless (nat_le limits.depth depth) (Trapped trap.Exhausted s.store) (callee f t run next)) s
 
 -- what is done with what is there
 abbrev pub if_there : {A : Type 0} → Option A → (A → Continuation) → Continuation

@@ -136,5 +136,9 @@ pub record IsValid (m : ModuleTree) : Type 0 where
   pub names_differ : AllPairs (λ a b. a.name ≢ b.name) m.exports
 
 -- the function that is exported under a name
-abbrev pub Exports : ModuleTree → List ℕ → ℕ → Type 0
-Exports m name x = (i : ℕ) × (e : Export) × (slice_get m.exports i ≡ Some e) × (e.name ≡ name) × (e.desc ≡ desc.Func x)
+pub record Exports (exports : List Export) (name : List ℕ) (x : ℕ) : Type 0 where
+  pub place : ℕ
+  pub export : Export
+  pub there : slice_get exports place ≡ Some export
+  pub named : export.name ≡ name
+  pub function : export.desc ≡ desc.Func x

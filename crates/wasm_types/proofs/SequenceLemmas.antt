@@ -1,6 +1,7 @@
 -- The trees of numbered sequences.
 use Rattle.std.proofs.Common.{◌≡◌, ℕ, zero, suc, ◌+◌, ◌-◌, ◌<◌, ◌≤◌, List, [], ◌∷◌, ◌++◌, length, take, get_or, refl, sym, ap, ◌∙◌, arith, append_assoc, append-nil, length-append, ◌⊎◌, ⊎_elim, inl, inr}
-use Rattle.std.proofs.lemmas.List.{get_or_past, get_or_push, get_or_append_left}
+use Rattle.std.proofs.lemmas.List.{get_or_past, get_or_push, get_or_append_left, get_or-take, length-take}
+use Rattle.std.proofs.Math.Seq.{take-append_seam}
 use Rattle.wasm_types.specs.declared.instr.Op.{Op}
 use Rattle.wasm_types.specs.declared.instr.Expr.{Expr}
 use Rattle.wasm_types.specs.Tree.{Code, End, code_of, codes_from, codes, expr_tree}
@@ -18,10 +19,6 @@ behind before (ops ∷ sequences) =
     let b = behind (before ++ code_of before ops ∷ []) sequences in
     record { rest = code_of before ops ∷ b.rest; is = b.is ∙ append_assoc before (code_of before ops ∷ []) b.rest; as_many = omega (arith, b.as_many) }
 
-take_front : (xs ys : List Code) → take (length xs) (xs ++ ys) ≡ xs
-take_front [] ys = grind arith
-take_front (x ∷ xs) ys = ap (λ (l : List Code). x ∷ l) (take_front xs ys)
-
 -- a sequence's tree is what its instructions say, over the trees before it
 tree_from : (before : List Code) (sequences : List (List Op)) (q n : ℕ) → n ≡ length before + q → q < length sequences
     → get_or (codes_from before sequences) n End ≡ code_of (take n (codes_from before sequences)) (get_or sequences q [])
@@ -34,7 +31,7 @@ tree_from before (ops ∷ sequences) zero n e lt =
     let one : get_or (codes_from (before ++ c ∷ []) sequences) n End ≡ c =
     ap (λ (l : List Code). get_or l n End) b.is ∙ get_or_append_left (before ++ c ∷ []) b.rest End n (omega (arith, length-append before (c ∷ []))) ∙ get_or_push before c End n (sym m) in
     let two : take n (codes_from (before ++ c ∷ []) sequences) ≡ before =
-    ap (λ (k : ℕ). take k (codes_from (before ++ c ∷ []) sequences)) m ∙ ap (take (length before)) is ∙ take_front before (c ∷ b.rest) in
+    ap (λ (k : ℕ). take k (codes_from (before ++ c ∷ []) sequences)) m ∙ ap (take (length before)) is ∙ take-append_seam before (c ∷ b.rest) in
     one ∙ ap (λ (l : List Code). code_of l ops) (sym two)
 tree_from before (ops ∷ sequences) (suc q) n e lt =
     tree_from (before ++ code_of before ops ∷ []) sequences q n (omega (arith, length-append before (code_of before ops ∷ []))) (omega arith)
@@ -63,25 +60,14 @@ pub tree_is : (e : Expr) (q : ℕ) → get_or (codes e) q End ≡ code_at e q 0
 tree_is e q =
     ⊎_elim (λ lt. tree_within e q lt) (λ le. get_or_past (codes e) q End (omega (arith, codes_length e)) ∙ sym (no_code e q le)) (below q (length e.sequences))
 
-get_or_take : (cs : List Code) (n q : ℕ) → q < n → get_or (take n cs) q End ≡ get_or cs q End
-get_or_take cs zero q lt = absurd (omega arith)
-get_or_take [] (suc n) q lt = refl
-get_or_take (c ∷ cs) (suc n) zero lt = refl
-get_or_take (c ∷ cs) (suc n) (suc q) lt = get_or_take cs n q (omega arith)
-
 -- a named sequence that stands before
 pub named_before : (e : Expr) (q inner : ℕ) → inner < q → code_at e inner 0 ≡ named_in e q inner
-named_before e q inner lt = sym (tree_is e inner) ∙ sym (get_or_take (codes e) q inner lt)
-
-length_take : (n : ℕ) (cs : List Code) → length (take n cs) ≤ n
-length_take zero cs = omega arith
-length_take (suc n) [] = omega arith
-length_take (suc n) (c ∷ cs) = omega (arith, length_take n cs)
+named_before e q inner lt = sym (tree_is e inner) ∙ sym (get_or-take q (codes e) inner End lt)
 
 -- one that doesn't
 pub named_later : (e : Expr) (q inner n : ℕ) → q ≤ inner → length e.sequences ≤ n → code_at e n 0 ≡ named_in e q inner
 named_later e q inner n le past =
-    no_code e n past ∙ sym (get_or_past (earlier e q) inner End (omega (arith, length_take q (codes e))))
+    no_code e n past ∙ sym (get_or_past (earlier e q) inner End (omega (arith, length-take q (codes e))))
 
 -- the outermost sequence is the last
 pub outermost : (e : Expr) (q : ℕ) → q ≡ length e.sequences - 1 → code_of (earlier e q) (ops_of e q) ≡ expr_tree e

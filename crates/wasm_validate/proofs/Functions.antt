@@ -1,5 +1,5 @@
 -- From what the walk finds to what checking a function promises.
-use Rattle.std.proofs.Common.{◌≡◌, ℕ, zero, suc, ◌+◌, ◌-◌, ◌<◌, ◌≤◌, List, [], ◌∷◌, ◌++◌, Option, Some, None, length, take, refl, sym, ap, ◌∙◌, subst, arith, append-nil}
+use Rattle.std.proofs.Common.{◌≡◌, ℕ, zero, suc, ◌+◌, ◌-◌, ◌<◌, ◌≤◌, List, [], ◌∷◌, ◌++◌, Option, Some, None, length, take, refl, sym, ap, ◌∙◌, subst, arith}
 use Rattle.std.specs.Prelude.{All, map, slice_get, IsSome, get_or, option_map}
 use Rattle.std.proofs.lemmas.Option.{slice_get_within, get_or_from_slice_get}
 use Rattle.std.proofs.lemmas.List.{take_more, take_all, map-append, get_or-map, length-map}
@@ -9,7 +9,7 @@ use Rattle.wasm_types.specs.declared.types.FuncType.{FuncType}
 use Rattle.wasm_types.specs.declared.module.Function.{Function}
 use Rattle.wasm_types.specs.declared.module.Module.{Module}
 use Rattle.wasm_types.specs.Tree.{Code, ModuleTree, module_tree, function_tree, expr_tree}
-use Rattle.wasm_spec.specs.Typing.{values, Context, params_of, results_of, results_or_none, Typed, IsTypedFunction}
+use Rattle.wasm_spec.specs.Typing.{values, Context, results_of, results_or_none, Typed, IsTypedFunction}
 use Rattle.wasm_spec.specs.Need.{need, highest, deepest}
 use Rattle.wasm_validate.specs.Check.{Stack}
 use Rattle.wasm_validate.specs.Sequences.{code_at}
@@ -93,10 +93,6 @@ module _ (m : Module) (f : Function) (one : HaveOneResult m) where
 
   pub found_checks : (v : Option (ℕ × ℕ)) → IsSome (slice_get m.types f.type_index) → Finds v (whole m f) → Checks (module_tree m) (function_tree f) (option_map (λ n. length (locals_of m f) + n.0 + n.1) v)
   found_checks v there h = finds_checks v (whole m f) there refl h
-
--- a function without declared locals
-pub locals_without : (m : Module) (f : Function) → (function_tree f).locals ≡ [] → length (locals_of m f) ≡ length (params_of (module_tree m) (function_tree f))
-locals_without m f none = ap (λ (ts : List ValType). length (params_of (module_tree m) (function_tree f) ++ ts)) none ∙ ap length (append-nil (params_of (module_tree m) (function_tree f)))
 
 -- an index within a list
 pub found_within : {X : Type 0} (xs : List X) (i : ℕ) → i < length xs → IsSome (slice_get xs i)

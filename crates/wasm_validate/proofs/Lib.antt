@@ -1,11 +1,12 @@
 pub mod Exact
 pub mod Needs
 pub mod Stacks
+pub mod Runs
+pub mod Parts
+pub mod FloatCode
 pub mod Steps
 pub mod Trees
 pub mod Turns
 pub mod Functions
 pub mod Distinct
-pub mod BuiltModules
 pub mod Exported
-pub mod Fixtures

@@ -1,9 +1,13 @@
 -- The trees of numbered sequences.
-use Rattle.std.proofs.Common.{◌≡◌, ℕ, zero, suc, ◌+◌, ◌<◌, ◌≤◌, List, [], ◌∷◌, ◌++◌, length, take, get_or, refl, sym, ap, ◌∙◌, arith, append_assoc, append-nil, length-append, ◌⊎◌, ⊎_elim, inl, inr}
+use Rattle.std.specs.Prelude.{slice_get}
+use Rattle.std.proofs.Common.{◌≡◌, Some, None, ℕ, zero, suc, ◌+◌, ◌-◌, ◌<◌, ◌≤◌, List, [], ◌∷◌, ◌++◌, length, take, get_or, refl, sym, ap, ◌∙◌, arith, append_assoc, append-nil, length-append, ◌⊎◌, ⊎_elim, inl, inr}
 use Rattle.std.proofs.lemmas.List.{get_or_past, get_or_push, get_or_append_left}
 use Rattle.wasm_types.specs.declared.instr.Op.{Op}
 use Rattle.wasm_types.specs.declared.instr.Expr.{Expr}
-use Rattle.wasm_types.specs.Tree.{Code, End, code_of, codes_from, codes}
+use Rattle.wasm_types.specs.declared.instr.Instr.{Instr}
+use Rattle.wasm_types.specs.declared.instr.Op.TheVariants as op
+use Rattle.wasm_types.specs.Tree.{Code, End, code_of, codes_from, codes, expr_tree}
+use Rattle.wasm_spec.specs.Validity.{single_instruction}
 use Rattle.wasm_validate.specs.Sequences.{ops_of, earlier, code_at, named_in}
 
 -- the trees of more sequences stand behind those of the earlier ones
@@ -82,3 +86,34 @@ length_take (suc n) (c ∷ cs) = omega (arith, length_take n cs)
 pub named_later : (e : Expr) (q inner n : ℕ) → q ≤ inner → length e.sequences ≤ n → code_at e n 0 ≡ named_in e q inner
 named_later e q inner n le past =
     no_code e n past ∙ sym (get_or_past (earlier e q) inner End (omega (arith, length_take q (codes e))))
+
+-- the outermost sequence, and whether it is one instruction
+pub outermost : (e : Expr) (q : ℕ) → q ≡ length e.sequences - 1 → code_of (earlier e q) (ops_of e q) ≡ expr_tree e
+outermost e q at = sym (tree_is e q) ∙ ap (λ (n : ℕ). get_or (codes e) n End) at
+
+single_of : (before : List Code) (ops : List Op) (i : Instr) → slice_get ops 0 ≡ Some (op.Plain i) → slice_get ops 1 ≡ None → single_instruction (code_of before ops) ≡ Some i
+single_of before [] i first none = cc
+single_of before (o ∷ []) i first none = let o_is : o ≡ op.Plain i = cc (first) in ap (λ (x : Op). single_instruction (code_of before (x ∷ []))) o_is
+single_of before (o ∷ p ∷ ops) i first none = cc
+
+none_of : (before : List Code) (ops : List Op) → ((i : Instr) → slice_get ops 0 ≡ Some (op.Plain i) → slice_get ops 1 ≡ None → ⊥) → single_instruction (code_of before ops) ≡ None
+none_of before [] not = refl
+none_of before (op.Plain i ∷ []) not = absurd (not i refl refl)
+none_of before (op.Plain i ∷ op.Plain j ∷ ops) not = refl
+none_of before (op.Plain i ∷ op.Block t k ∷ ops) not = refl
+none_of before (op.Plain i ∷ op.Loop t k ∷ ops) not = refl
+none_of before (op.Plain i ∷ op.If t k j ∷ ops) not = refl
+none_of before (op.Plain i ∷ op.Call x ∷ ops) not = refl
+none_of before (op.Plain i ∷ op.CallIndirect x ∷ ops) not = refl
+none_of before (op.Block t k ∷ ops) not = refl
+none_of before (op.Loop t k ∷ ops) not = refl
+none_of before (op.If t k j ∷ ops) not = refl
+none_of before (op.Call x ∷ ops) not = refl
+none_of before (op.CallIndirect x ∷ ops) not = refl
+
+module _ (e : Expr) (q : ℕ) (at : q ≡ length e.sequences - 1) where
+  pub single_is : (i : Instr) → slice_get (ops_of e q) 0 ≡ Some (op.Plain i) → slice_get (ops_of e q) 1 ≡ None → Some i ≡ single_instruction (expr_tree e)
+  single_is i first none = sym (single_of (earlier e q) (ops_of e q) i first none) ∙ ap single_instruction (outermost e q at)
+
+  pub not_single : ((i : Instr) → slice_get (ops_of e q) 0 ≡ Some (op.Plain i) → slice_get (ops_of e q) 1 ≡ None → ⊥) → None ≡ single_instruction (expr_tree e)
+  not_single not = sym (none_of (earlier e q) (ops_of e q) not) ∙ ap single_instruction (outermost e q at)

@@ -4,4 +4,5 @@ pub mod Subject
 pub mod Walk
 pub mod Checked
 pub mod Exported
-pub mod Fixture
+pub mod Runs
+pub mod Floats

@@ -1,5 +1,5 @@
 -- The function that is checked.
-use Rattle.std.specs.Prelude.{◌≡◌, ◌≤◌, List, [], ◌++◌, All, Option, length, slice_get}
+use Rattle.std.specs.Prelude.{◌≤◌, List, ◌++◌, All, Option, length, slice_get}
 use Rattle.wasm_types.specs.declared.types.ValType.{ValType}
 use Rattle.wasm_types.specs.declared.module.Function.{Function}
 use Rattle.wasm_types.specs.declared.module.Module.{Module}
@@ -18,7 +18,3 @@ locals_of m f = params_of (module_tree m) (function_tree f) ++ (function_tree f)
 
 abbrev pub context : Module → Function → List (List ValType) → Context
 context m f labels = record { defined = module_tree m; locals = locals_of m f; labels = labels; results = values (result_of m f) }
-
--- no function declares a local
-abbrev pub HaveNoLocals : Module → Type 0
-HaveNoLocals m = All (λ f. (function_tree f).locals ≡ []) m.functions

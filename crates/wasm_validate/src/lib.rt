@@ -4,7 +4,10 @@
 #![tactic(auto)]
 
 mod checker;
+mod constant;
+mod floats;
 mod function;
+mod locals;
 mod lookup;
 mod module;
 mod names;

@@ -63,11 +63,3 @@ pub fn result_of(m: &Module, f: &Function) -> Option<ValType>
         None => None,
     }
 }
-
-/// The type of a local.
-pub fn local_type(m: &Module, f: &Function, x: u32) -> Option<ValType>
-    requires { (function_tree f.now).locals ≡ [] }
-    ensures { result ≡ slice_get (subject.locals_of m.now f.now) x }
-{
-    params_of(m, f).get(x as usize).copied()
-}

@@ -7,11 +7,12 @@ ghost use Rattle.wasm_types.specs.Tree.{module_tree, function_tree};
 ghost use Rattle.wasm_spec.specs.Typing.{values, Fixed, rule, calling, calling_indirect};
 ghost use Rattle.wasm_spec.specs.Typing as typing;
 ghost use Rattle.wasm_validate.specs.Check.{apply};
-ghost use Rattle.wasm_validate.specs.Subject.{HaveOneResult};
+ghost use Rattle.wasm_validate.specs.Subject.{HaveOneResult, locals_of};
 ghost use Rattle.wasm_validate.specs.Walk.{Acts, inside};
 
 use crate::checker::Checker;
-use crate::lookup::{function_type, global_type, local_type, result_of, single_result, type_at};
+use crate::locals::Locals;
+use crate::lookup::{function_type, global_type, result_of, single_result, type_at};
 use crate::plain::{byte_width, integer_type, packed_width, type_of};
 use std::alloc::AllocError;
 use wasm_types::instr::Instr;
@@ -20,8 +21,14 @@ use wasm_types::types::ValType;
 
 impl Checker {
     /// An instruction that holds no other and calls none.
-    pub fn plain(&mut self, m: &Module, f: &Function, i: &Instr) -> Result<bool, AllocError>
-        requires { (function_tree f.now).locals ≡ [] }
+    pub fn plain(
+        &mut self,
+        m: &Module,
+        f: &Function,
+        locals: &Locals,
+        i: &Instr,
+    ) -> Result<bool, AllocError>
+        requires { locals.now ≡ locals_of m.now f.now }
         ensures { IfOk result (λ b. Acts (λ k. rule (inside m.now f.now k.blocks) i.now) self.old b self.new) }
     {
         match i {
@@ -36,9 +43,9 @@ impl Checker {
             Instr::Return => Ok(self.jump(result_of(m, f))),
             Instr::Drop => Ok(self.discard()),
             Instr::Select => self.select(),
-            Instr::LocalGet(x) => self.local_get(local_type(m, f, *x)),
-            Instr::LocalSet(x) => self.local_set(local_type(m, f, *x)),
-            Instr::LocalTee(x) => self.local_tee(local_type(m, f, *x)),
+            Instr::LocalGet(x) => self.local_get(locals.get(*x)),
+            Instr::LocalSet(x) => self.local_set(locals.get(*x)),
+            Instr::LocalTee(x) => self.local_tee(locals.get(*x)),
             Instr::GlobalGet(x) => self.global_get(global_type(m, *x)),
             Instr::GlobalSet(x) => self.global_set(global_type(m, *x)),
             Instr::Load(w, arg) => self.load(m, arg, byte_width(*w), *w),

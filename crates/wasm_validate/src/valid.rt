@@ -1,14 +1,14 @@
 // Valid modules.
 
-ghost use Rattle.std.specs.Prelude.{◌≡◌, ◌<◌, ◌↔◌, ℕ, List, length, slice_get, IfSome, IfNone, IfOk, OnOk, IsErrOf, MatchOption, map};
+ghost use Rattle.std.specs.Prelude.{◌≡◌, ◌<◌, ◌↔◌, ℕ, List, length, slice_get, IfSome, IfNone, IfOk, OnOk, IsErrOf, IsTrue, map, option_map};
 ghost use Rattle.wasm_types.specs.Tree.{module_tree};
-ghost use Rattle.wasm_spec.specs.Built.{IsBuilt};
 ghost use Rattle.wasm_spec.specs.Need.{need};
 ghost use Rattle.wasm_spec.specs.Validity.{IsSupported, IsValid, Exports};
-ghost use Rattle.wasm_validate.specs.Checked.{IsValidated};
+ghost use Rattle.wasm_validate.specs.Checked.{IsValidated, ChecksModule};
 ghost use Rattle.wasm_validate.specs.declared.valid.ValidFault.TheVariants.{NoMemory};
 
-use crate::module::{are_defined, frame_needs, have_one_result};
+use crate::floats::uses_floats;
+use crate::module::{frame_needs, has_valid_parts};
 use crate::names::{exported, names_differ};
 use std::alloc::{AllocError, Global};
 use std::marker::Model;
@@ -56,12 +56,18 @@ impl Model for Valid {
     ghost invariant = { λ v. IsValidated (module_tree v.module) v.needs.items };
 }
 
-/// Each function's frame need, exactly where a module is valid.
-fn check_module(alloc: Global, m: &Module) -> Result<Option<Vec<u64>>, AllocError>
-    requires { IsBuilt (module_tree m.now) }
-    ensures { IfOk result (λ v. MatchOption v (¬ (IsValid (module_tree m.now))) (λ needs. IsValidated (module_tree m.now) needs.items)) }
+// Whether this host runs modules of this kind.
+fn is_supported(alloc: Global, m: &Module) -> Result<bool, AllocError>
+    ensures { IfOk result (λ b. IsTrue b ↔ IsSupported (module_tree m.now)) }
 {
-    if !have_one_result(m) || !are_defined(m) {
+    Ok(m.imports.is_empty() && !uses_floats(alloc, m)?)
+}
+
+// Each function's frame need, exactly where a module is valid.
+fn check_module(alloc: Global, m: &Module) -> Result<Option<Vec<u64>>, AllocError>
+    ensures { IfOk result (λ v. ChecksModule (module_tree m.now) (option_map (λ needs. needs.items) v)) }
+{
+    if !has_valid_parts(m) {
         return Ok(None);
     }
     if !names_differ(alloc, m.exports.as_slice())? {
@@ -71,17 +77,24 @@ fn check_module(alloc: Global, m: &Module) -> Result<Option<Vec<u64>>, AllocErro
     Ok(needs)
 }
 
-/// The module, where it is valid.
+/// The module, where this host runs it and it is valid.
 ///
-/// Source: Core Specification 1.0, section 3.4.10. Of the modules that are built so far none is unsupported.
+/// Source: Core Specification 1.0, section 3.4.10.
+///
+/// # Errors
+///
+/// `Unsupported` exactly where the module uses floats or has an import, `Invalid` exactly where it has neither and is
+/// not valid. `NoMemory` in place of any answer.
 pub fn validate(alloc: Global, m: Module) -> Result<Valid, ValidFault>
-    requires { IsBuilt (module_tree m) }
     ensures ok { IfOk result (λ v. v ≡ m) }
     ensures supported { OnOk result (IsSupported (module_tree m)) }
     ensures valid { OnOk result (IsValid (module_tree m)) }
     ensures unsupported { IsErrOf result ValidFault.Unsupported → ¬ (IsSupported (module_tree m)) }
     ensures invalid { IsErrOf result ValidFault.Invalid → IsSupported (module_tree m) × ¬ (IsValid (module_tree m)) }
 {
+    if !is_supported(alloc, &m)? {
+        return Err(ValidFault::Unsupported);
+    }
     match check_module(alloc, &m)? {
         Some(needs) => Ok(Valid { module: m, needs }),
         None => Err(ValidFault::Invalid),
@@ -92,7 +105,6 @@ impl Valid {
     /// The module.
     pub fn module(&self) -> &Module
         ensures same { result.now ≡ self.now }
-        ensures built { IsBuilt (module_tree self.now) }
         ensures supported { IsSupported (module_tree self.now) }
         ensures valid { IsValid (module_tree self.now) }
     {

@@ -1,13 +1,13 @@
 // The walk over a function's sequences, in the order of their text.
 
 ghost use Rattle.std.specs.Prelude.{◌≡◌, ℕ, ◌+◌, ◌<◌, ◌^◌, List, [], Option, None, Some, IfOk, IfSome, slice_get, option_copied, length};
-ghost use Rattle.wasm_types.specs.Tree.{function_tree};
 ghost use Rattle.wasm_validate.specs.Check.{Stack};
 ghost use Rattle.wasm_validate.specs.Sequences.{ops_of, code_at, named_in};
-ghost use Rattle.wasm_validate.specs.Subject.{HaveOneResult};
+ghost use Rattle.wasm_validate.specs.Subject.{HaveOneResult, locals_of};
 ghost use Rattle.wasm_validate.specs.Walk.{Leads, Turns, whole, Finds};
 
 use crate::checker::Checker;
+use crate::locals::Locals;
 use crate::lookup::result_of;
 use std::alloc::{AllocError, Global};
 use wasm_types::instr::{Expr, Op};
@@ -38,9 +38,15 @@ pub fn named(body: &Expr, sequence: usize, inner: usize) -> usize
 
 impl Checker {
     /// The instruction at which the walk stands.
-    pub fn act(&mut self, m: &Module, f: &Function, op: &Op) -> Result<bool, AllocError>
+    pub fn act(
+        &mut self,
+        m: &Module,
+        f: &Function,
+        locals: &Locals,
+        op: &Op,
+    ) -> Result<bool, AllocError>
         requires types { HaveOneResult m.now }
-        requires locals { (function_tree f.now).locals ≡ [] }
+        requires locals { locals.now ≡ locals_of m.now f.now }
         requires is { slice_get (ops_of f.now.body self.old.sequence) self.old.place ≡ Some op.now }
         requires fits { self.old.place + 1 < 2 ^ 64 }
         ensures { IfOk result (λ b. Turns m.now f.now self.old b self.new) }
@@ -48,7 +54,7 @@ impl Checker {
         self.place += 1;
         match op {
             Op::Plain(i) => {
-                let fits = self.plain(m, f, i)?;
+                let fits = self.plain(m, f, locals, i)?;
                 Ok(fits)
             }
             Op::Block(t, q) => {
@@ -130,16 +136,21 @@ pub fn start(alloc: Global, m: &Module, f: &Function) -> Checker
 }
 
 /// The greatest numbers of operands and of labels of a function, if its body is typed.
-pub fn walk(alloc: Global, m: &Module, f: &Function) -> Result<Option<(u32, u32)>, AllocError>
+pub fn walk(
+    alloc: Global,
+    m: &Module,
+    f: &Function,
+    locals: &Locals,
+) -> Result<Option<(u32, u32)>, AllocError>
     requires types { HaveOneResult m.now }
-    requires locals { (function_tree f.now).locals ≡ [] }
+    requires locals { locals.now ≡ locals_of m.now f.now }
     ensures { IfOk result (λ v. Finds v (whole m.now f.now)) }
 {
     let mut walk = start(alloc, m, f);
     loop {
         match op_at(&f.body, walk.sequence, walk.place) {
             Some(op) => {
-                if !walk.act(m, f, op)? {
+                if !walk.act(m, f, locals, op)? {
                     return Ok(None);
                 }
             }
