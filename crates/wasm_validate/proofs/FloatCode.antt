@@ -9,7 +9,7 @@ use Rattle.wasm_types.specs.declared.instr.Expr.{Expr}
 use Rattle.wasm_types.specs.declared.types.ValType.{ValType}
 use Rattle.wasm_types.specs.declared.module.LocalRun.{LocalRun}
 use Rattle.wasm_types.specs.Tree.{Code, End, code_of, codes_from, codes, expr_tree, locals_of}
-use Rattle.wasm_spec.specs.Typing.{values}
+use Rattle.wasm_spec.specs.Typing.{result_types}
 use Rattle.wasm_spec.specs.Validity.{is_float, has_float, is_float_instruction, code_uses_floats}
 use Rattle.wasm_validate.specs.Floats.{op_uses_floats}
 
@@ -31,10 +31,10 @@ or_assoc4 false b c d = or_assoc b c d
 ops_use : (codes : List Code) (ops : List Op) → list_any (op_uses_floats (map code_uses_floats codes)) ops ≡ code_uses_floats (code_of codes ops)
 ops_use codes [] = refl
 ops_use codes (op.Plain i ∷ ops) = ap (λ (b : Bool). is_float_instruction i || b) (ops_use codes ops)
-ops_use codes (op.Block t k ∷ ops) = rw (at_map codes k, ops_use codes ops) (or_assoc (has_float (values t)) (code_uses_floats (get_or codes k End)) (code_uses_floats (code_of codes ops)))
-ops_use codes (op.Loop t k ∷ ops) = rw (at_map codes k, ops_use codes ops) (or_assoc (has_float (values t)) (code_uses_floats (get_or codes k End)) (code_uses_floats (code_of codes ops)))
+ops_use codes (op.Block t k ∷ ops) = rw (at_map codes k, ops_use codes ops) (or_assoc (has_float (result_types t)) (code_uses_floats (get_or codes k End)) (code_uses_floats (code_of codes ops)))
+ops_use codes (op.Loop t k ∷ ops) = rw (at_map codes k, ops_use codes ops) (or_assoc (has_float (result_types t)) (code_uses_floats (get_or codes k End)) (code_uses_floats (code_of codes ops)))
 ops_use codes (op.If t k j ∷ ops) =
-    rw (at_map codes k, at_map codes j, ops_use codes ops) (or_assoc4 (has_float (values t)) (code_uses_floats (get_or codes k End)) (code_uses_floats (get_or codes j End)) (code_uses_floats (code_of codes ops)))
+    rw (at_map codes k, at_map codes j, ops_use codes ops) (or_assoc4 (has_float (result_types t)) (code_uses_floats (get_or codes k End)) (code_uses_floats (get_or codes j End)) (code_uses_floats (code_of codes ops)))
 ops_use codes (op.Call x ∷ ops) = ops_use codes ops
 ops_use codes (op.CallIndirect x ∷ ops) = ops_use codes ops
 

@@ -1,12 +1,5 @@
-pub mod Exact
-pub mod Needs
-pub mod Stacks
-pub mod Runs
-pub mod Parts
+pub mod ByName
+pub mod Constants
 pub mod FloatCode
-pub mod Steps
-pub mod Trees
-pub mod Turns
-pub mod Functions
-pub mod Distinct
-pub mod Exported
+pub mod FunctionNeeds
+pub mod Parts

@@ -8,7 +8,7 @@ use Rattle.wasm_types.specs.declared.module.Module.{Module}
 use Rattle.wasm_types.specs.Tree.{module_tree, global_tree, element_tree, data_tree}
 use Rattle.wasm_spec.specs.Typing.{IsTypedFunction}
 use Rattle.wasm_spec.specs.Validity.{IsValid, IsInitialised, IsElementSegment, IsDataSegment}
-use Rattle.wasm_validate.specs.Checked.{ChecksAll, HasValidParts, ChecksModule}
+use Rattle.wasm_validate.specs.Checked.{HasValidParts}
 
 no_such : {X : Type 0} (P : X → Type 0) (xs : List X) → (k : ℕ) × (k < length xs) × HoldsAt (λ x. P x → ⊥) xs k → All P xs → ⊥
 no_such P [] h all = omega (arith, h.1)
@@ -36,7 +36,7 @@ parts_of m v = record {
   exports = v.exports;
 }
 
-valid_from : (m : Module) → HasValidParts m → All (IsTypedFunction (module_tree m)) (module_tree m).functions → AllPairs (λ a b. a.name ≡ b.name → ⊥) m.exports → IsValid (module_tree m)
+pub valid_from : (m : Module) → HasValidParts m → All (IsTypedFunction (module_tree m)) (module_tree m).functions → AllPairs (λ a b. a.name ≡ b.name → ⊥) m.exports → IsValid (module_tree m)
 valid_from m p functions names = record {
   function_types = p.function_types;
   functions = functions;
@@ -51,7 +51,3 @@ valid_from m p functions names = record {
   exports = p.exports;
   names_differ = names;
 }
-
-pub decides : (m : Module) (o : Option (List ℕ)) → HasValidParts m → AllPairs (λ a b. a.name ≡ b.name → ⊥) m.exports → ChecksAll (module_tree m) o → ChecksModule (module_tree m) o
-decides m None p names h = λ v. h v.functions
-decides m (Some needs) p names h = (valid_from m p h.0 names, h.1)

@@ -4,10 +4,7 @@ ghost use Rattle.std.specs.Prelude.{◌≡◌, ℕ, Option, option_copied};
 ghost use Rattle.wasm_types.specs.Tree.{expr_tree, global_tree, module_tree};
 ghost use Rattle.wasm_spec.specs.Validity as validity;
 
-use crate::walk::op_at;
-use wasm_types::instr::{Expr, Instr, Op};
-use wasm_types::module::{Global, Module};
-use wasm_types::outcome::Val;
+use wasm_types::{Expr, Global, Instr, Module, Op, Val, op_at};
 
 // The one instruction of an expression.
 fn single_instruction(e: &Expr) -> Option<&Instr>
@@ -40,7 +37,9 @@ fn i32_value(v: Val) -> Option<u32>
 }
 
 /// The value of a global's initialiser, where it is one constant.
-pub(crate) fn initial_value(g: &Global) -> Option<Val>
+///
+/// Source: Core Specification 1.0, section 3.3.7.2.
+pub fn initial_value(g: &Global) -> Option<Val>
     ensures { result ≡ validity.initial_value (global_tree g.now) }
 {
     constant(single_instruction(&g.init)?)
@@ -59,7 +58,7 @@ fn constant_global(g: &Global) -> Option<u32>
 
 // The value of a segment's offset that is this instruction.
 fn offset_of(m: &Module, i: &Instr) -> Option<u32>
-    ensures { result ≡ validity.offset_of (module_tree m.now) i.now }
+    ensures { result ≡ validity.constant_offset (module_tree m.now) i.now }
 {
     match i {
         Instr::Const(v) => i32_value(*v),
@@ -69,7 +68,9 @@ fn offset_of(m: &Module, i: &Instr) -> Option<u32>
 }
 
 /// The value of a segment's offset, where it is an i32 constant or an immutable i32 global of the module.
-pub(crate) fn offset_value(m: &Module, e: &Expr) -> Option<u32>
+///
+/// Source: Core Specification 1.0, section 3.3.7.2.
+pub fn offset_value(m: &Module, e: &Expr) -> Option<u32>
     ensures { result ≡ validity.offset_value (module_tree m.now) (expr_tree e.now) }
 {
     offset_of(m, single_instruction(e)?)

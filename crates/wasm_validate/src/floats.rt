@@ -2,16 +2,14 @@
 
 ghost use Rattle.std.specs.Prelude.{◌≡◌, List, Bool, false, ◌||◌, IfOk, get_or};
 ghost use Rattle.wasm_types.specs.Tree.{locals_of, expr_tree, function_tree, module_tree};
-ghost use Rattle.wasm_spec.specs.Typing.{values};
+ghost use Rattle.wasm_spec.specs.Typing.{result_types};
 ghost use Rattle.wasm_spec.specs.Validity as validity;
 ghost use Rattle.wasm_spec.specs.Validity.{code_uses_floats};
 ghost use Rattle.wasm_validate.specs.Floats as floats;
 ghost use Rattle.std.specs.List.{list_any};
 
 use std::alloc::{AllocError, Global};
-use wasm_types::instr::{Expr, Instr, Op};
-use wasm_types::module::{DataSegment, ElementSegment, Function, LocalRun, Module};
-use wasm_types::types::{FuncType, ValType};
+use wasm_types::{DataSegment, ElementSegment, Expr, FuncType, Function, Instr, LocalRun, Module, Op, ValType};
 
 fn is_float(t: ValType) -> bool
     ensures { result ≡ validity.is_float t }
@@ -51,7 +49,7 @@ fn runs_have_float(runs: &[LocalRun]) -> bool
 }
 
 fn block_has_float(t: Option<ValType>) -> bool
-    ensures { result ≡ validity.has_float (values t) }
+    ensures { result ≡ validity.has_float (result_types t) }
 {
     match t {
         Some(t) => is_float(t),
@@ -124,7 +122,7 @@ impl UsesFloats for Function {
     }
 }
 
-impl UsesFloats for wasm_types::module::Global {
+impl UsesFloats for wasm_types::Global {
     ghost uses = { λ g. validity.is_float g.global_type.value || code_uses_floats (expr_tree g.init) };
 
     fn uses_floats(&self, alloc: Global) -> Result<bool, AllocError> {

@@ -1,23 +1,18 @@
-//! The conditions on a module's parts, one function each, and all functions' needs.
+//! The conditions on a module's parts, one function each.
 
-ghost use Rattle.std.specs.Prelude.{◌≡◌, ◌≤◌, ◌↔◌, ℕ, List, All, IsTrue, IsSome, IfOk, IfSome, option_map, slice_get, length};
+ghost use Rattle.std.specs.Prelude.{◌≡◌, ◌≤◌, ◌↔◌, ℕ, List, All, IsTrue, IsSome, IfSome, slice_get, length};
 ghost use Rattle.wasm_types.specs.Tree.{module_tree, global_tree, element_tree, data_tree};
 ghost use Rattle.wasm_spec.specs.Validity as validity;
 ghost use Rattle.wasm_spec.specs.Validity.{AreOrdered, IsMemoryType, IsInitialised, IsElementSegment, IsDataSegment, IsStart, IsDefined};
-ghost use Rattle.wasm_validate.specs.Checked.{ChecksAll, HasValidParts};
-ghost use Rattle.wasm_validate.specs.Subject.{HaveOneResult};
+ghost use Rattle.wasm_validate.specs.Checked.{HasValidParts};
 
 use crate::constant::{initial_value, offset_value};
-use crate::function::check_function;
-use crate::lookup::function_type;
-use crate::plain::type_of;
-use std::alloc::{AllocError, Global};
-use wasm_types::module::{DataSegment, ElementSegment, ExportDesc, Module};
-use wasm_types::types::Limits;
+use wasm_checker::{function_type, type_of};
+use wasm_types::{DataSegment, ElementSegment, ExportDesc, Global, Limits, Module};
 
 // Whether each function type has at most one result.
 fn have_one_result(m: &Module) -> bool
-    ensures { IsTrue result ↔ HaveOneResult m.now }
+    ensures { IsTrue result ↔ All (λ t. length t.results ≤ 1) m.now.types }
 {
     m.types.as_slice().iter().all(|t| t.results.len() <= 1)
 }
@@ -48,7 +43,7 @@ fn is_at_most(max: Option<u32>, limit: u32) -> bool
 }
 
 // Whether a global's initialiser is one constant of its type.
-fn is_initialised(g: &wasm_types::module::Global) -> bool
+fn is_initialised(g: &Global) -> bool
     ensures { IsTrue result ↔ IsInitialised (global_tree g.now) }
 {
     match initial_value(g) {
@@ -163,23 +158,4 @@ pub(crate) fn has_valid_parts(m: &Module) -> bool
         && are_data_segments(m)
         && has_start(m)
         && are_defined(m)
-}
-
-/// Each function's frame need, if each function is typed.
-///
-/// # Errors
-///
-/// Memory was refused.
-pub(crate) fn frame_needs(alloc: Global, m: &Module) -> Result<Option<Vec<u64>>, AllocError>
-    requires types { HaveOneResult m.now }
-    ensures { IfOk result (λ v. ChecksAll (module_tree m.now) (option_map (λ needs. needs.items) v)) }
-{
-    let mut needs = Vec::new(alloc);
-    for f in m.functions.as_slice() {
-        match check_function(alloc, m, f)? {
-            Some(need) => needs.push(need)?,
-            None => return Ok(None),
-        }
-    }
-    Ok(Some(needs))
 }

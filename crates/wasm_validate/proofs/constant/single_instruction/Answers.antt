@@ -1,5 +1,5 @@
 use Rattle.std.proofs.Common.{ℕ, ◌-◌, ◌∙◌, sym, ap, arith}
-use Rattle.wasm_validate.proofs.Trees.{single_is, not_single}
+use Rattle.wasm_validate.proofs.Constants.{single_is, not_single}
 use Rattle.wasm_validate.proofs.constant.single_instruction.Goals as goal
 use Rattle.wasm_validate.proofs.constant.single_instruction.Goals.{in_default-via-in-Some+in-Plain+in_default, in_default-via-in-Some+in_default, in_default-via-in_default}
 
