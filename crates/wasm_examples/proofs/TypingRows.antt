@@ -364,4 +364,3 @@ call_indirect_without_table-row = refl
 
 call_indirect_of_no_type-row : in_module 3 (Plain (instr.Const (I32 0)) (CallIndirect 9 (End))) ≡ None
 call_indirect_of_no_type-row = refl
-
