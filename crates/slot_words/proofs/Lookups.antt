@@ -2,7 +2,7 @@
 use Rattle.std.proofs.Common.{◌≡◌, ◌≢◌, ℕ, zero, suc, ◌<◌, true, false, true≢false, ltb, List, [], ◌∷◌, length, get_or, set, refl, sym, arith}
 use mathlib.Core.Option.{some, some-injective, some-ne-none}
 use lib.ListN.{get_elem?}
-use Rattle.std.specs.Prelude.{◌==◌}
+use Rattle.std.specs.Prelude.{◌==◌, Option, Some, None, is_some}
 use Rattle.std.proofs.lemmas.Bool.Decides.{nat_tests}
 use Rattle.pool_core.specs.declared.seats.Seat.{Seat}
 use Rattle.pool_core.specs.declared.seats.Stage.{Stage}
@@ -38,3 +38,8 @@ pub live_in_list : (ps : List Seat) (s : ℕ) → is_live (get_or ps s (idle_sea
 live_in_list [] s e = absurd (true≢false (sym e))
 live_in_list (p ∷ ps) zero e = omega arith
 live_in_list (p ∷ ps) (suc s) e = let r = live_in_list ps s e in omega arith
+
+-- what is not none is a number
+pub number_held : (h : Option ℕ) → is_some h ≡ true → (n : ℕ) × (h ≡ Some n)
+number_held None e = absurd (true≢false (sym e))
+number_held (Some n) e = (n, refl)
