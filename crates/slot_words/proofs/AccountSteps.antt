@@ -6,7 +6,7 @@ use native.Mathlib.Decide.{ℕ_discrete}
 use lib.ListN.{get_elem?}
 use Rattle.std.specs.Prelude.{◌==◌, Option, is_some, flat_map}
 use Rattle.std.specs.List.{count_by, sum_by}
-use Rattle.std.proofs.lemmas.Bool.{and_right}
+use Rattle.std.proofs.lemmas.Bool.{eq-eqb, and_right, ne_eqb}
 use Rattle.std.proofs.lemmas.Bool.Decides.{nat_tests}
 use Rattle.std.proofs.lemmas.List.Concat.{flat_map-append, flat_map-cons}
 use Rattle.std.proofs.lemmas.List.Sums.{sum_by-cons, sum_by-append, sum_by_push, sum_by-set}
@@ -26,7 +26,7 @@ use Rattle.slot_words.specs.declared.views.Operation.TheVariants.{Claim, Release
 use Rattle.slot_words.specs.CoreLaws.{CoreLaws}
 use Rattle.slot_words.specs.Accounts.{gives_word, finds_word, AreLeft, is_release, is_stamp, is_won_claim, IsAccounted, AccountsFor}
 use Rattle.slot_words.specs.Views.{no_view, operations_of, view_after, first_view, view_left, view_given, view_joined, spent_view}
-use Rattle.slot_words.proofs.Lookups.{apart_test, found}
+use Rattle.slot_words.proofs.Lookups.{found}
 
 -- what is left depends on how often each operation was done, and not on the order
 pub left_by_counts : (done other : List Operation) (words : List StateWord) → ((p : Operation → Bool) → count_by p done ≡ count_by p other) → AreLeft done words → AreLeft other words
@@ -195,12 +195,9 @@ odd_is_lost r e = ap (λ (k : ℕ). bit (k == 0)) e
 pub even_is_won : (r : ℕ) → r % 2 ≡ 0 → bit (r % 2 == 0) ≡ 1
 even_is_won r e = ap (λ (k : ℕ). bit (k == 0)) e
 
-same_test : (a b : ℕ) → a ≡ b → (a == b) ≡ true
-same_test a b e = grind (arith, nat_tests)
-
 -- a held word is no free one
 held_is_not_free : CoreLaws → (w : StateWord) (bits : ℕ) → w.held ≡ true → bits % 2 ≡ 0 → (packed w == bits) ≡ false
-held_is_not_free laws w bits held free = apart_test (packed w) bits (λ e.
+held_is_not_free laws w bits held free = ne_eqb (packed w) bits (λ e.
     let a : packed w % 2 ≡ 1 = laws.bit_says w ∙ ap bit held in let b : packed w % 2 ≡ bits % 2 = ap (λ (k : ℕ). k % 2) e in absurd (omega arith))
 
 -- what one slot has after a word was written to slot n
@@ -228,11 +225,11 @@ claim_turn laws c s n r below read = let w : StateWord = word_at c n in
             each = λ m bits h free. dite (ℕ_discrete m n)
                 (λ here.
                 let now : bit (packed (get_or (set c.words n (held_word w)) m cold_word) == bits) ≡ 0 = ap (λ (u : StateWord). bit (packed u == bits)) (word_here c.words n (held_word w) below m here) ∙ ap bit (held_is_not_free laws (held_word w) bits refl free) in
-                let won : bit ((n == m) && (r == bits)) ≡ bit (packed (word_at c m) == bits) = ap (λ (b : Bool). bit (b && (r == bits))) (same_test n m (sym here)) ∙ ap (λ (k : ℕ). bit (k == bits)) (read ∙ ap (λ (k : ℕ). packed (word_at c k)) (sym here)) in
+                let won : bit ((n == m) && (r == bits)) ≡ bit (packed (word_at c m) == bits) = ap (λ (b : Bool). bit (b && (r == bits))) (eq-eqb n m (sym here)) ∙ ap (λ (k : ℕ). bit (k == bits)) (read ∙ ap (λ (k : ℕ). packed (word_at c k)) (sym here)) in
                 omega arith)
                 (λ apart.
                 let now : bit (packed (get_or (set c.words n (held_word w)) m cold_word) == bits) ≡ bit (packed (word_at c m) == bits) = ap (λ (u : StateWord). bit (packed u == bits)) (word_else c.words n (held_word w) below m apart) in
-                let none : bit ((n == m) && (r == bits)) ≡ 0 = ap (λ (b : Bool). bit (b && (r == bits))) (apart_test n m (λ e. apart (sym e))) in
+                let none : bit ((n == m) && (r == bits)) ≡ 0 = ap (λ (b : Bool). bit (b && (r == bits))) (ne_eqb n m (λ e. apart (sym e))) in
                 omega arith);
           }
     ] in split w.held refl
@@ -245,11 +242,11 @@ release_turn laws c n to below held = record {
       (λ here.
       let was : bit (packed (word_at c m) == bits) ≡ 0 = ap (λ (k : ℕ). bit (packed (word_at c k) == bits)) here ∙ ap bit (held_is_not_free laws (word_at c n) bits held free) in
       let now : bit (packed (get_or (set c.words n (free_word to)) m cold_word) == bits) ≡ bit (x == bits) = ap (λ (u : StateWord). bit (packed u == bits)) (word_here c.words n (free_word to) below m here) in
-      let given : bit ((n == m) && (x == bits)) ≡ bit (x == bits) = ap (λ (b : Bool). bit (b && (x == bits))) (same_test n m (sym here)) in
+      let given : bit ((n == m) && (x == bits)) ≡ bit (x == bits) = ap (λ (b : Bool). bit (b && (x == bits))) (eq-eqb n m (sym here)) in
       omega arith)
       (λ apart.
       let now : bit (packed (get_or (set c.words n (free_word to)) m cold_word) == bits) ≡ bit (packed (word_at c m) == bits) = ap (λ (u : StateWord). bit (packed u == bits)) (word_else c.words n (free_word to) below m apart) in
-      let none : bit ((n == m) && (x == bits)) ≡ 0 = ap (λ (b : Bool). bit (b && (x == bits))) (apart_test n m (λ e. apart (sym e))) in
+      let none : bit ((n == m) && (x == bits)) ≡ 0 = ap (λ (b : Bool). bit (b && (x == bits))) (ne_eqb n m (λ e. apart (sym e))) in
       omega arith);
 }
 

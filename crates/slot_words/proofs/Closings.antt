@@ -27,7 +27,6 @@ use Rattle.slot_words.specs.CoreLaws.{CoreLaws}
 use Rattle.slot_words.specs.Shows.{IsCounted, IsKept}
 use Rattle.slot_words.proofs.AccountSteps.{left_by_counts, count_by-set_view}
 use Rattle.slot_words.proofs.Holdings.{holdings, held-are-holdings}
-use Rattle.slot_words.proofs.KindSums.{bit_at_most_one}
 use Rattle.slot_words.proofs.Lookups.{found}
 use Rattle.slot_words.proofs.PassEvents.{closes_are_events}
 use Rattle.slot_words.proofs.ShownChanges.{seat_here}
@@ -54,7 +53,7 @@ module _ (bounds : Bounds) where
       let few : length trails ≤ sum_by (λ v. v.share) vs = rest.1.few in let holders : sum_by holds_of vs ≤ length trails = rest.1.holders in
       let kept : count_by is_won_claim (in_one trails) ≡ count_by is_release (in_one trails) + sum_by holds_of vs = rest.1.kept in
       let mine : count_by is_won_claim (operations_of v) ≡ count_by is_release (operations_of v) + holds_of v = own.1.held in
-      let low : holds_of v ≤ 1 = bit_at_most_one (is_some v.seat.holds) in
+      let one_or_none : (b : Bool) → bit b ≤ 1 = elim [ true ↦ omega arith | false ↦ omega arith ] in let low : holds_of v ≤ 1 = one_or_none (is_some v.seat.holds) in
       let shares : sum_by (λ v. v.share) (v ∷ vs) ≡ v.share + sum_by (λ v. v.share) vs = sum_by-cons (λ v. v.share) v vs in
       let holds : sum_by holds_of (v ∷ vs) ≡ holds_of v + sum_by holds_of vs = sum_by-cons holds_of v vs in
       let split : (b : Bool) → is_away v.seat.stage ≡ b → (ts : List (List Operation)) × AreTrailsOf (v ∷ vs) ts = elim [

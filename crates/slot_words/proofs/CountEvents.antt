@@ -5,6 +5,7 @@ use lib.ListN.{get_elem?}
 use Rattle.std.specs.Prelude.{Option, Some}
 use Rattle.std.proofs.lemmas.List.Sums.{count_by-le-length, get_or-le-sum_by}
 use Rattle.atomic_table.specs.Table.{State as TableState, keeps, stepped}
+use Rattle.std.proofs.lemmas.List.{set-get_or}
 use Rattle.pool_core.specs.declared.words.State.{State}
 use Rattle.pool_core.specs.declared.seats.Seat.{Seat}
 use Rattle.pool_core.specs.declared.seats.Stage.TheVariants.{Unmade}
@@ -20,7 +21,7 @@ use Rattle.slot_words.specs.declared.views.Operation.TheVariants as operation
 use Rattle.slot_words.specs.Views.{view_after}
 use Rattle.slot_words.specs.Shows.{Shows}
 use Rattle.slot_words.specs.Events.{WarmLoadsAreEvents, WarmUpsAreEvents, WarmDownsAreEvents, StampsAreEvents, AwaitUpsAreEvents, AwaitDownsAreEvents, AwaitLoadsAreEvents}
-use Rattle.slot_words.proofs.Lookups.{set-get_or, live_not_away}
+use Rattle.slot_words.proofs.Lookups.{live_not_away}
 use Rattle.slot_words.proofs.ShownChanges.{core_recounted, shows_recounted, seat_here, seat_within}
 use Rattle.slot_words.proofs.SlotEvents.{same_view}
 

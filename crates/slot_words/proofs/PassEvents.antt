@@ -5,9 +5,9 @@ use mathlib.Core.Option.{some}
 use native.Mathlib.Decide.{ℕ_discrete}
 use lib.ListN.{get_elem?}
 use Rattle.std.specs.Prelude.{◌==◌, Some}
-use Rattle.std.proofs.lemmas.Bool.{eq-eqb}
+use Rattle.std.proofs.lemmas.Bool.{eq-eqb, ne_eqb, lt-ltb}
 use Rattle.std.specs.List.{sum_by}
-use Rattle.std.proofs.lemmas.List.{get_or_past}
+use Rattle.std.proofs.lemmas.List.{get_or_past, get_or_push, set-set, set-get_or}
 use Rattle.std.proofs.lemmas.List.Sums.{get_or-le-sum_by}
 use Rattle.atomic_table.proofs.Lists.{at_set, at_snoc}
 use Rattle.pool_core.specs.declared.words.State.{State}
@@ -22,7 +22,7 @@ use Rattle.slot_words.specs.Views.{no_view, view_left, view_given, view_joined, 
 use Rattle.slot_words.specs.CoreLaws.{CoreLaws}
 use Rattle.slot_words.specs.Shows.{IsCounted, view_share, view_unsplit}
 use Rattle.slot_words.specs.Events.{SplitsAreEvents, JoinsAreEvents, ClosesAreEvents, ExchangesAreEvents}
-use Rattle.slot_words.proofs.Lookups.{apart_test, found, ltb_of_lt, live_not_away, set-get_or}
+use Rattle.slot_words.proofs.Lookups.{found, live_not_away}
 use Rattle.slot_words.proofs.SharedPasses.{shared_after_join, shared_after_split}
 use Rattle.slot_words.proofs.ShownChanges.{seat_here, seat_within}
 
@@ -33,29 +33,20 @@ module _ {A : Type 0} where
   snoc_before (x ∷ xs) a d zero n = refl
   snoc_before (x ∷ xs) a d (suc j) n = snoc_before xs a d j (λ e. n (ap suc e))
 
-  snoc_last : (l : List A) (a d : A) → get_or (l ++ a ∷ []) (length l) d ≡ a
-  snoc_last [] a d = refl
-  snoc_last (x ∷ xs) a d = snoc_last xs a d
-
-  set-set : (l : List A) (i : ℕ) (x y : A) → set (set l i x) i y ≡ set l i y
-  set-set [] i x y = refl
-  set-set (z ∷ zs) zero x y = refl
-  set-set (z ∷ zs) (suc i) x y = ap (λ l. z ∷ l) (set-set zs i x y)
-
 may_split : (c : PoolCore) (s t : ℕ) → seat_at c s ≡ idle_seat Live → t < length c.seats → seat_at c t ≡ idle_seat Unmade → refusal_of c (Split s t) ≡ 0
-may_split c s t rest h un = rw (rest, ltb_of_lt t (length c.seats) h, un) refl
+may_split c s t rest h un = rw (rest, lt-ltb t (length c.seats) h, un) refl
 
 may_join : (c : PoolCore) (s t : ℕ) → ¬ (s ≡ t) → seat_at c s ≡ idle_seat Live → seat_at c t ≡ idle_seat Live → refusal_of c (Join s t) ≡ 0
-may_join c s t n rest rest' = rw (rest, rest', apart_test s t n) refl
+may_join c s t n rest rest' = rw (rest, rest', ne_eqb s t n) refl
 
 may_close : (c : PoolCore) (s : ℕ) → seat_at c s ≡ idle_seat Live → refusal_of c (Close s) ≡ 0
 may_close c s rest = rw rest refl
 
 may_out : (c : PoolCore) (s n : ℕ) → is_live (seat_at c s).stage ≡ true → n < length c.words → (seat_at c s).holds ≡ Some n → (seat_at c s).out ≡ false → refusal_of c (Out s n) ≡ 0
-may_out c s n live h at inside = let self : (n == n) ≡ true = eq-eqb n n refl in rw (live, ltb_of_lt n (length c.words) h, at, self, inside) refl
+may_out c s n live h at inside = let self : (n == n) ≡ true = eq-eqb n n refl in rw (live, lt-ltb n (length c.words) h, at, self, inside) refl
 
 may_home : (c : PoolCore) (s n : ℕ) → is_live (seat_at c s).stage ≡ true → n < length c.words → (seat_at c s).holds ≡ Some n → (seat_at c s).out ≡ true → refusal_of c (Home s n) ≡ 0
-may_home c s n live h at out = let self : (n == n) ≡ true = eq-eqb n n refl in rw (live, ltb_of_lt n (length c.words) h, at, self, out) refl
+may_home c s n live h at out = let self : (n == n) ≡ true = eq-eqb n n refl in rw (live, lt-ltb n (length c.words) h, at, self, out) refl
 
 module _ (laws : CoreLaws) {V : Type 0} (fits : State → ℕ → V → Type 0) (room : V → List ℕ) where
   pub splits_are_events : SplitsAreEvents fits room
@@ -82,7 +73,7 @@ module _ (laws : CoreLaws) {V : Type 0} (fits : State → ℕ → V → Type 0) 
           clock_shows = o.clock_shows;
           seat_shows = λ j. dite (ℕ_discrete j t)
               (λ e. ap (λ (k : ℕ). get_or (set c.seats t (idle_seat Live)) k (idle_seat Unmade)) e ∙ get_or-set_same c.seats t (idle_seat Live) (idle_seat Unmade) here
-              ∙ sym (ap (λ (k : ℕ). (get_or (ls ++ g ∷ []) k no_view).seat) (e ∙ sym lt) ∙ ap (λ (k : PassView). k.seat) (snoc_last ls g no_view)))
+              ∙ sym (ap (λ (k : ℕ). (get_or (ls ++ g ∷ []) k no_view).seat) (e ∙ sym lt) ∙ ap (λ (k : PassView). k.seat) (get_or_push ls g no_view (length ls) refl)))
               (λ ne. get_or-set_other c.seats t j (idle_seat Live) (idle_seat Unmade) ne ∙ o.seat_shows j
               ∙ sym (ap (λ (k : PassView). k.seat) (snoc_before ls g no_view j (λ e. ne (e ∙ lt)))
               ∙ dite (ℕ_discrete j id)

@@ -1,5 +1,5 @@
 -- What the table shows after a change of one word and one view.
-use Rattle.std.proofs.Common.{◌≡◌, ◌≢◌, ℕ, ◌+◌, ◌*◌, ◌^◌, ◌<◌, ◌≤◌, ⊎_elim, true, false, List, length, get_or, set, sym, ap, ◌∙◌, subst, arith, length-set, get_or-set_same, get_or-set_other}
+use Rattle.std.proofs.Common.{◌≡◌, ◌≢◌, ℕ, ◌+◌, ◌*◌, ◌^◌, ◌<◌, ◌≤◌, ⊎_elim, true, false, List, length, get_or, set, refl, sym, ap, ◌∙◌, subst, arith, length-set, get_or-set_same, get_or-set_other}
 use mathlib.Core.Logic.{dite}
 use mathlib.Core.Option.{none, some}
 use mathlib.Core.Option as maybe
@@ -19,7 +19,7 @@ use Rattle.slot_words.specs.declared.views.PassView.{PassView}
 use Rattle.slot_words.specs.declared.views.Bounds.{Bounds}
 use Rattle.slot_words.specs.Views.{no_view}
 use Rattle.slot_words.specs.Shows.{IsCounted, Shows, Suits, view_share, view_unsplit}
-use Rattle.slot_words.proofs.Lookups.{found, live_in_list}
+use Rattle.slot_words.proofs.Lookups.{found, tested_inside}
 use Rattle.slot_words.proofs.SharedPasses.{shared_after_step}
 
 -- the core with one seat, one word and the counts changed
@@ -47,7 +47,7 @@ module _ {V : Type 0} (fits : State → ℕ → V → Type 0) (room : V → List
   seat_here c s o id me at = o.seat_shows id ∙ ap (λ (k : PassView). k.seat) (found s.views id me no_view at).1
 
   pub seat_within : (c : PoolCore) (s : S) → Shows fits room bounds c s → (id : ℕ) (me : PassView) → get_elem? s.views id ≡ some me → is_live me.seat.stage ≡ true → id < length c.seats
-  seat_within c s o id me at live = live_in_list c.seats id (ap (λ (p : Seat). is_live p.stage) (seat_here c s o id me at) ∙ live)
+  seat_within c s o id me at live = tested_inside (λ (p : Seat). is_live p.stage) (idle_seat Unmade) refl c.seats id (ap (λ (p : Seat). is_live p.stage) (seat_here c s o id me at) ∙ live)
 
   -- each view is still counted
   each_counted : (c : PoolCore) (s : S) → Shows fits room bounds c s → (id : ℕ) (me w : PassView) → get_elem? s.views id ≡ some me → IsSameView me w

@@ -3,9 +3,10 @@ use Rattle.std.proofs.Common.{◌≡◌, ℕ, ◌<◌, Bool, true, false, true�
 use mathlib.Core.Option.{none, some}
 use lib.Bits.{bit_or}
 use Rattle.std.specs.Prelude.{◌==◌, Option, Some}
-use Rattle.std.proofs.lemmas.Bool.{eq-eqb}
+use Rattle.std.proofs.lemmas.Bool.{eq-eqb, lt-ltb}
 use Rattle.atomic_table.specs.Table.{Act, keeps, takes, gives, step, stepped, Valid, carried_after}
 use Rattle.atomic_table.proofs.Lists.{set_else, set_here}
+use Rattle.std.proofs.lemmas.List.{set-get_or}
 use Rattle.pool_core.specs.declared.words.State.{State}
 use Rattle.pool_core.specs.declared.words.Target.{Target}
 use Rattle.pool_core.specs.declared.words.StateWord.{StateWord}
@@ -24,7 +25,7 @@ use Rattle.slot_words.specs.Views.{view_after}
 use Rattle.slot_words.specs.Shows.{Shows, Suits}
 use Rattle.slot_words.specs.Outcomes.{Claims}
 use Rattle.slot_words.specs.Events.{LoadsAreEvents, ClaimsAreEvents, ReleasesAreEvents}
-use Rattle.slot_words.proofs.Lookups.{set-get_or, ltb_of_lt, live_not_away}
+use Rattle.slot_words.proofs.Lookups.{live_not_away}
 use Rattle.slot_words.proofs.HeldShares.{share_below}
 use Rattle.slot_words.proofs.ShownChanges.{core_changed, shows_changed, seat_here, IsSameView}
 
@@ -33,10 +34,10 @@ unchanged : (c : PoolCore) (s n : ℕ) (p : Seat) → seat_at c s ≡ p → core
 unchanged c s n p is = λ k. record c { words = set-get_or c.words n cold_word k; seats = (ap (λ (q : Seat). set c.seats s q) (sym is) ∙ set-get_or c.seats s (idle_seat Unmade)) k }
 
 may_load : (c : PoolCore) (s n : ℕ) → is_live (seat_at c s).stage ≡ true → n < length c.words → refusal_of c (Load s n) ≡ 0
-may_load c s n live h = rw (live, ltb_of_lt n (length c.words) h) refl
+may_load c s n live h = rw (live, lt-ltb n (length c.words) h) refl
 
 may_claim : (c : PoolCore) (s n : ℕ) → is_live (seat_at c s).stage ≡ true → n < length c.words → is_idle (seat_at c s) ≡ true → refusal_of c (Claim s n) ≡ 0
-may_claim c s n live h rest = rw (live, ltb_of_lt n (length c.words) h, rest) refl
+may_claim c s n live h rest = rw (live, lt-ltb n (length c.words) h, rest) refl
 
 and_not : (b : Bool) → (b && not b) ≡ false
 and_not true = refl
@@ -47,7 +48,7 @@ may_release c s n to holds h well = let self : (n == n) ≡ true = eq-eqb n n re
     let at : (seat_at c s).holds ≡ Some n = ap (λ (p : Seat). p.holds) holds in let inside : (seat_at c s).out ≡ false = ap (λ (p : Seat). p.out) holds in
     let permit : (seat_at c s).permit ≡ is_warm to.state = ap (λ (p : Seat). p.permit) holds in let refusal : (seat_at c s).refusal ≡ false = ap (λ (p : Seat). p.refusal) holds in
     let mark : (seat_at c s).mark ≡ is_awaiting to.state = ap (λ (p : Seat). p.mark) holds in
-    rw (live, ltb_of_lt n (length c.words) h, at, self, inside, permit, mark, refusal, and_not (is_warm to.state), and_not (is_awaiting to.state), well) refl
+    rw (live, lt-ltb n (length c.words) h, at, self, inside, permit, mark, refusal, and_not (is_warm to.state), and_not (is_awaiting to.state), well) refl
 
 -- an operation leaves the rest of the view
 pub same_view : (v : PassView) (p : Seat) (o : _) → p.stage ≡ v.seat.stage → (v.seat.out ≡ false → p.out ≡ false) → IsSameView v (view_after v p o)

@@ -70,16 +70,12 @@ impl<V: Pooled> Words<V> {
             number,
             word: _,
         } = lease;
-        match self
-            .table
-            .shared
-            .exchange(pass, number as usize, Some(value))
-        {
+        let n = number as usize;
+        match self.table.shared.exchange(pass, n, Some(value)) {
             None => {}
             Some(_) => unreachable!(),
         }
-        self.table
-            .shared
-            .store::<Releasing>(pass, number as usize, pack(to, false));
+        let word = pack(to, false);
+        self.table.shared.store::<Releasing>(pass, n, word);
     }
 }
