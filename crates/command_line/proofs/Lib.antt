@@ -5,5 +5,4 @@ pub mod SubcommandFacts
 pub mod NumberTexts
 pub mod RunLevel
 pub mod ParsedWords
-pub mod LaterCommand
 pub mod Examples

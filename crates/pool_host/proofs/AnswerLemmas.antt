@@ -46,17 +46,17 @@ module _ (m : ModuleTree) (limits : RunLimits) (export : List ℕ) (args : List 
 
   pub one_answer : (a b : LaneAnswer) → IsAnswer m limits export args fuel a → IsAnswer m limits export args fuel b → a ≡ b
   one_answer NoExport NoExport h g = refl
-  one_answer NoExport BadArgs h (x, t, g, bad) = absurd (h x g.exported)
-  one_answer NoExport (Done o) h (x, t, g, fit, r, done, is) = absurd (h x g.exported)
-  one_answer BadArgs NoExport (x, t, h, bad) g = absurd (g x h.exported)
+  one_answer NoExport BadArgs h g = absurd (h g.function g.exported.exported)
+  one_answer NoExport (Done o) h g = absurd (h g.function g.exported.exported)
+  one_answer BadArgs NoExport h g = absurd (g h.function h.exported.exported)
   one_answer BadArgs BadArgs h g = refl
-  one_answer BadArgs (Done o) (x, t, h, bad) (y, u, g, fit, r, done, is) =
-      let (same, types) = one_type x y t u h g in absurd (bad (rw types fit))
-  one_answer (Done p) NoExport (x, t, h, fit, r, done, is) g = absurd (g x h.exported)
-  one_answer (Done p) BadArgs (x, t, h, fit, r, done, is) (y, u, g, bad) =
-      let (same, types) = one_type x y t u h g in absurd (bad (rw (← types) fit))
-  one_answer (Done p) (Done o) (x, t, h, fit, r, done, is) (y, u, g, fit', s, done', is') =
-      let (same, types) = one_type x y t u h g in
-      let ends : Some r ≡ Some s = sym (rw same at done) ∙ done' in
-      let one : r ≡ s = cc in
-      ap Done (is ∙ ap (λ k. k.outcome) one ∙ sym is')
+  one_answer BadArgs (Done o) h g =
+      let (same, types) = one_type h.function g.function h.type g.type h.exported g.exported in absurd (h.differ (rw types g.fit))
+  one_answer (Done p) NoExport h g = absurd (g h.function h.exported.exported)
+  one_answer (Done p) BadArgs h g =
+      let (same, types) = one_type h.function g.function h.type g.type h.exported g.exported in absurd (g.differ (rw (← types) h.fit))
+  one_answer (Done p) (Done o) h g =
+      let (same, types) = one_type h.function g.function h.type g.type h.exported g.exported in
+      let ends : Some h.result ≡ Some g.result = sym (rw same at h.ends) ∙ g.ends in
+      let one : h.result ≡ g.result = cc in
+      ap Done (h.shows ∙ ap (λ k. k.outcome) one ∙ sym g.shows)

@@ -1,6 +1,7 @@
 -- What a call of a loaded module is answered.
 use Rattle.std.specs.Prelude.{◌≡◌, ◌≢◌, ℕ, List, map, Some}
 use Rattle.wasm_types.specs.declared.types.FuncType.{FuncType}
+use Rattle.wasm_types.specs.declared.outcome.Outcome.{Outcome}
 use Rattle.wasm_types.specs.declared.outcome.Val.{Val}
 use Rattle.wasm_types.specs.Tree.{ModuleTree}
 use Rattle.wasm_spec.specs.Typing.{type_of, function_type}
@@ -15,17 +16,40 @@ pub record IsExported (m : ModuleTree) (export : List ℕ) (function : ℕ) (typ
   pub exported : Exports m export function
   pub typed : function_type m function ≡ Some type
 
--- No function is exported under the name; or its arguments have other types; or the call ends as WebAssembly gives it on a
--- fresh instance.
+-- no function is exported under this name
+abbrev pub LacksExport : ModuleTree → List ℕ → Type 0
+LacksExport m export = (x : ℕ) → ¬ (Exports m export x)
+
+-- a function is exported under this name, and the arguments aren't of its parameters' types
+pub record LacksTypes (m : ModuleTree) (export : List ℕ) (args : List Val) : Type 0 where
+  pub function : ℕ
+  pub type : FuncType
+  pub exported : IsExported m export function type
+  pub differ : map type_of args ≢ type.params
+
+-- a function is exported under this name, the arguments are of its parameters' types, and its call on a fresh instance ends
+-- with this outcome
+pub record EndsWith (m : ModuleTree) (limits : RunLimits) (export : List ℕ) (args : List Val) (fuel : ℕ) (outcome : Outcome) : Type 0 where
+  pub function : ℕ
+  pub type : FuncType
+  pub exported : IsExported m export function type
+  pub fit : map type_of args ≡ type.params
+  pub result : CallResult
+  pub ends : call_result m limits function args fuel ≡ Some result
+  pub shows : outcome ≡ result.outcome
+
+-- what a call is answered
 abbrev pub IsAnswer : ModuleTree → RunLimits → (export : List ℕ) → (args : List Val) → (fuel : ℕ) → LaneAnswer → Type 0
-IsAnswer m limits export args fuel NoExport = (x : ℕ) → ¬ (Exports m export x)
-IsAnswer m limits export args fuel BadArgs =
-    (x : ℕ) × (t : FuncType) × IsExported m export x t × (map type_of args ≢ t.params)
-IsAnswer m limits export args fuel (Done outcome) =
-    (x : ℕ) × (t : FuncType) × IsExported m export x t × (map type_of args ≡ t.params)
-    × (r : CallResult) × (call_result m limits x args fuel ≡ Some r) × (outcome ≡ r.outcome)
+IsAnswer m limits export args fuel NoExport = LacksExport m export
+IsAnswer m limits export args fuel BadArgs = LacksTypes m export args
+IsAnswer m limits export args fuel (Done outcome) = EndsWith m limits export args fuel outcome
 
 -- the limits of a lane, and how many entries a frame of its stacks has
 pub record Lane : Type 0 where
   pub limits : RunLimits
   pub frame : ℕ
+
+-- the limits and the frame of a lane stay
+pub record KeepsLimits (before after : Lane) : Type 0 where
+  pub limits : after.limits ≡ before.limits
+  pub frame : after.frame ≡ before.frame

@@ -5,7 +5,7 @@ use Rattle.wasm_spec.specs.Loading.{Frame, Malformed, Unsupported, Invalid, Over
 use Rattle.wasm_spec.specs.Loading as loading
 use Rattle.wasm_types.specs.Tree.{module_tree}
 use Rattle.wasm_spec.specs.Need.{need}
-use Rattle.wasm_spec.specs.Built.{LoadsBuilt}
+pub use Rattle.wasm_spec.specs.Built.{LoadsBuilt}
 use Rattle.pool_host.specs.declared.loading.LoadLimits.{LoadLimits}
 use Rattle.pool_host.specs.declared.loading.LoadFault.{LoadFault}
 use Rattle.pool_host.specs.declared.loading.LoadFault.TheVariants as fault
@@ -24,8 +24,8 @@ abbrev pub FirstOver : Option (ℕ × ℕ) → List ℕ → ℕ → Type 0
 FirstOver None needs frame = All (λ n. n ≤ frame) needs
 FirstOver (Some p) needs frame = (slice_get needs p.0 ≡ Some p.1) × (frame < p.1) × All (λ n. n ≤ frame) (take p.0 needs)
 
-abbrev pub limits_of : LoadLimits → loading.LoadLimits
-limits_of l = record { pages = l.pages; elements = l.elements; frame = l.frame }
+abbrev pub load_limits_of : LoadLimits → loading.LoadLimits
+load_limits_of l = record { pages = l.pages; elements = l.elements; frame = l.frame }
 
 -- the refusal that a fault names is what loading answers; want of memory is none
 abbrev pub IsRefused : List ℕ → loading.LoadLimits → LoadFault → Type 0

@@ -1,7 +1,7 @@
 //! Calls of one caller, each on a fresh instance.
 ghost use Rattle.std.specs.Prelude.{◌≡◌, ◌≤◌, ◌<◌, IfOk};
 ghost use Rattle.wasm_types.specs.Tree.{module_tree};
-ghost use Rattle.pool_host.specs.CallWords.{IsAnswer, Lane};
+ghost use Rattle.pool_host.specs.CallWords.{IsAnswer, KeepsLimits, Lane};
 
 use crate::arguments::fit;
 use crate::loading::Loaded;
@@ -9,7 +9,7 @@ use host_edge::Gate;
 use std::alloc::Global;
 use std::marker::Model;
 use wasm_machine::{RunLimits, Stacks, run};
-use wasm_types::outcome::{NoMemory, Outcome, Val};
+use wasm_types::{NoMemory, Outcome, Val};
 
 /// How a call went.
 #[derive(Clone, Copy, Debug, PartialEq, Eq)]
@@ -66,7 +66,7 @@ impl LaneHost {
     ) -> LaneAnswer
         requires { loaded.now.frame ≤ self.old.frame }
         ensures answer { IsAnswer (module_tree loaded.now.decoded) self.old.limits export.now args.now fuel result }
-        ensures lane { self.new ≡ self.old }
+        ensures lane { KeepsLimits self.old self.new }
     {
         let valid = loaded.valid();
         let Some(function) = valid.function(export) else {
@@ -94,7 +94,7 @@ impl LaneHost {
     ) -> LaneAnswer
         requires { loaded.now.frame ≤ self.old.frame }
         ensures answer { IsAnswer (module_tree loaded.now.decoded) self.old.limits export.now args.now fuel result }
-        ensures lane { self.new ≡ self.old }
+        ensures lane { KeepsLimits self.old self.new }
     {
         let answer = self.answer(loaded, export, args, fuel, number, gate);
         gate.answered(number);

@@ -1,8 +1,7 @@
 //! Modules that may be called.
 ghost use Rattle.std.specs.Prelude.{◌≡◌, IfErr, IfOk, Ok};
 ghost use Rattle.wasm_types.specs.Tree.{module_tree};
-ghost use Rattle.wasm_spec.specs.Built.{LoadsBuilt};
-ghost use Rattle.pool_host.specs.LoadWords.{FirstOver, FitsFrame, IsRefused, limits_of};
+ghost use Rattle.pool_host.specs.LoadWords.{FirstOver, FitsFrame, IsRefused, LoadsBuilt, load_limits_of};
 
 use std::alloc::Global;
 use std::marker::Model;
@@ -80,9 +79,9 @@ fn over_frame(needs: &[u64], frame: u32) -> Option<(usize, u64)>
 
 /// The module that the bytes spell, if it is valid and within its limits.
 pub fn load(alloc: Global, bytes: &[u8], limits: LoadLimits) -> Result<Loaded, LoadFault>
-    ensures loaded { IfOk result (λ l. LoadsBuilt bytes.now (limits_of limits) (Ok (module_tree l.decoded))) }
+    ensures loaded { IfOk result (λ l. LoadsBuilt bytes.now (load_limits_of limits) (Ok (module_tree l.decoded))) }
     ensures frame { IfOk result (λ l. l.frame ≡ limits.frame) }
-    ensures refused { IfErr result (IsRefused bytes.now (limits_of limits)) }
+    ensures refused { IfErr result (IsRefused bytes.now (load_limits_of limits)) }
 {
     let module = match decode(alloc, bytes) {
         Ok(module) => module,

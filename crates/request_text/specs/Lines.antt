@@ -1,6 +1,5 @@
--- The lines that a run writes: the report's line of a module and of a call, and the line that tells why a request
--- file is refused. Each ends in LF.
-use Rattle.std.specs.Prelude.{ℕ, List, ◌++◌, codes, Some, None}
+-- The lines that a run writes: those of a report, and the line that tells why a request file is refused. Each ends in LF.
+use Rattle.std.specs.Prelude.{ℕ, List, ◌++◌, codes, flat_map, Some, None}
 use Rattle.std.specs.Fmt.{decimal, signed_decimal}
 use Rattle.std.specs.Int.{cast_signed, w32, w64}
 use Rattle.wasm_types.specs.declared.outcome.Val.{Val}
@@ -13,9 +12,11 @@ use Rattle.request_text.specs.declared.report.ModuleLine.{ModuleLine}
 use Rattle.request_text.specs.declared.report.ModuleLine.TheVariants as loading
 use Rattle.request_text.specs.declared.report.CallLine.{CallLine}
 use Rattle.request_text.specs.declared.report.CallLine.TheVariants as call
+use Rattle.request_text.specs.declared.report.ReportLine.{ReportLine}
+use Rattle.request_text.specs.declared.report.ReportLine.TheVariants as report
 use Rattle.request_text.specs.declared.request.Reason.{Reason}
 use Rattle.request_text.specs.declared.request.Reason.TheVariants as why
-use Rattle.request_text.specs.Text.{Refusal, FileTooLong, BadLine}
+use Rattle.request_text.specs.Text.{BadLine, FileRefusal, FileTooLong}
 
 -- ---- the line of a module
 
@@ -64,6 +65,16 @@ call_text call.BadArgs = codes "refused args"
 unfoldable pub call_line : ℕ → CallLine → List ℕ
 call_line number line = decimal number ++ codes " " ++ call_text line ++ codes "\n"
 
+-- ---- the report
+
+abbrev pub line_text : ReportLine → List ℕ
+line_text (report.Module name line) = module_line name line
+line_text (report.Call number line) = call_line number line
+
+-- the text of a report: its lines one after the other
+abbrev pub report_text : List ReportLine → List ℕ
+report_text lines = flat_map line_text lines
+
 -- ---- the line of a refused file
 
 abbrev pub reason_text : Reason → List ℕ
@@ -80,6 +91,6 @@ reason_text why.BadArgument = codes "bad argument"
 reason_text why.TooManyCalls = codes "too many calls"
 
 -- `file too long`, or `line N: reason`
-abbrev pub refusal_line : Refusal → List ℕ
+abbrev pub refusal_line : FileRefusal → List ℕ
 refusal_line FileTooLong = codes "file too long\n"
 refusal_line (BadLine line reason) = codes "line " ++ decimal line ++ codes ": " ++ reason_text reason ++ codes "\n"

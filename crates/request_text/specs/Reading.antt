@@ -3,11 +3,12 @@ use Rattle.std.specs.Prelude.{◌+◌, ◌&&◌, nat_lt, Bool, true, [], ◌∷�
 use Rattle.request_text.specs.declared.request.Directive.{Directive}
 use Rattle.request_text.specs.declared.request.Directive.TheVariants.{Module, Call}
 use Rattle.request_text.specs.declared.request.Reason.{Reason}
+use Rattle.request_text.specs.declared.request.TheConstants.{MOST_CALLS, MOST_MODULES}
 use Rattle.request_text.specs.declared.directive.LineFault.{LineFault}
 use Rattle.request_text.specs.declared.request.ParseFault.{ParseFault}
 use Rattle.request_text.specs.declared.request.ParseFault.TheVariants.{TextFault, TooLong, NoMemory}
 use Rattle.request_text.specs.declared.directive.LineFault.TheVariants as judged
-use Rattle.request_text.specs.Text.{Refusal, BadLine}
+use Rattle.request_text.specs.Text.{BadLine, Declared, FileRefusal}
 
 -- a refusal is the definition's; want of memory says nothing
 abbrev pub Explains : {A : Type 0} → LineFault → Result A Reason → Type 0
@@ -24,15 +25,15 @@ fault_at line (judged.Refused reason) = TextFault line reason
 fault_at line judged.NoMemory = NoMemory
 
 -- the parser's answer for lines is the definition's, but for want of memory
-abbrev pub Reports : ParseFault → Result (List Directive) Refusal → Type 0
+abbrev pub Reports : ParseFault → Result (List Directive) FileRefusal → Type 0
 Reports (TextFault line reason) meaning = meaning ≡ Err (BadLine line reason)
 Reports TooLong meaning = ⊥
 Reports NoMemory meaning = ⊤
 
 -- one more directive keeps within the numbers of modules and calls, and a call is of one of the modules
-abbrev pub HasRoom : List (List ℕ) → ℕ → Directive → Type 0
-HasRoom names calls (Module name bytes) = length names < 4096
-HasRoom names calls (Call place export fuel args) = (calls < 100000) × (place < length names)
+abbrev pub HasRoom : Declared → Directive → Type 0
+HasRoom before (Module name bytes) = length before.names < MOST_MODULES
+HasRoom before (Call place export fuel args) = (before.calls < MOST_CALLS) × (place < length before.names)
 
 -- the test for `IsPlacedFrom`
 abbrev pub are_placed_from : ℕ → List Directive → Bool

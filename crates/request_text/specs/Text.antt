@@ -15,6 +15,7 @@ use Rattle.request_text.specs.declared.request.Reason.{Reason}
 use Rattle.request_text.specs.declared.request.Reason.TheVariants.{BadByte, UnknownDirective, BadWords, BadName, BadHex, NameUsedTwice, TooManyModules, UnknownModule, BadFuel, BadArgument, TooManyCalls}
 use Rattle.request_text.specs.declared.request.ParseFault.{ParseFault}
 use Rattle.request_text.specs.declared.request.ParseFault.TheVariants.{TextFault, TooLong, NoMemory}
+use Rattle.request_text.specs.declared.request.TheConstants.{MOST_BYTES, MOST_CALLS, MOST_MODULES, MOST_NAME_BYTES}
 
 -- ---- lines and words
 
@@ -94,41 +95,46 @@ abbrev pub demand : Bool → Reason → Result (Unit {0}) Reason
 demand true reason = Ok tt
 demand false reason = Err reason
 
+-- what the lines before have declared: the names of their modules, and how many calls
+pub record Declared : Type 0 where
+  pub names : List (List ℕ)
+  pub calls : ℕ
+
 -- the place among these module names, from 0, of the one that is `name`
 unfoldable pub place_of : List (List ℕ) → List ℕ → Option ℕ
 place_of names name = position (λ other. bytes_eq other name) names
 
--- the words after `module`, where module lines with these names stand before
-unfoldable pub module_of : List (List ℕ) → List (List ℕ) → Result Directive Reason
-module_of names (name ∷ digits ∷ []) = do
-  _ ← demand (nat_le (length name) 64) BadName
+-- what the words after `module` ask for
+unfoldable pub module_directive_of : Declared → List (List ℕ) → Result Directive Reason
+module_directive_of before (name ∷ digits ∷ []) = do
+  _ ← demand (nat_le (length name) MOST_NAME_BYTES) BadName
   bytes ← ok_or (hex_bytes digits) BadHex
-  _ ← demand (is_none (place_of names name)) NameUsedTwice
-  _ ← demand (nat_lt (length names) 4096) TooManyModules
+  _ ← demand (is_none (place_of before.names name)) NameUsedTwice
+  _ ← demand (nat_lt (length before.names) MOST_MODULES) TooManyModules
   Ok (Module name bytes)
-module_of names words = Err BadWords
+module_directive_of before words = Err BadWords
 
--- the words after `call`, where so many call lines stand before
-unfoldable pub call_of : List (List ℕ) → ℕ → List (List ℕ) → Result Directive Reason
-call_of names calls (name ∷ export ∷ fuel_word ∷ words) = do
-  place ← ok_or (place_of names name) UnknownModule
+-- what the words after `call` ask for
+unfoldable pub call_directive_of : Declared → List (List ℕ) → Result Directive Reason
+call_directive_of before (name ∷ export ∷ fuel_word ∷ words) = do
+  place ← ok_or (place_of before.names name) UnknownModule
   fuel ← ok_or (fuel_of fuel_word) BadFuel
   args ← ok_or (arguments_of words) BadArgument
-  _ ← demand (nat_lt calls 100000) TooManyCalls
+  _ ← demand (nat_lt before.calls MOST_CALLS) TooManyCalls
   Ok (Call place export fuel args)
-call_of names calls words = Err BadWords
+call_directive_of before words = Err BadWords
 
-unfoldable pub directive_of_words : List (List ℕ) → ℕ → List (List ℕ) → Result Directive Reason
-directive_of_words names calls [] = Err UnknownDirective
-directive_of_words names calls (word ∷ words) =
-    if bytes_eq word (codes "module") then module_of names words
-    else if bytes_eq word (codes "call") then call_of names calls words
+unfoldable pub directive_of_words : Declared → List (List ℕ) → Result Directive Reason
+directive_of_words before [] = Err UnknownDirective
+directive_of_words before (word ∷ words) =
+    if bytes_eq word (codes "module") then module_directive_of before words
+    else if bytes_eq word (codes "call") then call_directive_of before words
     else Err UnknownDirective
 
-unfoldable pub directive_of : List (List ℕ) → ℕ → List ℕ → Result Directive Reason
-directive_of names calls line = do
+unfoldable pub directive_of : Declared → List ℕ → Result Directive Reason
+directive_of before line = do
   _ ← demand (list_all is_printable line) BadByte
-  directive_of_words names calls (line_words line)
+  directive_of_words before (line_words line)
 
 -- ---- the file
 
@@ -139,6 +145,15 @@ module_name (Call place export fuel args) = None
 
 abbrev pub module_names : List Directive → List (List ℕ)
 module_names directives = filter_map module_name directives
+
+-- the bytes of a module line
+abbrev pub module_bytes : Directive → Option (List ℕ)
+module_bytes (Module name bytes) = Some bytes
+module_bytes (Call place export fuel args) = None
+
+-- the modules of a request file, in the order of their lines
+abbrev pub modules_of : List Directive → List (List ℕ)
+modules_of directives = filter_map module_bytes directives
 
 abbrev pub is_call : Directive → Bool
 is_call (Module name bytes) = false
@@ -153,35 +168,44 @@ IsPlacedFrom modules [] = Unit {0}
 IsPlacedFrom modules (Module name bytes ∷ rest) = IsPlacedFrom (modules + 1) rest
 IsPlacedFrom modules (Call place export fuel args ∷ rest) = (place < modules) × IsPlacedFrom modules rest
 
+-- what these directives declare
+abbrev pub declared_by : List Directive → Declared
+declared_by directives = record { names = module_names directives; calls = call_count directives }
+
+-- what is declared once this directive is read too
+abbrev pub declared_after : Declared → Directive → Declared
+declared_after before (Module name bytes) = record before { names = before.names ++ name ∷ [] }
+declared_after before (Call place export fuel args) = record before { calls = before.calls + 1 }
+
 -- the directives once a line is read, after these of the lines before it
 unfoldable pub requests_after : List Directive → List ℕ → Result (List Directive) Reason
 requests_after before line =
     if is_skipped line then Ok before
-    else (directive_of (module_names before) (call_count before) line >>= λ directive. Ok (before ++ directive ∷ []))
+    else (directive_of (declared_by before) line >>= λ directive. Ok (before ++ directive ∷ []))
 
 -- Why a file is refused: it is too long, or its first bad line, counted from 1, is refused for this reason.
-pub data Refusal : Type 0 where
-  FileTooLong : Refusal
-  BadLine : (line : ℕ) (reason : Reason) → Refusal
+pub data FileRefusal : Type 0 where
+  FileTooLong : FileRefusal
+  BadLine : (line : ℕ) (reason : Reason) → FileRefusal
 
 -- the refusal that an answer of the parser reports; want of memory is none
-abbrev pub refusal_of : ParseFault → Option Refusal
-refusal_of (TextFault line reason) = Some (BadLine line reason)
-refusal_of TooLong = Some FileTooLong
-refusal_of NoMemory = None
+abbrev pub file_refusal_of : ParseFault → Option FileRefusal
+file_refusal_of (TextFault line reason) = Some (BadLine line reason)
+file_refusal_of TooLong = Some FileTooLong
+file_refusal_of NoMemory = None
 
 -- what a line gave, or its refusal by its number
-abbrev pub at_line : {A : Type 0} → ℕ → Result A Reason → Result A Refusal
+abbrev pub at_line : {A : Type 0} → ℕ → Result A Reason → Result A FileRefusal
 at_line line (Ok x) = Ok x
 at_line line (Err reason) = Err (BadLine line reason)
 
 -- the directives before and those of the further lines, the first of which has this number
-abbrev pub requests_from : ℕ → List Directive → List (List ℕ) → Result (List Directive) Refusal
+abbrev pub requests_from : ℕ → List Directive → List (List ℕ) → Result (List Directive) FileRefusal
 requests_from number before [] = Ok before
 requests_from number before (line ∷ lines) = do
   directives ← at_line number (requests_after before line)
   requests_from (number + 1) directives lines
 
 -- what a request file of these bytes asks for, or why it is refused
-unfoldable pub requests_of : List ℕ → Result (List Directive) Refusal
-requests_of text = if nat_lt 16777216 (length text) then Err FileTooLong else requests_from 1 [] (text_lines text)
+unfoldable pub requests_of : List ℕ → Result (List Directive) FileRefusal
+requests_of text = if nat_lt MOST_BYTES (length text) then Err FileTooLong else requests_from 1 [] (text_lines text)

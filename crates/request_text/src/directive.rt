@@ -1,56 +1,56 @@
-// One line of a request file is read.
-
-ghost use Rattle.std.specs.Prelude.{◌≡◌, ℕ, ◌<◌, ◌≤◌, length, IfOk, IfSome};
+//! One line of a request file is read.
+ghost use Rattle.std.specs.Prelude.{◌≡◌, ◌≤◌, length, IfOk};
 ghost use Rattle.std.specs.List.{list_all};
 ghost use Rattle.std.specs.Option.{ok_or};
-ghost use Rattle.request_text.specs.Text.{line_words, place_of, hex_bytes, arguments_of, module_of, call_of, is_printable, directive_of_words, directive_of};
+ghost use Rattle.request_text.specs.Text.{arguments_of, call_directive_of, directive_of, directive_of_words, hex_bytes, is_printable, line_words, module_directive_of};
 ghost use Rattle.request_text.specs.Reading.{Agrees, HasRoom};
 
 use crate::numbers::{argument, fuel};
-use crate::request::{Directive, MOST_CALLS, MOST_MODULES, MOST_NAME_BYTES, Reason};
+use crate::request::{Directive, MOST_MODULES, MOST_NAME_BYTES, Reason};
+use crate::scope::Scope;
 use crate::words::next_word;
-use std::alloc::Global;
+use std::alloc::{AllocError, Global};
 use thiserror::Error;
-use wasm_types::items::Items;
-use wasm_types::outcome::Val;
+use wasm_types::{Items, Val};
 
-/// Why a line is not read.
+// Why a line is not read.
 #[derive(Debug, Drop, Error)]
-pub enum LineFault {
+pub(crate) enum LineFault {
     #[error("{0}")]
     Refused(Reason),
     #[error("out of memory")]
     NoMemory,
 }
 
-/// A copy of some bytes.
-pub fn copied(alloc: Global, bytes: &[u8]) -> Result<Items<u8>, LineFault>
+impl From<AllocError> for LineFault {
+    ghost use Rattle.request_text.specs.declared.directive.LineFault.TheVariants.{NoMemory};
+
+    ghost from_gives = { λ _ e. e ≡ NoMemory };
+
+    fn from(_: AllocError) -> Self {
+        LineFault::NoMemory
+    }
+}
+
+impl From<Reason> for LineFault {
+    ghost use Rattle.request_text.specs.declared.directive.LineFault.TheVariants.{Refused};
+
+    ghost from_gives = { λ reason e. e ≡ Refused reason };
+
+    fn from(reason: Reason) -> Self {
+        LineFault::Refused(reason)
+    }
+}
+
+// A copy of some bytes.
+fn copied(alloc: Global, bytes: &[u8]) -> Result<Items<u8>, LineFault>
     ensures { Agrees result (Ok bytes.now) }
 {
-    let copy = Vec::from_slice(alloc, bytes).map_err(|_| LineFault::NoMemory)?;
+    let copy = Vec::from_slice(alloc, bytes)?;
     Ok(Items::new(copy))
 }
 
-/// The index of the name among the names of modules.
-#[tactic(auto, unfolding(crate::specs::Text::place_of))]
-fn position(names: &[Items<u8>], name: &[u8]) -> Option<usize>
-    ensures place { result ≡ place_of names.now name.now }
-    ensures within { IfSome result (λ index. index < length names.now) }
-{
-    names.iter().position(|other| other.as_slice() == name)
-}
-
-/// The place of the module of this name, from 0.
-fn place(names: &[Items<u8>], name: &[u8]) -> Option<u32>
-    requires { length names.now ≤ 4096 }
-    ensures place { result ≡ place_of names.now name.now }
-    ensures within { IfSome result (λ place. place < length names.now) }
-{
-    let index = position(names, name)?;
-    Some(index as u32)
-}
-
-/// The bytes that hex digits spell.
+// The bytes that hex digits spell.
 fn hex_bytes(alloc: Global, digits: &[u8]) -> Result<Items<u8>, LineFault>
     ensures { Agrees result (ok_or (hex_bytes digits.now) Reason.BadHex) }
 {
@@ -61,19 +61,15 @@ fn hex_bytes(alloc: Global, digits: &[u8]) -> Result<Items<u8>, LineFault>
     }
 }
 
-/// What the words after `module` ask for.
-#[tactic(auto, unfolding(crate::specs::Text::module_of))]
-fn module_directive(
-    alloc: Global,
-    names: &[Items<u8>],
-    words: &[u8],
-) -> Result<Directive, LineFault>
-    requires { length names.now ≤ 4096 }
-    ensures meaning { Agrees result (module_of names.now (line_words words.now)) }
-    ensures room { (calls : ℕ) → IfOk result (λ directive. HasRoom names.now calls directive) }
+// What the words after `module` ask for.
+#[tactic(auto, unfolding(crate::specs::Text::module_directive_of))]
+fn module_directive(alloc: Global, scope: &Scope, words: &[u8]) -> Result<Directive, LineFault>
+    requires { length scope.now.names ≤ MOST_MODULES }
+    ensures meaning { Agrees result (module_directive_of scope.now (line_words words.now)) }
+    ensures room { IfOk result (HasRoom scope.now) }
 {
-    let (name, rest) = next_word(words).ok_or(LineFault::Refused(Reason::BadWords))?;
-    let (digits, rest) = next_word(rest).ok_or(LineFault::Refused(Reason::BadWords))?;
+    let (name, rest) = next_word(words).ok_or(Reason::BadWords)?;
+    let (digits, rest) = next_word(rest).ok_or(Reason::BadWords)?;
     if next_word(rest).is_some() {
         return Err(LineFault::Refused(Reason::BadWords));
     }
@@ -81,49 +77,44 @@ fn module_directive(
         return Err(LineFault::Refused(Reason::BadName));
     }
     let bytes = hex_bytes(alloc, digits)?;
-    if place(names, name).is_some() {
+    if scope.place(name).is_some() {
         return Err(LineFault::Refused(Reason::NameUsedTwice));
     }
-    if names.len() >= MOST_MODULES {
+    if !scope.takes_module() {
         return Err(LineFault::Refused(Reason::TooManyModules));
     }
     let name = copied(alloc, name)?;
     Ok(Directive::Module { name, bytes })
 }
 
-/// The arguments that the words give.
+// The arguments that the words give.
 fn arguments(alloc: Global, words: &[u8]) -> Result<Items<Val>, LineFault>
     ensures { Agrees result (ok_or (arguments_of (line_words words.now)) Reason.BadArgument) }
 {
     let mut args = Vec::new(alloc);
     let mut rest = words;
     while let Some((word, after)) = next_word(rest) {
-        let arg = argument(word).ok_or(LineFault::Refused(Reason::BadArgument))?;
+        let arg = argument(word).ok_or(Reason::BadArgument)?;
         args.push(arg).map_err(|_| LineFault::NoMemory)?;
         rest = after;
     }
     Ok(Items::new(args))
 }
 
-/// What the words after `call` ask for.
-#[tactic(auto, unfolding(crate::specs::Text::call_of))]
-fn call_directive(
-    alloc: Global,
-    names: &[Items<u8>],
-    calls: usize,
-    words: &[u8],
-) -> Result<Directive, LineFault>
-    requires { length names.now ≤ 4096 }
-    ensures meaning { Agrees result (call_of names.now calls (line_words words.now)) }
-    ensures room { IfOk result (λ directive. HasRoom names.now calls directive) }
+// What the words after `call` ask for.
+#[tactic(auto, unfolding(crate::specs::Text::call_directive_of))]
+fn call_directive(alloc: Global, scope: &Scope, words: &[u8]) -> Result<Directive, LineFault>
+    requires { length scope.now.names ≤ MOST_MODULES }
+    ensures meaning { Agrees result (call_directive_of scope.now (line_words words.now)) }
+    ensures room { IfOk result (HasRoom scope.now) }
 {
-    let (name, rest) = next_word(words).ok_or(LineFault::Refused(Reason::BadWords))?;
-    let (export, rest) = next_word(rest).ok_or(LineFault::Refused(Reason::BadWords))?;
-    let (fuel_word, rest) = next_word(rest).ok_or(LineFault::Refused(Reason::BadWords))?;
-    let module = place(names, name).ok_or(LineFault::Refused(Reason::UnknownModule))?;
-    let fuel = fuel(fuel_word).ok_or(LineFault::Refused(Reason::BadFuel))?;
+    let (name, rest) = next_word(words).ok_or(Reason::BadWords)?;
+    let (export, rest) = next_word(rest).ok_or(Reason::BadWords)?;
+    let (fuel_word, rest) = next_word(rest).ok_or(Reason::BadWords)?;
+    let module = scope.place(name).ok_or(Reason::UnknownModule)?;
+    let fuel = fuel(fuel_word).ok_or(Reason::BadFuel)?;
     let args = arguments(alloc, rest)?;
-    if calls >= MOST_CALLS {
+    if !scope.takes_call() {
         return Err(LineFault::Refused(Reason::TooManyCalls));
     }
     let export = copied(alloc, export)?;
@@ -135,51 +126,45 @@ fn call_directive(
     })
 }
 
-/// Whether each byte is printable ASCII.
+// Whether each byte is printable ASCII.
 fn is_printable(line: &[u8]) -> bool
     ensures { result ≡ list_all is_printable line.now }
 {
     line.iter().all(|byte| b' ' <= *byte && *byte <= b'~')
 }
 
-/// What the words of a line ask for.
+// What the words of a line ask for.
 #[tactic(auto, unfolding(crate::specs::Text::directive_of_words))]
-fn words_directive(
-    alloc: Global,
-    names: &[Items<u8>],
-    calls: usize,
-    words: &[u8],
-) -> Result<Directive, LineFault>
-    requires { length names.now ≤ 4096 }
-    ensures meaning { Agrees result (directive_of_words names.now calls (line_words words.now)) }
-    ensures room { IfOk result (λ directive. HasRoom names.now calls directive) }
+fn words_directive(alloc: Global, scope: &Scope, words: &[u8]) -> Result<Directive, LineFault>
+    requires { length scope.now.names ≤ MOST_MODULES }
+    ensures meaning { Agrees result (directive_of_words scope.now (line_words words.now)) }
+    ensures room { IfOk result (HasRoom scope.now) }
 {
     let Some((word, rest)) = next_word(words) else {
         return Err(LineFault::Refused(Reason::UnknownDirective));
     };
     if word == b"module".as_slice() {
-        module_directive(alloc, names, rest)
+        module_directive(alloc, scope, rest)
     } else if word == b"call".as_slice() {
-        call_directive(alloc, names, calls, rest)
+        call_directive(alloc, scope, rest)
     } else {
         Err(LineFault::Refused(Reason::UnknownDirective))
     }
 }
 
-/// What a line asks for.
+// What a line asks for.
 #[tactic(auto, unfolding(crate::specs::Text::directive_of))]
-pub fn line_directive(
+pub(crate) fn line_directive(
     alloc: Global,
-    names: &[Items<u8>],
-    calls: usize,
+    scope: &Scope,
     line: &[u8],
 ) -> Result<Directive, LineFault>
-    requires { length names.now ≤ 4096 }
-    ensures meaning { Agrees result (directive_of names.now calls line.now) }
-    ensures room { IfOk result (λ directive. HasRoom names.now calls directive) }
+    requires { length scope.now.names ≤ MOST_MODULES }
+    ensures meaning { Agrees result (directive_of scope.now line.now) }
+    ensures room { IfOk result (HasRoom scope.now) }
 {
     if !is_printable(line) {
         return Err(LineFault::Refused(Reason::BadByte));
     }
-    words_directive(alloc, names, calls, line)
+    words_directive(alloc, scope, line)
 }

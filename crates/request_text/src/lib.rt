@@ -1,13 +1,23 @@
 //! The request file's text and the report's lines: a request file is read into its directives or refused at its first
-//! bad line, and the report is written line by line.
+//! bad line, and a report is a list of lines with its text.
 #![tactic(auto)]
 
 mod directive;
 mod numbers;
-pub mod parser;
+mod parser;
 mod reading;
-pub mod report;
-pub mod request;
+mod report;
+mod request;
+mod scope;
+mod words;
+
+pub use parser::parse;
+pub use report::{
+    CallLine, ModuleLine, ReportLine, report_text, write_call, write_module, write_text_fault,
+};
+pub use request::{
+    Directive, MOST_BYTES, MOST_CALLS, MOST_MODULES, MOST_NAME_BYTES, ParseFault, Reason, Requests,
+};
+
 #[cfg(test)]
 mod tests;
-mod words;

@@ -1,21 +1,20 @@
-// What a word stands for: a fuel, an argument.
-
+//! What a word stands for: a fuel, an argument.
 ghost use Rattle.std.specs.Prelude.{◌≡◌, ◌^◌, ◌<◌, ◌≤◌, ◌&&◌, true, not, length, IfSome, MatchOption};
 ghost use Rattle.std.specs.Char.{is_ascii_digit};
 ghost use Rattle.std.specs.List.{list_all};
 ghost use Rattle.std.specs.Str.Parse.{digits_value};
 ghost use Rattle.request_text.specs.Text.{is_empty, number_up_to, fuel_of, integer_of, argument_of};
 
-use wasm_types::outcome::Val;
+use wasm_types::Val;
 
-/// Whether each byte is a digit.
+// Whether each byte is a digit.
 fn are_digits(word: &[u8]) -> bool
     ensures { result ≡ list_all is_ascii_digit word.now }
 {
     word.iter().all(|byte| byte.is_ascii_digit())
 }
 
-/// Whether a word is digits alone.
+// Whether a word is digits alone.
 #[tactic(auto, using(crate::proofs::NumberLemmas::empty_is))]
 fn is_numeral(word: &[u8]) -> bool
     ensures { result ≡ (not (is_empty word.now) && list_all is_ascii_digit word.now) }
@@ -23,7 +22,7 @@ fn is_numeral(word: &[u8]) -> bool
     !word.is_empty() && are_digits(word)
 }
 
-/// The number that digits write, if it is below 2^64.
+// The number that digits write, if it is below 2^64.
 fn number(digits: &[u8]) -> Option<u64>
     requires some { 0 < length digits.now }
     requires digits { list_all is_ascii_digit digits.now ≡ true }
@@ -35,7 +34,7 @@ fn number(digits: &[u8]) -> Option<u64>
     }
 }
 
-/// The number that a word of digits alone writes, if it is at most `most`.
+// The number that a word of digits alone writes, if it is at most `most`.
 #[tactic(auto, unfolding(crate::specs::Text::number_up_to))]
 fn number_up_to(most: u64, word: &[u8]) -> Option<u64>
     ensures value { result ≡ number_up_to most word.now }
@@ -48,15 +47,15 @@ fn number_up_to(most: u64, word: &[u8]) -> Option<u64>
     if number <= most { Some(number) } else { None }
 }
 
-/// The fuel that a word gives.
-pub fn fuel(word: &[u8]) -> Option<u32>
+// The fuel that a word gives.
+pub(crate) fn fuel(word: &[u8]) -> Option<u32>
     ensures { result ≡ fuel_of word.now }
 {
     let number = number_up_to(u64::from(u32::MAX), word)?;
     Some(number as u32)
 }
 
-/// The number of an `i32` argument, from -2^31 to 2^32 - 1, modulo 2^32.
+// The number of an `i32` argument, from -2^31 to 2^32 - 1, modulo 2^32.
 #[tactic(auto, unfolding(crate::specs::Text::integer_of))]
 fn integer_32(text: &[u8]) -> Option<u32>
     ensures { result ≡ integer_of 32 text.now }
@@ -73,7 +72,7 @@ fn integer_32(text: &[u8]) -> Option<u32>
     }
 }
 
-/// The number of an `i64` argument, from -2^63 to 2^64 - 1, modulo 2^64.
+// The number of an `i64` argument, from -2^63 to 2^64 - 1, modulo 2^64.
 #[tactic(auto, unfolding(crate::specs::Text::integer_of))]
 fn integer_64(text: &[u8]) -> Option<u64>
     ensures { result ≡ integer_of 64 text.now }
@@ -87,9 +86,9 @@ fn integer_64(text: &[u8]) -> Option<u64>
     }
 }
 
-/// The argument that a word gives, by its type and its number.
+// The argument that a word gives, by its type and its number.
 #[tactic(auto, unfolding(crate::specs::Text::argument_of))]
-pub fn argument(word: &[u8]) -> Option<Val>
+pub(crate) fn argument(word: &[u8]) -> Option<Val>
     ensures { result ≡ argument_of word.now }
 {
     if let Some(text) = word.strip_prefix(b"i32:") {

@@ -1,16 +1,15 @@
-// A request file is read line by line.
-
+//! A request file is read line by line.
 ghost use Rattle.std.specs.Prelude.{◌≡◌, ◌↔◌, ◌<◌, ◌≤◌, [], length, IfOk, IfErr, IfSome, IsErrOf};
-ghost use Rattle.request_text.specs.Text.{text_lines, requests_from, requests_of, refusal_of, module_names, call_count, IsPlacedFrom};
+ghost use Rattle.request_text.specs.Text.{text_lines, requests_from, requests_of, file_refusal_of, module_names, call_count, IsPlacedFrom};
 ghost use Rattle.request_text.specs.Reading.{fault_at, Reports};
 
 use crate::directive::LineFault;
 use crate::reading::Reading;
-use crate::request::{MOST_BYTES, ParseFault, Requests};
+use crate::request::{MOST_BYTES, MOST_CALLS, MOST_MODULES, ParseFault, Requests};
 use std::alloc::Global;
-use wasm_types::items::Items;
+use wasm_types::Items;
 
-/// The fault of the line with this number.
+// The fault of the line with this number.
 fn at_line(line: u32, fault: LineFault) -> ParseFault
     ensures { result ≡ fault_at line fault }
 {
@@ -20,12 +19,12 @@ fn at_line(line: u32, fault: LineFault) -> ParseFault
     }
 }
 
-/// Reads the lines of a request file.
+// Reads the lines of a request file.
 fn read_lines(alloc: Global, text: &[u8]) -> Result<Requests, ParseFault>
-    requires { length text.now ≤ 16777216 }
+    requires { length text.now ≤ MOST_BYTES }
     ensures requests { IfOk result (λ requests. requests_from 1 [] (text_lines text.now) ≡ Ok requests) }
-    ensures few_modules { IfOk result (λ requests. length (module_names requests) ≤ 4096) }
-    ensures few_calls { IfOk result (λ requests. call_count requests ≤ 100000) }
+    ensures few_modules { IfOk result (λ requests. length (module_names requests) ≤ MOST_MODULES) }
+    ensures few_calls { IfOk result (λ requests. call_count requests ≤ MOST_CALLS) }
     ensures placed { IfOk result (λ requests. IsPlacedFrom 0 requests) }
     ensures refused { IfErr result (λ fault. Reports fault (requests_from 1 [] (text_lines text.now))) }
 {
@@ -41,16 +40,21 @@ fn read_lines(alloc: Global, text: &[u8]) -> Result<Requests, ParseFault>
     Ok(Items::new(reading.directives))
 }
 
-/// Reads a request file of at most 16,777,216 bytes: its directives in file order, or its first bad line and the first
-/// reason that applies to it. `TooLong` comes before any line is read, and `NoMemory` where memory is refused.
+/// Reads a request file of at most `MOST_BYTES` bytes: its directives in file order. Source: `specs/Text.antt`,
+/// `requests_of`.
+///
+/// # Errors
+///
+/// `TooLong` for a longer file, before any line is read; `TextFault` for the first bad line, with the first reason that
+/// applies to it; `NoMemory` where memory is refused.
 #[tactic(auto, unfolding(crate::specs::Text::requests_of))]
 pub fn parse(alloc: Global, text: &[u8]) -> Result<Requests, ParseFault>
     ensures requests { IfOk result (λ requests. requests_of text.now ≡ Ok requests) }
-    ensures few_modules { IfOk result (λ requests. length (module_names requests) ≤ 4096) }
-    ensures few_calls { IfOk result (λ requests. call_count requests ≤ 100000) }
+    ensures few_modules { IfOk result (λ requests. length (module_names requests) ≤ MOST_MODULES) }
+    ensures few_calls { IfOk result (λ requests. call_count requests ≤ MOST_CALLS) }
     ensures placed { IfOk result (λ requests. IsPlacedFrom 0 requests) }
-    ensures refused { IfErr result (λ fault. IfSome (refusal_of fault) (λ refusal. requests_of text.now ≡ Err refusal)) }
-    ensures too_long { IsErrOf result ParseFault.TooLong ↔ (16777216 < length text.now) }
+    ensures refused { IfErr result (λ fault. IfSome (file_refusal_of fault) (λ refusal. requests_of text.now ≡ Err refusal)) }
+    ensures too_long { IsErrOf result ParseFault.TooLong ↔ (MOST_BYTES < length text.now) }
 {
     if text.len() > MOST_BYTES {
         return Err(ParseFault::TooLong);

@@ -1,13 +1,12 @@
-// The lines that a run writes.
-
+//! The lines that a run writes.
 ghost use Rattle.std.specs.Prelude.{◌≡◌, ◌++◌, OnOk, OnErr, IfOk, IsOkAnd};
-ghost use Rattle.request_text.specs.Lines.{loading_text, module_line, value_text, trap_text, outcome_text, call_text, call_line, refusal_line};
+ghost use Rattle.request_text.specs.Lines.{call_line, call_text, line_text, loading_text, module_line, outcome_text, refusal_line, report_text, trap_text, value_text};
 ghost use Rattle.request_text.specs.Text.{BadLine};
 
 use crate::request::Reason;
 use itoa::Buffer;
 use std::alloc::{AllocError, Global};
-use wasm_types::outcome::{NoMemory, Outcome, TrapKind, Val};
+use wasm_types::{Items, NoMemory, Outcome, TrapKind, Val};
 
 /// How the loading of a module went.
 #[derive(Clone, Copy, Debug, PartialEq, Eq)]
@@ -31,6 +30,15 @@ pub enum CallLine {
     NoExport,
     /// The arguments aren't of the function's types.
     BadArgs,
+}
+
+/// One line of a report.
+#[derive(Drop)]
+pub enum ReportLine {
+    /// How the loading of the module of this name went.
+    Module { name: Items<u8>, line: ModuleLine },
+    /// How the call of this number went. Calls are numbered from 1.
+    Call { number: u32, line: CallLine },
 }
 
 fn loading_text(line: ModuleLine) -> &'static [u8]
@@ -61,7 +69,7 @@ fn trap_text(kind: TrapKind) -> &'static [u8]
     }
 }
 
-/// Appends a value with its type, in signed decimal.
+// Appends a value with its type, in signed decimal.
 fn push_value(line: &mut Vec<u8>, value: Val) -> Result<(), AllocError>
     ensures { OnOk result (line.new.items ≡ line.old.items ++ value_text value) }
 {
@@ -78,7 +86,7 @@ fn push_value(line: &mut Vec<u8>, value: Val) -> Result<(), AllocError>
     }
 }
 
-/// Appends how a call that was made ended.
+// Appends how a call that was made ended.
 fn push_outcome(line: &mut Vec<u8>, outcome: Outcome) -> Result<(), AllocError>
     ensures { OnOk result (line.new.items ≡ line.old.items ++ outcome_text outcome) }
 {
@@ -96,7 +104,7 @@ fn push_outcome(line: &mut Vec<u8>, outcome: Outcome) -> Result<(), AllocError>
     }
 }
 
-/// Appends how a call went.
+// Appends how a call went.
 fn push_call(line: &mut Vec<u8>, call: CallLine) -> Result<(), AllocError>
     ensures { OnOk result (line.new.items ≡ line.old.items ++ call_text call) }
 {
@@ -144,7 +152,7 @@ fn text_fault_line(alloc: Global, line: u32, reason: Reason) -> Result<Vec<u8>, 
     Ok(text)
 }
 
-/// Appends a text that was made before, if it was.
+// Appends a text that was made before, if it was.
 fn append(out: &mut Vec<u8>, text: Result<Vec<u8>, AllocError>) -> Result<(), NoMemory>
     ensures text { OnOk result (IsOkAnd text (λ t. out.new.items ≡ out.old.items ++ t.items)) }
     ensures memory { OnErr result (out.new.items ≡ out.old.items) }
@@ -153,7 +161,11 @@ fn append(out: &mut Vec<u8>, text: Result<Vec<u8>, AllocError>) -> Result<(), No
     out.extend_from_slice(text.as_slice()).map_err(|_| NoMemory)
 }
 
-/// Appends the report's line of the module of this name. Where memory is refused, `out` stays as it was.
+/// Appends the report's line of the module of this name. Source: `specs/Lines.antt`, `module_line`.
+///
+/// # Errors
+///
+/// `NoMemory` where memory is refused: `out` stays as it was.
 pub fn write_module(
     alloc: Global,
     out: &mut Vec<u8>,
@@ -166,7 +178,11 @@ pub fn write_module(
     append(out, module_line(alloc, name, line))
 }
 
-/// Appends the report's line of the `k`-th call of the file, from 1. Where memory is refused, `out` stays as it was.
+/// Appends the report's line of the `k`-th call of the file, from 1. Source: `specs/Lines.antt`, `call_line`.
+///
+/// # Errors
+///
+/// `NoMemory` where memory is refused: `out` stays as it was.
 pub fn write_call(alloc: Global, out: &mut Vec<u8>, k: u32, line: CallLine) -> Result<(), NoMemory>
     ensures line { OnOk result (out.new.items ≡ out.old.items ++ call_line k line) }
     ensures memory { OnErr result (out.new.items ≡ out.old.items) }
@@ -174,8 +190,12 @@ pub fn write_call(alloc: Global, out: &mut Vec<u8>, k: u32, line: CallLine) -> R
     append(out, call_line(alloc, k, line))
 }
 
-/// Appends the line that tells which line of a request file is refused, from 1, and why. Where memory is refused, `out`
-/// stays as it was.
+/// Appends the line that tells which line of a request file is refused, from 1, and why. Source: `specs/Lines.antt`,
+/// `refusal_line`.
+///
+/// # Errors
+///
+/// `NoMemory` where memory is refused: `out` stays as it was.
 pub fn write_text_fault(
     alloc: Global,
     out: &mut Vec<u8>,
@@ -186,4 +206,29 @@ pub fn write_text_fault(
     ensures memory { OnErr result (out.new.items ≡ out.old.items) }
 {
     append(out, text_fault_line(alloc, line, reason))
+}
+
+// Appends one line of a report.
+fn write_line(alloc: Global, out: &mut Vec<u8>, line: &ReportLine) -> Result<(), NoMemory>
+    ensures { OnOk result (out.new.items ≡ out.old.items ++ line_text line.now) }
+{
+    match line {
+        ReportLine::Module { name, line } => write_module(alloc, out, name.as_slice(), *line),
+        ReportLine::Call { number, line } => write_call(alloc, out, *number, *line),
+    }
+}
+
+/// The text of a report: its lines one after the other. Source: `specs/Lines.antt`, `report_text`.
+///
+/// # Errors
+///
+/// `NoMemory` where memory is refused.
+pub fn report_text(alloc: Global, lines: &[ReportLine]) -> Result<Vec<u8>, NoMemory>
+    ensures { IfOk result (λ text. text.items ≡ report_text lines.now) }
+{
+    let mut text = Vec::new(alloc);
+    for line in lines {
+        write_line(alloc, &mut text, line)?;
+    }
+    Ok(text)
 }

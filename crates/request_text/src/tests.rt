@@ -1,13 +1,11 @@
-// Texts and what is read from them, and lines of the report.
-
-use crate::parser::parse;
-use crate::report::{CallLine, ModuleLine, write_call, write_module, write_text_fault};
-use crate::request::{
-    Directive, MOST_BYTES, MOST_CALLS, MOST_MODULES, ParseFault, Reason, Requests,
+//! Texts and what is read from them, and lines of the report.
+use crate::{
+    CallLine, Directive, MOST_BYTES, MOST_CALLS, MOST_MODULES, ModuleLine, ParseFault, Reason,
+    Requests, parse, write_call, write_module, write_text_fault,
 };
 use std::alloc::{AllocError, Global};
 use std::test::Fail;
-use wasm_types::outcome::{Outcome, TrapKind, Val};
+use wasm_types::{Outcome, TrapKind, Val};
 
 // Pushes a directive as one line: a module's name and bytes, or a call's place, export, fuel and arguments.
 fn push_directive(text: &mut String, directive: &Directive) -> Result<(), AllocError> {

@@ -1,10 +1,9 @@
-// The words of a line.
-
+//! The words of a line.
 ghost use Rattle.std.specs.Prelude.{◌≡◌, ◌==◌, ◌≤◌, not, [], ◌∷◌, length, take, drop, position, MatchOption, IfSome};
 ghost use Rattle.std.specs.List.{position_or_len};
 ghost use Rattle.request_text.specs.Text.{line_words, is_skipped};
 
-/// Where the first word of a line begins, if the line has one.
+// Where the first word of a line begins, if the line has one.
 fn word_start(line: &[u8]) -> Option<usize>
     ensures place { result ≡ position (λ b. not (b == 32)) line.now }
     ensures within { IfSome result (λ start. start ≤ length line.now) }
@@ -12,7 +11,7 @@ fn word_start(line: &[u8]) -> Option<usize>
     line.iter().position(|byte| *byte != b' ')
 }
 
-/// Where the first space of a text is, if it has one.
+// Where the first space of a text is, if it has one.
 fn first_space(text: &[u8]) -> Option<usize>
     ensures place { result ≡ position (λ b. b == 32) text.now }
     ensures within { IfSome result (λ end. end ≤ length text.now) }
@@ -20,7 +19,7 @@ fn first_space(text: &[u8]) -> Option<usize>
     text.iter().position(|byte| *byte == b' ')
 }
 
-/// The word with which a text begins, and what follows it.
+// The word with which a text begins, and what follows it.
 fn split_word(text: &[u8]) -> (&[u8], &[u8])
     ensures word { result.0.now ≡ take (position_or_len (λ b. b == 32) text.now) text.now }
     ensures rest { result.1.now ≡ drop (position_or_len (λ b. b == 32) text.now) text.now }
@@ -29,8 +28,8 @@ fn split_word(text: &[u8]) -> (&[u8], &[u8])
     text.split_at(end)
 }
 
-/// The first word of a line, and what follows it.
-pub fn next_word(line: &[u8]) -> Option<(&[u8], &[u8])>
+// The first word of a line, and what follows it.
+pub(crate) fn next_word(line: &[u8]) -> Option<(&[u8], &[u8])>
     ensures { MatchOption result (line_words line.now ≡ [])
         (λ r. line_words line.now ≡ r.0.now ∷ line_words r.1.now) }
 {
@@ -38,8 +37,8 @@ pub fn next_word(line: &[u8]) -> Option<(&[u8], &[u8])>
     Some(split_word(&line[start..]))
 }
 
-/// Whether a line asks for nothing: it is a comment or has no words.
-pub fn is_skipped(line: &[u8]) -> bool
+// Whether a line asks for nothing: it is a comment or has no words.
+pub(crate) fn is_skipped(line: &[u8]) -> bool
     ensures { result ≡ is_skipped line.now }
 {
     line.first() == Some(&b'#') || next_word(line).is_none()

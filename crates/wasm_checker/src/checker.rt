@@ -67,18 +67,7 @@ fn height(n: usize) -> Result<u32, AllocError>
     ensures is { IfOk result (λ h. h ≡ n) }
     ensures refused { IsErr result → 2 ^ 32 ≤ n }
 {
-    if n < 4294967296 {
-        Ok(n as u32)
-    } else {
-        Err(AllocError)
-    }
-}
-
-// The larger of two numbers.
-fn larger(a: u32, b: u32) -> u32
-    ensures { result ≡ max a b }
-{
-    if a < b { b } else { a }
+    u32::try_from(n).map_err(|_| AllocError)
 }
 
 impl Checker {
@@ -138,7 +127,7 @@ impl Checker {
     {
         self.operands.push(t)?;
         let height = height(self.operands.len())?;
-        self.peak_operands = larger(self.peak_operands, height);
+        self.peak_operands = self.peak_operands.max(height);
         Ok(())
     }
 
@@ -182,7 +171,7 @@ impl Checker {
             after: self.place,
         })?;
         let depth = height(self.frames.len() + 1)?;
-        self.peak_labels = larger(self.peak_labels, depth);
+        self.peak_labels = self.peak_labels.max(depth);
         self.base = self.operands.len();
         self.unreachable = false;
         self.sequence = sequence;

@@ -12,10 +12,8 @@ use wasm_types::{FuncType, Function, GlobalType, Module, ValType};
 pub fn function_type(m: &Module, x: u32) -> Option<&FuncType>
     ensures { option_copied result ≡ typing.function_type (module_tree m.now) x }
 {
-    match m.functions.as_slice().get(x as usize) {
-        Some(f) => m.types.as_slice().get(f.type_index as usize),
-        None => None,
-    }
+    let f = m.functions.as_slice().get(x as usize)?;
+    m.types.as_slice().get(f.type_index as usize)
 }
 
 /// A type of the module.
@@ -37,10 +35,8 @@ pub(crate) fn single_result(t: &FuncType) -> Option<ValType>
 pub(crate) fn global_type(m: &Module, x: u32) -> Option<GlobalType>
     ensures { result ≡ typing.global_type (module_tree m.now) x }
 {
-    match m.globals.as_slice().get(x as usize) {
-        Some(g) => Some(g.global_type),
-        None => None,
-    }
+    let g = m.globals.as_slice().get(x as usize)?;
+    Some(g.global_type)
 }
 
 /// The types of a function's parameters; none where it names no type.

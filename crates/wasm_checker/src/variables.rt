@@ -13,55 +13,43 @@ impl Checker {
     pub(crate) fn local_get(&mut self, t: Option<ValType>) -> Result<(), CheckFault>
         ensures { Applies (λ _. typing.local_get t) self.old result self.new }
     {
-        match t {
-            Some(t) => self.operate(&[], Some(t)),
-            None => Err(CheckFault::Invalid),
-        }
+        let t = t.ok_or(CheckFault::Invalid)?;
+        self.operate(&[], Some(t))
     }
 
     /// A write of a local of this type.
     pub(crate) fn local_set(&mut self, t: Option<ValType>) -> Result<(), CheckFault>
         ensures { Applies (λ _. typing.local_set t) self.old result self.new }
     {
-        match t {
-            Some(t) => self.operate(&[t], None),
-            None => Err(CheckFault::Invalid),
-        }
+        let t = t.ok_or(CheckFault::Invalid)?;
+        self.operate(&[t], None)
     }
 
     /// A write of a local of this type, which leaves the value.
     pub(crate) fn local_tee(&mut self, t: Option<ValType>) -> Result<(), CheckFault>
         ensures { Applies (λ _. typing.local_tee t) self.old result self.new }
     {
-        match t {
-            Some(t) => self.operate(&[t], Some(t)),
-            None => Err(CheckFault::Invalid),
-        }
+        let t = t.ok_or(CheckFault::Invalid)?;
+        self.operate(&[t], Some(t))
     }
 
     /// A read of a global of this type.
     pub(crate) fn global_get(&mut self, g: Option<GlobalType>) -> Result<(), CheckFault>
         ensures { Applies (λ _. typing.global_get g) self.old result self.new }
     {
-        match g {
-            Some(g) => self.operate(&[], Some(g.value)),
-            None => Err(CheckFault::Invalid),
-        }
+        let g = g.ok_or(CheckFault::Invalid)?;
+        self.operate(&[], Some(g.value))
     }
 
     /// A write of a global of this type, which has to be a variable.
     pub(crate) fn global_set(&mut self, g: Option<GlobalType>) -> Result<(), CheckFault>
         ensures { Applies (λ _. typing.global_set g) self.old result self.new }
     {
-        match g {
-            Some(g) => {
-                if g.mutable {
-                    self.operate(&[g.value], None)
-                } else {
-                    Err(CheckFault::Invalid)
-                }
-            }
-            None => Err(CheckFault::Invalid),
+        let g = g.ok_or(CheckFault::Invalid)?;
+        if g.mutable {
+            self.operate(&[g.value], None)
+        } else {
+            Err(CheckFault::Invalid)
         }
     }
 }

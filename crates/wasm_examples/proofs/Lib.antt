@@ -1,4 +1,5 @@
 pub mod Modules
+pub mod SequenceExamples
 pub mod CallExamples
 pub mod NumberExamples
 pub mod GrammarExamples
@@ -6,6 +7,7 @@ pub mod SpelledModule
 pub mod OperatorExamples
 pub mod ControlExamples
 pub mod TypingExamples
+pub mod TypingRows
 pub mod LoadingExamples
 pub mod NeedExamples
 pub mod ValidityExamples

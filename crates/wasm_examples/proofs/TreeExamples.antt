@@ -24,7 +24,6 @@ use Rattle.wasm_spec.specs.Operators.{binary_digits}
 use Rattle.wasm_spec.specs.Execution.{exec}
 use Rattle.wasm_spec.specs.Result.{CallResult, call_result}
 use Rattle.wasm_spec.specs.Need.{need}
-
 use Rattle.wasm_examples.proofs.Modules.{add_module, bump_module, poke_module, wrap_module, grown_module, grow_module, div_module, indirect_module, recursive_module, start_module, spin_module, misfit_module, count_module, next_module}
 
 add-is : add_module ≡ record {

@@ -129,10 +129,10 @@ an_import_is_unsupported s = let e = s.no_import in cc (e)
 two_results : IsValid (record whole { types = empty_type ∷ function_type [] (type.I32 ∷ type.I32 ∷ []) ∷ [] }) → ⊥
 two_results v = let few = v.function_types 1 empty_type (omega arith) in omega (arith, few)
 
-no_such_type : IsValid (record whole { functions = the_function ∷ function_of 2 End ∷ []}) → ⊥
+no_such_type : IsValid (record whole { functions = the_function ∷ function_of 2 End ∷ [] }) → ⊥
 no_such_type v = let there = (v.functions 1 the_function (omega arith)).0 in cc (there)
 
-untyped_body : IsValid (record whole { functions = the_function ∷ function_of 1 End ∷ []}) → ⊥
+untyped_body : IsValid (record whole { functions = the_function ∷ function_of 1 End ∷ [] }) → ⊥
 untyped_body v = let body = (v.functions 1 the_function (omega arith)).1 in cc (body)
 
 two_tables : IsValid (record whole { tables = range 2 None ∷ range 2 None ∷ [] }) → ⊥

@@ -29,7 +29,7 @@ pub all_same_is : (ts us : List ValType) → all_same ts us ≡ true → ts ≡ 
 all_same_is [] [] e = refl
 all_same_is [] (u ∷ us) e = absurd (cc)
 all_same_is (t ∷ ts) [] e = absurd (cc)
-all_same_is (t ∷ ts) (u ∷ us) e = 
+all_same_is (t ∷ ts) (u ∷ us) e =
     let first : same t u ≡ true = grind (arith, e) in
     let rest : all_same ts us ≡ true = grind (arith, e) in
     let t_is = same_is t u first in let ts_are = all_same_is ts us rest in cc
@@ -42,7 +42,7 @@ pointwise_same test is (t ∷ ts) [] = refl
 pointwise_same test is (t ∷ ts) (u ∷ us) = ap (λ (b : Bool). b && pointwise test ts us) (is t u) ∙ ap (λ (b : Bool). same t u && b) (pointwise_same test is ts us)
 
 pub same_type_is : (t u : FuncType) → same_type t u ≡ true → (t.params ≡ u.params) × (t.results ≡ u.results)
-same_type_is t u e = 
+same_type_is t u e =
     let params : all_same t.params u.params ≡ true = grind (arith, e) in
     let results : all_same t.results u.results ≡ true = grind (arith, e) in
     (all_same_is t.params u.params params, all_same_is t.results u.results results)

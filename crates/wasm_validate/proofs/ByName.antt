@@ -9,7 +9,7 @@ use Rattle.std.specs.Ordering.{is_eq, is_lt, ordering_index, ordering_reverse}
 use Rattle.std.specs.declared.cmp.Ordering.{Ordering}
 use Rattle.std.specs.declared.cmp.Ordering.TheVariants.{Less, Equal, Greater}
 use Rattle.std.proofs.lemmas.Cmp.{nat_list_cmp_total}
-use Rattle.std.proofs.lemmas.Bool.{cases_order}
+use Rattle.std.proofs.lemmas.Bool.{cases_order, false_from_ne_true}
 use Rattle.std.proofs.lemmas.List.{get_or-map, length-map, get_or_default}
 use Rattle.std.proofs.lemmas.List.FromFn.{length-range_with_len, get_or-range_with_len, fill_by_all}
 use Rattle.std.proofs.lemmas.List.Sorted.{IsPermutation-map, Contains-permutation, IsPermutation-sym, searchable_from_sorted}
@@ -30,15 +30,11 @@ equal_names xs ys e = (bytes_eq-Decides xs ys).0 (sym (is_eq-slice_cmp xs ys) �
 same_compare : (xs ys : List ℕ) → xs ≡ ys → is_eq (compare xs ys) ≡ true
 same_compare xs ys e = is_eq-slice_cmp xs ys ∙ (bytes_eq-Decides xs ys).1 e
 
-different : (b : Bool) → (b ≡ true → ⊥) → b ≡ false
-different true h = absurd (h refl)
-different false h = refl
-
 abbrev same : List ℕ → List ℕ → Bool
 same xs ys = is_eq (compare xs ys)
 
 same_not : (xs ys : List ℕ) → xs ≢ ys → same xs ys ≡ false
-same_not xs ys h = different (same xs ys) (λ t. h ((bytes_eq-Decides xs ys).0 (sym (is_eq-slice_cmp xs ys) ∙ t)))
+same_not xs ys h = false_from_ne_true (same xs ys) (λ t. h ((bytes_eq-Decides xs ys).0 (sym (is_eq-slice_cmp xs ys) ∙ t)))
 
 reversed : (o : Ordering) → is_eq (ordering_reverse o) ≡ is_eq o
 reversed Less = refl
@@ -75,13 +71,13 @@ module _ (exports : List Export) where
   -- exports of different names have different names in a list
   distinct_names : AllPairs (λ a b. a.name ≢ b.name) exports → IsDistinct same names
   distinct_names all = IsDistinct-from_apart same names (λ i j d lt le. ⊎_elim
-    (λ a.
-        let within : j < length exports = omega (arith, length-map exports (λ e. e.name)) in
-        let x = get_or-map (λ (e : Export). e.name) exports i a.0 d (omega arith) in
-        let y = get_or-map (λ (e : Export). e.name) exports j a.0 d within in
-        ap (λ n. same n (get_or names j d)) x ∙ ap (λ n. same (get_or exports i a.0).name n) y ∙ same_not (get_or exports i a.0).name (get_or exports j a.0).name (all i j a.0 lt within))
-    (λ b. absurd (omega (arith, b.0, length-map exports (λ e. e.name))))
-    (slice_get_cases exports j).1)
+      (λ a.
+      let within : j < length exports = omega (arith, length-map exports (λ e. e.name)) in
+      let x = get_or-map (λ (e : Export). e.name) exports i a.0 d (omega arith) in
+      let y = get_or-map (λ (e : Export). e.name) exports j a.0 d within in
+      ap (λ n. same n (get_or names j d)) x ∙ ap (λ n. same (get_or exports i a.0).name n) y ∙ same_not (get_or exports i a.0).name (get_or exports j a.0).name (all i j a.0 lt within))
+      (λ b. absurd (omega (arith, b.0, length-map exports (λ e. e.name))))
+      (slice_get_cases exports j).1)
 
   pairs_from : IsDistinct same names → AllPairs (λ a b. a.name ≢ b.name) exports
   pairs_from h i j d lt le e =
@@ -94,10 +90,10 @@ module _ (exports : List Export) where
   module _ (numbers : List ℕ) where
     strict : Rise exports numbers (length numbers) → IsStrictlySortedBy compare (names_of numbers)
     strict h = sorted_from_all_adjacent nat_list_cmp_total (names_of numbers) [] (λ k lt.
-      let within : k + 1 < length numbers = omega (arith, length-map numbers (name_of exports)) in
-      let x = get_or-map (name_of exports) numbers k 0 [] (omega arith) in
-      let y = get_or-map (name_of exports) numbers (k + 1) 0 [] within in
-      ap (λ n. compare n (get_or (names_of numbers) (k + 1) [])) x ∙ ap (λ n. compare (name_of exports (get_or numbers k 0)) n) y ∙ h k 0 within)
+        let within : k + 1 < length numbers = omega (arith, length-map numbers (name_of exports)) in
+        let x = get_or-map (name_of exports) numbers k 0 [] (omega arith) in
+        let y = get_or-map (name_of exports) numbers (k + 1) 0 [] within in
+        ap (λ n. compare n (get_or (names_of numbers) (k + 1) [])) x ∙ ap (λ n. compare (name_of exports (get_or numbers k 0)) n) y ∙ h k 0 within)
 
     module _ (all : IsPermutation (range_with_len 0 (length exports)) numbers) where
       shuffled : IsPermutation names (names_of numbers)
@@ -121,7 +117,7 @@ module _ (exports : List Export) where
     module _ (h : AreByName exports numbers) (name : List ℕ) where
       pub searchable : IsNonDecreasingBy (λ i. ordering_index (compare (name_of exports i) name)) numbers
       searchable = searchable_from_sorted nat_list_cmp_total (name_of exports) numbers name (λ k d ge lt.
-        ap is_lt (nat_list_cmp_total.antisymm (name_of exports (get_or numbers (k + 1) d)) (name_of exports (get_or numbers k d)) ∙ ap ordering_reverse (h.rise k d lt)))
+          ap is_lt (nat_list_cmp_total.antisymm (name_of exports (get_or numbers (k + 1) d)) (name_of exports (get_or numbers k d)) ∙ ap ordering_reverse (h.rise k d lt)))
 
       -- where an export stands in the list
       record Place (j : ℕ) : Type 0 where

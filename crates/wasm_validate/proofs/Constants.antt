@@ -8,11 +8,7 @@ use Rattle.wasm_types.specs.declared.instr.Op.TheVariants as op
 use Rattle.wasm_types.specs.Tree.{Code, End, code_of, codes, expr_tree}
 use Rattle.wasm_spec.specs.Validity.{single_instruction}
 use Rattle.wasm_types.specs.Sequences.{ops_of, earlier}
-use Rattle.wasm_types.proofs.SequenceLemmas.{tree_is}
-
--- the outermost sequence is an expression's tree
-pub outermost : (e : Expr) (q : ℕ) → q ≡ length e.sequences - 1 → code_of (earlier e q) (ops_of e q) ≡ expr_tree e
-outermost e q at = sym (tree_is e q) ∙ ap (λ (n : ℕ). get_or (codes e) n End) at
+use Rattle.wasm_types.proofs.SequenceLemmas.{outermost}
 
 single_of : (before : List Code) (ops : List Op) (i : Instr) → slice_get ops 0 ≡ Some (op.Plain i) → slice_get ops 1 ≡ None → single_instruction (code_of before ops) ≡ Some i
 single_of before [] i first none = cc

@@ -9,7 +9,9 @@ ghost use Rattle.wasm_validate.specs.Floats as floats;
 ghost use Rattle.std.specs.List.{list_any};
 
 use std::alloc::{AllocError, Global};
-use wasm_types::{DataSegment, ElementSegment, Expr, FuncType, Function, Instr, LocalRun, Module, Op, ValType};
+use wasm_types::{
+    DataSegment, ElementSegment, Expr, FuncType, Function, Instr, LocalRun, Module, Op, ValType,
+};
 
 fn is_float(t: ValType) -> bool
     ensures { result ≡ validity.is_float t }

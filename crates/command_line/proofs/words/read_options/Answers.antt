@@ -1,6 +1,7 @@
-use Rattle.std.proofs.Common.{◌∙◌, List, rules, sym, subst, map, true≢false}
+use Rattle.std.proofs.Common.{◌≡◌, ◌∙◌, List, rules, sym, subst, map, true≢false}
 use Rattle.clap.specs.Words.{App, HasKind, Text, app_of, fault_of}
 use Rattle.command_line.specs.Options.{IsInRange}
+use Rattle.command_line.specs.declared.words.WordsFault.TheVariants.{NoMemory, Refused}
 use Rattle.command_line.proofs.ParsedWords.{at_poolhost, has_shared_slots, lacking, not_accepted, run_parsed, run_rows, sharing}
 use Rattle.command_line.proofs.words.read_options.Goals as goal
 
@@ -9,7 +10,9 @@ returns-in-Err-clause-refused c h =
     let words : List Text = map (λ w. w.now) c.args.words.now in
     not_accepted words c.in-Err.error
     (at_poolhost (app_of c.in_ok-command.command) (λ (a : App). HasKind (fault_of a words) c.in-Err.error) c.in_ok-command.ensures.app c.in-Err.ensures.kinds)
-    (λ memory. c.fault_of_kind.ensures (search rules) (c.kind.ensures ∙ memory))
+    (λ memory.
+    let refused : c.fault_of_kind.result ≡ Refused = search rules in
+    let short : c.fault_of_kind.result ≡ NoMemory = c.fault_of_kind.ensures.1 (c.kind.ensures ∙ memory) in cc)
 
 pub unreachable-requires : goal.unreachable-requires
 unreachable-requires c =

@@ -4,7 +4,7 @@ use Rattle.wasm_spec.specs.Built.{SpellsBuilt}
 use Rattle.wasm_decode.specs.Decoding.{IsNone}
 use Rattle.wasm_decode.specs.declared.fault.DecodeFault.TheVariants.{Malformed}
 use Rattle.wasm_types.specs.declared.module.Module.{Module}
-use Rattle.pool_host.specs.LoadWords.{limits_of}
+use Rattle.pool_host.specs.LoadWords.{load_limits_of}
 use Rattle.pool_host.proofs.LoadLemmas.{within_limits, past_frame}
 use Rattle.pool_host.proofs.loading.load.Goals as goal
 
@@ -22,7 +22,7 @@ returns-in-Some-clause-refused c =
       (
         valid.supported,
         valid.valid,
-        past_frame (module_tree c.in-Ok.module) (limits_of c.args.limits) _ c.in-Some.function c.in-Some.need spelled.built needs c.in-Some.ensures,
+        past_frame (module_tree c.in-Ok.module) (load_limits_of c.args.limits) _ c.in-Some.function c.in-Some.need spelled.built needs c.in-Some.ensures,
       ),
     )
 
@@ -36,7 +36,7 @@ returns-in-None-clause-loaded c =
       (
         valid.supported,
         valid.valid,
-        within_limits (module_tree c.in-Ok.module) (limits_of c.args.limits) _ spelled.built needs c.in-None.ensures,
+        within_limits (module_tree c.in-Ok.module) (load_limits_of c.args.limits) _ spelled.built needs c.in-None.ensures,
         ap (λ (m : Module). module_tree m) valid.ok,
       ),
     )

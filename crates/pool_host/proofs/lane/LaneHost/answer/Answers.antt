@@ -5,8 +5,7 @@ use Rattle.wasm_spec.specs.Validity.{Exports}
 use Rattle.wasm_spec.specs.Store.{fresh_store}
 use Rattle.wasm_spec.specs.Execution.{RunLimits}
 use Rattle.wasm_spec.specs.Result.{call_result}
-use Rattle.pool_host.specs.CallWords.{IsAnswer, Lane}
-use Rattle.pool_host.specs.declared.lane.LaneAnswer.TheVariants.{Done}
+use Rattle.pool_host.specs.CallWords.{EndsWith, LacksTypes, Lane}
 use Rattle.pool_host.specs.LoadWords.{FitsFrame}
 use Rattle.pool_host.proofs.CallLemmas.{HasFunction, exported_function, function_type_is, is_call, is_done}
 use Rattle.pool_host.proofs.lane.LaneHost.answer.Goals as goal
@@ -24,12 +23,13 @@ pub returns-then-not-fit-clause-answer : goal.returns-then-not-fit-clause-answer
 returns-then-not-fit-clause-answer g c =
     let f : HasFunction (module_tree c.valid-valid.result.now) c.in-Some.function = exported_function (module_tree c.valid-valid.result.now) c.args.export.now c.in-Some.function c.module.ensures.valid c.in-Some.ensures.found in
     let typed = function_type_is (module_tree c.valid-valid.result.now) c.in-Some.function f in
-    rw (← c.valid-valid.ensures.same) (
-      c.in-Some.function,
-      f.type,
-      record { exported = c.in-Some.ensures.found; typed = typed },
-      (λ same. let yes = (c.fit.ensures f.type (rw c.module.ensures.same typed)).1 same in let no : c.fit.result ≡ false = c.if-not-fit.true in cc (yes, no)),
-    )
+    let lacks : LacksTypes (module_tree c.valid-valid.result.now) c.args.export.now c.args.args.now = record {
+      function = c.in-Some.function;
+      type = f.type;
+      exported = record { exported = c.in-Some.ensures.found; typed = typed };
+      differ = λ same. let yes = (c.fit.ensures f.type (rw c.module.ensures.same typed)).1 same in let no : c.fit.result ≡ false = c.if-not-fit.true in cc (yes, no);
+    } in
+    subst (λ (n : Module). LacksTypes (module_tree n) c.args.export.now c.args.args.now) c.valid-valid.ensures.same lacks
 
 pub run-end-requires-clause-call : goal.run-end-requires-clause-call
 run-end-requires-clause-call g c =
@@ -46,14 +46,14 @@ returns-clause-answer g c =
     let f : HasFunction m c.in-Some.function = exported_function m c.args.export.now c.in-Some.function c.module.ensures.valid c.in-Some.ensures.found in
     let typed = function_type_is m c.in-Some.function f in
     let fit = (c.fit.ensures f.type (rw c.module.ensures.same typed)).0 c.if-not-fit.false in
-    let done : IsAnswer m c.args.self.now.limits c.args.export.now c.args.args.now c.args.fuel (Done c.run-end.result.outcome) = (
-      c.in-Some.function,
-      f.type,
-      record { exported = c.in-Some.ensures.found; typed = typed },
-      fit,
-      record { outcome = c.run-end.result.outcome; store = fresh_store m; fuel = c.run-end.result.left },
-      ap (λ (l : RunLimits). call_result m l c.in-Some.function c.args.args.now c.args.fuel) (sym (ap (λ (l : Lane). l.limits) c.self.view_is))
-          ∙ is_done m c.self.inside.limits c.in-Some.function c.args.args.now c.args.fuel c.run-end.result c.module.ensures.built c.run-end.ensures.result,
-      refl,
-    ) in
-    subst (λ (n : Module). IsAnswer (module_tree n) c.args.self.now.limits c.args.export.now c.args.args.now c.args.fuel (Done c.run-end.result.outcome)) c.valid-valid.ensures.same done
+    let done : EndsWith m c.args.self.now.limits c.args.export.now c.args.args.now c.args.fuel c.run-end.result.outcome = record {
+      function = c.in-Some.function;
+      type = f.type;
+      exported = record { exported = c.in-Some.ensures.found; typed = typed };
+      fit = fit;
+      result = record { outcome = c.run-end.result.outcome; store = fresh_store m; fuel = c.run-end.result.left };
+      ends = ap (λ (l : RunLimits). call_result m l c.in-Some.function c.args.args.now c.args.fuel) (sym (ap (λ (l : Lane). l.limits) c.self.view_is))
+          ∙ is_done m c.self.inside.limits c.in-Some.function c.args.args.now c.args.fuel c.run-end.result c.module.ensures.built c.run-end.ensures.result;
+      shows = refl;
+    } in
+    subst (λ (n : Module). EndsWith (module_tree n) c.args.self.now.limits c.args.export.now c.args.args.now c.args.fuel c.run-end.result.outcome) c.valid-valid.ensures.same done

@@ -19,5 +19,5 @@ returns c r k s =
       operands = s.operands ∙ sym (append-nil _);
       frames = cs;
       peak_operands = s.peak_operands;
-      peak_labels = c.larger-self.ensures ∙ opened_labels r k.blocks (frame_of o k.blocks) c.push.new.self.items c.args.self.now.peak_labels k.stack.peak_labels c.in_ok-depth.depth cs (omega (arith, c.len.ensures, c.in_ok-depth.ensures.is)) s.peak_labels;
+      peak_labels = c.max-self.ensures ∙ opened_labels r k.blocks (frame_of o k.blocks) c.push.new.self.items c.args.self.now.peak_labels k.stack.peak_labels c.in_ok-depth.depth cs (omega (arith, c.len.ensures, c.in_ok-depth.ensures.is)) s.peak_labels;
     }

@@ -19,7 +19,7 @@ returns c k s =
         base = s.base;
         operands = e ∙ ap (λ (l : List (Option ValType)). l ++ c.args.t ∷ []) s.operands ∙ sym (top (beneath k.blocks) c.args.t k.stack.operands);
         frames = s.frames;
-        peak_operands = omega (arith, s.peak_operands, n, ap length s.operands, ap length e, length-append c.args.self.now.operands.items (c.args.t ∷ []), c.larger-self.ensures, c.len.ensures, c.in_ok-height.ensures.is);
+        peak_operands = omega (arith, s.peak_operands, n, ap length s.operands, ap length e, length-append c.args.self.now.operands.items (c.args.t ∷ []), c.max-self.ensures, c.len.ensures, c.in_ok-height.ensures.is);
         peak_labels = s.peak_labels;
       };
     }
