@@ -1,3 +1,4 @@
 pub mod WrittenBytes
 pub mod GrownBytes
 pub mod MarkedBlocks
+pub mod Examples

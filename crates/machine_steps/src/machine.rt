@@ -42,6 +42,10 @@ impl Machine {
     ghost use Rattle.machine_steps.specs.PlainSteps.{in_block};
 
     /// A machine with room for so many values and labels, and so many calls. It stands nowhere.
+    ///
+    /// # Errors
+    ///
+    /// `AllocError` where memory was refused.
     pub fn with_room(alloc: Global, entries: usize, calls: usize) -> Result<Machine, AllocError>
         ensures values { IfOk result (λ machine. entries ≤ vec_capacity machine.values) }
         ensures labels { IfOk result (λ machine. entries ≤ vec_capacity machine.labels) }

@@ -16,8 +16,8 @@ pub fn push<T: Drop>(stack: &mut Vec<T>, value: T)
     }
 }
 
-/// Takes the top off.
-pub fn pop(stack: &mut Vec<Val>) -> Val
+// Takes the top off.
+pub(crate) fn pop(stack: &mut Vec<Val>) -> Val
     requires { 0 < length stack.old.items }
     ensures value { (rest : List Val) (x : Val) → stack.old.items ≡ rest ++ x ∷ [] → (stack.new.items ≡ rest) × (result ≡ x) }
     ensures capacity { vec_capacity stack.new ≡ vec_capacity stack.old }

@@ -1,4 +1,4 @@
--- Parts that are typed, and that fit their frames.
+-- Configurations that are typed, and that fit their frames.
 use Rattle.std.specs.Prelude.{◌≡◌, ℕ, ◌+◌, ◌<◌, ◌≤◌, List, [], ◌∷◌, ◌++◌, length, map, slice_get, Some}
 use Rattle.wasm_types.specs.declared.types.ValType.{ValType}
 use Rattle.wasm_types.specs.declared.module.Module.{Module}

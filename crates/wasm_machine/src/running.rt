@@ -20,17 +20,17 @@ use linear_memory::Memory;
 use machine_steps::{Machine, is_jump};
 use wasm_types::{Instr, Module, Op, RunLimits, TrapKind, Val};
 
-/// What a step comes to: the run goes on, is over, or traps.
+// What a step comes to: the run goes on, is over, or traps.
 #[derive(Clone, Copy, Debug, PartialEq, Eq)]
-pub enum Step {
+pub(crate) enum Step {
     Continues,
     Finishes,
     Traps(TrapKind),
 }
 
-/// How a run halts: at its end, by a trap, or for want of fuel, and the fuel that is left.
+// How a run halts: at its end, by a trap, or for want of fuel, and the fuel that is left.
 #[derive(Clone, Copy, Debug, PartialEq, Eq)]
-pub enum Halt {
+pub(crate) enum Halt {
     Done(u64),
     Trapped(TrapKind, u64),
     OutOfFuel,
