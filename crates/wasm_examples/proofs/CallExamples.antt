@@ -9,11 +9,11 @@ use Rattle.wasm_types.specs.declared.outcome.Outcome.TheVariants.{Done, Trap, Fu
 use Rattle.wasm_types.specs.declared.instr.Width.TheVariants.{W32}
 use Rattle.wasm_types.specs.declared.instr.PackSize.TheVariants.{Pack8}
 use Rattle.wasm_types.specs.declared.instr.Instr.TheVariants as instr
-use Rattle.wasm_types.specs.Tree.{Code, End, Block, Call, CallIndirect, ModuleTree}
+use Rattle.wasm_types.specs.Tree.{Code, End, Block, Loop, Call, CallIndirect, ModuleTree}
 use Rattle.wasm_spec.specs.Store.{Store, Data, first_misfit, fresh_store}
 use Rattle.wasm_spec.specs.Execution.{most_pages, exec}
 use Rattle.wasm_spec.specs.Result.{CallResult, call_result}
-use Rattle.wasm_examples.proofs.Modules.{straight, i32_const, i32_add, i32_sub, function_type, function_of, at_least, bare, paged, empty_type, unary_type, binary_type, constant_type, add_module, bump_module, poke_module, wrap_module, grown_module, grow_module, div_module, indirect_module, recursive_module, count_module, next_module, start_module, spin_module, misfit_module, overlap_module}
+use Rattle.wasm_examples.proofs.Modules.{straight, i32_const, i32_add, i32_sub, i32_load, function_type, function_of, at_least, bare, paged, empty_type, unary_type, binary_type, constant_type, add_module, bump_module, poke_module, wrap_module, grown_module, grow_module, div_module, indirect_module, recursive_module, count_module, next_module, start_module, spin_module, misfit_module, overlap_module}
 
 abbrev ending : Option CallResult → Option (Outcome × ℕ)
 ending None = None
@@ -329,6 +329,27 @@ branch-past_a_block : called (bare (constant_type ∷ []) (function_of 0 past_co
 unfolding exec
 branch-past_a_block = refl
 
+-- a branch to a loop takes nothing, whatever the loop gives at its end
+abbrev loop_code : Code
+loop_code = Loop (Some type.I32) (straight (instr.LocalGet 0 ∷ i32_const 1 ∷ i32_sub ∷ instr.LocalTee 0 ∷ instr.BrIf 0 ∷ i32_const 9 ∷ []) End) End
+
+loop-is_entered_again_with_nothing : called (bare (unary_type ∷ []) (function_of 0 loop_code ∷ []) []) 0 (I32 2 ∷ []) 13 ≡ gives 9 0
+unfolding exec
+loop-is_entered_again_with_nothing = refl
+
+-- ---- loads at the end of memory
+
+abbrev peek_module : ModuleTree
+peek_module = paged (unary_type ∷ []) (function_of 0 (straight (instr.LocalGet 0 ∷ i32_load 2 ∷ []) End) ∷ []) []
+
+peek-at_the_end : called peek_module 0 (I32 65530 ∷ []) 100 ≡ gives 0 98
+unfolding exec
+peek-at_the_end = refl
+
+peek-past_the_end : called peek_module 0 (I32 65531 ∷ []) 100 ≡ Some (Trap trap.Memory, 98)
+unfolding exec
+peek-past_the_end = refl
+
 -- ---- what a call leaves
 
 abbrev left_in : (Store → List ℕ) → Option CallResult → List ℕ
@@ -388,6 +409,22 @@ global_left (Some r) = r.store.globals
 start-keeps_its_store : global_left (call_result started_module (record { pages = 0; depth = 1 }) 0 [] 3) ≡ I32 5 ∷ []
 unfolding exec
 start-keeps_its_store = refl
+
+-- an export that needs no fuel isn't run behind a start function that traps or runs out
+abbrev empty_export : ModuleTree → ModuleTree
+empty_export m = record m { functions = m.functions ++ function_of 0 End ∷ [] }
+
+start-that_traps_is_the_outcome : called (empty_export start_module) 1 [] 10 ≡ Some (Trap trap.Unreachable, 9)
+unfolding exec
+start-that_traps_is_the_outcome = refl
+
+start-that_runs_out_is_the_outcome : called (empty_export spin_module) 1 [] 10 ≡ out_of_fuel
+unfolding exec
+start-that_runs_out_is_the_outcome = refl
+
+empty_export-needs_no_fuel : called (record (empty_export spin_module) { start = None }) 1 [] 0 ≡ Some (Done None, 0)
+unfolding exec
+empty_export-needs_no_fuel = refl
 
 -- ---- the fresh store
 

@@ -2,7 +2,7 @@
 use Rattle.std.proofs.Common.{◌≡◌, ◌≢◌, ◌≤◌, List, [], ◌∷◌, true, Some, None, length, refl, arith}
 use Rattle.std.specs.Prelude.{AllPairs}
 use Rattle.std.proofs.lemmas.List.Elements.{All-nil, All-cons}
-use Rattle.wasm_types.specs.declared.types.ValType.TheVariants.{I32, F32}
+use Rattle.wasm_types.specs.declared.types.ValType.TheVariants.{I32, I64, F32}
 use Rattle.wasm_types.specs.declared.types.FuncType.{FuncType}
 use Rattle.wasm_types.specs.declared.outcome.Val.TheVariants as val
 use Rattle.wasm_types.specs.declared.instr.Width.TheVariants.{W32}
@@ -122,3 +122,10 @@ unreached_add_need = refl
 
 unreachable_need : need (module_of nothing_to_i32 unreached_add []) (function_of (Plain instr.Unreachable End)) ≡ 1
 unreachable_need = refl
+
+-- declared locals are numbered behind the parameters
+abbrev last_local : FunctionTree
+last_local = record { type_index = 0; locals = I64 ∷ []; body = Plain (instr.LocalGet 1) End }
+
+last_local_typed : IsTypedFunction (module_of (record { params = I32 ∷ []; results = I64 ∷ [] }) last_local []) last_local
+last_local_typed = (refl, (I64 ∷ [], ([], refl, refl), refl))
