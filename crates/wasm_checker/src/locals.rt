@@ -1,6 +1,6 @@
 //! A function's parameters and declared locals, which are numbered together.
 
-ghost use Rattle.std.specs.Prelude.{◌≡◌, ◌≤◌, ◌<◌, ◌++◌, ◌^◌, ◌+◌, ℕ, List, length, IfOk, slice_get};
+ghost use Rattle.std.specs.Prelude.{◌≡◌, ◌≤◌, ◌<◌, ◌++◌, ◌^◌, ◌+◌, ℕ, List, length, IfOk, IsErr, slice_get};
 ghost use Rattle.std.specs.List.{flat_map};
 ghost use Rattle.wasm_types.specs.Tree.{locals_of};
 ghost use Rattle.wasm_checker.specs.Runs.{ends_from};
@@ -48,7 +48,7 @@ impl<'a> Locals<'a> {
         let mut ends = Vec::new(alloc);
         let mut end = 0u32;
         for run in runs {
-            end = end.checked_add(run.count).ok_or(AllocError)?;
+            end = end_of(end, run.count)?;
             ends.push(end)?;
         }
         Ok(Locals { params, runs, ends })
@@ -75,6 +75,14 @@ impl<'a> Locals<'a> {
         let declared = self.ends.as_slice().last().copied().unwrap_or(0);
         self.params.len() as u64 + declared as u64
     }
+}
+
+// Where a run of locals ends. 2^32 of them, which no spelled module has, are taken as want of memory.
+fn end_of(start: u32, count: u32) -> Result<u32, AllocError>
+    ensures is { IfOk result (λ end. end ≡ start + count) }
+    ensures refused { IsErr result → 2 ^ 32 ≤ start + count }
+{
+    start.checked_add(count).ok_or(AllocError)
 }
 
 // The type of a declared local.

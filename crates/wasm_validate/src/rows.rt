@@ -48,55 +48,19 @@ pub(crate) enum Step {
 
 pub(crate) type Row = (&'static str, u32, &'static [&'static [Step]], Option<u64>);
 
-/// Bodies in a module with a memory and a table.
-pub(crate) static BODIES: [Row; 101] = [
-    ("nop", 3, &[&[Nop]], Some(3)),
-    ("nothing", 3, &[&[]], Some(3)),
-    ("operand left", 3, &[&[I32(1)]], None),
-    ("no result", 0, &[&[]], None),
+/// Bodies of operands and numbers.
+pub(crate) static OPERANDS: [Row; 14] = [
     ("one result", 0, &[&[I32(1)]], Some(4)),
     ("result of another type", 0, &[&[I64(1)]], None),
     ("two results", 0, &[&[I32(1), I32(2)]], None),
     ("unreachable gives any", 0, &[&[Unreachable]], Some(3)),
-    (
-        "unreachable takes any",
-        0,
-        &[&[I32(1), I64(2), Unreachable]],
-        Some(5),
-    ),
     (
         "operand after unreachable",
         0,
         &[&[Unreachable, I64(1)]],
         None,
     ),
-    (
-        "two after unreachable",
-        0,
-        &[&[Unreachable, I32(1), I32(2)]],
-        None,
-    ),
-    (
-        "add after unreachable",
-        0,
-        &[&[Unreachable, Binary(Width::W32)]],
-        Some(4),
-    ),
-    (
-        "mixed add after unreachable",
-        0,
-        &[&[Unreachable, I64(0), Binary(Width::W32)]],
-        None,
-    ),
-    ("drop", 3, &[&[I32(1), Drop]], Some(4)),
     ("drop nothing", 3, &[&[Drop]], None),
-    (
-        "drop after unreachable",
-        3,
-        &[&[Unreachable, Drop, Drop]],
-        Some(3),
-    ),
-    ("select", 0, &[&[I32(1), I32(2), I32(3), Select]], Some(6)),
     (
         "select of 64",
         2,
@@ -109,59 +73,26 @@ pub(crate) static BODIES: [Row; 101] = [
         &[&[I32(1), I64(2), I32(3), Select]],
         None,
     ),
+    ("return drops", 0, &[&[I64(7), I32(1), Return]], Some(5)),
+    ("eqz 64", 0, &[&[I64(1), Eqz(Width::W64)]], Some(4)),
     (
-        "select by 64",
+        "compare mixed",
         0,
-        &[&[I32(1), I32(2), I64(3), Select]],
+        &[&[I64(1), I32(2), Compare(Width::W64)]],
         None,
     ),
-    (
-        "select after unreachable",
-        0,
-        &[&[Unreachable, Select]],
-        Some(4),
-    ),
-    (
-        "select after unreachable 64",
-        2,
-        &[&[Unreachable, I64(1), I32(0), Select]],
-        Some(5),
-    ),
-    (
-        "select gives its type",
-        0,
-        &[&[Unreachable, I64(1), I32(0), Select]],
-        None,
-    ),
-    ("local get", 0, &[&[LocalGet(0)]], Some(4)),
+    ("clz 64", 2, &[&[I64(1), Unary(Width::W64)]], Some(4)),
+    ("wrap", 0, &[&[I64(1), Wrap]], Some(4)),
+    ("extend of 64", 2, &[&[I64(1), Extend(Sign::Signed)]], None),
+];
+
+/// Bodies that read and write locals, globals and the memory.
+pub(crate) static VARIABLES: [Row; 12] = [
     ("local get of another type", 0, &[&[LocalGet(1)]], None),
-    ("local get past the last", 3, &[&[LocalGet(2), Drop]], None),
     ("local set", 3, &[&[I32(1), LocalSet(0)]], Some(4)),
-    (
-        "local set of another type",
-        3,
-        &[&[I32(1), LocalSet(1)]],
-        None,
-    ),
     ("local tee", 2, &[&[I64(1), LocalTee(1)]], Some(4)),
-    ("local tee of nothing", 0, &[&[LocalTee(0)]], None),
-    ("global get", 0, &[&[GlobalGet(0)]], Some(4)),
     ("global get constant", 2, &[&[GlobalGet(1)]], Some(4)),
-    (
-        "global get past the last",
-        3,
-        &[&[GlobalGet(2), Drop]],
-        None,
-    ),
-    ("global set", 3, &[&[I32(1), GlobalSet(0)]], Some(4)),
     ("global set constant", 3, &[&[I64(1), GlobalSet(1)]], None),
-    (
-        "global set of another type",
-        3,
-        &[&[I64(1), GlobalSet(0)]],
-        None,
-    ),
-    ("load", 0, &[&[I32(0), Load(Width::W32, 2)]], Some(4)),
     (
         "load over aligned",
         0,
@@ -170,12 +101,6 @@ pub(crate) static BODIES: [Row; 101] = [
     ),
     ("load 64", 2, &[&[I32(0), Load(Width::W64, 3)]], Some(4)),
     (
-        "load 64 over aligned",
-        2,
-        &[&[I32(0), Load(Width::W64, 4)]],
-        None,
-    ),
-    (
         "load8 aligned",
         2,
         &[&[
@@ -183,67 +108,6 @@ pub(crate) static BODIES: [Row; 101] = [
             LoadPacked(Width::W64, PackSize::Pack8, Sign::Signed, 0),
         ]],
         Some(4),
-    ),
-    (
-        "load8 over aligned",
-        2,
-        &[&[
-            I32(0),
-            LoadPacked(Width::W64, PackSize::Pack8, Sign::Signed, 1),
-        ]],
-        None,
-    ),
-    (
-        "load16 over aligned",
-        0,
-        &[&[
-            I32(0),
-            LoadPacked(Width::W32, PackSize::Pack16, Sign::Unsigned, 2),
-        ]],
-        None,
-    ),
-    (
-        "load32 aligned",
-        2,
-        &[&[
-            I32(0),
-            LoadPacked(Width::W64, PackSize::Pack32, Sign::Unsigned, 2),
-        ]],
-        Some(4),
-    ),
-    (
-        "load32 over aligned",
-        2,
-        &[&[
-            I32(0),
-            LoadPacked(Width::W64, PackSize::Pack32, Sign::Unsigned, 3),
-        ]],
-        None,
-    ),
-    ("load at 64", 0, &[&[I64(0), Load(Width::W32, 0)]], None),
-    (
-        "store",
-        3,
-        &[&[I32(0), I32(1), Store(Width::W32, 2)]],
-        Some(5),
-    ),
-    (
-        "store 64",
-        3,
-        &[&[I32(0), I64(1), Store(Width::W64, 3)]],
-        Some(5),
-    ),
-    (
-        "store 64 in 32",
-        3,
-        &[&[I32(0), I64(1), Store(Width::W32, 2)]],
-        None,
-    ),
-    (
-        "store8",
-        3,
-        &[&[I32(0), I64(1), StorePacked(Width::W64, PackSize::Pack8, 0)]],
-        Some(5),
     ),
     (
         "store16 over aligned",
@@ -259,46 +123,10 @@ pub(crate) static BODIES: [Row; 101] = [
     ),
     ("memory size", 0, &[&[MemorySize]], Some(4)),
     ("memory grow", 0, &[&[I32(1), MemoryGrow]], Some(4)),
-    ("memory grow by 64", 0, &[&[I64(1), MemoryGrow]], None),
-    ("eqz", 0, &[&[I32(1), Eqz(Width::W32)]], Some(4)),
-    ("eqz 64", 0, &[&[I64(1), Eqz(Width::W64)]], Some(4)),
-    ("eqz 64 gives 32", 2, &[&[I64(1), Eqz(Width::W64)]], None),
-    (
-        "compare 64",
-        0,
-        &[&[I64(1), I64(2), Compare(Width::W64)]],
-        Some(5),
-    ),
-    (
-        "compare mixed",
-        0,
-        &[&[I64(1), I32(2), Compare(Width::W64)]],
-        None,
-    ),
-    ("clz 64", 2, &[&[I64(1), Unary(Width::W64)]], Some(4)),
-    (
-        "clz of another type",
-        2,
-        &[&[I32(1), Unary(Width::W64)]],
-        None,
-    ),
-    ("rotl", 0, &[&[I32(1), I32(2), Binary(Width::W32)]], Some(5)),
-    ("wrap", 0, &[&[I64(1), Wrap]], Some(4)),
-    ("wrap of 32", 0, &[&[I32(1), Wrap]], None),
-    ("extend", 2, &[&[I32(1), Extend(Sign::Unsigned)]], Some(4)),
-    ("extend of 64", 2, &[&[I64(1), Extend(Sign::Signed)]], None),
-    (
-        "block",
-        0,
-        &[&[I32(1)], &[Block(Some(ValType::I32), 0)]],
-        Some(5),
-    ),
-    (
-        "block without its result",
-        0,
-        &[&[], &[Block(Some(ValType::I32), 0)]],
-        None,
-    ),
+];
+
+/// Bodies with blocks, branches and calls.
+pub(crate) static BRANCHES: [Row; 13] = [
     (
         "block takes from outside",
         0,
@@ -309,25 +137,9 @@ pub(crate) static BODIES: [Row; 101] = [
         None,
     ),
     (
-        "block leaves more",
-        3,
-        &[&[I32(1)], &[Block(None, 0)]],
-        None,
-    ),
-    (
         "loop",
         2,
         &[&[I64(1)], &[Loop(Some(ValType::I64), 0)]],
-        Some(5),
-    ),
-    (
-        "if",
-        0,
-        &[
-            &[I32(1)],
-            &[I32(2)],
-            &[I32(1), If(Some(ValType::I32), 0, 1)],
-        ],
         Some(5),
     ),
     (
@@ -342,23 +154,6 @@ pub(crate) static BODIES: [Row; 101] = [
         &[&[I32(1)], &[], &[I32(1), If(Some(ValType::I32), 0, 1)]],
         None,
     ),
-    ("if by 64", 3, &[&[], &[], &[I64(1), If(None, 0, 1)]], None),
-    (
-        "if with two types",
-        0,
-        &[
-            &[I32(1)],
-            &[I64(2)],
-            &[I32(1), If(Some(ValType::I32), 0, 1)],
-        ],
-        None,
-    ),
-    (
-        "br",
-        0,
-        &[&[I32(1), Br(0)], &[Block(Some(ValType::I32), 0)]],
-        Some(5),
-    ),
     (
         "br drops",
         0,
@@ -366,29 +161,10 @@ pub(crate) static BODIES: [Row; 101] = [
         Some(6),
     ),
     (
-        "br without its value",
-        0,
-        &[&[Br(0)], &[Block(Some(ValType::I32), 0)]],
-        None,
-    ),
-    (
-        "br out",
-        0,
-        &[&[I32(1), Br(1)], &[Block(None, 0), I32(2)]],
-        Some(5),
-    ),
-    ("br past the body", 3, &[&[Br(1)]], None),
-    (
         "br to a loop with a result",
         0,
         &[&[Br(0)], &[Loop(Some(ValType::I32), 0)]],
         Some(5),
-    ),
-    (
-        "br if",
-        0,
-        &[&[I32(1), I32(0), BrIf(0)], &[Block(Some(ValType::I32), 0)]],
-        Some(6),
     ),
     (
         "br if keeps",
@@ -398,19 +174,6 @@ pub(crate) static BODIES: [Row; 101] = [
             &[Block(Some(ValType::I32), 0)],
         ],
         None,
-    ),
-    ("br if by 64", 3, &[&[I64(0), BrIf(0)]], None),
-    (
-        "br if after unreachable",
-        0,
-        &[&[Unreachable, BrIf(0)], &[Block(Some(ValType::I32), 0)]],
-        Some(5),
-    ),
-    (
-        "br table",
-        3,
-        &[&[I32(0), BrTable(&[0, 1, 0], 0)], &[Block(None, 0)]],
-        Some(5),
     ),
     (
         "br table of two types",
@@ -430,21 +193,7 @@ pub(crate) static BODIES: [Row; 101] = [
         ],
         Some(6),
     ),
-    (
-        "br table past the labels",
-        3,
-        &[&[I32(0), BrTable(&[1], 0)]],
-        None,
-    ),
-    ("return", 0, &[&[I32(1), Return]], Some(4)),
-    ("return of another type", 0, &[&[I64(1), Return]], None),
-    ("return drops", 0, &[&[I64(7), I32(1), Return]], Some(5)),
-    (
-        "after return",
-        0,
-        &[&[I32(1), Return, I64(2), Drop]],
-        Some(4),
-    ),
+    ("br past the body", 3, &[&[Br(1)]], None),
     ("call", 0, &[&[I32(1), I64(2), Call(0)]], Some(5)),
     (
         "call operands in order",
@@ -452,47 +201,27 @@ pub(crate) static BODIES: [Row; 101] = [
         &[&[I64(2), I32(1), Call(0)]],
         None,
     ),
-    ("call past the last", 3, &[&[Call(9)]], None),
     (
         "call indirect",
         0,
         &[&[I32(1), I64(2), I32(0), CallIndirect(0)]],
         Some(6),
     ),
-    (
-        "call indirect by 64",
-        0,
-        &[&[I32(1), I64(2), I64(0), CallIndirect(0)]],
-        None,
-    ),
-    (
-        "call indirect of no type",
-        3,
-        &[&[I32(0), CallIndirect(9)]],
-        None,
-    ),
 ];
 
 /// Bodies in a module without a memory.
-pub(crate) static BODIES_WITHOUT_MEMORY: [Row; 4] = [
+pub(crate) static WITHOUT_MEMORY: [Row; 2] = [
     (
         "load without memory",
         0,
         &[&[I32(0), Load(Width::W32, 0)]],
         None,
     ),
-    (
-        "store without memory",
-        3,
-        &[&[I32(0), I32(1), Store(Width::W32, 0)]],
-        None,
-    ),
     ("memory size without", 0, &[&[MemorySize]], None),
-    ("memory grow without", 0, &[&[I32(1), MemoryGrow]], None),
 ];
 
 /// Bodies in a module without a table.
-pub(crate) static BODIES_WITHOUT_TABLE: [Row; 1] = [(
+pub(crate) static WITHOUT_TABLE: [Row; 1] = [(
     "call indirect without table",
     0,
     &[&[I32(1), I64(2), I32(0), CallIndirect(0)]],

@@ -1,6 +1,6 @@
 //! Modules whose verdicts and needs come from elsewhere.
 
-use crate::rows::{BODIES, BODIES_WITHOUT_MEMORY, BODIES_WITHOUT_TABLE, Row, Step};
+use crate::rows::{BRANCHES, OPERANDS, Row, Step, VARIABLES, WITHOUT_MEMORY, WITHOUT_TABLE};
 use crate::valid::{ValidFault, validate};
 use std::alloc::{AllocError, Global};
 use std::process::Abort;
@@ -207,12 +207,20 @@ fn check_rows(
 }
 
 #[test]
-fn bodies_are_valid_as_another_engine_says_and_need_what_the_standard_counts(
-    rt: HostRuntime,
-) -> Result<(), Fail> {
-    check_rows(&rt, rt.alloc(), &BODIES, true, true)?;
-    check_rows(&rt, rt.alloc(), &BODIES_WITHOUT_MEMORY, false, true)?;
-    check_rows(&rt, rt.alloc(), &BODIES_WITHOUT_TABLE, true, false)
+fn operands_are_valid_as_another_engine_says(rt: HostRuntime) -> Result<(), Fail> {
+    check_rows(&rt, rt.alloc(), &OPERANDS, true, true)
+}
+
+#[test]
+fn variables_and_memory_are_valid_as_another_engine_says(rt: HostRuntime) -> Result<(), Fail> {
+    check_rows(&rt, rt.alloc(), &VARIABLES, true, true)?;
+    check_rows(&rt, rt.alloc(), &WITHOUT_MEMORY, false, true)
+}
+
+#[test]
+fn branches_and_calls_are_valid_as_another_engine_says(rt: HostRuntime) -> Result<(), Fail> {
+    check_rows(&rt, rt.alloc(), &BRANCHES, true, true)?;
+    check_rows(&rt, rt.alloc(), &WITHOUT_TABLE, true, false)
 }
 
 // the need of a function of type 1, which takes and gives nothing
