@@ -19,30 +19,20 @@ pub struct KindCounts {
 
 impl KindCounts {
     // One word more.
-    fn with(self, target: Target, held: bool) -> KindCounts
+    fn with(mut self, target: Target, held: bool) -> KindCounts
         requires { (self.cold < MOST_SLOTS) × (self.warm < MOST_SLOTS) × (self.awaiting < MOST_SLOTS) × (self.held < MOST_SLOTS) }
         ensures { result ≡ counts_with self (record { target = target; held = held }) }
     {
         if held {
-            return KindCounts {
-                held: self.held + 1,
-                ..self
-            };
+            self.held += 1;
+            return self;
         }
         match target.state {
-            State::Cold => KindCounts {
-                cold: self.cold + 1,
-                ..self
-            },
-            State::Warm => KindCounts {
-                warm: self.warm + 1,
-                ..self
-            },
-            State::Awaiting => KindCounts {
-                awaiting: self.awaiting + 1,
-                ..self
-            },
+            State::Cold => self.cold += 1,
+            State::Warm => self.warm += 1,
+            State::Awaiting => self.awaiting += 1,
         }
+        self
     }
 }
 

@@ -7,7 +7,7 @@ ghost use Rattle.slot_words.specs.Leases.{lease_number};
 ghost use Rattle.slot_words.specs.Owned.{IsPassOf, IsNewPassOf, slots_of, passes_of};
 
 use crate::laws::nothing_done_leaves_all_cold;
-use crate::{AllHeld, Held, KindCounts, Lease, NoMemory, Pass, Pooled, Seen, Words};
+use crate::{Held, KindCounts, Lease, NoMemory, Pass, Pooled, Seen, Words};
 use pool_core::{State, TAG_LIMIT, Target};
 use std::alloc::Global;
 use std::test::Fail;
@@ -52,6 +52,15 @@ const NEW: Cell = Cell {
     tag: 0,
     visits: 0,
 };
+
+fn kinds(cold: u32, warm: u32, awaiting: u32, held: u32) -> KindCounts {
+    KindCounts {
+        cold,
+        warm,
+        awaiting,
+        held,
+    }
+}
 
 // Two slots and two passes.
 fn opened(alloc: Global, warm: u32) -> Result<(Words<Cell>, Pass<Cell>, Pass<Cell>), NoMemory>
@@ -139,16 +148,11 @@ fn two_passes(alloc: Global, keeps: bool) -> Result<Ending, NoMemory> {
 
 #[test]
 fn closing_counts_what_was_given_back_and_what_was_kept(rt: HostRuntime) -> Result<(), Fail> {
-    for (keeps, [cold, warm, awaiting, held]) in [(false, [2, 0, 0, 0]), (true, [1, 0, 0, 1])] {
+    for (keeps, counts) in [(false, kinds(2, 0, 0, 0)), (true, kinds(1, 0, 0, 1))] {
         let ending = two_passes(rt.alloc(), keeps)?;
         let want = Ending {
             won: [true, false, true],
-            counts: KindCounts {
-                cold,
-                warm,
-                awaiting,
-                held,
-            },
+            counts,
         };
         assert_eq!(rt; ending, want);
     }
@@ -209,15 +213,8 @@ fn make_warm(words: &Words<Cell>, pass: &mut Pass<Cell>, n: u32) -> Result<bool,
     }
 }
 
-#[derive(Debug, PartialEq, Drop)]
-struct Reading {
-    warm: u64,
-    awaiting: u64,
-    words: [u64; 2],
-}
-
-// All words of two slots but the clock.
-fn read_all(words: &Words<Cell>, pass: &mut Pass<Cell>) -> Reading
+// All words of two slots but the clock: the warm word, the await word and the state words.
+fn read_all(words: &Words<Cell>, pass: &mut Pass<Cell>) -> (u64, u64, [u64; 2])
     requires own { IsPassOf (λ x. []) words.now pass.old }
     requires slots { slots_of words.now ≡ 2 }
     requires idle { IsIdle pass.old }
@@ -226,11 +223,9 @@ fn read_all(words: &Words<Cell>, pass: &mut Pass<Cell>) -> Reading
 {
     let mut seen = Seen::new();
     words.scan(pass, &mut seen);
-    Reading {
-        warm: words.warm_load(pass),
-        awaiting: words.await_load(pass),
-        words: [seen.words()[0], seen.words()[1]],
-    }
+    let warm = words.warm_load(pass);
+    let awaiting = words.await_load(pass);
+    (warm, awaiting, [seen.words()[0], seen.words()[1]])
 }
 
 #[test]
@@ -239,20 +234,10 @@ fn a_slot_awaits_and_then_is_warm(rt: HostRuntime) -> Result<(), Fail> {
     let read = leave_awaiting(&words, &mut pass)?;
     assert_eq!(rt; read, [0, 0]);
     let between = read_all(&words, &mut pass);
-    let want = Reading {
-        warm: 0,
-        awaiting: 1,
-        words: [44, 0],
-    };
-    assert_eq!(rt; between, want);
+    assert_eq!(rt; between, (0, 1, [44, 0]));
     assert_eq!(rt; make_warm(&words, &mut pass, 0)?, true);
     let end = read_all(&words, &mut pass);
-    let want = Reading {
-        warm: 1,
-        awaiting: 0,
-        words: [42, 0],
-    };
-    assert_eq!(rt; end, want);
+    assert_eq!(rt; end, (1, 0, [42, 0]));
     Ok(())
 }
 
@@ -262,12 +247,7 @@ fn a_second_slot_is_refused_a_permit(rt: HostRuntime) -> Result<(), Fail> {
     assert_eq!(rt; make_warm(&words, &mut pass, 0)?, true);
     assert_eq!(rt; make_warm(&words, &mut pass, 1)?, false);
     let end = read_all(&words, &mut pass);
-    let want = Reading {
-        warm: 1,
-        awaiting: 0,
-        words: [42, 0],
-    };
-    assert_eq!(rt; end, want);
+    assert_eq!(rt; end, (1, 0, [42, 0]));
     Ok(())
 }
 
@@ -284,21 +264,16 @@ fn opened_and_closed(alloc: Global) -> Result<KindCounts, NoMemory>
 // The two stamps of two passes that hold a slot each.
 fn stamps(alloc: Global) -> Result<[u64; 2], NoMemory> {
     let (words, mut first, mut second) = opened(alloc, 0)?;
-    let Ok(lease) = take(&words, &mut first, 0) else {
-        return Ok([9; 2]);
-    };
-    let before = words.stamp(&mut first);
-    let after = match take(&words, &mut second, 1) {
-        Ok(other) => {
-            let stamp = words.stamp(&mut second);
+    let mut stamps = [9; 2];
+    if let Ok(lease) = take(&words, &mut first, 0) {
+        stamps[0] = words.stamp(&mut first);
+        if let Ok(other) = take(&words, &mut second, 1) {
+            stamps[1] = words.stamp(&mut second);
             give(&words, &mut second, other);
-            stamp
         }
-        Err(Held) => 9,
-    };
-    give(&words, &mut first, lease);
-    let _counts = words.close(first);
-    Ok([before, after])
+        give(&words, &mut first, lease);
+    }
+    Ok(stamps)
 }
 
 #[test]
@@ -308,43 +283,28 @@ fn a_second_pass_gets_the_next_stamp(rt: HostRuntime) -> Result<(), Fail> {
 }
 
 // Which slots the second pass wins while the first has slot 0: in the order 0, 1, and in any order.
-fn won_beside(alloc: Global) -> Result<[Option<u32>; 2], NoMemory> {
+fn won_beside(alloc: Global) -> Result<[u32; 2], NoMemory> {
     let (words, mut first, mut second) = opened(alloc, 0)?;
-    let Ok(lease) = take(&words, &mut first, 0) else {
-        return Ok([None; 2]);
-    };
-    let in_order = match words.claim_first(&mut second, &[0, 1]) {
-        Ok(other) => {
-            let n = other.number();
+    let mut won = [9; 2];
+    if let Ok(lease) = take(&words, &mut first, 0) {
+        if let Ok(other) = words.claim_first(&mut second, &[0, 1]) {
+            won[0] = other.number();
             words.settle(&mut second, &other);
             give(&words, &mut second, other);
-            Some(n)
         }
-        Err(AllHeld) => None,
-    };
-    let alone = words.claim_first(&mut second, &[0]);
-    let lost = alone.is_err();
-    if let Ok(other) = alone {
-        words.settle(&mut second, &other);
-        give(&words, &mut second, other);
+        if let Ok(other) = words.claim_any(&mut second) {
+            won[1] = other.number();
+            words.settle(&mut second, &other);
+            give(&words, &mut second, other);
+        }
+        give(&words, &mut first, lease);
     }
-    let any = match words.claim_any(&mut second) {
-        Ok(other) => {
-            let n = other.number();
-            words.settle(&mut second, &other);
-            give(&words, &mut second, other);
-            Some(n)
-        }
-        Err(AllHeld) => None,
-    };
-    give(&words, &mut first, lease);
-    let _counts = words.close(first);
-    Ok(if lost { [in_order, any] } else { [None; 2] })
+    Ok(won)
 }
 
 #[test]
 fn rows_of_claims_pass_over_a_held_slot(rt: HostRuntime) -> Result<(), Fail> {
-    assert_eq!(rt; won_beside(rt.alloc())?, [Some(1), Some(1)]);
+    assert_eq!(rt; won_beside(rt.alloc())?, [1, 1]);
     Ok(())
 }
 
@@ -391,25 +351,13 @@ fn a_ticket_comes_back_cold(rt: HostRuntime) -> Result<(), Fail> {
     assert_eq!(rt; lease.value.calls, 7);
     lease.value.clear();
     words.release(&mut pass, lease, Target::COLD);
-    let want = KindCounts {
-        cold: 1,
-        warm: 0,
-        awaiting: 0,
-        held: 0,
-    };
-    assert_eq!(rt; words.close_all(pass, passes), want);
+    assert_eq!(rt; words.close_all(pass, passes), kinds(1, 0, 0, 0));
     Ok(())
 }
 
 #[test]
 fn closing_counts_untouched_slots_as_cold(rt: HostRuntime) -> Result<(), Fail> {
-    let want = KindCounts {
-        cold: 2,
-        warm: 0,
-        awaiting: 0,
-        held: 0,
-    };
-    assert_eq!(rt; opened_and_closed(rt.alloc())?, want);
+    assert_eq!(rt; opened_and_closed(rt.alloc())?, kinds(2, 0, 0, 0));
     Ok(())
 }
 
@@ -419,13 +367,7 @@ fn closing_counts_awaiting_and_warm_slots_of_joined_passes(rt: HostRuntime) -> R
     let _read = leave_awaiting(&words, &mut first)?;
     assert_eq!(rt; make_warm(&words, &mut second, 1)?, true);
     words.join_pass(&mut first, second);
-    let want = KindCounts {
-        cold: 0,
-        warm: 1,
-        awaiting: 1,
-        held: 0,
-    };
-    assert_eq!(rt; words.close(first), want);
+    assert_eq!(rt; words.close(first), kinds(0, 1, 1, 0));
     Ok(())
 }
 
@@ -467,12 +409,6 @@ fn two_threads_never_have_one_slot_at_once(rt: HostRuntime) -> Result<(), Fail> 
     let lease = take(&words, &mut first, 0)?;
     assert_eq!(rt; lease.value.visits, won.wrapping_add(won_too));
     give(&words, &mut first, lease);
-    let want = KindCounts {
-        cold: 2,
-        warm: 0,
-        awaiting: 0,
-        held: 0,
-    };
-    assert_eq!(rt; words.close(first), want);
+    assert_eq!(rt; words.close(first), kinds(2, 0, 0, 0));
     Ok(())
 }
