@@ -29,7 +29,14 @@ fn growth(alloc: Global, pages: u32) -> Result<Option<u32>, NoMemory> {
 
 #[test]
 fn a_write_marks_the_blocks_that_it_touches(rt: HostRuntime) -> Result<(), Fail> {
-    for (at, want) in [(0, 1), (4092, 1), (4093, 2), (4094, 2), (65532, 1), (65533, 0)] {
+    for (at, want) in [
+        (0, 1),
+        (4092, 1),
+        (4093, 2),
+        (4094, 2),
+        (65532, 1),
+        (65533, 0),
+    ] {
         assert_eq!(rt; marks_after(rt.alloc(), at)?, want, "at {at}");
     }
     Ok(())

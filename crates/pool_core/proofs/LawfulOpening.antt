@@ -8,12 +8,13 @@ use Rattle.pool_core.specs.declared.seats.Seat.{Seat}
 use Rattle.pool_core.specs.declared.seats.Stage.TheVariants.{Live, Unmade}
 use Rattle.pool_core.specs.declared.words.StateWord.{StateWord}
 use Rattle.pool_core.specs.Lawful.{IsSoundSeat, Lawful, has_mark, has_permit, has_refusal, is_free_awaiting, is_free_warm}
+use Rattle.pool_core.specs.Laws.{OpensCold, OpensUnmade}
 use Rattle.pool_core.specs.PoolCore.{idle_seat, is_holding, opening_core}
 use Rattle.pool_core.specs.StateWords.{bit, cold_word, is_well_formed}
 
 module _ {A : Type 0} where
   -- a list of one value reads as that value, also past its end
-  pub get_or-replicate_same : (n : ℕ) (x : A) (k : ℕ) → get_or (replicate n x) k x ≡ x
+  get_or-replicate_same : (n : ℕ) (x : A) (k : ℕ) → get_or (replicate n x) k x ≡ x
   get_or-replicate_same zero x k = refl
   get_or-replicate_same (suc n) x zero = refl
   get_or-replicate_same (suc n) x (suc k) = get_or-replicate_same n x k
@@ -46,3 +47,10 @@ lawful_opening slots limit seats =
       awaiting = rw (w1, p2) refl;
       words = λ n. ap (λ (w : StateWord). is_well_formed w.target) (get_or-replicate_same slots cold_word n);
     }
+
+pub opens_cold : OpensCold
+opens_cold slots limit seats n = get_or-replicate_same slots cold_word n
+
+pub opens_unmade : OpensUnmade
+opens_unmade slots limit seats zero some = absurd (omega arith)
+opens_unmade slots limit seats (suc s) some = get_or-replicate_same (seats - 1) (idle_seat Unmade) s

@@ -1,9 +1,10 @@
 -- What holds of every pool, each in one sentence.
-use Rattle.std.specs.Prelude.{◌≡◌, ℕ, ◌%◌, ◌<◌, true, List, Some, length, bit_or}
+use Rattle.std.specs.Prelude.{◌≡◌, ℕ, ◌%◌, ◌<◌, ◌≤◌, true, List, Some, length, bit_or}
 use Rattle.pool_core.specs.declared.events.Event.{Event}
+use Rattle.pool_core.specs.declared.seats.Stage.TheVariants.{Unmade}
 use Rattle.pool_core.specs.declared.words.StateWord.{StateWord}
-use Rattle.pool_core.specs.StateWords.{IsWordOf, bit, packed, unpacked, held_word}
-use Rattle.pool_core.specs.PoolCore.{PoolCore, seat_at, word_at, opening_core}
+use Rattle.pool_core.specs.StateWords.{IsWordOf, bit, packed, unpacked, cold_word, held_word}
+use Rattle.pool_core.specs.PoolCore.{PoolCore, seat_at, word_at, idle_seat, opening_core}
 use Rattle.pool_core.specs.EventEffects.{core_after}
 use Rattle.pool_core.specs.RefusalRules.{refusal_of}
 use Rattle.pool_core.specs.Lawful.{Lawful}
@@ -12,6 +13,14 @@ use Rattle.pool_core.specs.Runs.{core_after_all, AllAllowed}
 -- a pool is lawful as it opens
 abbrev pub OpeningIsLawful : Type 0
 OpeningIsLawful = (slots limit seats : ℕ) → Lawful (opening_core slots limit seats)
+
+-- as it opens, each word is cold and free
+abbrev pub OpensCold : Type 0
+OpensCold = (slots limit seats n : ℕ) → word_at (opening_core slots limit seats) n ≡ cold_word
+
+-- and each seat but the first is still to be made
+abbrev pub OpensUnmade : Type 0
+OpensUnmade = (slots limit seats s : ℕ) → 1 ≤ s → seat_at (opening_core slots limit seats) s ≡ idle_seat Unmade
 
 -- each event that no rule refuses keeps a pool lawful
 abbrev pub EventsKeepLawful : Type 0

@@ -22,6 +22,10 @@ pub record PoolCore : Type 0 where
 abbrev pub idle_seat : Stage → Seat
 idle_seat stage = record { stage = stage; holds = None; out = false; permit = false; refusal = false; mark = false }
 
+-- a live seat that holds this number, its value being in the slot
+abbrev pub holding_seat : ℕ → Bool → Bool → Bool → Seat
+holding_seat n permit refusal mark = record { stage = Live; holds = Some n; out = false; permit = permit; refusal = refusal; mark = mark }
+
 -- a place past the list reads as cold
 abbrev pub word_at : PoolCore → ℕ → StateWord
 word_at c n = slice_index_or c.words n cold_word

@@ -6,7 +6,7 @@ ghost use Rattle.pool_core.specs.EventEffects.{core_after};
 ghost use Rattle.pool_core.specs.Changes.{ChangesOnly, MovesByOne, LeavesLive, OutChangesNothingElse};
 ghost use Rattle.pool_core.specs.RefusalRules.{refusal_of, IsLeastRule};
 ghost use Rattle.pool_core.specs.Lawful.{Lawful, is_free_warm, has_permit};
-ghost use Rattle.pool_core.specs.Laws.{OpeningIsLawful, EventsKeepLawful, RunsKeepLawful, OneSeatHolds, SeatsHoldWords, HeldWordsHaveSeats, BitsSayOneWord, BitsSayTheWord, LowestBitSaysHeld, LowestBitMakesHeld};
+ghost use Rattle.pool_core.specs.Laws.{OpeningIsLawful, OpensCold, OpensUnmade, EventsKeepLawful, RunsKeepLawful, OneSeatHolds, SeatsHoldWords, HeldWordsHaveSeats, BitsSayOneWord, BitsSayTheWord, LowestBitSaysHeld, LowestBitMakesHeld};
 ghost use Rattle.pool_core.specs.Runs.{core_after_all, AllAllowed};
 ghost use Rattle.pool_core.specs.declared.events.Event.{Event as AnyEvent};
 
@@ -19,9 +19,11 @@ pub fn every_core_is_lawful(core: &Core)
     core.stays_lawful();
 }
 
-/// A pool is lawful as it opens.
+/// A pool is lawful as it opens: each word is cold and free, and each seat but the first is still to be made.
 pub fn the_opening_is_lawful()
-    ensures { OpeningIsLawful }
+    ensures lawful { OpeningIsLawful }
+    ensures cold { OpensCold }
+    ensures unmade { OpensUnmade }
 {}
 
 /// Each event that no rule refuses keeps a pool lawful.

@@ -49,8 +49,9 @@ fn status_of<S: Source, K: Sink>(
     ensures unread { IfErr args (λ _. source.new ≡ source.old) }
 {
     match args {
-        Ok(args) => serve_args(rt, alloc, args.as_slice(), source, sink)
-            .unwrap_or(Status::NoMemory.code()),
+        Ok(args) => serve_args(rt, alloc, args.as_slice(), source, sink).unwrap_or(
+            Status::NoMemory.code(),
+        ),
         Err(error) if error.kind() == io::ErrorKind::OutOfMemory => Status::NoMemory.code(),
         Err(_) => refuse_words(sink),
     }

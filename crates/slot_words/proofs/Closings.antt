@@ -14,7 +14,7 @@ use Rattle.pool_core.specs.declared.seats.Seat.{Seat}
 use Rattle.pool_core.specs.declared.seats.Stage.TheVariants.{Live}
 use Rattle.pool_core.specs.declared.events.Event.TheVariants.{Close}
 use Rattle.pool_core.specs.StateWords.{bit}
-use Rattle.pool_core.specs.PoolCore.{PoolCore, seat_at, idle_seat, is_live, is_away, is_idle}
+use Rattle.pool_core.specs.PoolCore.{PoolCore, seat_at, idle_seat, is_away}
 use Rattle.pool_core.specs.RefusalRules.{refusal_of}
 use Rattle.pool_core.specs.Lawful.{Lawful}
 use Rattle.slot_words.specs.declared.views.PassView.{PassView}
@@ -23,10 +23,10 @@ use Rattle.slot_words.specs.declared.views.Operation.{Operation}
 use Rattle.slot_words.specs.KindCounts.{kind_counts, is_held, BeginsWith}
 use Rattle.slot_words.specs.Accounts.{AreLeft, AreKept, KeepsOneAtMost, in_one, is_release, is_won_claim, IsAccounted}
 use Rattle.slot_words.specs.Views.{no_view, operations_of}
-use Rattle.slot_words.specs.Shows.{IsCounted, ShowsLawful}
+use Rattle.slot_words.specs.CoreLaws.{CoreLaws}
+use Rattle.slot_words.specs.Shows.{IsCounted, IsKept}
 use Rattle.slot_words.proofs.AccountSteps.{left_by_counts, count_by-set_view}
 use Rattle.slot_words.proofs.Holdings.{holdings, held-are-holdings}
-use Rattle.slot_words.proofs.KindSums.{bit_at_most_one}
 use Rattle.slot_words.proofs.Lookups.{found}
 use Rattle.slot_words.proofs.PassEvents.{closes_are_events}
 use Rattle.slot_words.proofs.ShownChanges.{seat_here}
@@ -53,7 +53,7 @@ module _ (bounds : Bounds) where
       let few : length trails ≤ sum_by (λ v. v.share) vs = rest.1.few in let holders : sum_by holds_of vs ≤ length trails = rest.1.holders in
       let kept : count_by is_won_claim (in_one trails) ≡ count_by is_release (in_one trails) + sum_by holds_of vs = rest.1.kept in
       let mine : count_by is_won_claim (operations_of v) ≡ count_by is_release (operations_of v) + holds_of v = own.1.held in
-      let low : holds_of v ≤ 1 = bit_at_most_one (is_some v.seat.holds) in
+      let one_or_none : (b : Bool) → bit b ≤ 1 = elim [ true ↦ omega arith | false ↦ omega arith ] in let low : holds_of v ≤ 1 = one_or_none (is_some v.seat.holds) in
       let shares : sum_by (λ v. v.share) (v ∷ vs) ≡ v.share + sum_by (λ v. v.share) vs = sum_by-cons (λ v. v.share) v vs in
       let holds : sum_by holds_of (v ∷ vs) ≡ holds_of v + sum_by holds_of vs = sum_by-cons holds_of v vs in
       let split : (b : Bool) → is_away v.seat.stage ≡ b → (ts : List (List Operation)) × AreTrailsOf (v ∷ vs) ts = elim [
@@ -88,7 +88,7 @@ module _ (bounds : Bounds) where
   counted_beside : (views : List PassView) (id : ℕ) → AreCounted views → AreCounted (set views id no_view)
   counted_beside views id each j u at = ⊎_elim
       (λ (t : (j ≡ id) × (no_view ≡ u)). subst (λ (v : PassView). IsCounted bounds v × IsAccounted v) t.1
-      (record { bounds_is = λ l. absurd (true≢false l); share_is = λ l. absurd (true≢false l) }, record { held = refl; away = λ _. refl }))
+      (record { inside = refl; bounds_is = λ l. absurd (true≢false l); share_is = λ l. absurd (true≢false l) }, record { held = refl; away = λ _. refl }))
       (λ (t : (j ≢ id) × (get_elem? views j ≡ some u)). each j u t.1) (at_set views id j no_view u at)
 
   -- what an idle pass did, and beside it as many others as passes that it doesn't stand for, left the words; and these others kept what is held
@@ -131,32 +131,32 @@ pub left_alone : (done : List Operation) (others : List (List Operation)) (share
 left_alone done [] share passes words few all left = left_by_counts (done ++ []) done words (λ p. sum_by-append (λ o. bit (p o)) done [] ∙ omega arith) left
 left_alone done (os ∷ oss) share passes words few all left = absurd (omega arith)
 
-module _ {V : Type 0} (fits : State → ℕ → V → Type 0) (room : V → List ℕ) (bounds : Bounds) (passes : ℕ) where
+module _ (laws : CoreLaws) {V : Type 0} (fits : State → ℕ → V → Type 0) (room : V → List ℕ) (bounds : Bounds) where
   -- a core whose words are those of the table, as this seat closes it
   pub record IsLastCore (id : ℕ) (v : PassView) (slots : ℕ) (ws : List ℕ) : Type 0 where
     pub core : PoolCore
     pub lawful : Lawful core
     pub slots_are : length core.words ≡ slots
     pub limit_is : core.limit ≡ bounds.limit
-    pub seats_are : length core.seats ≡ passes
+    pub seats_are : length core.seats ≡ bounds.passes
     pub seat_is : seat_at core id ≡ idle_seat Live
     pub allowed : refusal_of core (Close id) ≡ 0
     pub begins : BeginsWith ws core.words
-    pub left : IsLeftBy bounds passes v core.words (kind_counts core.words).held
+    pub left : IsLeftBy bounds bounds.passes v core.words (kind_counts core.words).held
 
   pub last_core : (id : ℕ) (v : PassView) (slots : ℕ) (ws : List ℕ) (ss : List (Option V)) → length ws ≡ slots + 3 → v.seat ≡ idle_seat Live
-      → Final (Seen (ShowsLawful fits room bounds passes) id v) ws ss → IsLastCore id v slots ws
+      → Final (Seen (IsKept fits room bounds) id v) ws ss → IsLastCore id v slots ws
   last_core id v slots ws ss wide rest fin =
-      let s = fin.0 in let r = fin.1.0 in let at = fin.1.1 in let c : PoolCore = r.core in let same : s.words ≡ ws = fin.2 in let o = r.shows in
+      let s = fin.0 in let r = fin.1.0 in let at = fin.1.1 in let c : PoolCore = r.rule.core in let same : s.words ≡ ws = fin.2 in let o = r.rule.shows in
       let w : length s.words ≡ length c.words + 3 = o.words_are in let l : length s.words ≡ length ws = ap length same in
       record {
         core = c;
-        lawful = r.lawful;
+        lawful = r.rule.lawful;
         slots_are = omega arith;
         limit_is = o.limit_is;
         seats_are = o.seats_are;
-        seat_is = seat_here fits room bounds passes c s o id v at ∙ rest;
-        allowed = (closes_are_events fits room id v (ap (λ (p : Seat). is_live p.stage) rest) (ap is_idle rest) bounds passes c s r.lawful o at).0;
-        begins = record { each = λ k h. record { packed_is = ap (λ (xs : List ℕ). get_or xs k 0) (sym same) ∙ o.word_shows k h; well_formed = r.lawful.words k } };
-        left = left_by bounds passes s.views id v c.words (count_by is_held c.words) (λ j u e. (o.each j u e, r.accounts.each j u e)) o.share_sum at rest (held-are-holdings fits room bounds passes c s r.lawful o) r.accounts.left;
+        seat_is = seat_here fits room bounds c s o id v at ∙ rest;
+        allowed = (closes_are_events laws fits room id v rest bounds c s r.rule.lawful o at).0;
+        begins = record { each = λ k h. record { packed_is = ap (λ (xs : List ℕ). get_or xs k 0) (sym same) ∙ o.word_shows k h; well_formed = r.rule.lawful.words k } };
+        left = left_by bounds bounds.passes s.views id v c.words (count_by is_held c.words) (λ j u e. (o.each j u e, r.accounts.each j u e)) o.shared.share_sum at rest (held-are-holdings laws fits room bounds c s r.rule.lawful o) r.accounts.left;
       }

@@ -5,6 +5,7 @@ use lib.ListN.{get_elem?}
 use Rattle.std.specs.Prelude.{Option, Some}
 use Rattle.std.proofs.lemmas.List.Sums.{count_by-le-length, get_or-le-sum_by}
 use Rattle.atomic_table.specs.Table.{State as TableState, keeps, stepped}
+use Rattle.std.proofs.lemmas.List.{set-get_or}
 use Rattle.pool_core.specs.declared.words.State.{State}
 use Rattle.pool_core.specs.declared.seats.Seat.{Seat}
 use Rattle.pool_core.specs.declared.seats.Stage.TheVariants.{Unmade}
@@ -20,11 +21,9 @@ use Rattle.slot_words.specs.declared.views.Operation.TheVariants as operation
 use Rattle.slot_words.specs.Views.{view_after}
 use Rattle.slot_words.specs.Shows.{Shows}
 use Rattle.slot_words.specs.Events.{WarmLoadsAreEvents, WarmUpsAreEvents, WarmDownsAreEvents, StampsAreEvents, AwaitUpsAreEvents, AwaitDownsAreEvents, AwaitLoadsAreEvents}
-use Rattle.slot_words.proofs.Lookups.{set-get_or, live_not_away}
-use Rattle.slot_words.proofs.ShownChanges.{core_recounted, shows_recounted, seat_here, seat_within, IsSameView}
-
-same_view : (v : PassView) (p : Seat) (o : _) → p.stage ≡ v.seat.stage → IsSameView v (view_after v p o)
-same_view v p o e = record { bounds_is = refl; unsplit_is = refl; share_is = refl; stage_is = e }
+use Rattle.slot_words.proofs.Lookups.{live_not_away}
+use Rattle.slot_words.proofs.ShownChanges.{core_recounted, shows_recounted, seat_here, seat_within}
+use Rattle.slot_words.proofs.SlotEvents.{same_view}
 
 -- a seat written as it was
 reseated : (c : PoolCore) (s : ℕ) (p : Seat) → seat_at c s ≡ p → set c.seats s p ≡ c.seats
@@ -68,6 +67,10 @@ warm_positive c s law here has = let a = get_or-le-sum_by (λ (p : Seat). bit (h
 await_positive : (c : PoolCore) (s : ℕ) → Lawful c → s < length c.seats → (seat_at c s).mark ≡ true → 1 ≤ c.awaiting
 await_positive c s law here has = let a = get_or-le-sum_by (λ (p : Seat). bit (has_mark p)) c.seats s (idle_seat Unmade) here in let w = law.awaiting in let o : bit (seat_at c s).mark ≡ 1 = ap bit has in omega arith
 
+-- the warm word is the first past the slots' words
+here : (n : ℕ) → n ≡ n + 0
+here n = omega arith
+
 -- one up and one down on 64 bits
 up : (x : ℕ) → x + 1 < 2 ^ 64 → (x + 1) % 2 ^ 64 ≡ x + 1
 up x small = omega arith
@@ -75,34 +78,34 @@ up x small = omega arith
 down : (x : ℕ) → 1 ≤ x → x < 2 ^ 64 → (x + (2 ^ 64 - 1)) % 2 ^ 64 ≡ x - 1
 down x positive small = omega arith
 
-module _ {V : Type 0} (fits : State → ℕ → V → Type 0) (room : V → List ℕ) (bounds : Bounds) (passes : ℕ) (core : PoolCore) (s : TableState (Option V) PassView) (shows : Shows fits room bounds passes core s) (slots id : ℕ) (v : PassView)
+module _ {V : Type 0} (fits : State → ℕ → V → Type 0) (room : V → List ℕ) (bounds : Bounds) (core : PoolCore) (s : TableState (Option V) PassView) (shows : Shows fits room bounds core s) (slots id : ℕ) (v : PassView)
     (wide : length s.homes ≡ slots) (at : get_elem? s.views id ≡ some v) (live : is_live v.seat.stage ≡ true) where
   slots_is : length core.words ≡ slots
   slots_is = sym shows.slots_are ∙ wide
 
   -- a step on the warm word
-  on_warm : (x : ℕ) (q : Seat) (o : _) → q.stage ≡ v.seat.stage
-      → Shows fits room bounds passes (core_recounted core id q x core.awaiting core.clock) record { words = set s.words slots x; homes = s.homes; views = set s.views id (view_after v q o) }
-  on_warm x q o stays = let is = slots_is in let ww = shows.words_are in
-      shows_recounted fits room bounds passes core s shows id slots x v (view_after v q o) x core.awaiting core.clock at live (omega arith) (same_view v q o stays)
+  on_warm : (x : ℕ) (q : Seat) (o : _) → q.stage ≡ v.seat.stage → (v.seat.out ≡ false → q.out ≡ false)
+      → Shows fits room bounds (core_recounted core id q x core.awaiting core.clock) record { words = set s.words slots x; homes = s.homes; views = set s.views id (view_after v q o) }
+  on_warm x q o stays inside = let is = slots_is in let ww = shows.words_are in
+      shows_recounted fits room bounds core s shows id slots x v (view_after v q o) x core.awaiting core.clock at live (omega arith) (same_view v q o stays inside)
       (ap (λ (j : ℕ). get_or (set s.words slots x) j 0) is ∙ get_or-set_same s.words slots x 0 (omega arith))
       (get_or-set_other s.words slots (length core.words + 1) x 0 (λ e. omega arith) ∙ shows.await_shows)
       (get_or-set_other s.words slots (length core.words + 2) x 0 (λ e. omega arith) ∙ shows.clock_shows)
 
   -- a step on the await word
-  on_await : (x : ℕ) (q : Seat) (o : _) → q.stage ≡ v.seat.stage
-      → Shows fits room bounds passes (core_recounted core id q core.warm x core.clock) record { words = set s.words (slots + 1) x; homes = s.homes; views = set s.views id (view_after v q o) }
-  on_await x q o stays = let is = slots_is in let ww = shows.words_are in
-      shows_recounted fits room bounds passes core s shows id (slots + 1) x v (view_after v q o) core.warm x core.clock at live (omega arith) (same_view v q o stays)
+  on_await : (x : ℕ) (q : Seat) (o : _) → q.stage ≡ v.seat.stage → (v.seat.out ≡ false → q.out ≡ false)
+      → Shows fits room bounds (core_recounted core id q core.warm x core.clock) record { words = set s.words (slots + 1) x; homes = s.homes; views = set s.views id (view_after v q o) }
+  on_await x q o stays inside = let is = slots_is in let ww = shows.words_are in
+      shows_recounted fits room bounds core s shows id (slots + 1) x v (view_after v q o) core.warm x core.clock at live (omega arith) (same_view v q o stays inside)
       (get_or-set_other s.words (slots + 1) (length core.words) x 0 (λ e. omega arith) ∙ shows.warm_shows)
       (ap (λ (j : ℕ). get_or (set s.words (slots + 1) x) (j + 1) 0) is ∙ get_or-set_same s.words (slots + 1) x 0 (omega arith))
       (get_or-set_other s.words (slots + 1) (length core.words + 2) x 0 (λ e. omega arith) ∙ shows.clock_shows)
 
   -- a step on the clock word
-  on_clock : (x : ℕ) (q : Seat) (o : _) → q.stage ≡ v.seat.stage
-      → Shows fits room bounds passes (core_recounted core id q core.warm core.awaiting x) record { words = set s.words (slots + 2) x; homes = s.homes; views = set s.views id (view_after v q o) }
-  on_clock x q o stays = let is = slots_is in let ww = shows.words_are in
-      shows_recounted fits room bounds passes core s shows id (slots + 2) x v (view_after v q o) core.warm core.awaiting x at live (omega arith) (same_view v q o stays)
+  on_clock : (x : ℕ) (q : Seat) (o : _) → q.stage ≡ v.seat.stage → (v.seat.out ≡ false → q.out ≡ false)
+      → Shows fits room bounds (core_recounted core id q core.warm core.awaiting x) record { words = set s.words (slots + 2) x; homes = s.homes; views = set s.views id (view_after v q o) }
+  on_clock x q o stays inside = let is = slots_is in let ww = shows.words_are in
+      shows_recounted fits room bounds core s shows id (slots + 2) x v (view_after v q o) core.warm core.awaiting x at live (omega arith) (same_view v q o stays inside)
       (get_or-set_other s.words (slots + 2) (length core.words) x 0 (λ e. omega arith) ∙ shows.warm_shows)
       (get_or-set_other s.words (slots + 2) (length core.words + 1) x 0 (λ e. omega arith) ∙ shows.await_shows)
       (ap (λ (j : ℕ). get_or (set s.words (slots + 2) x) (j + 2) 0) is ∙ get_or-set_same s.words (slots + 2) x 0 (omega arith))
@@ -118,45 +121,45 @@ module _ {V : Type 0} (fits : State → ℕ → V → Type 0) (room : V → List
 
 module _ {V : Type 0} (fits : State → ℕ → V → Type 0) (room : V → List ℕ) where
   pub warm_loads_are_events : WarmLoadsAreEvents fits room
-  warm_loads_are_events slots id me live bounds passes core s law shows wide at =
-      let seat = seat_here fits room bounds passes core s shows id me.0 at in
+  warm_loads_are_events slots id me live bounds core s law shows wide at =
+      let seat = seat_here fits room bounds core s shows id me.0 at in
       let x : ℕ = get_or s.words slots 0 in let u : PassView = view_after me.0 me.0.seat (operation.WarmLoad x) in
-      let x_is : x ≡ core.warm = warm_read fits room bounds passes core s shows slots id me.0 wide at live in
-      let to : core_recounted core id me.0.seat x core.awaiting core.clock ≡ core = λ i. record { words = core.words; seats = reseated core id me.0.seat seat i; warm = x_is i; awaiting = core.awaiting; clock = core.clock; limit = core.limit } in (
+      let x_is : x ≡ core.warm = warm_read fits room bounds core s shows slots id me.0 wide at live in
+      let to : core_recounted core id me.0.seat x core.awaiting core.clock ≡ core = λ i. record core { seats = reseated core id me.0.seat seat i; warm = x_is i } in (
         may_warm_load core id (ap (λ (p : Seat). is_live p.stage) seat ∙ live),
         (
           u,
           keeps,
           tt,
-          subst (λ (c : PoolCore). Shows fits room bounds passes c (stepped s slots x id me.1 u keeps)) to
-              (on_warm fits room bounds passes core s shows slots id me.0 wide at live x me.0.seat (operation.WarmLoad x) refl),
-          (refl, refl),
+          subst (λ (c : PoolCore). Shows fits room bounds c (stepped s slots x id me.1 u keeps)) to
+              (on_warm fits room bounds core s shows slots id me.0 wide at live x me.0.seat (operation.WarmLoad x) refl (λ e. e)),
+          record { word_is = here slots; amount_is = refl; notes = (refl, refl) },
         ),
       )
 
   pub await_loads_are_events : AwaitLoadsAreEvents fits room
-  await_loads_are_events slots id me live bounds passes core s law shows wide at =
-      let seat = seat_here fits room bounds passes core s shows id me.0 at in
+  await_loads_are_events slots id me live bounds core s law shows wide at =
+      let seat = seat_here fits room bounds core s shows id me.0 at in
       let x : ℕ = get_or s.words (slots + 1) 0 in let u : PassView = view_after me.0 me.0.seat (operation.AwaitLoad x) in
-      let x_is : x ≡ core.awaiting = await_read fits room bounds passes core s shows slots id me.0 wide at live in
-      let to : core_recounted core id me.0.seat core.warm x core.clock ≡ core = λ i. record { words = core.words; seats = reseated core id me.0.seat seat i; warm = core.warm; awaiting = x_is i; clock = core.clock; limit = core.limit } in (
+      let x_is : x ≡ core.awaiting = await_read fits room bounds core s shows slots id me.0 wide at live in
+      let to : core_recounted core id me.0.seat core.warm x core.clock ≡ core = λ i. record core { seats = reseated core id me.0.seat seat i; awaiting = x_is i } in (
         may_await_load core id (ap (λ (p : Seat). is_live p.stage) seat ∙ live),
         (
           u,
           keeps,
           tt,
-          subst (λ (c : PoolCore). Shows fits room bounds passes c (stepped s (slots + 1) x id me.1 u keeps)) to
-              (on_await fits room bounds passes core s shows slots id me.0 wide at live x me.0.seat (operation.AwaitLoad x) refl),
-          (refl, refl),
+          subst (λ (c : PoolCore). Shows fits room bounds c (stepped s (slots + 1) x id me.1 u keeps)) to
+              (on_await fits room bounds core s shows slots id me.0 wide at live x me.0.seat (operation.AwaitLoad x) refl (λ e. e)),
+          record { word_is = refl; amount_is = refl; notes = (refl, refl) },
         ),
       )
 
   pub warm_ups_are_events : WarmUpsAreEvents fits room
-  warm_ups_are_events slots id n me live holds no_permit no_refusal bounds passes core s law shows wide at =
-      let seat = seat_here fits room bounds passes core s shows id me.0 at in
+  warm_ups_are_events slots id n me live holds no_permit no_refusal bounds core s law shows wide at =
+      let seat = seat_here fits room bounds core s shows id me.0 at in
       let x : ℕ = get_or s.words slots 0 in
-      let x_is : x ≡ core.warm = warm_read fits room bounds passes core s shows slots id me.0 wide at live in
-      let small : x + 1 < 2 ^ 64 = let w = warm_small core passes law shows.seats_are shows.countable in omega arith in
+      let x_is : x ≡ core.warm = warm_read fits room bounds core s shows slots id me.0 wide at live in
+      let small : x + 1 < 2 ^ 64 = let w = warm_small core bounds.passes law shows.seats_are shows.countable in omega arith in
       let y : ℕ = (x + 1) % 2 ^ 64 in let y_is : y ≡ core.warm + 1 = up x small ∙ ap (λ (k : ℕ). k + 1) x_is in
       let k = (shows.each id me.0 at).bounds_is (live_not_away me.0.seat.stage live) in
       let lim : me.0.bounds.limit ≡ core.limit = ap (λ (j : Bounds). j.limit) k ∙ sym shows.limit_is in
@@ -164,100 +167,100 @@ module _ {V : Type 0} (fits : State → ℕ → V → Type 0) (room : V → List
       let q : Seat = record (me.0.seat) { permit = t; refusal = not t } in
       let u : PassView = view_after me.0 q (operation.WarmUp x) in
       let same_test : t ≡ ltb core.warm core.limit = ap (λ (q : ℕ × ℕ). ltb q.0 q.1) (λ i. (x_is i, lim i)) in
-      let to : core_recounted core id q y core.awaiting core.clock ≡ core_after core (WarmUp id) = λ i. record { words = core.words; seats = set core.seats id (record (sym seat i) { permit = same_test i; refusal = not (same_test i) }); warm = y_is i; awaiting = core.awaiting; clock = core.clock; limit = core.limit } in (
+      let to : core_recounted core id q y core.awaiting core.clock ≡ core_after core (WarmUp id) = λ i. record core { seats = set core.seats id (record (sym seat i) { permit = same_test i; refusal = not (same_test i) }); warm = y_is i } in (
         may_warm_up core id n (ap (λ (p : Seat). is_live p.stage) seat ∙ live) (ap (λ (p : Seat). p.holds) seat ∙ holds) (ap (λ (p : Seat). p.permit) seat ∙ no_permit) (ap (λ (p : Seat). p.refusal) seat ∙ no_refusal),
         (
           u,
           keeps,
           tt,
-          subst (λ (c : PoolCore). Shows fits room bounds passes c (stepped s slots y id me.1 u keeps)) to
-              (on_warm fits room bounds passes core s shows slots id me.0 wide at live y q (operation.WarmUp x) refl),
-          (refl, refl),
+          subst (λ (c : PoolCore). Shows fits room bounds c (stepped s slots y id me.1 u keeps)) to
+              (on_warm fits room bounds core s shows slots id me.0 wide at live y q (operation.WarmUp x) refl (λ e. e)),
+          record { word_is = here slots; amount_is = refl; notes = (refl, refl) },
         ),
       )
 
   pub warm_downs_are_events : WarmDownsAreEvents fits room
-  warm_downs_are_events slots id n me live holds has bounds passes core s law shows wide at =
-      let seat = seat_here fits room bounds passes core s shows id me.0 at in
+  warm_downs_are_events slots id n me live holds has bounds core s law shows wide at =
+      let seat = seat_here fits room bounds core s shows id me.0 at in
       let has' : ((seat_at core id).permit || (seat_at core id).refusal) ≡ true = ap (λ (p : Seat). p.permit || p.refusal) seat ∙ has in
       let x : ℕ = get_or s.words slots 0 in
-      let x_is : x ≡ core.warm = warm_read fits room bounds passes core s shows slots id me.0 wide at live in
-      let some_warm : 1 ≤ core.warm = warm_positive core id law (seat_within fits room bounds passes core s shows id me.0 at live) has' in
-      let small = warm_small core passes law shows.seats_are shows.countable in
+      let x_is : x ≡ core.warm = warm_read fits room bounds core s shows slots id me.0 wide at live in
+      let some_warm : 1 ≤ core.warm = warm_positive core id law (seat_within fits room bounds core s shows id me.0 at live) has' in
+      let small = warm_small core bounds.passes law shows.seats_are shows.countable in
       let y : ℕ = (x + (2 ^ 64 - 1)) % 2 ^ 64 in let y_is : y ≡ core.warm - 1 = down x (omega arith) (omega arith) ∙ ap (λ (k : ℕ). k - 1) x_is in
       let q : Seat = record (me.0.seat) { permit = false; refusal = false } in
       let u : PassView = view_after me.0 q (operation.WarmDown x) in
-      let to : core_recounted core id q y core.awaiting core.clock ≡ core_after core (WarmDown id) = λ i. record { words = core.words; seats = set core.seats id (record (sym seat i) { permit = false; refusal = false }); warm = y_is i; awaiting = core.awaiting; clock = core.clock; limit = core.limit } in (
+      let to : core_recounted core id q y core.awaiting core.clock ≡ core_after core (WarmDown id) = λ i. record core { seats = set core.seats id (record (sym seat i) { permit = false; refusal = false }); warm = y_is i } in (
         may_warm_down core id n (ap (λ (p : Seat). is_live p.stage) seat ∙ live) (ap (λ (p : Seat). p.holds) seat ∙ holds) has',
         (
           u,
           keeps,
           tt,
-          subst (λ (c : PoolCore). Shows fits room bounds passes c (stepped s slots y id me.1 u keeps)) to
-              (on_warm fits room bounds passes core s shows slots id me.0 wide at live y q (operation.WarmDown x) refl),
-          (refl, refl),
+          subst (λ (c : PoolCore). Shows fits room bounds c (stepped s slots y id me.1 u keeps)) to
+              (on_warm fits room bounds core s shows slots id me.0 wide at live y q (operation.WarmDown x) refl (λ e. e)),
+          record { word_is = here slots; amount_is = refl; notes = (refl, refl) },
         ),
       )
 
   pub stamps_are_events : StampsAreEvents fits room
-  stamps_are_events slots id n me live holds bounds passes core s law shows wide at =
-      let seat = seat_here fits room bounds passes core s shows id me.0 at in
+  stamps_are_events slots id n me live holds bounds core s law shows wide at =
+      let seat = seat_here fits room bounds core s shows id me.0 at in
       let x : ℕ = get_or s.words (slots + 2) 0 in
-      let x_is : x ≡ core.clock = clock_read fits room bounds passes core s shows slots id me.0 wide at live in
+      let x_is : x ≡ core.clock = clock_read fits room bounds core s shows slots id me.0 wide at live in
       let y : ℕ = (x + 1) % 2 ^ 64 in
       let u : PassView = view_after me.0 me.0.seat (operation.Stamp x) in
-      let to : core_recounted core id me.0.seat core.warm core.awaiting y ≡ core_after core (Stamp id) = λ i. record { words = core.words; seats = reseated core id me.0.seat seat i; warm = core.warm; awaiting = core.awaiting; clock = (x_is i + 1) % 2 ^ 64; limit = core.limit } in (
+      let to : core_recounted core id me.0.seat core.warm core.awaiting y ≡ core_after core (Stamp id) = λ i. record core { seats = reseated core id me.0.seat seat i; clock = (x_is i + 1) % 2 ^ 64 } in (
         may_stamp core id n (ap (λ (p : Seat). is_live p.stage) seat ∙ live) (ap (λ (p : Seat). p.holds) seat ∙ holds),
         (
           u,
           keeps,
           tt,
-          subst (λ (c : PoolCore). Shows fits room bounds passes c (stepped s (slots + 2) y id me.1 u keeps)) to
-              (on_clock fits room bounds passes core s shows slots id me.0 wide at live y me.0.seat (operation.Stamp x) refl),
-          (refl, refl),
+          subst (λ (c : PoolCore). Shows fits room bounds c (stepped s (slots + 2) y id me.1 u keeps)) to
+              (on_clock fits room bounds core s shows slots id me.0 wide at live y me.0.seat (operation.Stamp x) refl (λ e. e)),
+          record { word_is = refl; amount_is = refl; notes = (refl, refl) },
         ),
       )
 
   pub await_ups_are_events : AwaitUpsAreEvents fits room
-  await_ups_are_events slots id n me live holds unmarked bounds passes core s law shows wide at =
-      let seat = seat_here fits room bounds passes core s shows id me.0 at in
+  await_ups_are_events slots id n me live holds unmarked bounds core s law shows wide at =
+      let seat = seat_here fits room bounds core s shows id me.0 at in
       let x : ℕ = get_or s.words (slots + 1) 0 in
-      let x_is : x ≡ core.awaiting = await_read fits room bounds passes core s shows slots id me.0 wide at live in
-      let small : x + 1 < 2 ^ 64 = let w = await_small core passes law shows.seats_are shows.countable in omega arith in
+      let x_is : x ≡ core.awaiting = await_read fits room bounds core s shows slots id me.0 wide at live in
+      let small : x + 1 < 2 ^ 64 = let w = await_small core bounds.passes law shows.seats_are shows.countable in omega arith in
       let y : ℕ = (x + 1) % 2 ^ 64 in let y_is : y ≡ core.awaiting + 1 = up x small ∙ ap (λ (k : ℕ). k + 1) x_is in
       let q : Seat = record (me.0.seat) { mark = true } in
       let u : PassView = view_after me.0 q (operation.AwaitUp x) in
-      let to : core_recounted core id q core.warm y core.clock ≡ core_after core (AwaitUp id) = λ i. record { words = core.words; seats = set core.seats id (record (sym seat i) { mark = true }); warm = core.warm; awaiting = y_is i; clock = core.clock; limit = core.limit } in (
+      let to : core_recounted core id q core.warm y core.clock ≡ core_after core (AwaitUp id) = λ i. record core { seats = set core.seats id (record (sym seat i) { mark = true }); awaiting = y_is i } in (
         may_await_up core id n (ap (λ (p : Seat). is_live p.stage) seat ∙ live) (ap (λ (p : Seat). p.holds) seat ∙ holds) (ap (λ (p : Seat). p.mark) seat ∙ unmarked),
         (
           u,
           keeps,
           tt,
-          subst (λ (c : PoolCore). Shows fits room bounds passes c (stepped s (slots + 1) y id me.1 u keeps)) to
-              (on_await fits room bounds passes core s shows slots id me.0 wide at live y q (operation.AwaitUp x) refl),
-          (refl, refl),
+          subst (λ (c : PoolCore). Shows fits room bounds c (stepped s (slots + 1) y id me.1 u keeps)) to
+              (on_await fits room bounds core s shows slots id me.0 wide at live y q (operation.AwaitUp x) refl (λ e. e)),
+          record { word_is = refl; amount_is = refl; notes = (refl, refl) },
         ),
       )
 
   pub await_downs_are_events : AwaitDownsAreEvents fits room
-  await_downs_are_events slots id n me live holds marked bounds passes core s law shows wide at =
-      let seat = seat_here fits room bounds passes core s shows id me.0 at in
+  await_downs_are_events slots id n me live holds marked bounds core s law shows wide at =
+      let seat = seat_here fits room bounds core s shows id me.0 at in
       let marked' : (seat_at core id).mark ≡ true = ap (λ (p : Seat). p.mark) seat ∙ marked in
       let x : ℕ = get_or s.words (slots + 1) 0 in
-      let x_is : x ≡ core.awaiting = await_read fits room bounds passes core s shows slots id me.0 wide at live in
-      let some_await : 1 ≤ core.awaiting = await_positive core id law (seat_within fits room bounds passes core s shows id me.0 at live) marked' in
-      let small = await_small core passes law shows.seats_are shows.countable in
+      let x_is : x ≡ core.awaiting = await_read fits room bounds core s shows slots id me.0 wide at live in
+      let some_await : 1 ≤ core.awaiting = await_positive core id law (seat_within fits room bounds core s shows id me.0 at live) marked' in
+      let small = await_small core bounds.passes law shows.seats_are shows.countable in
       let y : ℕ = (x + (2 ^ 64 - 1)) % 2 ^ 64 in let y_is : y ≡ core.awaiting - 1 = down x (omega arith) (omega arith) ∙ ap (λ (k : ℕ). k - 1) x_is in
       let q : Seat = record (me.0.seat) { mark = false } in
       let u : PassView = view_after me.0 q (operation.AwaitDown x) in
-      let to : core_recounted core id q core.warm y core.clock ≡ core_after core (AwaitDown id) = λ i. record { words = core.words; seats = set core.seats id (record (sym seat i) { mark = false }); warm = core.warm; awaiting = y_is i; clock = core.clock; limit = core.limit } in (
+      let to : core_recounted core id q core.warm y core.clock ≡ core_after core (AwaitDown id) = λ i. record core { seats = set core.seats id (record (sym seat i) { mark = false }); awaiting = y_is i } in (
         may_await_down core id n (ap (λ (p : Seat). is_live p.stage) seat ∙ live) (ap (λ (p : Seat). p.holds) seat ∙ holds) marked',
         (
           u,
           keeps,
           tt,
-          subst (λ (c : PoolCore). Shows fits room bounds passes c (stepped s (slots + 1) y id me.1 u keeps)) to
-              (on_await fits room bounds passes core s shows slots id me.0 wide at live y q (operation.AwaitDown x) refl),
-          (refl, refl),
+          subst (λ (c : PoolCore). Shows fits room bounds c (stepped s (slots + 1) y id me.1 u keeps)) to
+              (on_await fits room bounds core s shows slots id me.0 wide at live y q (operation.AwaitDown x) refl (λ e. e)),
+          record { word_is = refl; amount_is = refl; notes = (refl, refl) },
         ),
       )

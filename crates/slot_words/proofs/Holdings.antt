@@ -12,9 +12,9 @@ use Rattle.pool_core.specs.declared.seats.Stage.TheVariants.{Unmade}
 use Rattle.pool_core.specs.StateWords.{bit, cold_word}
 use Rattle.pool_core.specs.PoolCore.{PoolCore, word_at, seat_at, idle_seat, is_holding}
 use Rattle.pool_core.specs.Lawful.{Lawful}
-use Rattle.pool_core.proofs.Holders.{holds_held_word}
 use Rattle.slot_words.specs.declared.views.PassView.{PassView}
 use Rattle.slot_words.specs.declared.views.Bounds.{Bounds}
+use Rattle.slot_words.specs.CoreLaws.{CoreLaws}
 use Rattle.slot_words.specs.KindCounts.{is_held}
 use Rattle.slot_words.specs.Shows.{Shows}
 use Rattle.slot_words.specs.Views.{no_view}
@@ -79,15 +79,15 @@ numbers-are-holdings (p ∷ ps) n below =
     let f = total-same (λ k. count_by (λ q. is_holding q.holds k) (p ∷ ps)) (λ k. bit (is_holding p.holds k) + count_by (λ q. is_holding q.holds k) ps) n (λ k. sum_by-cons (λ (q : Seat). bit (is_holding q.holds k)) p ps) in
     let g = total-plus (λ k. bit (is_holding p.holds k)) (λ k. count_by (λ q. is_holding q.holds k) ps) n in omega arith
 
-module _ {V : Type 0} (fits : State → ℕ → V → Type 0) (room : V → List ℕ) (bounds : Bounds) (passes : ℕ) where
+module _ (laws : CoreLaws) {V : Type 0} (fits : State → ℕ → V → Type 0) (room : V → List ℕ) (bounds : Bounds) where
   -- the held words are as many as the passes that hold one
-  pub held-are-holdings : (c : PoolCore) (s : TableState (Option V) PassView) → Lawful c → Shows fits room bounds passes c s → count_by is_held c.words ≡ sum_by (λ v. holdings v.seat) s.views
+  pub held-are-holdings : (c : PoolCore) (s : TableState (Option V) PassView) → Lawful c → Shows fits room bounds c s → count_by is_held c.words ≡ sum_by (λ v. holdings v.seat) s.views
   held-are-holdings c s law o = let f : PassView → ℕ = λ v. holdings v.seat in
       let words : count_by is_held c.words ≡ total (λ n. bit (word_at c n).held) (length c.words) = sum_by-total (λ (w : StateWord). bit w.held) c.words cold_word in
       let held : total (λ n. count_by (λ p. is_holding p.holds n) c.seats) (length c.words) ≡ total (λ n. bit (word_at c n).held) (length c.words) = total-same _ _ (length c.words) law.holders in
-      let numbers = numbers-are-holdings c.seats (length c.words) (λ i m h. (holds_held_word c i m law h).0) in
+      let numbers = numbers-are-holdings c.seats (length c.words) (λ i m h. (laws.seats c i m law h).0) in
       let seats : sum_by holdings c.seats ≡ total (λ n. holdings (seat_at c n)) (length c.seats) = sum_by-total holdings c.seats (idle_seat Unmade) in
       let shown : total (λ n. holdings (seat_at c n)) (length c.seats) ≡ total (λ n. f (get_or s.views n no_view)) (length c.seats) = total-same _ _ (length c.seats) (λ n. ap holdings (o.seat_shows n)) in
-      let few : length s.views ≤ length c.seats = let a = o.unsplit_sum in let b = o.seats_are in omega arith in
+      let few : length s.views ≤ length c.seats = let a = o.shared.unsplit_sum in let b = o.seats_are in omega arith in
       let views : total (λ n. f (get_or s.views n no_view)) (length c.seats) ≡ sum_by f s.views = total-is-sum_by f s.views no_view (length c.seats) refl few in
       omega arith

@@ -19,10 +19,6 @@ kind_counts-more ws i h = λ k. record {
 abbrev pub AreAtMost : KindCounts → ℕ → Type 0
 AreAtMost k i = (k.cold ≤ i) × (k.warm ≤ i) × (k.awaiting ≤ i) × (k.held ≤ i)
 
-pub bit_at_most_one : (b : Bool) → bit b ≤ 1
-bit_at_most_one true = omega arith
-bit_at_most_one false = omega arith
-
 pub counts_with-at_most : (k : KindCounts) (w : StateWord) (i : ℕ) → AreAtMost k i → AreAtMost (counts_with k w) (i + 1)
-counts_with-at_most k w i h = let a = bit_at_most_one (is_free_cold w) in let b = bit_at_most_one (is_free_warm w) in let d = bit_at_most_one (is_free_awaiting w) in let e = bit_at_most_one (is_held w) in
+counts_with-at_most k w i h = let low : (b : Bool) → bit b ≤ 1 = elim [ true ↦ omega arith | false ↦ omega arith ] in let a = low (is_free_cold w) in let b = low (is_free_warm w) in let d = low (is_free_awaiting w) in let e = low (is_held w) in
     let h0 = h.0 in let h1 = h.1 in let h2 = h.2 in let h3 = h.3 in (omega arith, omega arith, omega arith, omega arith)

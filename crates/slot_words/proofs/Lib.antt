@@ -1,14 +1,20 @@
 mod AccountSteps
 mod Allowed
 mod Closings
+mod CoreLaws
 mod CountEvents
+mod HeldShares
 mod Holdings
+mod JoinedTrails
 mod KindSums
 mod Lookups
 mod OneCount
 mod Openings
+pub mod Parts
 mod PassEvents
+mod WonRows
 mod RuleLaws
 mod ScanTrails
+pub mod SharedPasses
 mod ShownChanges
 mod SlotEvents

@@ -11,10 +11,9 @@ use Rattle.std.proofs.lemmas.List.Sums.{sum_by-cons}
 use Rattle.pool_core.specs.declared.words.StateWord.{StateWord}
 use Rattle.pool_core.specs.StateWords.{bit, cold_word, packed, is_well_formed, IsWordOf}
 use Rattle.pool_core.specs.Lawful.{is_free_warm, is_free_awaiting}
-use Rattle.pool_core.proofs.LawfulOpening.{get_or-replicate_same}
-use Rattle.pool_core.proofs.WordBits.{packed-mod_2}
 use Rattle.slot_words.specs.declared.kinds.KindCounts.{KindCounts}
 use Rattle.slot_words.specs.declared.views.Operation.{Operation}
+use Rattle.slot_words.specs.CoreLaws.{CoreLaws}
 use Rattle.slot_words.specs.KindCounts.{is_free_cold, is_held}
 use Rattle.slot_words.specs.Accounts.{AreLeft}
 use Rattle.slot_words.specs.Closing.{CountsLeft}
@@ -39,15 +38,15 @@ same_bits a b e = grind (arith, nat_tests)
 bits_same : (a : ℕ) → bit (a == a) ≡ 1
 bits_same a = grind (arith, nat_tests)
 
-module _ (read_back : (bits : ℕ) (w v : StateWord) → IsWordOf bits w → IsWordOf bits v → w ≡ v) where
+module _ (laws : CoreLaws) where
   -- a free word that is left in one list is left in the other
   left_alike : (done : List Operation) (ws vs : List StateWord) (n : ℕ) → n < length ws → length ws ≡ length vs → AreLeft done ws → AreLeft done vs
       → is_well_formed (get_or ws n cold_word).target ≡ true → is_well_formed (get_or vs n cold_word).target ≡ true → (get_or ws n cold_word).held ≡ false → get_or ws n cold_word ≡ get_or vs n cold_word
   left_alike done ws vs n h len left left' well well' free = let w : StateWord = get_or ws n cold_word in let v : StateWord = get_or vs n cold_word in
-      let even : packed w % 2 ≡ 0 = packed-mod_2 w ∙ ap bit free in
+      let even : packed w % 2 ≡ 0 = laws.bit_says w ∙ ap bit free in
       let a = left n (packed w) h even in let b = left' n (packed w) (omega arith) even in let c = bits_same (packed w) in
       let same : packed v ≡ packed w = same_bits (packed v) (packed w) (omega arith) in
-      read_back (packed w) w v record { packed_is = refl; well_formed = well } record { packed_is = sym same; well_formed = well' }
+      laws.one_word (packed w) w v record { packed_is = refl; well_formed = well } record { packed_is = sym same; well_formed = well' }
 
   words_alike : (slots : ℕ) (done : List Operation) (k l : KindCounts) → (a : CountsLeft slots done k) → (b : CountsLeft slots done l) → (n : ℕ) → AreAlike (get_or a.words n cold_word) (get_or b.words n cold_word)
   words_alike slots done k l a b n = let w : StateWord = get_or a.words n cold_word in let v : StateWord = get_or b.words n cold_word in
@@ -80,8 +79,8 @@ module _ (read_back : (bits : ℕ) (w v : StateWord) → IsWordOf bits w → IsW
       let none : slots * 0 ≡ 0 = omega arith in let all : slots * 1 ≡ slots = omega arith in record {
         words = words;
         slots_are = length-replicate slots cold_word;
-        well_formed = λ n. subst (λ (w : StateWord). is_well_formed w.target ≡ true) (sym (get_or-replicate_same slots cold_word n)) refl;
-        left = λ n bits h free. ap (λ (w : StateWord). 0 + bit (packed w == bits)) (sym (get_or-replicate_same slots cold_word n));
+        well_formed = λ n. subst (λ (w : StateWord). is_well_formed w.target ≡ true) (sym (laws.opens_cold slots 0 1 n)) refl;
+        left = λ n bits h free. ap (λ (w : StateWord). 0 + bit (packed w == bits)) (sym (laws.opens_cold slots 0 1 n));
         kept = refl;
         counted = λ i. record {
           cold = sym (sum_by-replicate (λ (w : StateWord). bit (is_free_cold w)) slots cold_word ∙ all) i;

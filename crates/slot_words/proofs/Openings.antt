@@ -1,10 +1,10 @@
 -- The words at the start meet the rule.
-use Rattle.std.proofs.Common.{◌≡◌, ℕ, zero, suc, ◌+◌, ◌-◌, ◌*◌, ◌^◌, ◌<◌, ◌≤◌, true≢false, List, [], ◌∷◌, map, length, replicate, refl, sym, ap, ◌∙◌, subst, arith}
+use Rattle.std.proofs.Common.{◌≡◌, ℕ, zero, suc, ◌+◌, ◌-◌, ◌*◌, ◌^◌, ◌<◌, ◌≤◌, true≢false, List, [], ◌∷◌, map, length, get_or, replicate, refl, sym, ap, ◌∙◌, subst, arith}
 use mathlib.Core.Option.{some, some-injective, some-ne-none}
 use lib.ListN.{get_elem?}
 use Rattle.std.specs.Prelude.{Option, Some}
 use Rattle.std.specs.List.{All}
-use Rattle.std.proofs.lemmas.List.{length-replicate, length-map}
+use Rattle.std.proofs.lemmas.List.{get_or-replicate, length-replicate, length-map}
 use Rattle.atomic_table.specs.Table.{opening}
 use Rattle.pool_core.specs.declared.words.State.{State}
 use Rattle.pool_core.specs.declared.words.State.TheVariants.{Cold}
@@ -12,11 +12,15 @@ use Rattle.pool_core.specs.declared.words.StateWord.{StateWord}
 use Rattle.pool_core.specs.declared.seats.Stage.TheVariants.{Unmade}
 use Rattle.pool_core.specs.StateWords.{cold_word, packed}
 use Rattle.pool_core.specs.PoolCore.{PoolCore, opening_core, idle_seat}
-use Rattle.pool_core.proofs.LawfulOpening.{lawful_opening, get_or-replicate_same}
+use Rattle.slot_words.specs.CoreLaws.{CoreLaws}
 use Rattle.slot_words.specs.declared.views.Bounds.{Bounds}
-use Rattle.slot_words.specs.Views.{first_view}
-use Rattle.slot_words.specs.Shows.{ShowsLawful, Suits, IsCounted}
+use Rattle.slot_words.specs.Views.{first_view, no_view}
+use Rattle.slot_words.specs.Shows.{IsCounted, IsKept, Suits, view_share, view_unsplit}
 use Rattle.slot_words.proofs.AccountSteps.{accounts_at_opening}
+use Rattle.slot_words.proofs.SharedPasses.{shared_at_start}
+
+zero_at : (m k : ℕ) → k < m → ◌≡◌ {A = ℕ} (get_or (replicate m 0) k 0) 0
+zero_at m k h = get_or-replicate m k 0 0 h
 
 module _ {V : Type 0} where
   -- each of the values lies at its place, and is as all of them are
@@ -25,44 +29,45 @@ module _ {V : Type 0} where
   home_of P (x ∷ xs) all zero h = (x, refl, all 0 x (omega arith))
   home_of P (x ∷ xs) all (suc n) h = home_of P xs (λ k d inside. all (suc k) d (omega arith)) n (omega arith)
 
-  shows_opening : (fits : State → ℕ → V → Type 0) (room : V → List ℕ) (bounds : Bounds) (passes : ℕ) (xs : List V) → 1 ≤ passes → length xs + 2 * passes < 2 ^ 63
+  shows_opening : CoreLaws → (fits : State → ℕ → V → Type 0) (room : V → List ℕ) (bounds : Bounds) (xs : List V) → 1 ≤ bounds.passes → length xs + 2 * bounds.passes < 2 ^ 63
       → All (λ x. fits Cold 0 x × (room x ≡ bounds.room)) xs
-      → ShowsLawful fits room bounds passes (opening (replicate (length xs + 3) 0) (map Some xs) (first_view bounds passes))
-  shows_opening fits room bounds passes xs some_pass few suits =
-      let n : ℕ = length xs in let c : PoolCore = opening_core n bounds.limit passes in
-      let lw : length c.words ≡ n = length-replicate n cold_word in
+      → IsKept fits room bounds (opening (replicate (length xs + 3) 0) (map Some xs) (first_view bounds))
+  shows_opening laws fits room bounds xs some_pass few suits =
+      let n : ℕ = length xs in let passes : ℕ = bounds.passes in let c : PoolCore = opening_core n bounds.limit passes in
+      let lw : length c.words ≡ n = length-replicate n cold_word in let cold = laws.opens_cold n bounds.limit passes in
       record {
-        core = c;
-        lawful = lawful_opening n bounds.limit passes;
-        shows = record {
-          limit_is = refl;
-          countable = subst (λ (k : ℕ). k + 2 * passes < 2 ^ 63) (sym lw) few;
-          seats_are = let e : length (replicate (passes - 1) (idle_seat Unmade)) ≡ passes - 1 = length-replicate (passes - 1) (idle_seat Unmade) in omega arith;
-          words_are = length-replicate (n + 3) 0 ∙ ap (λ (k : ℕ). k + 3) (sym lw);
-          slots_are = length-map (map Some xs) (λ (y : Option V). some y) ∙ length-map xs (λ (y : V). Some y) ∙ sym lw;
-          word_shows = λ m h. get_or-replicate_same (n + 3) 0 m ∙ sym (ap packed (get_or-replicate_same n cold_word m));
-          warm_shows = get_or-replicate_same (n + 3) 0 (length c.words);
-          await_shows = get_or-replicate_same (n + 3) 0 (length c.words + 1);
-          clock_shows = get_or-replicate_same (n + 3) 0 (length c.words + 2);
-          seat_shows = elim [ zero ↦ refl | suc j ↦ get_or-replicate_same (passes - 1) (idle_seat Unmade) j ];
-          at_home = λ m h free. let o = home_of (λ x. fits Cold 0 x × (room x ≡ bounds.room)) xs suits m (omega arith) in
-              (o.0, o.1, subst (λ (w : StateWord). Suits fits room bounds.room w.target o.0) (sym (get_or-replicate_same n cold_word m)) o.2);
-          away = λ m h held. absurd (true≢false (sym held ∙ ap (λ (w : StateWord). w.held) (get_or-replicate_same n cold_word m)));
-          unsplit_sum = omega arith;
-          share_sum = omega arith;
-          each = elim [
-            | zero ↦ λ v e. subst (IsCounted bounds) (some-injective _ v e) record { bounds_is = λ _. refl; share_is = λ _. some_pass }
-            | suc j ↦ λ v e. absurd (some-ne-none v (sym e))
-          ];
+        rule = record {
+          core = c;
+          lawful = laws.opening n bounds.limit passes;
+          shows = record {
+            limit_is = refl;
+            countable = subst (λ (k : ℕ). k + 2 * passes < 2 ^ 63) (sym lw) few;
+            seats_are = let e : length (replicate (passes - 1) (idle_seat Unmade)) ≡ passes - 1 = length-replicate (passes - 1) (idle_seat Unmade) in omega arith;
+            words_are = length-replicate (n + 3) 0 ∙ ap (λ (k : ℕ). k + 3) (sym lw);
+            slots_are = length-map (map Some xs) (λ (y : Option V). some y) ∙ length-map xs (λ (y : V). Some y) ∙ sym lw;
+            word_shows = λ m h. zero_at (n + 3) m (omega arith) ∙ sym (ap packed (cold m));
+            warm_shows = zero_at (n + 3) (length c.words) (omega arith);
+            await_shows = zero_at (n + 3) (length c.words + 1) (omega arith);
+            clock_shows = zero_at (n + 3) (length c.words + 2) (omega arith);
+            seat_shows = elim [ zero ↦ refl | suc j ↦ laws.opens_unmade n bounds.limit passes (suc j) (omega arith) ];
+            at_home = λ m h free. let o = home_of (λ x. fits Cold 0 x × (room x ≡ bounds.room)) xs suits m (omega arith) in
+                (o.0, o.1, subst (λ (w : StateWord). Suits fits room bounds.room w.target o.0) (sym (cold m)) o.2);
+            away = λ m h held. absurd (true≢false (sym held ∙ ap (λ (w : StateWord). w.held) (cold m)));
+            shared = shared_at_start no_view view_share view_unsplit passes (first_view bounds) refl (omega arith);
+            each = elim [
+              | zero ↦ λ v e. subst (IsCounted bounds) (some-injective _ v e) record { inside = refl; bounds_is = λ _. refl; share_is = λ _. some_pass }
+              | suc j ↦ λ v e. absurd (some-ne-none v (sym e))
+            ];
+          };
         };
-        accounts = accounts_at_opening bounds passes n;
+        accounts = accounts_at_opening laws bounds n;
       }
 
   -- the same of lists that are those
-  pub shows_opening_of : (fits : State → ℕ → V → Type 0) (room : V → List ℕ) (bounds : Bounds) (passes : ℕ) (ws : List ℕ) (ss : List (Option V)) (xs : List V) (n : ℕ)
-      → ws ≡ replicate (n + 3) 0 → ss ≡ map (λ x. Some x) xs → length xs ≡ n → 1 ≤ passes → n + 2 * passes < 2 ^ 63
-      → All (λ x. fits Cold 0 x × (room x ≡ bounds.room)) xs → ShowsLawful fits room bounds passes (opening ws ss (first_view bounds passes))
-  shows_opening_of fits room bounds passes ws ss xs n w e l p few suits =
-      subst (λ (t : List ℕ × List (Option V)). ShowsLawful fits room bounds passes (opening t.0 t.1 (first_view bounds passes))) (λ i. ((sym w) i, (sym e) i))
-      (subst (λ (k : ℕ). ShowsLawful fits room bounds passes (opening (replicate (k + 3) 0) (map (λ x. Some x) xs) (first_view bounds passes))) l
-      (shows_opening fits room bounds passes xs p (subst (λ (k : ℕ). k + 2 * passes < 2 ^ 63) (sym l) few) suits))
+  pub shows_opening_of : CoreLaws → (fits : State → ℕ → V → Type 0) (room : V → List ℕ) (bounds : Bounds) (ws : List ℕ) (ss : List (Option V)) (xs : List V) (n : ℕ)
+      → ws ≡ replicate (n + 3) 0 → ss ≡ map (λ x. Some x) xs → length xs ≡ n → 1 ≤ bounds.passes → n + 2 * bounds.passes < 2 ^ 63
+      → All (λ x. fits Cold 0 x × (room x ≡ bounds.room)) xs → IsKept fits room bounds (opening ws ss (first_view bounds))
+  shows_opening_of laws fits room bounds ws ss xs n w e l p few suits =
+      subst (λ (t : List ℕ × List (Option V)). IsKept fits room bounds (opening t.0 t.1 (first_view bounds))) (λ i. ((sym w) i, (sym e) i))
+      (subst (λ (k : ℕ). IsKept fits room bounds (opening (replicate (k + 3) 0) (map (λ x. Some x) xs) (first_view bounds))) l
+      (shows_opening laws fits room bounds xs p (subst (λ (k : ℕ). k + 2 * bounds.passes < 2 ^ 63) (sym l) few) suits))

@@ -1,42 +1,59 @@
 -- What the rule says of any moment.
-use Rattle.std.proofs.Common.{◌≡◌, ℕ, ◌+◌, ◌<◌, ◌≤◌, Bool, true, false, true≢false, List, length, get_or, set, refl, sym, ap, ◌∙◌, arith, length-set, get_or-set_other, lt_of_not-le}
-use mathlib.Core.Logic.{dite}
-use native.Mathlib.Decide.{dec_le}
-use Rattle.std.specs.List.{sum_by}
-use Rattle.std.proofs.lemmas.List.{get_or_past, get_or_default}
-use Rattle.std.proofs.lemmas.List.Sums.{sum_by-set, get_or-le-sum_by}
-use Rattle.atomic_table.proofs.Lists.{at_index}
+use Rattle.std.proofs.Common.{◌≡◌, ℕ, ◌+◌, ◌%◌, ◌<◌, ◌≤◌, Bool, true, false, List, length, get_or, refl, sym, ap, ◌∙◌, subst, arith}
+use Rattle.std.specs.Prelude.{Option, Some, None}
 use Rattle.pool_core.specs.declared.words.State.{State}
+use Rattle.pool_core.specs.declared.words.StateWord.{StateWord}
 use Rattle.pool_core.specs.declared.seats.Seat.{Seat}
-use Rattle.pool_core.specs.PoolCore.{is_live}
-use Rattle.pool_core.proofs.Holders.{one_holder}
+use Rattle.pool_core.specs.StateWords.{bit}
+use Rattle.pool_core.specs.PoolCore.{is_live, word_at}
 use Rattle.slot_words.specs.declared.views.PassView.{PassView}
+use Rattle.slot_words.specs.CoreLaws.{CoreLaws}
 use Rattle.slot_words.specs.Views.{no_view}
-use Rattle.slot_words.specs.Rule.{OneHolder, NoHiddenSeat, AloneWithAll}
-use Rattle.slot_words.proofs.Lookups.{found, live_not_away}
+use Rattle.slot_words.specs.Rule.{AloneWithAll, ClockCountsStamps, FreeValuesFit, HeldByAnother, NoHiddenSeat, OneHolder, WithinLimit}
+use Rattle.slot_words.specs.Shows.{Suits, shown_seat, view_share, view_unsplit}
+use Rattle.slot_words.proofs.HeldShares.{another_holds, counted_at}
+use Rattle.slot_words.proofs.Lookups.{live_not_away}
+use Rattle.slot_words.proofs.SharedPasses.{shared_beside, views_within}
 
-module _ {V : Type 0} (fits : State → ℕ → V → Type 0) (room : V → List ℕ) where
-  pub one_holder_by_rule : OneHolder fits room
-  one_holder_by_rule bounds passes s r i j n hi hj =
-      one_holder r.core i j n r.lawful (ap (λ (p : Seat). p.holds) (r.shows.seat_shows i) ∙ hi) (ap (λ (p : Seat). p.holds) (r.shows.seat_shows j) ∙ hj)
+held_of : (b : Bool) → bit b ≡ 1 → b ≡ true
+held_of true e = refl
+held_of false e = absurd (omega arith)
+
+module _ (laws : CoreLaws) {V : Type 0} (fits : State → ℕ → V → Type 0) (room : V → List ℕ) where
+  pub one_holder : OneHolder fits room
+  one_holder bounds s r i j n hi hj = laws.one_seat r.core i j n r.lawful (ap (λ (p : Seat). p.holds) (r.shows.seat_shows i) ∙ hi) (ap (λ (p : Seat). p.holds) (r.shows.seat_shows j) ∙ hj)
+
+  pub held_by_another : HeldByAnother fits room
+  held_by_another bounds s r n i below odd none = let o = r.shows in let w : StateWord = word_at r.core n in
+      let there : n < length r.core.words = let e = o.slots_are in omega arith in
+      let one : bit w.held ≡ 1 = sym (laws.bit_says w) ∙ ap (λ (k : ℕ). k % 2) (sym (o.word_shows n there)) ∙ odd in
+      another_holds laws fits room bounds r.core s r.lawful o n i (held_of w.held one) none
 
   pub no_hidden_seat : NoHiddenSeat fits room
-  no_hidden_seat bounds passes s r = let e = r.shows.unsplit_sum in omega arith
+  no_hidden_seat bounds s r = views_within no_view view_share view_unsplit bounds.passes s.views r.shows.shared
 
   pub alone_with_all : AloneWithAll fits room
-  alone_with_all bounds passes s r id v at all j ne = let o = r.shows in let vs : List PassView = s.views in let y : PassView = get_or vs j no_view in
-      let inside = (found vs id v no_view at).0 in let was : get_or vs id no_view ≡ v = (found vs id v no_view at).1 in
-      let t : sum_by (λ (k : PassView). k.share) (set vs id no_view) + (get_or vs id no_view).share ≡ sum_by (λ (k : PassView). k.share) vs + 0 = sum_by-set (λ (k : PassView). k.share) vs id no_view no_view inside in
-      let t1 : (get_or vs id no_view).share ≡ v.share = ap (λ (k : PassView). k.share) was in
-      let t2 : sum_by (λ (k : PassView). k.share) vs ≡ passes = o.share_sum in
-      let split : (b : Bool) → is_live y.seat.stage ≡ b → is_live y.seat.stage ≡ false = elim [
+  alone_with_all bounds s r id v at all j ne = let p : Seat = shown_seat s.views j in
+      let both = shared_beside no_view view_share view_unsplit bounds.passes s.views id j v refl at ne r.shows.shared in
+      let split : (b : Bool) → is_live p.stage ≡ b → is_live p.stage ≡ false = elim [
         | false ↦ λ e. e
-        | true ↦ λ e. dite (dec_le (length vs) j)
-            (λ past. absurd (true≢false (sym e ∙ ap (λ (k : PassView). is_live k.seat.stage) (get_or_past vs j no_view past))))
-            (λ within.
-            let h : j < length vs = lt_of_not-le within in
-            let l : length (set vs id no_view) ≡ length vs = length-set vs id no_view in
-            let le : (get_or (set vs id no_view) j no_view).share ≤ sum_by (λ (k : PassView). k.share) (set vs id no_view) = get_or-le-sum_by (λ (k : PassView). k.share) (set vs id no_view) j no_view (omega arith) in
-            let is : (get_or (set vs id no_view) j no_view).share ≡ y.share = ap (λ (k : PassView). k.share) (get_or-set_other vs id j no_view no_view ne) in
-            let one : 1 ≤ y.share = (o.each j y (at_index vs j y h (get_or_default vs j no_view y h))).share_is (live_not_away y.seat.stage e) in absurd (omega arith))
-      ] in split (is_live y.seat.stage) refl
+        | true ↦ λ e. let one = counted_at fits room bounds r.core s r.shows j (live_not_away p.stage e) in absurd (omega arith)
+      ] in split (is_live p.stage) refl
+
+  pub within_limit : WithinLimit fits room
+  within_limit bounds s r = let o = r.shows in (
+    r.core.words,
+    sym o.words_are,
+    record { each = λ n h. record { packed_is = o.word_shows n h; well_formed = r.lawful.words n } },
+    (let w = r.lawful.within in let l = o.limit_is in omega arith),
+  )
+
+  pub free_values_fit : FreeValuesFit fits room
+  free_values_fit bounds s r n w below is free = let o = r.shows in
+      let there : n < length r.core.words = let e = o.slots_are in omega arith in
+      let same : word_at r.core n ≡ w = laws.one_word _ _ _ record { packed_is = o.word_shows n there; well_formed = r.lawful.words n } is in
+      let h = o.at_home n there (ap (λ (u : StateWord). u.held) same ∙ free) in
+      (h.0, h.1, subst (λ (u : StateWord). Suits fits room bounds.room u.target h.0) same h.2)
+
+  pub clock_counts_stamps : ClockCountsStamps fits room
+  clock_counts_stamps bounds s r = ap (λ (k : ℕ). get_or s.words (k + 2) 0) r.rule.shows.slots_are ∙ r.rule.shows.clock_shows ∙ r.accounts.clock_is

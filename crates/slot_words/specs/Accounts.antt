@@ -1,5 +1,5 @@
--- What the operations of passes account for, in whatever order they came: the slots' words, and what each pass holds.
-use Rattle.std.specs.Prelude.{◌≡◌, ℕ, ◌+◌, ◌%◌, ◌<◌, ◌≤◌, ◌==◌, ◌&&◌, Bool, true, false, is_some, List, [], length, flat_map, slice_index_or}
+-- What the operations of passes account for, in whatever order they came: the slots' words, the clock, and what each pass holds.
+use Rattle.std.specs.Prelude.{◌≡◌, ℕ, ◌+◌, ◌%◌, ◌^◌, ◌<◌, ◌≤◌, ◌==◌, ◌&&◌, Bool, true, false, is_some, List, [], length, flat_map, slice_index_or}
 use Rattle.std.specs.List.{count_by}
 use mathlib.Core.Option.{some}
 use lib.ListN.{get_elem?}
@@ -8,7 +8,7 @@ use Rattle.pool_core.specs.StateWords.{bit, cold_word, packed}
 use Rattle.pool_core.specs.PoolCore.{is_away}
 use Rattle.slot_words.specs.declared.views.PassView.{PassView}
 use Rattle.slot_words.specs.declared.views.Operation.{Operation}
-use Rattle.slot_words.specs.declared.views.Operation.TheVariants.{Claim, Release}
+use Rattle.slot_words.specs.declared.views.Operation.TheVariants.{Claim, Release, Stamp}
 use Rattle.slot_words.specs.Views.{operations_of}
 
 -- a release that gives slot n the word of these bits
@@ -43,6 +43,10 @@ AreKept done kept = count_by is_won_claim done ≡ count_by is_release done + ke
 abbrev pub KeepsOneAtMost : List Operation → Type 0
 KeepsOneAtMost done = (kept : ℕ) × AreKept done kept × (kept ≤ 1)
 
+abbrev pub is_stamp : Operation → Bool
+is_stamp (Stamp r) = true
+is_stamp o = false
+
 -- one trail after another
 abbrev pub in_one : List (List Operation) → List Operation
 in_one trails = flat_map (λ trail. trail) trails
@@ -53,7 +57,8 @@ pub record IsAccounted (v : PassView) : Type 0 where
   -- a seat that is not made yet, or was joined away, has no operations
   pub away : is_away v.seat.stage ≡ true → operations_of v ≡ []
 
--- the operations of all passes left the words, and those of each left it what it holds
-pub record AccountsFor (views : List PassView) (words : List StateWord) : Type 0 where
+-- the operations of all passes left the words, the clock went on once for each stamp, and the operations of each pass left it what it holds
+pub record AccountsFor (views : List PassView) (words : List StateWord) (clock : ℕ) : Type 0 where
   pub left : AreLeft (flat_map operations_of views) words
+  pub clock_is : clock ≡ count_by is_stamp (flat_map operations_of views) % 2 ^ 64
   pub each : (j : ℕ) (v : PassView) → get_elem? views j ≡ some v → IsAccounted v

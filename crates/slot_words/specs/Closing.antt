@@ -11,11 +11,8 @@ use Rattle.pool_core.specs.RefusalRules.{refusal_of}
 use Rattle.pool_core.specs.Lawful.{Lawful}
 use Rattle.slot_words.specs.declared.kinds.KindCounts.{KindCounts}
 use Rattle.slot_words.specs.declared.views.Operation.{Operation}
-use Rattle.slot_words.specs.declared.words.Words.{Words}
 use Rattle.slot_words.specs.KindCounts.{kind_counts}
 use Rattle.slot_words.specs.Accounts.{AreLeft, AreKept, KeepsOneAtMost, in_one}
-use Rattle.slot_words.specs.Passes.{Pass, operations, seat_number, share_of}
-use Rattle.slot_words.specs.Owned.{slots_of, limit_of, passes_of}
 
 -- the counts of so many words, which these operations left; the held ones are those that were claimed and not given back
 pub record CountsLeft (slots : ℕ) (done : List Operation) (counts : KindCounts) : Type 0 where
@@ -26,21 +23,21 @@ pub record CountsLeft (slots : ℕ) (done : List Operation) (counts : KindCounts
   pub kept : AreKept done counts.held
   pub counted : counts ≡ kind_counts words
 
--- A core of all the slots and seats, lawful as this idle pass closes it by Close, has words of these kinds.
-pub record ClosesAs {V I : Type 0} (self : Words V I) (pass : Pass V) (counts : KindCounts) : Type 0 where
+-- Words of these sizes, closed by an idle pass of this seat and share that did this, leave these counts: a core of all slots and seats, lawful as the seat closes it by Close, has words of these kinds.
+pub record ClosesAs (slots limit passes seat share : ℕ) (done : List Operation) (counts : KindCounts) : Type 0 where
   pub core : PoolCore
   pub lawful : Lawful core
-  pub slots_are : length core.words ≡ slots_of self
-  pub limit_is : core.limit ≡ limit_of self
-  pub seats_are : length core.seats ≡ passes_of self
-  pub seat_is : seat_at core (seat_number pass) ≡ idle_seat Live
-  pub allowed : refusal_of core (Close (seat_number pass)) ≡ 0
-  pub counted : counts ≡ kind_counts (core_after core (Close (seat_number pass))).words
+  pub slots_are : length core.words ≡ slots
+  pub limit_is : core.limit ≡ limit
+  pub seats_are : length core.seats ≡ passes
+  pub seat_is : seat_at core seat ≡ idle_seat Live
+  pub allowed : refusal_of core (Close seat) ≡ 0
+  pub counted : counts ≡ kind_counts (core_after core (Close seat)).words
   -- what each of the passes did that this one does not stand for
   pub others : List (List Operation)
-  pub few : length others + share_of pass ≤ passes_of self
+  pub few : length others + share ≤ passes
   -- the words are those that its operations and theirs left
-  pub left : AreLeft (operations pass ++ in_one others) (core_after core (Close (seat_number pass))).words
+  pub left : AreLeft (done ++ in_one others) (core_after core (Close seat)).words
   -- each of them kept one slot at most, and these are the held ones
   pub one_each : All KeepsOneAtMost others
   pub kept : AreKept (in_one others) counts.held

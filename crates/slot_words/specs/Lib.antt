@@ -1,13 +1,17 @@
 pub mod Accounts
 pub mod Closing
+pub mod CoreLaws
 pub mod Events
 pub mod KindCounts
 pub mod Leases
 pub mod Outcomes
 pub mod Owned
+pub mod Parts
 pub mod Passes
+pub mod Rows
 pub mod Rule
 pub mod Setups
+pub mod SharedPasses
 pub mod Shows
 pub mod Trails
 pub mod Views

@@ -1,8 +1,8 @@
 -- What a `Words` keeps for good, and which passes are its own.
-use Rattle.std.specs.Prelude.{◌≡◌, ℕ, true, List, []}
-use Rattle.pool_core.specs.PoolCore.{is_live}
+use Rattle.std.specs.Prelude.{◌≡◌, ℕ, List, []}
+use Rattle.pool_core.specs.declared.seats.Stage.TheVariants.{Live}
 use Rattle.slot_words.specs.declared.words.Words.{Words}
-use Rattle.slot_words.specs.Passes.{Pass, IsIdle, share_of, trail, joined_trail}
+use Rattle.slot_words.specs.Passes.{Pass, Home, IsIdle, home, share_of, trail, joined_trail}
 use Rattle.slot_words.specs.Setups.{bounds_at}
 
 module _ {V I : Type 0} where
@@ -21,10 +21,24 @@ module _ {V I : Type 0} where
   abbrev pub room_of : (V → List ℕ) → Words V I → List ℕ
   room_of room w = room w.table.shared.key.sample.value
 
+  -- what a live pass of these words has as its home
+  abbrev pub home_of : (V → List ℕ) → Words V I → Home
+  home_of room w = record { table = w.table.shared.table_id; bounds = bounds_at room w.table.shared.key; stage = Live }
+
   -- the pass is a live seat of these words
   abbrev pub IsPassOf : (V → List ℕ) → Words V I → Pass V → Type 0
-  IsPassOf room w p = (p.table_id ≡ w.table.shared.table_id) × (p.me.0.bounds ≡ bounds_at room w.table.shared.key) × (is_live p.me.0.seat.stage ≡ true)
+  IsPassOf room w p = home p ≡ home_of room w
 
   -- the pass is one of these words, as it is handed out: idle, for itself alone, with no operation yet
-  abbrev pub IsNewPassOf : (V → List ℕ) → Words V I → Pass V → Type 0
-  IsNewPassOf room w p = IsPassOf room w p × IsIdle p × (share_of p ≡ 1) × (trail p ≡ []) × (joined_trail p ≡ [])
+  pub record IsNewPassOf (room : V → List ℕ) (w : Words V I) (p : Pass V) : Type 0 where
+    pub own : IsPassOf room w p
+    pub idle : IsIdle p
+    pub share_is : share_of p ≡ 1
+    pub trail_is : trail p ≡ []
+    pub joined_is : joined_trail p ≡ []
+
+  -- an idle pass of these words that stands for itself alone
+  pub record IsLonePassOf (room : V → List ℕ) (w : Words V I) (p : Pass V) : Type 0 where
+    pub own : IsPassOf room w p
+    pub idle : IsIdle p
+    pub share_is : share_of p ≡ 1

@@ -1,7 +1,11 @@
 -- What a clause says of a pass.
-use Rattle.std.specs.Prelude.{◌≡◌, ℕ, Bool, false, Option, Some, None, List, [], ◌∷◌}
+use Rattle.std.specs.Prelude.{◌≡◌, ℕ, Bool, true, Option, None, is_some, List, [], ◌∷◌}
 use Rattle.atomic_table.specs.declared.shared.Seat.{Seat as TableSeat}
+use Rattle.atomic_table.specs.Seated.{TableId}
+use Rattle.pool_core.specs.declared.seats.Stage.{Stage}
 use Rattle.pool_core.specs.declared.seats.Stage.TheVariants.{Live}
+use Rattle.pool_core.specs.PoolCore.{idle_seat, holding_seat}
+use Rattle.slot_words.specs.declared.views.Bounds.{Bounds}
 use Rattle.slot_words.specs.declared.views.PassView.{PassView}
 use Rattle.slot_words.specs.declared.views.Operation.{Operation}
 use Rattle.slot_words.specs.Views.{operations_of}
@@ -9,6 +13,12 @@ use Rattle.slot_words.specs.Views.{operations_of}
 -- a seat at values of this type; antt has no name for a Rust alias
 abbrev pub Pass : Type 0 → Type 0
 Pass V = TableSeat (Option V) PassView
+
+-- of which words a pass is, and the stage of its seat
+pub record Home : Type 0 where
+  pub table : TableId
+  pub bounds : Bounds
+  pub stage : Stage
 
 module _ {V : Type 0} where
   -- the pass's operations on words so far, each with what it read or stored
@@ -41,32 +51,34 @@ module _ {V : Type 0} where
   abbrev pub pass_mark : Pass V → Bool
   pass_mark p = p.me.0.seat.mark
 
-  -- it is a live seat that holds this number or none, with its slot as this, and has these of permit, refusal and await mark
-  abbrev pub Stands : Pass V → Option ℕ → List (ℕ × Option V) → Bool → Bool → Bool → Type 0
-  Stands p number slot permit refusal mark = (p.me.0.seat.stage ≡ Live) × (p.me.0.seat.holds ≡ number) × (p.me.0.seat.out ≡ false) × (p.me.1 ≡ slot)
-      × (p.me.0.seat.permit ≡ permit) × (p.me.0.seat.refusal ≡ refusal) × (p.me.0.seat.mark ≡ mark)
+  -- whose pass it is, and in which stage its seat is
+  abbrev pub home : Pass V → Home
+  home p = record { table = p.table_id; bounds = p.me.0.bounds; stage = p.me.0.seat.stage }
 
   -- it holds nothing, and has no permit, refusal or await mark
   abbrev pub IsIdle : Pass V → Type 0
-  IsIdle p = Stands p None [] false false false
+  IsIdle p = (p.me.0.seat ≡ idle_seat Live) × (p.me.1 ≡ [])
 
   -- it holds the number, whose value is out, and has these of permit, refusal and await mark
   abbrev pub Holds : Pass V → ℕ → Bool → Bool → Bool → Type 0
-  Holds p n permit refusal mark = Stands p (Some n) ((n, None) ∷ []) permit refusal mark
+  Holds p n permit refusal mark = (p.me.0.seat ≡ holding_seat n permit refusal mark) × (p.me.1 ≡ (n, None) ∷ [])
 
   -- it holds some number
   abbrev pub IsHolding : Pass V → Type 0
-  IsHolding p = (n : ℕ) × (p.me.0.seat.holds ≡ Some n)
+  IsHolding p = is_some p.me.0.seat.holds ≡ true
 
   -- the pass stays that seat of those words, and joins no other
-  abbrev pub IsSamePass : Pass V → Pass V → Type 0
-  IsSamePass p q = (q.table_id ≡ p.table_id) × (q.id ≡ p.id) × (q.me.0.bounds ≡ p.me.0.bounds) × (q.me.0.unsplit ≡ p.me.0.unsplit) × (q.me.0.share ≡ p.me.0.share) × (q.me.0.seat.stage ≡ p.me.0.seat.stage) × (joined_trail q ≡ joined_trail p)
+  pub record IsSamePass (p q : Pass V) : Type 0 where
+    pub home_is : home q ≡ home p
+    pub number_is : seat_number q ≡ seat_number p
+    pub unsplit_is : q.me.0.unsplit ≡ p.me.0.unsplit
+    pub share_is : share_of q ≡ share_of p
+    pub joined_is : joined_trail q ≡ joined_trail p
 
   -- it holds what it did, and has these of permit, refusal and await mark
   abbrev pub KeepsWith : Pass V → Pass V → Bool → Bool → Bool → Type 0
-  KeepsWith p q permit refusal mark = (q.me.0.seat.stage ≡ p.me.0.seat.stage) × (q.me.0.seat.holds ≡ p.me.0.seat.holds) × (q.me.0.seat.out ≡ p.me.0.seat.out) × (q.me.1 ≡ p.me.1)
-      × (q.me.0.seat.permit ≡ permit) × (q.me.0.seat.refusal ≡ refusal) × (q.me.0.seat.mark ≡ mark)
+  KeepsWith p q permit refusal mark = (q.me.0.seat ≡ record (p.me.0.seat) { permit = permit; refusal = refusal; mark = mark }) × (q.me.1 ≡ p.me.1)
 
   -- it holds and has what it did
   abbrev pub KeepsAll : Pass V → Pass V → Type 0
-  KeepsAll p q = KeepsWith p q (pass_permit p) (pass_refusal p) (pass_mark p)
+  KeepsAll p q = (q.me.0.seat ≡ p.me.0.seat) × (q.me.1 ≡ p.me.1)

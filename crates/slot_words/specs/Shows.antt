@@ -1,6 +1,5 @@
 -- The rule: what threads share shows one core, which is lawful.
 use Rattle.std.specs.Prelude.{◌≡◌, ℕ, ◌+◌, ◌*◌, ◌^◌, ◌<◌, ◌≤◌, true, false, Option, Some, List, length, slice_index_or}
-use Rattle.std.specs.List.{sum_by}
 use mathlib.Core.Option.{none, some}
 use lib.ListN.{get_elem?}
 use Rattle.atomic_table.specs.Table.{State as TableState}
@@ -13,14 +12,23 @@ use Rattle.pool_core.specs.Lawful.{Lawful}
 use Rattle.slot_words.specs.declared.views.PassView.{PassView}
 use Rattle.slot_words.specs.declared.views.Bounds.{Bounds}
 use Rattle.slot_words.specs.Accounts.{AccountsFor}
+use Rattle.slot_words.specs.SharedPasses.{AreShared}
 use Rattle.slot_words.specs.Views.{no_view}
 
 -- the seat whose view is the j-th; a number that no view has is of a seat that is not made
 abbrev pub shown_seat : List PassView → ℕ → Seat
 shown_seat vs j = (slice_index_or vs j no_view).seat
 
--- a seat that is neither unmade nor joined away knows the bounds, and stands for a pass at least
+-- how many of the passes that were handed out a view stands for, and how many seats may still be split off from it
+abbrev pub view_share : PassView → ℕ
+view_share v = v.share
+
+abbrev pub view_unsplit : PassView → ℕ
+view_unsplit v = v.unsplit
+
+-- a seat that is neither unmade nor joined away knows the bounds, and stands for a pass at least; of none does its view say that its value is out
 pub record IsCounted (bounds : Bounds) (v : PassView) : Type 0 where
+  pub inside : v.seat.out ≡ false
   pub bounds_is : is_away v.seat.stage ≡ false → v.bounds ≡ bounds
   pub share_is : is_away v.seat.stage ≡ false → 1 ≤ v.share
 
@@ -30,10 +38,10 @@ module _ {V : Type 0} (fits : State → ℕ → V → Type 0) (room : V → List
   Suits r to x = fits to.state to.tag x × (room x ≡ r)
 
   -- the words, the values at home and the views of the seats show this core
-  pub record Shows (bounds : Bounds) (passes : ℕ) (core : PoolCore) (s : TableState (Option V) PassView) : Type 0 where
+  pub record Shows (bounds : Bounds) (core : PoolCore) (s : TableState (Option V) PassView) : Type 0 where
     pub limit_is : core.limit ≡ bounds.limit
-    pub countable : length core.words + 2 * passes < 2 ^ 63
-    pub seats_are : length core.seats ≡ passes
+    pub countable : length core.words + 2 * bounds.passes < 2 ^ 63
+    pub seats_are : length core.seats ≡ bounds.passes
     pub words_are : length s.words ≡ length core.words + 3
     pub slots_are : length s.homes ≡ length core.words
     pub word_shows : (n : ℕ) → n < length core.words → slice_index_or s.words n 0 ≡ packed (word_at core n)
@@ -46,14 +54,16 @@ module _ {V : Type 0} (fits : State → ℕ → V → Type 0) (room : V → List
         → (x : V) × (get_elem? s.homes n ≡ some (some (Some x))) × Suits bounds.room (word_at core n).target x
     -- the slot of a held number is empty: its holder has the value, or what stands in its place
     pub away : (n : ℕ) → n < length core.words → (word_at core n).held ≡ true → get_elem? s.homes n ≡ some none
-    -- each seat that may ever be made is a view, or is still to be split off from one
-    pub unsplit_sum : sum_by (λ v. v.unsplit) s.views + length s.views ≡ passes
-    pub share_sum : sum_by (λ v. v.share) s.views ≡ passes
+    pub shared : AreShared view_share view_unsplit bounds.passes s.views
     pub each : (j : ℕ) (v : PassView) → get_elem? s.views j ≡ some v → IsCounted bounds v
 
-  -- they show one core, it is lawful, and the operations of the passes account for it
-  pub record ShowsLawful (bounds : Bounds) (passes : ℕ) (s : TableState (Option V) PassView) : Type 0 where
+  -- they show one core, and it is lawful
+  pub record ShowsLawful (bounds : Bounds) (s : TableState (Option V) PassView) : Type 0 where
     pub core : PoolCore
     pub lawful : Lawful core
-    pub shows : Shows bounds passes core s
-    pub accounts : AccountsFor s.views core.words
+    pub shows : Shows bounds core s
+
+  -- What the table keeps: they show one lawful core, and the operations of the passes account for it.
+  pub record IsKept (bounds : Bounds) (s : TableState (Option V) PassView) : Type 0 where
+    pub rule : ShowsLawful bounds s
+    pub accounts : AccountsFor s.views rule.core.words rule.core.clock

@@ -15,12 +15,12 @@ operations_of v = v.trail ++ v.joined_trail
 abbrev pub new_view : Bounds → ℕ → ℕ → PassView
 new_view b unsplit share = record { seat = idle_seat Live; bounds = b; unsplit = unsplit; share = share; trail = []; joined_trail = [] }
 
--- the one pass of a table of so many, before the others are split off
-abbrev pub first_view : Bounds → ℕ → PassView
-first_view b passes = new_view b (passes - 1) passes
+-- the one pass of a table, before the others are split off
+abbrev pub first_view : Bounds → PassView
+first_view b = new_view b (b.passes - 1) b.passes
 
 abbrev pub no_bounds : Bounds
-no_bounds = record { room = []; limit = 0 }
+no_bounds = record { room = []; limit = 0; passes = 0 }
 
 -- the view of a seat that no pass has
 abbrev pub no_view : PassView
@@ -32,11 +32,11 @@ spent_view = record { seat = idle_seat Joined; bounds = no_bounds; unsplit = 0; 
 
 -- the view after one operation, which leaves the seat as this
 abbrev pub view_after : PassView → Seat → Operation → PassView
-view_after v seat o = record { seat = seat; bounds = v.bounds; unsplit = v.unsplit; share = v.share; trail = v.trail ++ o ∷ []; joined_trail = v.joined_trail }
+view_after v seat o = record v { seat = seat; trail = v.trail ++ o ∷ [] }
 
 -- what is left where one seat is split off
 abbrev pub view_left : PassView → PassView
-view_left v = record { seat = v.seat; bounds = v.bounds; unsplit = v.unsplit - 1; share = v.share - 1; trail = v.trail; joined_trail = v.joined_trail }
+view_left v = record v { unsplit = v.unsplit - 1; share = v.share - 1 }
 
 -- what the seat that is split off knows
 abbrev pub view_given : PassView → PassView
@@ -44,4 +44,4 @@ view_given v = new_view v.bounds 0 1
 
 -- a pass that took another in
 abbrev pub view_joined : PassView → PassView → PassView
-view_joined v w = record { seat = v.seat; bounds = v.bounds; unsplit = v.unsplit + w.unsplit; share = v.share + w.share; trail = v.trail; joined_trail = v.joined_trail ++ operations_of w }
+view_joined v w = record v { unsplit = v.unsplit + w.unsplit; share = v.share + w.share; joined_trail = v.joined_trail ++ operations_of w }

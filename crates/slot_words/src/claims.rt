@@ -1,13 +1,15 @@
 //! Slots are taken and given back.
-ghost use Rattle.std.specs.Prelude.{◌≡◌, ℕ, ◌<◌, ◌++◌, [], ◌∷◌, true, false, IfOk, OnErr};
-ghost use Rattle.pool_core.specs.declared.words.StateWord.{StateWord};
-ghost use Rattle.pool_core.specs.StateWords.{is_warm, is_awaiting, is_well_formed, IsWordOf, packed, free_word};
+ghost use Rattle.std.specs.Prelude.{◌≡◌, ◌<◌, ◌++◌, [], ◌∷◌, true, false, IfOk, OnErr};
+ghost use Rattle.pool_core.specs.StateWords.{is_warm, is_awaiting, is_well_formed, packed, free_word};
 ghost use Rattle.slot_words.specs.declared.views.Operation.TheVariants.{Claim, Release};
 ghost use Rattle.slot_words.specs.Shows.{Suits};
 ghost use Rattle.slot_words.specs.Leases.{lease_number, lease_word};
-ghost use Rattle.slot_words.specs.Passes.{IsIdle, Holds, IsSamePass, trail};
-ghost use Rattle.slot_words.specs.Owned.{IsPassOf, slots_of, room_of};
+ghost use Rattle.slot_words.specs.Parts.{Grew};
+ghost use Rattle.slot_words.specs.Passes.{IsIdle, Holds, IsSamePass, share_of, trail};
+ghost use Rattle.slot_words.specs.Owned.{IsPassOf, slots_of, passes_of, room_of};
+ghost use Rattle.slot_words.specs.Rows.{IsLost, HasWon};
 
+use crate::cores::core_laws;
 use crate::leases::{Held, Lease};
 use crate::outcomes::{Claiming, Releasing};
 use crate::pooled::Pooled;
@@ -20,23 +22,23 @@ impl<V: Pooled> Words<V> {
     ///
     /// # Errors
     ///
-    /// [`Held`] exactly where the word that this step read had the bit: then nothing has changed, and another pass has the slot.
+    /// [`Held`] exactly where the word that this step read had the bit: then no word has changed, and another pass has the slot.
     pub fn claim(&self, pass: &mut Pass<V>, n: u32) -> Result<Lease<V>, Held>
         requires own { IsPassOf V.room self.now pass.old }
         requires idle { IsIdle pass.old }
         requires number { n < slots_of self.now }
         ensures same { IsSamePass pass.old pass.new }
 
-        // the word read was not held: the pass has the slot, with the permit or the mark of that word, and its value fits that word
-        ensures won { IfOk result (λ l. (w : StateWord) × IsWordOf (lease_word l) w × (w.held ≡ false) × (lease_number l ≡ n)
-            × (trail pass.new ≡ trail pass.old ++ Claim n (lease_word l) ∷ [])
-            × Holds pass.new n (is_warm w.target.state) false (is_awaiting w.target.state)
-            × Suits V.fits V.room (room_of V.room self.now) w.target l.value) }
+        // the word read was not held
+        ensures won { IfOk result (HasWon V.fits V.room self.now pass.new) }
+        ensures number { IfOk result (λ l. lease_number l ≡ n) }
+        ensures trail { IfOk result (λ l. trail pass.new ≡ trail pass.old ++ Claim n (lease_word l) ∷ []) }
 
-        // the word read was held
-        ensures held { OnErr result ((w : StateWord) × (r : ℕ) × IsWordOf r w × (w.held ≡ true)
-            × (trail pass.new ≡ trail pass.old ++ Claim n r ∷ []) × IsIdle pass.new) }
+        // the word read was held, by another pass: one that stands for all of them never meets a held word
+        ensures held { OnErr result (IsIdle pass.new × Grew (IsLost n) (trail pass.old) (trail pass.new)) }
+        ensures another { OnErr result (share_of pass.old < passes_of self.now) }
     {
+        core_laws();
         let read = self.table.shared.fetch_or::<Claiming>(pass, n as usize, 1);
         if read % 2 == 1 {
             return Err(Held);
@@ -62,21 +64,18 @@ impl<V: Pooled> Words<V> {
         ensures idle { IsIdle pass.new }
         ensures trail { trail pass.new ≡ trail pass.old ++ Release (lease_number lease) (packed (free_word to)) ∷ [] }
     {
+        core_laws();
         let Lease {
             value,
             number,
             word: _,
         } = lease;
-        match self
-            .table
-            .shared
-            .exchange(pass, number as usize, Some(value))
-        {
+        let n = number as usize;
+        match self.table.shared.exchange(pass, n, Some(value)) {
             None => {}
             Some(_) => unreachable!(),
         }
-        self.table
-            .shared
-            .store::<Releasing>(pass, number as usize, pack(to, false));
+        let word = pack(to, false);
+        self.table.shared.store::<Releasing>(pass, n, word);
     }
 }

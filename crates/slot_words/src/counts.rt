@@ -1,16 +1,15 @@
 //! Steps on the count words, by the holder of a slot.
-ghost use Rattle.std.specs.Prelude.{◌≡◌, ℕ, ◌++◌, ◌%◌, ◌^◌, ◌||◌, [], ◌∷◌, Bool, true, false, not, ltb};
+ghost use Rattle.std.specs.Prelude.{◌≡◌, ℕ, ◌++◌, ◌%◌, ◌||◌, [], ◌∷◌, Bool, true, false, not, ltb};
 ghost use Rattle.slot_words.specs.declared.views.Operation.TheVariants.{WarmUp, WarmDown, Stamp, AwaitUp, AwaitDown};
 ghost use Rattle.slot_words.specs.Passes.{IsHolding, IsSamePass, KeepsWith, KeepsAll, pass_permit, pass_refusal, pass_mark, trail};
 ghost use Rattle.slot_words.specs.Owned.{IsPassOf, limit_of};
 
+use crate::cores::core_laws;
 use crate::outcomes::{AwaitingDown, AwaitingUp, Stamping, WarmingDown, WarmingUp};
 use crate::pooled::Pooled;
 use crate::views::Pass;
 use crate::words::Words;
-
-// A stamp has 49 bits.
-const STAMPS: u64 = 1 << 49;
+use pool_core::STAMP_LIMIT;
 
 impl<V: Pooled> Words<V> {
     /// Counts one more warm slot. True exactly where the word read was below the limit: the pass then has a permit, and else a refusal.
@@ -19,9 +18,10 @@ impl<V: Pooled> Words<V> {
         requires holds { IsHolding pass.old }
         requires none { (pass_permit pass.old ≡ false) × (pass_refusal pass.old ≡ false) }
         ensures same { IsSamePass pass.old pass.new }
-        ensures seat { KeepsWith pass.old pass.new result (not result) (pass_mark pass.old) }
+        ensures keeps { KeepsWith pass.old pass.new result (not result) (pass_mark pass.old) }
         ensures trail { (r : ℕ) × (result ≡ ltb r (limit_of self.now)) × (trail pass.new ≡ trail pass.old ++ WarmUp r ∷ []) }
     {
+        core_laws();
         let read = self
             .table
             .shared
@@ -35,26 +35,29 @@ impl<V: Pooled> Words<V> {
         requires holds { IsHolding pass.old }
         requires some { (pass_permit pass.old || pass_refusal pass.old) ≡ true }
         ensures same { IsSamePass pass.old pass.new }
-        ensures seat { KeepsWith pass.old pass.new false false (pass_mark pass.old) }
+        ensures keeps { KeepsWith pass.old pass.new false false (pass_mark pass.old) }
         ensures trail { (r : ℕ) × (trail pass.new ≡ trail pass.old ++ WarmDown r ∷ []) }
     {
+        core_laws();
         self.table
             .shared
             .fetch_sub::<WarmingDown>(pass, self.slots, 1);
     }
 
-    /// The next stamp: the clock word read, modulo 2^49.
+    /// The next stamp: the clock word read, modulo [`STAMP_LIMIT`].
     pub fn stamp(&self, pass: &mut Pass<V>) -> u64
         requires own { IsPassOf V.room self.now pass.old }
         requires holds { IsHolding pass.old }
-        ensures same { IsSamePass pass.old pass.new × KeepsAll pass.old pass.new }
-        ensures trail { (r : ℕ) × (result ≡ r % 2 ^ 49) × (trail pass.new ≡ trail pass.old ++ Stamp r ∷ []) }
+        ensures same { IsSamePass pass.old pass.new }
+        ensures keeps { KeepsAll pass.old pass.new }
+        ensures trail { (r : ℕ) × (result ≡ r % STAMP_LIMIT) × (trail pass.new ≡ trail pass.old ++ Stamp r ∷ []) }
     {
+        core_laws();
         let read = self
             .table
             .shared
             .fetch_add::<Stamping>(pass, self.slots + 2, 1);
-        read % STAMPS
+        read % STAMP_LIMIT
     }
 
     /// Counts one more awaiting slot, and gives the word that it read: the pass has an await mark.
@@ -63,9 +66,10 @@ impl<V: Pooled> Words<V> {
         requires holds { IsHolding pass.old }
         requires none { pass_mark pass.old ≡ false }
         ensures same { IsSamePass pass.old pass.new }
-        ensures seat { KeepsWith pass.old pass.new (pass_permit pass.old) (pass_refusal pass.old) true }
+        ensures keeps { KeepsWith pass.old pass.new (pass_permit pass.old) (pass_refusal pass.old) true }
         ensures trail { trail pass.new ≡ trail pass.old ++ AwaitUp result ∷ [] }
     {
+        core_laws();
         self.table
             .shared
             .fetch_add::<AwaitingUp>(pass, self.slots + 1, 1)
@@ -77,9 +81,10 @@ impl<V: Pooled> Words<V> {
         requires holds { IsHolding pass.old }
         requires some { pass_mark pass.old ≡ true }
         ensures same { IsSamePass pass.old pass.new }
-        ensures seat { KeepsWith pass.old pass.new (pass_permit pass.old) (pass_refusal pass.old) false }
+        ensures keeps { KeepsWith pass.old pass.new (pass_permit pass.old) (pass_refusal pass.old) false }
         ensures trail { (r : ℕ) × (trail pass.new ≡ trail pass.old ++ AwaitDown r ∷ []) }
     {
+        core_laws();
         self.table
             .shared
             .fetch_sub::<AwaitingDown>(pass, self.slots + 1, 1);

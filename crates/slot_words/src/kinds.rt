@@ -5,7 +5,7 @@ ghost use Rattle.pool_core.specs.declared.words.StateWord.{StateWord};
 ghost use Rattle.slot_words.specs.KindCounts.{kind_counts, counts_with, BeginsWith};
 
 use atomic_table::Closed;
-use pool_core::{State, Target, unpack};
+use pool_core::{MOST_SLOTS, State, Target, unpack};
 use std::alloc::Global;
 
 /// How many state words say each kind. A held word is counted as held alone.
@@ -20,7 +20,7 @@ pub struct KindCounts {
 impl KindCounts {
     // One word more.
     fn with(self, target: Target, held: bool) -> KindCounts
-        requires { (self.cold < 64) × (self.warm < 64) × (self.awaiting < 64) × (self.held < 64) }
+        requires { (self.cold < MOST_SLOTS) × (self.warm < MOST_SLOTS) × (self.awaiting < MOST_SLOTS) × (self.held < MOST_SLOTS) }
         ensures { result ≡ counts_with self (record { target = target; held = held }) }
     {
         if held {
@@ -46,9 +46,9 @@ impl KindCounts {
     }
 }
 
-/// Counts the first `slots` words of a table that was taken apart.
-pub fn count_kinds<S>(closed: &Closed<S, Global>, slots: usize) -> KindCounts
-    requires full { IsFull closed.now.words × (slots ≤ slots_len closed.now.words) × (slots ≤ 64) }
+// Counts the first `slots` words of a table that was taken apart.
+pub(crate) fn count_kinds<S>(closed: &Closed<S, Global>, slots: usize) -> KindCounts
+    requires full { IsFull closed.now.words × (slots ≤ slots_len closed.now.words) × (slots ≤ MOST_SLOTS) }
     requires words { (ws : List StateWord) × (length ws ≡ slots) × BeginsWith (slots_items closed.now.words) ws }
     ensures { (ws : List StateWord) → length ws ≡ slots → BeginsWith (slots_items closed.now.words) ws → result ≡ kind_counts ws }
 {

@@ -1,13 +1,13 @@
-//! What holds of the definitions alone.
+//! What holds of the definitions alone. Each function does nothing: its contract is the law.
 ghost use Rattle.std.specs.Prelude.{◌≡◌, ℕ, List, []};
 ghost use Rattle.slot_words.specs.declared.kinds.KindCounts.{KindCounts};
 ghost use Rattle.slot_words.specs.declared.views.Operation.{Operation};
 ghost use Rattle.slot_words.specs.Closing.{CountsLeft};
 ghost use Rattle.slot_words.specs.Events.{LoadsAreEvents, ClaimsAreEvents, ReleasesAreEvents, WarmLoadsAreEvents, WarmUpsAreEvents, WarmDownsAreEvents, StampsAreEvents, AwaitUpsAreEvents, AwaitDownsAreEvents, AwaitLoadsAreEvents, SplitsAreEvents, JoinsAreEvents, ClosesAreEvents, ExchangesAreEvents};
-ghost use Rattle.slot_words.specs.Rule.{OneHolder, NoHiddenSeat, AloneWithAll};
+ghost use Rattle.slot_words.specs.Rule.{OneHolder, HeldByAnother, NoHiddenSeat, AloneWithAll, WithinLimit, FreeValuesFit, ClockCountsStamps};
 
+use crate::cores::core_laws;
 use crate::pooled::Pooled;
-use pool_core::laws::words_are_read_back;
 
 /// Each step of a pass is one event of the core that the words show, by that pass's seat.
 pub fn steps_are_events<V: Pooled>()
@@ -25,25 +25,33 @@ pub fn steps_are_events<V: Pooled>()
     ensures await_ups { AwaitUpsAreEvents V.fits V.room }
     ensures await_downs { AwaitDownsAreEvents V.fits V.room }
     ensures await_loads { AwaitLoadsAreEvents V.fits V.room }
-{}
+{
+    core_laws();
+}
 
 /// What the rule says of each moment, for all passes together.
 pub fn passes_share_the_words<V: Pooled>()
     ensures one_holder { OneHolder V.fits V.room }
+    ensures held_by_another { HeldByAnother V.fits V.room }
     ensures no_hidden_seat { NoHiddenSeat V.fits V.room }
     ensures alone_with_all { AloneWithAll V.fits V.room }
-{}
+    ensures within_limit { WithinLimit V.fits V.room }
+    ensures free_values_fit { FreeValuesFit V.fits V.room }
+    ensures clock { ClockCountsStamps V.fits V.room }
+{
+    core_laws();
+}
 
 /// Operations leave one count of the words alone, in whatever order they came.
 pub fn one_count_is_left()
     ensures { (slots : ℕ) (done : List Operation) (k l : KindCounts) → CountsLeft slots done k → CountsLeft slots done l → k ≡ l }
 {
-    words_are_read_back();
+    core_laws();
 }
 
 /// Where nothing was done, all slots are cold.
 pub fn nothing_done_leaves_all_cold()
     ensures { (slots : ℕ) (k : KindCounts) → CountsLeft slots [] k → k ≡ record { cold = slots; warm = 0; awaiting = 0; held = 0 } }
 {
-    words_are_read_back();
+    core_laws();
 }

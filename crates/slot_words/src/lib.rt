@@ -5,28 +5,29 @@
 
 mod claims;
 mod closing;
+mod cores;
 mod counts;
 mod kinds;
-mod laws;
+pub mod laws;
 mod leases;
 mod opening;
 mod outcomes;
 mod passes;
 mod pooled;
+mod rows;
 mod rule;
 mod scans;
 mod seen;
 mod setup;
+mod sizes;
 mod views;
 mod words;
 
 pub use kinds::KindCounts;
-pub use laws::{
-    nothing_done_leaves_all_cold, one_count_is_left, passes_share_the_words, steps_are_events,
-};
 pub use leases::{Held, Lease};
 pub use pool_core::NoMemory;
 pub use pooled::Pooled;
+pub use rows::AllHeld;
 pub use rule::Ruled;
 pub use seen::Seen;
 pub use setup::Setup;

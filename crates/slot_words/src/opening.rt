@@ -6,12 +6,13 @@ ghost use Rattle.slot_words.specs.Views.{new_view, first_view};
 ghost use Rattle.slot_words.specs.Setups.{bounds_at};
 ghost use Rattle.slot_words.specs.Owned.{IsNewPassOf, slots_of, limit_of, passes_of, room_of};
 
+use crate::cores::core_laws;
 use crate::pooled::Pooled;
 use crate::setup::Setup;
 use crate::views::Pass;
 use crate::words::Words;
 use atomic_table::{Refused, Table};
-use pool_core::NoMemory;
+use pool_core::{MOST_SLOTS, NoMemory};
 use std::alloc::{AllocError, Global};
 use std::snapshot::Snapshot;
 
@@ -40,11 +41,13 @@ impl<V: Pooled + Drop> Words<V> {
         warm: u32,
         passes: u32,
     ) -> Result<(Words<V>, Vec<Pass<V>>), NoMemory>
-        requires count { (1 ≤ length values.items) × (length values.items ≤ 64) }
+        requires count { (1 ≤ length values.items) × (length values.items ≤ MOST_SLOTS) }
         requires passes { 1 ≤ passes }
         requires cold { All (λ x. V.fits Cold 0 x) values.items }
         requires room { (r : List ℕ) × All (λ x. V.room x ≡ r) values.items }
-        ensures words { IfOk result (λ o. (slots_of o.0 ≡ length values.items) × (limit_of o.0 ≡ warm) × (passes_of o.0 ≡ passes)) }
+        ensures slots { IfOk result (λ o. slots_of o.0 ≡ length values.items) }
+        ensures limit { IfOk result (λ o. limit_of o.0 ≡ warm) }
+        ensures count { IfOk result (λ o. passes_of o.0 ≡ passes) }
         ensures room { IfOk result (λ o. All (λ x. V.room x ≡ room_of V.room o.0) values.items) }
         ensures passes { IfOk result (λ o. (length o.1.items ≡ passes) × All (IsNewPassOf V.room o.0) o.1.items) }
     {
@@ -67,12 +70,14 @@ impl<V: Pooled + Drop> Words<V> {
         slots: Vec<Option<V>>,
         count: usize,
     ) -> Result<(Words<V>, Pass<V>), AllocError>
-        requires count { (count ≤ 64) × (1 ≤ setup.now.passes) × (setup.now.passes < 2 ^ 32) }
+        requires count { (1 ≤ count) × (count ≤ MOST_SLOTS) }
+        requires passes { (1 ≤ setup.now.passes) × (setup.now.passes < 2 ^ 32) }
         requires values { (xs : List V) × (slots.items ≡ map (λ x. Some x) xs) × (length xs ≡ count)
             × All (λ x. V.fits Cold 0 x × (V.room x ≡ V.room setup.now.sample.value)) xs }
         ensures words { IfOk result (λ o. (o.0.table.shared.key ≡ setup.now) × (o.0.slots ≡ count)) }
-        ensures pass { IfOk result (λ o. (o.1.table_id ≡ o.0.table.shared.table_id) × (o.1.me ≡ (first_view (bounds_at V.room setup.now) setup.now.passes, []))) }
+        ensures pass { IfOk result (λ o. (o.1.table_id ≡ o.0.table.shared.table_id) × (o.1.me ≡ (first_view (bounds_at V.room setup.now), []))) }
     {
+        core_laws();
         let words = Vec::from_elem(alloc, 0u64, count + 3)?;
         match Table::new(alloc, words.as_slice(), slots, setup) {
             Ok((table, pass)) => Ok((
@@ -89,7 +94,8 @@ impl<V: Pooled + Drop> Words<V> {
 
     // Splits the first pass, which stands for all, into one pass for each.
     fn deal(&self, mut first: Pass<V>, passes: u32, all: &mut Vec<Pass<V>>)
-        requires first { (first.table_id ≡ self.now.table.shared.table_id) × (first.me ≡ (first_view (bounds_at V.room self.now.table.shared.key) passes, [])) }
+        requires first { (first.table_id ≡ self.now.table.shared.table_id) × (first.me ≡ (first_view (bounds_at V.room self.now.table.shared.key), [])) }
+        requires passes { passes_of self.now ≡ passes }
         requires room { (1 ≤ passes) × (all.old.items ≡ []) × (passes ≤ vec_capacity all.old) }
         ensures count { length all.new.items ≡ passes }
         ensures each { All (IsNewPassOf V.room self.now) all.new.items }

@@ -5,62 +5,62 @@ use crate::pooled::Pooled;
 use crate::views::PassView;
 use atomic_table::Play;
 
-pub struct Loading;
+pub(crate) struct Loading;
 
 impl<V> Play<Option<V>, PassView> for Loading {
     ghost then = { Loads };
 }
 
-pub struct Claiming;
+pub(crate) struct Claiming;
 
 impl<V: Pooled> Play<Option<V>, PassView> for Claiming {
     ghost then = { Claims V.fits V.room };
 }
 
-pub struct Releasing;
+pub(crate) struct Releasing;
 
 impl<V> Play<Option<V>, PassView> for Releasing {
     ghost then = { Releases };
 }
 
-pub struct WarmLoading;
+pub(crate) struct WarmLoading;
 
 impl<V> Play<Option<V>, PassView> for WarmLoading {
-    ghost then = { λ st. LoadsWarm };
+    ghost then = { LoadsWarm };
 }
 
-pub struct WarmingUp;
+pub(crate) struct WarmingUp;
 
 impl<V> Play<Option<V>, PassView> for WarmingUp {
-    ghost then = { λ st. WarmsUp };
+    ghost then = { WarmsUp };
 }
 
-pub struct WarmingDown;
+pub(crate) struct WarmingDown;
 
 impl<V> Play<Option<V>, PassView> for WarmingDown {
-    ghost then = { λ st. WarmsDown };
+    ghost then = { WarmsDown };
 }
 
-pub struct Stamping;
+pub(crate) struct Stamping;
 
 impl<V> Play<Option<V>, PassView> for Stamping {
-    ghost then = { λ st. Stamps };
+    ghost then = { Stamps };
 }
 
-pub struct AwaitingUp;
+pub(crate) struct AwaitingUp;
 
 impl<V> Play<Option<V>, PassView> for AwaitingUp {
-    ghost then = { λ st. AwaitsUp };
+    ghost then = { AwaitsUp };
 }
 
-pub struct AwaitingDown;
+pub(crate) struct AwaitingDown;
 
 impl<V> Play<Option<V>, PassView> for AwaitingDown {
-    ghost then = { λ st. AwaitsDown };
+    ghost then = { AwaitsDown };
 }
 
-pub struct AwaitLoading;
+pub(crate) struct AwaitLoading;
 
 impl<V> Play<Option<V>, PassView> for AwaitLoading {
-    ghost then = { λ st. LoadsAwait };
+    ghost then = { LoadsAwait };
 }

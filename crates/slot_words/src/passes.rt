@@ -4,12 +4,13 @@ ghost use Rattle.slot_words.specs.Views.{view_left, view_given, view_joined, spe
 ghost use Rattle.slot_words.specs.Passes.{IsIdle, trail, joined_trail, operations, share_of, seat_number};
 ghost use Rattle.slot_words.specs.Owned.{IsPassOf};
 
+use crate::cores::core_laws;
 use crate::pooled::Pooled;
 use crate::views::{Pass, PassView};
 use crate::words::Words;
 use atomic_table::{Join, Split};
 
-pub struct Splitting;
+pub(crate) struct Splitting;
 
 impl Split<PassView> for Splitting {
     ghost left = { view_left };
@@ -17,7 +18,7 @@ impl Split<PassView> for Splitting {
     ghost right = { view_given };
 }
 
-pub struct Joining;
+pub(crate) struct Joining;
 
 impl Join<PassView> for Joining {
     ghost both = { view_joined };
@@ -33,19 +34,23 @@ impl<V: Pooled> Words<V> {
         ensures left { (pass.new.table_id ≡ pass.old.table_id) × (pass.new.me ≡ (view_left pass.old.me.0, pass.old.me.1)) }
         ensures given { (result.table_id ≡ pass.old.table_id) × (result.me ≡ (view_given pass.old.me.0, [])) }
     {
+        core_laws();
         self.table.shared.split_seat::<Splitting>(pass)
     }
 
     /// Joins another pass of these words into this one, which then stands for both.
     pub fn join_pass(&self, pass: &mut Pass<V>, other: Pass<V>)
-        requires own { IsPassOf V.room self.now pass.old × IsPassOf V.room self.now other }
-        requires idle { IsIdle pass.old × IsIdle other }
+        requires own { IsPassOf V.room self.now pass.old }
+        requires idle { IsIdle pass.old }
+        requires other { IsPassOf V.room self.now other × IsIdle other }
         ensures own { IsPassOf V.room self.now pass.new }
         ensures idle { IsIdle pass.new }
         ensures share { share_of pass.new ≡ share_of pass.old + share_of other }
-        ensures trail { (trail pass.new ≡ trail pass.old) × (seat_number pass.new ≡ seat_number pass.old) }
+        ensures number { seat_number pass.new ≡ seat_number pass.old }
+        ensures trail { trail pass.new ≡ trail pass.old }
         ensures joined { joined_trail pass.new ≡ joined_trail pass.old ++ operations other }
     {
+        core_laws();
         self.table.shared.join_seat::<Joining>(pass, other);
     }
 }

@@ -1,8 +1,10 @@
 //! What a slot can hold.
-ghost use Rattle.std.specs.Prelude.{◌≡◌, ℕ, List, false};
+ghost use Rattle.std.specs.Prelude.{◌≡◌, ◌<◌, ℕ, List, false};
 ghost use Rattle.pool_core.specs.declared.words.State.{State};
 ghost use Rattle.pool_core.specs.declared.words.State.TheVariants.{Cold, Warm};
 ghost use Rattle.pool_core.specs.StateWords.{is_cold};
+
+use pool_core::TAG_LIMIT;
 
 /// A value that lies in a slot, and is cleaned between two tenants.
 ///
@@ -32,10 +34,11 @@ pub trait Pooled {
         ensures tag { own_tag self.new ≡ own_tag self.old }
         ensures room { room self.new ≡ room self.old };
 
-    /// Its own tag.
+    /// Its own tag, which a state word can say.
     fn tag(&self) -> u32
         requires { (s : State) × (tag : ℕ) × (is_cold s ≡ false) × fits s tag self.now }
-        ensures { result ≡ own_tag self.now };
+        ensures is { result ≡ own_tag self.now }
+        ensures small { result < TAG_LIMIT };
 
     ghost fits_own_tag: { (s : State) (tag : ℕ) (x : Self) → is_cold s ≡ false → fits s tag x → own_tag x ≡ tag };
 }

@@ -1,5 +1,5 @@
 //! The rule that the words, the values and the passes keep at each moment.
-ghost use Rattle.slot_words.specs.Shows.{ShowsLawful};
+ghost use Rattle.slot_words.specs.Shows.{IsKept};
 ghost use Rattle.slot_words.specs.Views.{first_view};
 ghost use Rattle.slot_words.specs.Setups.{bounds_at};
 
@@ -9,13 +9,13 @@ use crate::views::PassView;
 use atomic_table::TableRule;
 use std::marker::PhantomData;
 
-/// At each moment the words, the values at home and the passes show one core, and that core is lawful.
+/// At each moment the words, the values at home and the passes show one core, that core is lawful, and the passes' operations account for it.
 pub struct Ruled<V> {
     marker: PhantomData<V>,
 }
 
 impl<V: Pooled> TableRule<Option<V>, PassView, Setup<V>> for Ruled<V> {
-    ghost holds = { λ k s. ShowsLawful V.fits V.room (bounds_at V.room k) k.passes s };
+    ghost holds = { λ k s. IsKept V.fits V.room (bounds_at V.room k) s };
 
-    ghost first = { λ k. first_view (bounds_at V.room k) k.passes };
+    ghost first = { λ k. first_view (bounds_at V.room k) };
 }

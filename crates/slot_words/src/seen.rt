@@ -1,32 +1,34 @@
 //! Room for a scan.
 ghost use Rattle.std.specs.Prelude.{◌≡◌, ℕ, ◌++◌, ◌<◌, [], ◌∷◌, length};
 
+use pool_core::MOST_SLOTS;
 use std::marker::Model;
 
 /// The state words that the last scan read, by slot number.
 #[derive(Drop)]
 pub struct Seen {
-    words: [u64; 64],
+    words: [u64; MOST_SLOTS],
     count: usize,
 }
 
 impl Model for Seen {
     ghost use Rattle.std.specs.Prelude.{List, ℕ, ◌≤◌, take};
+    ghost use Rattle.pool_core.specs.declared.limits.TheConstants.{MOST_SLOTS};
 
     ghost Value = { List ℕ };
 
     ghost view = { λ s. take s.count s.words };
 
-    ghost invariant = { λ s. s.count ≤ 64 };
+    ghost invariant = { λ s. s.count ≤ MOST_SLOTS };
 }
 
 impl Seen {
-    /// Nothing seen yet, and room for 64 words.
+    /// Nothing seen yet, and room for the words of any pool.
     pub fn new() -> Seen
         ensures { result ≡ [] }
     {
         Seen {
-            words: [0; 64],
+            words: [0; MOST_SLOTS],
             count: 0,
         }
     }
@@ -45,7 +47,7 @@ impl Seen {
     }
 
     pub(crate) fn add(&mut self, word: u64)
-        requires { length self.old < 64 }
+        requires { length self.old < MOST_SLOTS }
         ensures { self.new ≡ self.old ++ word ∷ [] }
     {
         self.words[self.count] = word;

@@ -1,13 +1,14 @@
-ghost use Rattle.std.specs.Prelude.{◌≡◌, ◌<◌, [], false, IfOk, OnErr};
-ghost use Rattle.pool_core.specs.StateWords.{is_awaiting};
+ghost use Rattle.std.specs.Prelude.{◌≡◌, ◌<◌, [], true, false, IfOk, OnErr};
+ghost use Rattle.std.proofs.lemmas.Bool.{both_ways};
+ghost use Rattle.pool_core.specs.declared.limits.TheConstants.{TAG_LIMIT};
+ghost use Rattle.pool_core.specs.StateWords.{is_cold, is_awaiting};
 ghost use Rattle.slot_words.specs.Passes.{IsIdle, Holds};
 ghost use Rattle.slot_words.specs.Leases.{lease_number};
 ghost use Rattle.slot_words.specs.Owned.{IsPassOf, IsNewPassOf, slots_of, passes_of};
 
-use crate::{
-    Held, KindCounts, Lease, NoMemory, Pass, Pooled, Seen, Words, nothing_done_leaves_all_cold,
-};
-use pool_core::{State, Target, unpack};
+use crate::laws::nothing_done_leaves_all_cold;
+use crate::{AllHeld, Held, KindCounts, Lease, NoMemory, Pass, Pooled, Seen, Words};
+use pool_core::{State, TAG_LIMIT, Target};
 use std::alloc::Global;
 use std::test::Fail;
 use std::thread;
@@ -18,6 +19,7 @@ struct Cell {
     used: bool,
     tag: u32,
     visits: u32,
+    ghost small: { tag < TAG_LIMIT },
 }
 
 impl Pooled for Cell {
@@ -74,12 +76,7 @@ fn take(words: &Words<Cell>, pass: &mut Pass<Cell>, n: u32) -> Result<Lease<Cell
     ensures held { OnErr result (IsIdle pass.new) }
 {
     let lease = words.claim(pass, n)?;
-    let (target, _) = unpack(lease.word());
-    match target.state {
-        State::Cold => {}
-        State::Warm => words.warm_down(pass),
-        State::Awaiting => words.await_down(pass),
-    }
+    words.settle(pass, &lease);
     Ok(lease)
 }
 
@@ -282,6 +279,126 @@ fn opened_and_closed(alloc: Global) -> Result<KindCounts, NoMemory>
     let (words, mut first, second) = opened(alloc, 0)?;
     words.join_pass(&mut first, second);
     Ok(words.close(first))
+}
+
+// The two stamps of two passes that hold a slot each.
+fn stamps(alloc: Global) -> Result<[u64; 2], NoMemory> {
+    let (words, mut first, mut second) = opened(alloc, 0)?;
+    let Ok(lease) = take(&words, &mut first, 0) else {
+        return Ok([9; 2]);
+    };
+    let before = words.stamp(&mut first);
+    let after = match take(&words, &mut second, 1) {
+        Ok(other) => {
+            let stamp = words.stamp(&mut second);
+            give(&words, &mut second, other);
+            stamp
+        }
+        Err(Held) => 9,
+    };
+    give(&words, &mut first, lease);
+    let _counts = words.close(first);
+    Ok([before, after])
+}
+
+#[test]
+fn a_second_pass_gets_the_next_stamp(rt: HostRuntime) -> Result<(), Fail> {
+    assert_eq!(rt; stamps(rt.alloc())?, [0, 1]);
+    Ok(())
+}
+
+// Which slots the second pass wins while the first has slot 0: in the order 0, 1, and in any order.
+fn won_beside(alloc: Global) -> Result<[Option<u32>; 2], NoMemory> {
+    let (words, mut first, mut second) = opened(alloc, 0)?;
+    let Ok(lease) = take(&words, &mut first, 0) else {
+        return Ok([None; 2]);
+    };
+    let in_order = match words.claim_first(&mut second, &[0, 1]) {
+        Ok(other) => {
+            let n = other.number();
+            words.settle(&mut second, &other);
+            give(&words, &mut second, other);
+            Some(n)
+        }
+        Err(AllHeld) => None,
+    };
+    let alone = words.claim_first(&mut second, &[0]);
+    let lost = alone.is_err();
+    if let Ok(other) = alone {
+        words.settle(&mut second, &other);
+        give(&words, &mut second, other);
+    }
+    let any = match words.claim_any(&mut second) {
+        Ok(other) => {
+            let n = other.number();
+            words.settle(&mut second, &other);
+            give(&words, &mut second, other);
+            Some(n)
+        }
+        Err(AllHeld) => None,
+    };
+    give(&words, &mut first, lease);
+    let _counts = words.close(first);
+    Ok(if lost { [in_order, any] } else { [None; 2] })
+}
+
+#[test]
+fn rows_of_claims_pass_over_a_held_slot(rt: HostRuntime) -> Result<(), Fail> {
+    assert_eq!(rt; won_beside(rt.alloc())?, [Some(1), Some(1)]);
+    Ok(())
+}
+
+/// A value of no module, which is cold whenever nobody holds it.
+#[derive(Drop)]
+struct Ticket {
+    calls: u32,
+}
+
+impl Pooled for Ticket {
+    type Images = ();
+
+    ghost room = { λ x. [] };
+
+    ghost own_tag = { λ x. 0 };
+
+    ghost fits = { λ s tag x. is_cold s ≡ true };
+
+    fn clear(&mut self) {
+        self.calls = 0;
+    }
+
+    fn restore(&mut self, _images: &())
+        ensures { self.new ≡ self.old }
+    {}
+
+    fn tag(&self) -> u32
+        ensures { result ≡ 0 }
+    {
+        0
+    }
+
+    ghost fits_own_tag = { λ s tag x warm fits. absurd (both_ways (is_cold s) warm fits) };
+}
+
+#[test]
+fn a_ticket_comes_back_cold(rt: HostRuntime) -> Result<(), Fail> {
+    let mut tickets = Vec::with_capacity(rt.alloc(), 1)?;
+    tickets.push_reserved(Ticket { calls: 7 });
+    let (words, mut passes) = Words::open(rt.alloc(), &(), tickets, 0, 1)?;
+    let mut pass = passes.pop().unwrap();
+    let mut lease = words.claim_any(&mut pass).unwrap();
+    words.settle(&mut pass, &lease);
+    assert_eq!(rt; lease.value.calls, 7);
+    lease.value.clear();
+    words.release(&mut pass, lease, Target::COLD);
+    let want = KindCounts {
+        cold: 1,
+        warm: 0,
+        awaiting: 0,
+        held: 0,
+    };
+    assert_eq!(rt; words.close_all(pass, passes), want);
+    Ok(())
 }
 
 #[test]

@@ -17,10 +17,11 @@ pub enum Operation {
     AwaitLoad(u64),
 }
 
-/// What holds of one `Words` for good: the room of its values, and the most slots that may be warm.
+/// What holds of one `Words` for good: the room of its values, the most slots that may be warm, and how many passes were handed out.
 pub struct Bounds {
     pub room: LinkedList<u64>,
     pub limit: u64,
+    pub passes: u64,
 }
 
 /// What a pass knows.

@@ -1,5 +1,6 @@
 //! The words that threads share.
 ghost use Rattle.std.specs.Prelude.{◌≡◌, ◌+◌, ◌≤◌};
+ghost use Rattle.pool_core.specs.declared.limits.TheConstants.{MOST_SLOTS};
 
 use crate::pooled::Pooled;
 use crate::rule::Ruled;
@@ -16,5 +17,9 @@ pub struct Words<V: Pooled> {
     pub(crate) table: Table<Option<V>, PassView, Setup<V>, Ruled<V>, Global>,
     pub(crate) slots: usize,
     pub(crate) limit: u64,
-    ghost sized: { (table.shared.table_id.words ≡ slots + 3) × (table.shared.table_id.slots ≡ slots) × (table.shared.key.limit ≡ limit) × (slots ≤ 64) },
+    ghost words_are: { table.shared.table_id.words ≡ slots + 3 },
+    ghost slots_are: { table.shared.table_id.slots ≡ slots },
+    ghost limit_is: { table.shared.key.limit ≡ limit },
+    ghost some_slots: { 1 ≤ slots },
+    ghost few_slots: { slots ≤ MOST_SLOTS },
 }

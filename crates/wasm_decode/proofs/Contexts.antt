@@ -1,4 +1,4 @@
--- Sequences inside each other, as they are numbered.
+-- What an expression builder stands for after each of its steps.
 use Rattle.std.proofs.Common.{◌≡◌, ℕ, ◌+◌, ◌-◌, List, [], ◌∷◌, ◌++◌, length, get_or, reverse, true, false, refl, sym, ap, ◌∙◌, subst, arith, append_assoc}
 use Rattle.std.specs.Prelude.{Option}
 use Rattle.std.proofs.lemmas.List.{reverse-append, length_push, append-nil}
@@ -43,7 +43,7 @@ trees-long : (earlier : List Code) (sequences : List (List Op)) → length (code
 trees-long earlier [] = omega arith
 trees-long earlier (s ∷ sequences) = omega (arith, trees-long (earlier ++ code_of earlier s ∷ []) sequences, length_push earlier (code_of earlier s))
 
--- a part stays one whatever sequence is numbered next
+-- a frame stays one whichever sequence ends next
 frame-grows : (earlier : List Code) (x : Code) (ops : List Op) (t : Option ValType) (q : FrameKind) (p : Enclosing) → IsFrame earlier ops t q p → IsFrame (earlier ++ x ∷ []) ops t q p
 frame-grows earlier x ops t kind.Block (LastArm wrap) h = λ more b c. rw append_assoc (h (x ∷ more) b c)
 frame-grows earlier x ops t kind.Loop (LastArm wrap) h = λ more b c. rw append_assoc (h (x ∷ more) b c)
@@ -60,7 +60,7 @@ frames-grow earlier x [] (p ∷ enclosing) h = absurd h
 frames-grow earlier x (o ∷ frames) [] h = absurd h
 frames-grow earlier x (o ∷ frames) (p ∷ enclosing) h = (frame-grows earlier x o.ops.items o.block_type o.kind p h.0, frames-grow earlier x frames enclosing h.1)
 
--- an instruction without inner code
+-- a leaf
 pub stands-pushed : (sequences : List (List Op)) (frames : List Frame) (ops : List Op) (o : Op) (s : Context)
     → IsLeaf o → StandsFor sequences frames ops s → StandsFor sequences frames (ops ++ o ∷ []) (pushed o s)
 stands-pushed sequences frames ops o s leaf h = record {
@@ -85,7 +85,7 @@ at-number sequences more x k e =
 last-first : (frames : List Frame) (o : Frame) → reverse (frames ++ o ∷ []) ≡ o ∷ reverse frames
 last-first frames o = reverse-append frames (o ∷ [])
 
--- how an instruction names the sequence k that ends as this part
+-- the instruction of a frame of this kind, where its last sequence has number k
 abbrev pub Names : FrameKind → Option ValType → ℕ → Op → Type 0
 Names kind.Block t k o = o ≡ op.Block t k
 Names kind.Loop t k o = o ≡ op.Loop t k
@@ -107,10 +107,10 @@ named sequences ops t (kind.Else j) wrap k o x e n h = λ more c.
     prepend_all-push all ops o c ∙ ap (λ (p : Op). prepend_all all ops (prepend all p c)) e ∙ ap (λ (b : Code). prepend_all all ops (If t (get_or all j End) b c)) (at-number sequences more x k n) ∙ h (x ∷ more) x c
 
 -- an inner sequence ends
-closes : (sequences : List (List Op)) (frames : List Frame) (ops : List Op) (o : Frame) (k : ℕ) (x : Op) (inner : Code → Code) (wrap : Code → Code → Code) (enclosing : List Enclosing)
+inner-ends : (sequences : List (List Op)) (frames : List Frame) (ops : List Op) (o : Frame) (k : ℕ) (x : Op) (inner : Code → Code) (wrap : Code → Code → Code) (enclosing : List Enclosing)
     → Names o.kind o.block_type k x → k ≡ length sequences → StandsFor sequences (frames ++ o ∷ []) ops (record { inner = inner; enclosing = LastArm wrap ∷ enclosing })
     → StandsFor (sequences ++ ops ∷ []) frames (o.ops.items ++ x ∷ []) (record { inner = wrap (inner End); enclosing = enclosing })
-closes sequences frames ops o k x inner wrap enclosing names n h =
+inner-ends sequences frames ops o k x inner wrap enclosing names n h =
     let s : Context = record { inner = inner; enclosing = LastArm wrap ∷ enclosing } in
     let earlier = codes_from [] sequences in
     let e : codes_from [] (sequences ++ ops ∷ []) ≡ earlier ++ inner End ∷ [] = number-tree sequences (frames ++ o ∷ []) ops s h in
@@ -120,7 +120,7 @@ closes sequences frames ops o k x inner wrap enclosing names n h =
       enclosing = rw e (frames-grow earlier (inner End) (reverse frames) enclosing parts.1);
     }
 
--- the parts, where the innermost outer sequence is split off
+-- the frames, from the innermost on
 frames-of : (sequences : List (List Op)) (frames : List Frame) (ops : List Op) (o : Frame) (s : Context) → StandsFor sequences (frames ++ o ∷ []) ops s
     → AreFrames (codes_from [] sequences) (o ∷ reverse frames) s.enclosing
 frames-of sequences frames ops o s h = subst (λ (l : List Frame). AreFrames (codes_from [] sequences) l s.enclosing) (last-first frames o) h.enclosing
@@ -139,16 +139,16 @@ ends-inner sequences frames ops o k x inner (ThenArm wrap ∷ enclosing) m names
     let p = frames-of sequences frames ops o _ h in
     absurd (not-first (codes_from [] sequences) o.ops.items o.block_type o.kind wrap k x names p.0)
 ends-inner sequences frames ops o k x inner (LastArm wrap ∷ enclosing) m names n h es eo ep =
-    (refl, rw (es, eo, ep) (closes sequences frames ops o k x inner wrap enclosing names n h))
+    (refl, rw (es, eo, ep) (inner-ends sequences frames ops o k x inner wrap enclosing names n h))
 
--- an open `if` in its second sequence
+-- the frame of an `if` in its second arm
 abbrev second_of : Frame → ℕ → Frame
 second_of o k = record { ops = o.ops; kind = kind.Else k; block_type = o.block_type }
 
-begun : (sequences : List (List Op)) (frames : List Frame) (ops : List Op) (o : Frame) (k : ℕ) (inner : Code → Code) (wrap : Code → Code → Code → Code) (enclosing : List Enclosing)
+else-begun : (sequences : List (List Op)) (frames : List Frame) (ops : List Op) (o : Frame) (k : ℕ) (inner : Code → Code) (wrap : Code → Code → Code → Code) (enclosing : List Enclosing)
     → o.kind ≡ kind.If → k ≡ length sequences → StandsFor sequences (frames ++ o ∷ []) ops (record { inner = inner; enclosing = ThenArm wrap ∷ enclosing })
     → StandsFor (sequences ++ ops ∷ []) (frames ++ second_of o k ∷ []) [] (record { inner = λ c. c; enclosing = LastArm (wrap (inner End)) ∷ enclosing })
-begun sequences frames ops o k inner wrap enclosing q n h =
+else-begun sequences frames ops o k inner wrap enclosing q n h =
     let s : Context = record { inner = inner; enclosing = ThenArm wrap ∷ enclosing } in
     let earlier = codes_from [] sequences in
     let e : codes_from [] (sequences ++ ops ∷ []) ≡ earlier ++ inner End ∷ [] = number-tree sequences (frames ++ o ∷ []) ops s h in
@@ -162,26 +162,26 @@ begun sequences frames ops o k inner wrap enclosing q n h =
           (second, frames-grow earlier (inner End) (reverse frames) enclosing parts.1));
     }
 
-pub turns : (sequences : List (List Op)) (frames : List Frame) (ops : List Op) (o : Frame) (k : ℕ) (inner : Code → Code) (enclosing : List Enclosing) (m : ExprBuilder)
+pub begins-else : (sequences : List (List Op)) (frames : List Frame) (ops : List Op) (o : Frame) (k : ℕ) (inner : Code → Code) (enclosing : List Enclosing) (m : ExprBuilder)
     → o.kind ≡ kind.If → k ≡ length sequences → StandsFor sequences (frames ++ o ∷ []) ops (record { inner = inner; enclosing = enclosing })
     → m.sequences.items ≡ sequences ++ ops ∷ [] → m.frames.items ≡ frames ++ second_of o k ∷ [] → m.ops.items ≡ [] → BeginsElseAt inner enclosing true m
-turns sequences frames ops o k inner [] m q n h es eo ep = absurd (frames-of sequences frames ops o _ h)
-turns sequences frames ops o k inner (LastArm wrap ∷ enclosing) m q n h es eo ep =
+begins-else sequences frames ops o k inner [] m q n h es eo ep = absurd (frames-of sequences frames ops o _ h)
+begins-else sequences frames ops o k inner (LastArm wrap ∷ enclosing) m q n h es eo ep =
     let p = frames-of sequences frames ops o _ h in
     absurd (subst (λ (r : FrameKind). IsFrame (codes_from [] sequences) o.ops.items o.block_type r (LastArm wrap)) q p.0)
-turns sequences frames ops o k inner (ThenArm wrap ∷ enclosing) m q n h es eo ep = (refl, rw (es, eo, ep) (begun sequences frames ops o k inner wrap enclosing q n h))
+begins-else sequences frames ops o k inner (ThenArm wrap ∷ enclosing) m q n h es eo ep = (refl, rw (es, eo, ep) (else-begun sequences frames ops o k inner wrap enclosing q n h))
 
--- an `if` without a second sequence ends, as one with an empty second
-pub ends-first : (sequences : List (List Op)) (frames : List Frame) (ops : List Op) (o : Frame) (k : ℕ) (inner : Code → Code) (enclosing : List Enclosing) (m : ExprBuilder)
+-- an `if` without a second arm ends, as one with an empty second
+pub ends-if : (sequences : List (List Op)) (frames : List Frame) (ops : List Op) (o : Frame) (k : ℕ) (inner : Code → Code) (enclosing : List Enclosing) (m : ExprBuilder)
     → o.kind ≡ kind.If → k ≡ length sequences → StandsFor sequences (frames ++ o ∷ []) ops (record { inner = inner; enclosing = enclosing })
     → m.sequences.items ≡ (sequences ++ ops ∷ []) ++ [] ∷ [] → m.frames.items ≡ frames → m.ops.items ≡ o.ops.items ++ op.If o.block_type k (length (sequences ++ ops ∷ [])) ∷ []
     → EndsAt inner enclosing false m
-ends-first sequences frames ops o k inner [] m q n h es eo ep = absurd (frames-of sequences frames ops o _ h)
-ends-first sequences frames ops o k inner (LastArm wrap ∷ enclosing) m q n h es eo ep =
+ends-if sequences frames ops o k inner [] m q n h es eo ep = absurd (frames-of sequences frames ops o _ h)
+ends-if sequences frames ops o k inner (LastArm wrap ∷ enclosing) m q n h es eo ep =
     let p = frames-of sequences frames ops o _ h in
     absurd (subst (λ (r : FrameKind). IsFrame (codes_from [] sequences) o.ops.items o.block_type r (LastArm wrap)) q p.0)
-ends-first sequences frames ops o k inner (ThenArm wrap ∷ enclosing) m q n h es eo ep =
-    (refl, rw (es, eo, ep) (closes (sequences ++ ops ∷ []) frames [] (second_of o k) (length (sequences ++ ops ∷ [])) _ (λ c. c) (wrap (inner End)) enclosing refl refl (begun sequences frames ops o k inner wrap enclosing q n h)))
+ends-if sequences frames ops o k inner (ThenArm wrap ∷ enclosing) m q n h es eo ep =
+    (refl, rw (es, eo, ep) (inner-ends (sequences ++ ops ∷ []) frames [] (second_of o k) (length (sequences ++ ops ∷ [])) _ (λ c. c) (wrap (inner End)) enclosing refl refl (else-begun sequences frames ops o k inner wrap enclosing q n h)))
 
 -- the outermost sequence ends
 pub ends-outermost : (sequences : List (List Op)) (ops : List Op) (inner : Code → Code) (enclosing : List Enclosing) (m : ExprBuilder)

@@ -1,7 +1,8 @@
-pub mod Reading
+pub mod Decoding
 pub mod Contexts
+pub mod Tokens
 pub mod Completions
 pub mod Opcodes
 pub mod Shapes
-pub mod SectionList
-pub mod Modules
+pub mod Sections
+pub mod Fields

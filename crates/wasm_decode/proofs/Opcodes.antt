@@ -3,6 +3,7 @@ use Rattle.std.proofs.Common.{◌≡◌, ℕ, zero, suc, ◌+◌, ◌-◌, ◌<�
 use Rattle.std.specs.Prelude.{Option, Some, None, is_none, find}
 use Rattle.std.specs.List.{list_all}
 use Rattle.std.specs.Option.{option_map_or}
+use Rattle.std.proofs.lemmas.Bool.{and_parts}
 use Rattle.std.proofs.lemmas.List.{get_or-replicate}
 use Rattle.std.proofs.lemmas.Bool.Decides.{nat_tests}
 use Rattle.wasm_spec.specs.InstrGrammar.{Shape, NotPlain, opcodes, shape}
@@ -53,10 +54,6 @@ none-of : {X : Type 0} (o : Option X) (b : Bool) → (is_none o || b) ≡ true �
 none-of None b h e = refl
 none-of (Some x) b h e = absurd (let f : true ≡ false = sym h ∙ e in cc)
 
-both : (a b : Bool) → (a && b) ≡ true → (a ≡ true) × (b ≡ true)
-both true b h = (refl, h)
-both false b h = absurd (let f : false ≡ true = h in cc)
-
 none-found : {X : Type 0} (f : Shape → Option X) (found : Bool) (row : ℕ × Shape) (later : Option (ℕ × Shape)) → (found ≡ true → f row.1 ≡ None)
     → f (option_map_or (λ r. r.1) later NotPlain) ≡ None → f (option_map_or (λ r. r.1) (cond found (Some row) later) NotPlain) ≡ None
 none-found f true row later here there = here refl
@@ -66,7 +63,7 @@ none-at : {X : Type 0} (f : Shape → Option X) (ranges : List (ℕ × ℕ)) (ro
     → (n : ℕ) → is_inside ranges n ≡ false → f (option_map_or (λ r. r.1) (find (λ r. r.0 == n) rows) NotPlain) ≡ None
 none-at f ranges [] e h n out = e
 none-at f ranges (row ∷ rows) e h n out =
-    let b = both (is_none (f row.1) || is_inside ranges row.0) (none_outside f ranges rows) h in
+    let b = and_parts (is_none (f row.1) || is_inside ranges row.0) (none_outside f ranges rows) h in
     none-found f (row.0 == n) row (find (λ r. r.0 == n) rows)
     (λ is. let i : row.0 ≡ n = grind (arith, nat_tests) in none-of (f row.1) (is_inside ranges row.0) b.0 (ap (is_inside ranges) i ∙ out))
     (none-at f ranges rows e b.1 n out)

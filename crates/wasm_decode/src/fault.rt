@@ -20,8 +20,7 @@ pub enum DecodeFault {
 impl From<Malformed> for DecodeFault {
     ghost from_gives = { λ _ e. e ≡ fault.Malformed };
 
-    fn from(error: Malformed) -> Self {
-        let _ = error;
+    fn from(_: Malformed) -> Self {
         DecodeFault::Malformed
     }
 }
@@ -29,8 +28,7 @@ impl From<Malformed> for DecodeFault {
 impl From<AllocError> for DecodeFault {
     ghost from_gives = { λ _ e. e ≡ fault.NoMemory };
 
-    fn from(error: AllocError) -> Self {
-        let _ = error;
+    fn from(_: AllocError) -> Self {
         DecodeFault::NoMemory
     }
 }
@@ -38,8 +36,7 @@ impl From<AllocError> for DecodeFault {
 impl<T: Drop> From<AllocFailed<T>> for DecodeFault {
     ghost from_gives = { λ _ e. e ≡ fault.NoMemory };
 
-    fn from(error: AllocFailed<T>) -> Self {
-        let _ = error;
+    fn from(_: AllocFailed<T>) -> Self {
         DecodeFault::NoMemory
     }
 }

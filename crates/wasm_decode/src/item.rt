@@ -37,8 +37,7 @@ impl Item for u8 {
 
     ghost unique = { byte-unique };
 
-    fn decode(alloc: Global, cursor: &mut Cursor) -> Result<Self, DecodeFault> {
-        let _ = alloc;
+    fn decode(_: Global, cursor: &mut Cursor) -> Result<Self, DecodeFault> {
         Ok(cursor.u8()?)
     }
 }
@@ -52,8 +51,7 @@ impl Item for u32 {
 
     ghost unique = { unsigned-unique 32 };
 
-    fn decode(alloc: Global, cursor: &mut Cursor) -> Result<Self, DecodeFault> {
-        let _ = alloc;
+    fn decode(_: Global, cursor: &mut Cursor) -> Result<Self, DecodeFault> {
         Ok(cursor.u32()?)
     }
 }

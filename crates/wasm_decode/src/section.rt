@@ -50,10 +50,7 @@ pub(crate) fn read_sections<'a>(
 fn is_custom(contents: &[u8]) -> bool
     ensures { IsTrue result ↔ IsCustom contents.now }
 {
-    match Cursor::new(contents).name() {
-        Ok(_) => true,
-        Err(_) => false,
-    }
+    Cursor::new(contents).name().is_ok()
 }
 
 // Whether custom sections have names, and the ids of the others rise. Source: section 5.5.15.

@@ -39,13 +39,9 @@ impl Item for ValType {
 
     ghost unique = { val_type-unique };
 
-    fn decode(alloc: Global, cursor: &mut Cursor) -> Result<Self, DecodeFault> {
-        let _ = alloc;
+    fn decode(_: Global, cursor: &mut Cursor) -> Result<Self, DecodeFault> {
         let byte = cursor.u8()?;
-        match value_type(byte) {
-            Some(value) => Ok(value),
-            None => Err(DecodeFault::Malformed),
-        }
+        value_type(byte).ok_or(DecodeFault::Malformed)
     }
 }
 
@@ -95,8 +91,7 @@ impl Item for Limits {
 
     ghost unique = { limits-unique };
 
-    fn decode(alloc: Global, cursor: &mut Cursor) -> Result<Self, DecodeFault> {
-        let _ = alloc;
+    fn decode(_: Global, cursor: &mut Cursor) -> Result<Self, DecodeFault> {
         let flag = cursor.u8()?;
         let min = cursor.u32()?;
         match flag {

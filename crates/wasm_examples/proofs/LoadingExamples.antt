@@ -1,18 +1,18 @@
 -- Worked examples of floats, limits and segments.
 use Rattle.std.proofs.Common.{arith}
-use Rattle.std.specs.Prelude.{◌≡◌, ℕ, List, [], ◌∷◌, ◌++◌, Option, Some, None, Ok, Err, Bool, true, false, replicate, codes, refl}
+use Rattle.std.specs.Prelude.{◌≡◌, ℕ, List, [], ◌∷◌, Some, None, Ok, Err, true, false, replicate, codes, refl}
 use Rattle.wasm_types.specs.declared.types.ValType.TheVariants as type
-use Rattle.wasm_types.specs.declared.outcome.Val.TheVariants.{I32, I64}
+use Rattle.wasm_types.specs.declared.outcome.Val.TheVariants.{I64}
 use Rattle.wasm_types.specs.declared.instr.Instr.TheVariants as instr
-use Rattle.wasm_types.specs.Tree.{Code, End, Plain, Block, Loop, If, Call, CallIndirect, ModuleTree}
+use Rattle.wasm_types.specs.Tree.{End, Block, Loop, If, Call, CallIndirect, ModuleTree}
 use Rattle.wasm_types.specs.declared.module.ImportDesc.TheVariants as import
 use Rattle.wasm_spec.specs.Validity.{IsSupported, uses_floats, offset_value}
 use Rattle.wasm_spec.specs.Store.{Element, Data, first_misfit}
 use Rattle.wasm_types.specs.declared.limits.LoadLimits.{LoadLimits}
-use Rattle.wasm_spec.specs.Loading.{Refusal, Malformed, Unsupported, Invalid, Answers, Loads, OverLimit, Segment, Pages, Elements, Globals, Frame, late_refusal}
+use Rattle.wasm_spec.specs.Loading.{Malformed, Unsupported, Invalid, Answers, Loads, OverLimit, Segment, Pages, Elements, Globals, Frame, late_refusal}
 use Rattle.wasm_examples.proofs.GrammarExamples.{add_spelled, header_cut_off}
 use Rattle.wasm_examples.proofs.TypingExamples.{add, add_valid, add_supported}
-use Rattle.wasm_examples.proofs.Modules.{straight, i32_const, function_type, function_of, at_least, bare, empty_type, constant_type}
+use Rattle.wasm_examples.proofs.Modules.{straight, i32_const, function_type, function_of, at_least, bare, empty_type}
 
 abbrev usual : LoadLimits
 usual = record { pages = 32; elements = 1024; frame = 1024 }

@@ -4,9 +4,9 @@ use Rattle.wasm_types.specs.declared.types.ValType.{ValType}
 use Rattle.wasm_types.specs.declared.types.ValType.TheVariants as type
 use Rattle.wasm_types.specs.declared.instr.Instr.{Instr}
 use Rattle.wasm_types.specs.declared.instr.Instr.TheVariants as instr
-use Rattle.wasm_types.specs.Tree.{Code, End, Block, Loop, If, Call, CallIndirect, ModuleTree}
+use Rattle.wasm_types.specs.Tree.{Code, End, Block, Loop, If, Call, CallIndirect}
 use Rattle.wasm_spec.specs.Need.{need}
-use Rattle.wasm_examples.proofs.Modules.{straight, i32_const, i32_add, function_type, function_of, at_least, bare, empty_type, binary_type, constant_type}
+use Rattle.wasm_examples.proofs.Modules.{straight, i32_const, i32_add, function_of, at_least, bare, empty_type, binary_type, constant_type}
 
 -- the need of a function of this type and body, where function 0 takes two operands and gives one, and function 1 takes none
 abbrev need_of : ℕ → List ValType → Code → ℕ

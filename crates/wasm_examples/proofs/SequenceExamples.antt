@@ -1,9 +1,7 @@
 -- Modules as the code has them, with numbered sequences and runs of locals, and the trees that they stand for.
-use Rattle.std.specs.Prelude.{◌≡◌, ℕ, List, [], ◌∷◌, Option, Some, None, true, false, refl}
-use Rattle.wasm_types.specs.declared.types.ValType.{ValType}
+use Rattle.std.specs.Prelude.{◌≡◌, [], ◌∷◌, Some, None, true, false, refl}
 use Rattle.wasm_types.specs.declared.types.ValType.TheVariants as type
 use Rattle.wasm_types.specs.declared.instr.Instr.TheVariants as instr
-use Rattle.wasm_types.specs.declared.instr.Op.{Op}
 use Rattle.wasm_types.specs.declared.instr.Op.TheVariants as op
 use Rattle.wasm_types.specs.declared.instr.Expr.{Expr}
 use Rattle.wasm_types.specs.declared.module.Function.{Function}

@@ -1,5 +1,5 @@
 -- A module with every section and every form of type, description, immediate and block, spelled. It is not a valid one.
-use Rattle.std.proofs.Common.{ℕ, inl, inr, List, [], ◌∷◌, ◌++◌, true, false, length, map, refl, arith, ℤ, pos}
+use Rattle.std.proofs.Common.{ℕ, inl, inr, List, [], ◌∷◌, ◌++◌, true, false, map, refl, arith, pos}
 use Rattle.std.specs.Prelude.{Some, None, negsuc}
 use Rattle.wasm_types.specs.declared.types.ValType.TheVariants as type
 use Rattle.wasm_types.specs.declared.outcome.Val.TheVariants as val
@@ -9,7 +9,7 @@ use Rattle.wasm_types.specs.declared.instr.PackSize.TheVariants.{Pack32}
 use Rattle.wasm_types.specs.declared.instr.BinaryOp.TheVariants as binary
 use Rattle.wasm_types.specs.declared.module.ImportDesc.TheVariants as import
 use Rattle.wasm_types.specs.declared.module.ExportDesc.TheVariants as export
-use Rattle.wasm_types.specs.Tree.{Code, End, Plain, Block, Loop, If, Call, CallIndirect, FunctionTree, ModuleTree}
+use Rattle.wasm_types.specs.Tree.{End, Plain, Block, Loop, If, Call, CallIndirect, ModuleTree}
 use Rattle.wasm_spec.specs.Numbers.{TakesUnsigned, TakesEach, TakesVec}
 use Rattle.wasm_spec.specs.TypeGrammar.{TakesFuncType, TakesTableType, TakesMemoryType}
 use Rattle.wasm_spec.specs.InstrGrammar.{shape}
@@ -126,15 +126,15 @@ sections =
     ∷ record { id = 11; contents = data_contents }
     ∷ record { id = 0; contents = note_contents } ∷ []
 
-sections_follow : TakesEach TakesSection sections after_header []
-sections_follow = (after_1, record { after = _; id = refl; sized = record { mid = note_contents ++ after_1; count = inl (omega arith, omega arith, refl, refl); items = refl } }, (after_2, record { after = _; id = refl; sized = record { mid = type_contents ++ after_2; count = inl (omega arith, omega arith, refl, refl); items = refl } }, (after_3, record { after = _; id = refl; sized = record { mid = import_contents ++ after_3; count = inl (omega arith, omega arith, refl, refl); items = refl } }, (after_4, record { after = _; id = refl; sized = record { mid = function_contents ++ after_4; count = inl (omega arith, omega arith, refl, refl); items = refl } }, (after_5, record { after = _; id = refl; sized = record { mid = table_contents ++ after_5; count = inl (omega arith, omega arith, refl, refl); items = refl } }, (after_6, record { after = _; id = refl; sized = record { mid = memory_contents ++ after_6; count = inl (omega arith, omega arith, refl, refl); items = refl } }, (after_7, record { after = _; id = refl; sized = record { mid = global_contents ++ after_7; count = inl (omega arith, omega arith, refl, refl); items = refl } }, (after_8, record { after = _; id = refl; sized = record { mid = note_contents ++ after_8; count = inl (omega arith, omega arith, refl, refl); items = refl } }, (after_9, record { after = _; id = refl; sized = record { mid = export_contents ++ after_9; count = inl (omega arith, omega arith, refl, refl); items = refl } }, (after_10, record { after = _; id = refl; sized = record { mid = start_contents ++ after_10; count = inl (omega arith, omega arith, refl, refl); items = refl } }, (after_11, record { after = _; id = refl; sized = record { mid = element_contents ++ after_11; count = inl (omega arith, omega arith, refl, refl); items = refl } }, (after_12, record { after = _; id = refl; sized = record { mid = code_contents ++ after_12; count = inl (omega arith, omega arith, refl, refl); items = refl } }, (after_13, record { after = _; id = refl; sized = record { mid = data_contents ++ after_13; count = inl (omega arith, omega arith, refl, refl); items = refl } }, ([], record { after = _; id = refl; sized = record { mid = note_contents ++ []; count = inl (omega arith, omega arith, refl, refl); items = refl } }, refl))))))))))))))
+everything_follows : TakesEach TakesSection sections after_header []
+everything_follows = (after_1, record { after = _; id = refl; sized = record { mid = note_contents ++ after_1; count = inl (omega arith, omega arith, refl, refl); items = refl } }, (after_2, record { after = _; id = refl; sized = record { mid = type_contents ++ after_2; count = inl (omega arith, omega arith, refl, refl); items = refl } }, (after_3, record { after = _; id = refl; sized = record { mid = import_contents ++ after_3; count = inl (omega arith, omega arith, refl, refl); items = refl } }, (after_4, record { after = _; id = refl; sized = record { mid = function_contents ++ after_4; count = inl (omega arith, omega arith, refl, refl); items = refl } }, (after_5, record { after = _; id = refl; sized = record { mid = table_contents ++ after_5; count = inl (omega arith, omega arith, refl, refl); items = refl } }, (after_6, record { after = _; id = refl; sized = record { mid = memory_contents ++ after_6; count = inl (omega arith, omega arith, refl, refl); items = refl } }, (after_7, record { after = _; id = refl; sized = record { mid = global_contents ++ after_7; count = inl (omega arith, omega arith, refl, refl); items = refl } }, (after_8, record { after = _; id = refl; sized = record { mid = note_contents ++ after_8; count = inl (omega arith, omega arith, refl, refl); items = refl } }, (after_9, record { after = _; id = refl; sized = record { mid = export_contents ++ after_9; count = inl (omega arith, omega arith, refl, refl); items = refl } }, (after_10, record { after = _; id = refl; sized = record { mid = start_contents ++ after_10; count = inl (omega arith, omega arith, refl, refl); items = refl } }, (after_11, record { after = _; id = refl; sized = record { mid = element_contents ++ after_11; count = inl (omega arith, omega arith, refl, refl); items = refl } }, (after_12, record { after = _; id = refl; sized = record { mid = code_contents ++ after_12; count = inl (omega arith, omega arith, refl, refl); items = refl } }, (after_13, record { after = _; id = refl; sized = record { mid = data_contents ++ after_13; count = inl (omega arith, omega arith, refl, refl); items = refl } }, ([], record { after = _; id = refl; sized = record { mid = note_contents ++ []; count = inl (omega arith, omega arith, refl, refl); items = refl } }, refl))))))))))))))
 
 note_is_custom : IsCustom note_contents
 unfolding lib.Utf8.encode
 note_is_custom = record { name = 0x6E ∷ 0x6F ∷ 0x74 ∷ 0x65 ∷ []; after = _; spelled = record { spelled = record { mid = _; count = inl (omega arith, omega arith, refl, refl); items = refl }; utf8 = (110 ∷ 111 ∷ 116 ∷ 101 ∷ [], (refl, refl)) } }
 
-sections_rise : IsOrderedAbove 0 sections
-sections_rise = inl (refl, note_is_custom, inr (omega arith, omega arith, inr (omega arith, omega arith, inr (omega arith, omega arith, inr (omega arith, omega arith, inr (omega arith, omega arith, inr (omega arith, omega arith, inl (refl, note_is_custom, inr (omega arith, omega arith, inr (omega arith, omega arith, inr (omega arith, omega arith, inr (omega arith, omega arith, inr (omega arith, omega arith, inl (refl, note_is_custom, tt))))))))))))))
+everything_rises : IsOrderedAbove 0 sections
+everything_rises = inl (refl, note_is_custom, inr (omega arith, omega arith, inr (omega arith, omega arith, inr (omega arith, omega arith, inr (omega arith, omega arith, inr (omega arith, omega arith, inr (omega arith, omega arith, inl (refl, note_is_custom, inr (omega arith, omega arith, inr (omega arith, omega arith, inr (omega arith, omega arith, inr (omega arith, omega arith, inr (omega arith, omega arith, inl (refl, note_is_custom, tt))))))))))))))
 
 -- ---- what stands in them
 
@@ -179,8 +179,8 @@ everything_is_spelled = record {
   after = after_header;
   sections = sections;
   header = refl;
-  whole = sections_follow;
-  ordered = sections_rise;
+  whole = everything_follows;
+  ordered = everything_rises;
   fields = record {
     types = types_spelled;
     imports = imports_spelled;

@@ -1,29 +1,14 @@
 -- generated
-use Rattle.std.specs.Prelude.{◌≡◌, ℕ, List, [], ◌∷◌, ◌++◌, Option, Some, None, true, false, refl}
-use Rattle.wasm_types.specs.declared.types.ValType.{ValType}
+use Rattle.std.specs.Prelude.{◌≡◌, [], ◌∷◌, Some, None, true, refl}
 use Rattle.wasm_types.specs.declared.types.ValType.TheVariants as type
-use Rattle.wasm_types.specs.declared.types.FuncType.{FuncType}
-use Rattle.wasm_types.specs.declared.types.Limits.{Limits}
-use Rattle.wasm_types.specs.declared.module.Export.{Export}
 use Rattle.wasm_types.specs.declared.module.ExportDesc.TheVariants as export
-use Rattle.wasm_types.specs.declared.outcome.Val.{Val}
-use Rattle.wasm_types.specs.declared.outcome.Val.TheVariants.{I32, I64}
-use Rattle.wasm_types.specs.declared.outcome.TrapKind.TheVariants as trap
-use Rattle.wasm_types.specs.declared.outcome.Outcome.{Outcome}
-use Rattle.wasm_types.specs.declared.outcome.Outcome.TheVariants.{Done, Trap, Fuel}
-use Rattle.wasm_types.specs.declared.instr.Width.TheVariants.{W32, W64}
-use Rattle.wasm_types.specs.declared.instr.Sign.TheVariants.{Signed, Unsigned}
-use Rattle.wasm_types.specs.declared.instr.PackSize.TheVariants.{Pack8, Pack16, Pack32}
-use Rattle.wasm_types.specs.declared.instr.MemArg.{MemArg}
-use Rattle.wasm_types.specs.declared.instr.UnaryOp.TheVariants as unary_op
+use Rattle.wasm_types.specs.declared.outcome.Val.TheVariants.{I32}
+use Rattle.wasm_types.specs.declared.instr.Width.TheVariants.{W32}
+use Rattle.wasm_types.specs.declared.instr.Sign.TheVariants.{Unsigned}
+use Rattle.wasm_types.specs.declared.instr.PackSize.TheVariants.{Pack8}
 use Rattle.wasm_types.specs.declared.instr.BinaryOp.TheVariants as binary_op
-use Rattle.wasm_types.specs.declared.instr.CompareOp.TheVariants as compare_op
 use Rattle.wasm_types.specs.declared.instr.Instr.TheVariants as instr
-use Rattle.wasm_types.specs.Tree.{Code, End, Plain, Block, Loop, If, Call, CallIndirect, FunctionTree, GlobalTree, ElementTree, DataTree, ModuleTree}
-use Rattle.wasm_spec.specs.Operators.{binary_digits}
-use Rattle.wasm_spec.specs.Execution.{exec}
-use Rattle.wasm_spec.specs.Result.{CallResult, call_result}
-use Rattle.wasm_spec.specs.Need.{need}
+use Rattle.wasm_types.specs.Tree.{End, Plain, Loop, If, Call, CallIndirect}
 use Rattle.wasm_examples.proofs.Modules.{add_module, bump_module, poke_module, wrap_module, grown_module, grow_module, div_module, indirect_module, recursive_module, start_module, spin_module, misfit_module, count_module, next_module}
 
 add-is : add_module ≡ record {

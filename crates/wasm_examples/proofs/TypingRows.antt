@@ -1,5 +1,6 @@
 -- One body or more for each instruction, typed and untyped. Whether each is valid is what V8 answers for the module; the needs are
--- those of the standard's algorithm (appendix A.3).
+-- those of the standard's algorithm (appendix A.3). The rows are computed by the checker, and `row_says` makes each a fact about the
+-- relation of typing.
 use Rattle.std.specs.Prelude.{◌≡◌, ℕ, List, [], ◌∷◌, Option, Some, None, true, false, slice_get, refl}
 use Rattle.wasm_types.specs.declared.types.ValType.TheVariants as type
 use Rattle.wasm_types.specs.declared.types.Limits.{Limits}
@@ -12,9 +13,10 @@ use Rattle.wasm_types.specs.declared.instr.BinaryOp.TheVariants as binary_op
 use Rattle.wasm_types.specs.declared.instr.CompareOp.TheVariants as compare_op
 use Rattle.wasm_types.specs.declared.instr.Instr.TheVariants as instr
 use Rattle.wasm_types.specs.Tree.{Code, End, Plain, Block, Loop, If, Call, CallIndirect, FunctionTree, ModuleTree}
-use Rattle.wasm_spec.specs.Typing.{body_context, results_of}
+use Rattle.wasm_spec.specs.Typing.{body_context, results_of, result_types, Typed}
 use Rattle.wasm_spec.specs.Need.{need}
 use Rattle.wasm_checker.specs.Check.{Stack, check_body}
+use Rattle.wasm_checker.proofs.Exact.{Decides, body_exact}
 
 -- a module with these memories and tables, whose function 0 takes an i32 and an i64 and gives an i32
 abbrev around : List Limits → List Limits → ModuleTree
@@ -46,6 +48,30 @@ checked m t body =
 
 abbrev in_module : ℕ → Code → Option ℕ
 in_module t body = checked (around one one) t body
+
+-- what a row says of typing: that it holds, or that it doesn't
+abbrev Says : Option ℕ → Type 0 → Type 0
+Says None P = ¬ P
+Says (Some n) P = P
+
+by_stack : (o : Option Stack) (m : ModuleTree) (f : FunctionTree) (P : Type 0) → Decides P o → Says (need_if o m f) P
+by_stack None m f P d = d
+by_stack (Some s) m f P d = d
+
+row_says : (m : ModuleTree) (t : ℕ) (body : Code) → let f : FunctionTree = record { type_index = t; locals = []; body = body } in
+    Says (checked m t body) (Typed (body_context m f) body [] (result_types (slice_get (results_of m f) 0)))
+row_says m t body =
+    let f : FunctionTree = record { type_index = t; locals = []; body = body } in
+    let result = slice_get (results_of m f) 0 in
+    by_stack (check_body (body_context m f) result body) m f (Typed (body_context m f) body [] (result_types result)) (body_exact (body_context m f) result body)
+
+-- two of them, in the words of the relation
+drop_nothing_is_untyped : Typed (body_context (around one one) (record { type_index = 3; locals = []; body = Plain instr.Drop End })) (Plain instr.Drop End) [] [] → ⊥
+drop_nothing_is_untyped = row_says (around one one) 3 (Plain instr.Drop End)
+
+add_after_unreachable_is_typed : let code = Plain instr.Unreachable (Plain (instr.Binary W32 binary_op.Add) End) in
+    Typed (body_context (around one one) (record { type_index = 0; locals = []; body = code })) code [] (type.I32 ∷ [])
+add_after_unreachable_is_typed = row_says (around one one) 0 (Plain instr.Unreachable (Plain (instr.Binary W32 binary_op.Add) End))
 
 nop-row : in_module 3 (Plain (instr.Nop) (End)) ≡ Some 3
 nop-row = refl

@@ -1,22 +1,20 @@
 -- A valid module with every part, and an invalid one for each condition.
-use Rattle.std.proofs.Common.{◌≡◌, ◌≢◌, ℕ, zero, suc, ◌<◌, ◌≤◌, List, [], ◌∷◌, Bool, true, false, Option, Some, None, length, refl, arith}
+use Rattle.std.proofs.Common.{◌≡◌, ◌≢◌, ℕ, zero, suc, ◌≤◌, List, [], ◌∷◌, Bool, true, false, Option, Some, None, length, refl, arith}
 use Rattle.std.specs.Prelude.{All, AllPairs, slice_get, IsSome, codes}
 use Rattle.std.proofs.lemmas.List.Elements.{All-nil, All-cons}
 use Rattle.wasm_types.specs.declared.types.ValType.TheVariants as type
 use Rattle.wasm_types.specs.declared.types.FuncType.{FuncType}
-use Rattle.wasm_types.specs.declared.types.GlobalType.{GlobalType}
 use Rattle.wasm_types.specs.declared.types.Limits.{Limits}
 use Rattle.wasm_types.specs.declared.outcome.Val.{Val}
 use Rattle.wasm_types.specs.declared.outcome.Val.TheVariants as val
-use Rattle.wasm_types.specs.declared.instr.Instr.{Instr}
 use Rattle.wasm_types.specs.declared.instr.Instr.TheVariants as instr
 use Rattle.wasm_types.specs.declared.module.Export.{Export}
 use Rattle.wasm_types.specs.declared.module.ExportDesc.{ExportDesc}
 use Rattle.wasm_types.specs.declared.module.ExportDesc.TheVariants as desc
 use Rattle.wasm_types.specs.declared.module.ImportDesc.TheVariants as import
-use Rattle.wasm_types.specs.Tree.{Code, End, Plain, FunctionTree, GlobalTree, ElementTree, DataTree, ModuleTree}
+use Rattle.wasm_types.specs.Tree.{Code, End, FunctionTree, GlobalTree, ElementTree, DataTree, ModuleTree}
 use Rattle.wasm_spec.specs.Typing.{IsTypedFunction}
-use Rattle.wasm_spec.specs.Validity.{IsValid, IsSupported, IsDefined, IsInitialised, IsElementSegment, IsDataSegment, IsMemoryType, AreOrdered, IsStart}
+use Rattle.wasm_spec.specs.Validity.{IsValid, IsSupported, IsDefined, IsInitialised, IsElementSegment, IsDataSegment, IsMemoryType, AreOrdered}
 use Rattle.wasm_examples.proofs.Modules.{straight, i32_const, function_type, function_of, empty_type, unary_type}
 
 -- ---- a valid module with every part

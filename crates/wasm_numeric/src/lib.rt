@@ -3,10 +3,10 @@
 //! Source: WebAssembly Core Specification 1.0, sections 4.3.2 and 4.3.4.
 #![tactic(auto)]
 
-pub mod by_name;
-pub mod conversions;
-pub mod i32_operators;
-pub mod i64_operators;
+mod by_name;
+mod conversions;
+mod i32_operators;
+mod i64_operators;
 pub mod laws;
 
 pub use by_name::{binary32, binary64, compare32, compare64, unary32, unary64};

@@ -1,11 +1,10 @@
 use Rattle.std.proofs.Common.{List, [], map, subst, IsTrue, rules}
 use Rattle.std.proofs.lemmas.Result.{MatchResult-weaker}
-use Rattle.wasm_types.specs.Tree.{module_tree}
 use Rattle.wasm_spec.specs.Numbers.{TakesEach}
 use Rattle.wasm_spec.specs.Grammar.{Section, TakesSection, IsOrderedAbove, SpellsFields, Spells}
 use Rattle.wasm_spec.proofs.UnambiguousModules.{sections-are}
 use Rattle.wasm_decode.specs.Sections.{section_of}
-use Rattle.wasm_decode.proofs.Reading.{none-through}
+use Rattle.wasm_decode.proofs.Decoding.{none-through}
 use Rattle.wasm_decode.proofs.decoder.decode.Goals as goal
 
 pub returns-then-are_in_order : goal.returns-then-are_in_order

@@ -10,7 +10,7 @@ use Rattle.wasm_spec.specs.TypeGrammar.{TakesFuncType, TakesTableType, TakesMemo
 use Rattle.wasm_spec.specs.Grammar.{Body, TakesImport, TakesGlobal, TakesExport, TakesElement, TakesSizedBody, TakesData, body_of, type_index_of, Section, section, SpellsVec, SpellsStart}
 use Rattle.wasm_decode.specs.Sections.{section_of}
 use Rattle.wasm_decode.specs.Bodies.{body_tree}
-use Rattle.wasm_decode.proofs.Modules.{exits-field, same-length}
+use Rattle.wasm_decode.proofs.Fields.{exits-field, same-length}
 use Rattle.wasm_decode.proofs.decoder.decode_fields.Goals as goal
 
 pub returns-in_err-types : goal.returns-in_err-types

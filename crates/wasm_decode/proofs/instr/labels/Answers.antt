@@ -2,7 +2,7 @@ use Rattle.wasm_spec.specs.Numbers.{TakesUnsigned, TakesVec}
 use Rattle.wasm_spec.specs.InstrGrammar.{TakesShape, WithLabels}
 use Rattle.leb_read.specs.Reading.{rest}
 use Rattle.wasm_decode.specs.Pairs.{TakesPair}
-use Rattle.wasm_decode.proofs.Reading.{exits, begins-through}
+use Rattle.wasm_decode.proofs.Decoding.{exits, begins-through}
 use Rattle.wasm_decode.proofs.instr.labels.Goals as goal
 
 pub returns-in_err-labels : goal.returns-in_err-labels

@@ -8,7 +8,7 @@ use Rattle.leb_read.specs.Reading.{rest}
 use Rattle.wasm_decode.specs.declared.instr.Immediate.{Immediate}
 use Rattle.wasm_decode.specs.declared.instr.Immediate.TheVariants as follows
 use Rattle.wasm_decode.specs.Pairs.{TakesPair}
-use Rattle.wasm_decode.proofs.Reading.{exits, begins-through}
+use Rattle.wasm_decode.proofs.Decoding.{exits, begins-through}
 use Rattle.wasm_decode.proofs.Shapes.{shape-is, float-bytes}
 use Rattle.wasm_decode.proofs.instr.read_instr.Goals as goal
 

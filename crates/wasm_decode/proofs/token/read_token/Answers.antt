@@ -2,8 +2,8 @@ use Rattle.std.proofs.Common.{ℕ, ◌∷◌, ap, ◌∙◌, arith}
 use Rattle.std.proofs.lemmas.Result.{err_from_is_err_and}
 use Rattle.leb_read.specs.Reading.{rest}
 use Rattle.wasm_decode.specs.declared.token.BlockKind.TheVariants as block_kind
-use Rattle.wasm_decode.proofs.Reading.{exits}
-use Rattle.wasm_decode.proofs.Completions.{none-open, none-call, none-call_indirect}
+use Rattle.wasm_decode.proofs.Decoding.{exits}
+use Rattle.wasm_decode.proofs.Tokens.{none-open, none-call, none-call_indirect}
 use Rattle.wasm_decode.proofs.token.read_token.Goals as goal
 
 pub returns-in_err-block_type-in-2-clause-token : goal.returns-in_err-block_type-in-2-clause-token

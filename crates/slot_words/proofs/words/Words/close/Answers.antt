@@ -5,27 +5,27 @@ use Rattle.slot_words.specs.Accounts.{AreKept, in_one}
 use Rattle.slot_words.specs.KindCounts.{kind_counts}
 use Rattle.slot_words.specs.Passes.{operations}
 use Rattle.slot_words.specs.Owned.{passes_of}
-use Rattle.slot_words.proofs.Allowed.{idle_seat_of}
+use Rattle.slot_words.proofs.CoreLaws.{laws_of}
 use Rattle.slot_words.proofs.Closings.{last_core, left_alone}
 use Rattle.slot_words.proofs.words.Words.close.Goals as goal
 
 pub count_kinds-counts-requires : goal.count_kinds-counts-requires
-count_kinds-counts-requires g c = let z = c.close_with-closed.ensures in let row = c.close_with-closed.result.words in let n = (slots_counts row).0 in let k = z.counts.0 in let d = c.args.self.sized.0 in
-    let last = last_core g.V.Pooled.fits g.V.Pooled.room _ _ _ _ c.args.self.slots (slots_items row) _ (omega arith) (idle_seat_of _ c.requires.idle.0 c.requires.idle.1 c.requires.idle.2 c.requires.idle.4 c.requires.idle.5 c.requires.idle.6) z.values.2 in record {
+count_kinds-counts-requires g c = let z = c.close_with-closed.ensures in let row = c.close_with-closed.result.words in let n = (slots_counts row).0 in let k = z.counts.0 in let d = c.args.self.words_are in
+    let last = last_core (laws_of c.core_laws.ensures) g.V.Pooled.fits g.V.Pooled.room _ _ _ c.args.self.slots (slots_items row) _ (omega arith) c.requires.idle.0 z.values.2 in record {
       full = search rules;
       words = (last.core.words, last.slots_are, last.begins);
     }
 
 pub returns : goal.returns
-returns g c = let z = c.close_with-closed.ensures in let row = c.close_with-closed.result.words in let n = (slots_counts row).0 in let k = z.counts.0 in let d = c.args.self.sized.0 in
-    let last = last_core g.V.Pooled.fits g.V.Pooled.room _ _ _ _ c.args.self.slots (slots_items row) _ (omega arith) (idle_seat_of _ c.requires.idle.0 c.requires.idle.1 c.requires.idle.2 c.requires.idle.4 c.requires.idle.5 c.requires.idle.6) z.values.2 in
+returns g c = let z = c.close_with-closed.ensures in let row = c.close_with-closed.result.words in let n = (slots_counts row).0 in let k = z.counts.0 in let d = c.args.self.words_are in
+    let last = last_core (laws_of c.core_laws.ensures) g.V.Pooled.fits g.V.Pooled.room _ _ _ c.args.self.slots (slots_items row) _ (omega arith) c.requires.idle.0 z.values.2 in
     let is = c.count_kinds-counts.ensures last.core.words last.slots_are last.begins in
     let held : (kind_counts last.core.words).held ≡ c.count_kinds-counts.result.held = sym (ap (λ (k : KindCounts). k.held) is) in record {
       counts = record {
         core = last.core;
         lawful = last.lawful;
         slots_are = last.slots_are;
-        limit_is = last.limit_is ∙ c.args.self.sized.2;
+        limit_is = last.limit_is ∙ c.args.self.limit_is;
         seats_are = last.seats_are;
         seat_is = last.seat_is;
         allowed = last.allowed;

@@ -1,12 +1,14 @@
-use Rattle.std.proofs.Common.{rules, arith}
-use Rattle.slot_words.proofs.Allowed.{joins_allowed, idle_seat_of}
+use Rattle.std.proofs.Common.{arith, ap}
+use Rattle.slot_words.specs.Passes.{Home}
+use Rattle.slot_words.proofs.Allowed.{joins_allowed}
+use Rattle.slot_words.proofs.CoreLaws.{laws_of}
 use Rattle.slot_words.proofs.words.Words.join_pass.Goals as goal
 
 pub join_seat-requires : goal.join_seat-requires
-join_seat-requires g c = let a = c.requires.idle.0 in let b = c.requires.idle.1 in (
-  search rules,
-  search rules,
-  b.3,
-  omega (arith, c.args.self.now.sized.0),
-  joins_allowed g.V.Pooled.fits g.V.Pooled.room _ _ _ _ _ _ (idle_seat_of _ a.0 a.1 a.2 a.4 a.5 a.6) (idle_seat_of _ b.0 b.1 b.2 b.4 b.5 b.6),
+join_seat-requires g c = let w = c.args.self.now in let a = c.requires.idle in let b = c.requires.other.1 in (
+  ap (λ (h : Home). h.table) c.requires.own,
+  ap (λ (h : Home). h.table) c.requires.other.0,
+  b.1,
+  omega (arith, w.words_are),
+  joins_allowed (laws_of c.core_laws.ensures) g.V.Pooled.fits g.V.Pooled.room _ _ _ _ _ a.0 b.0,
 )

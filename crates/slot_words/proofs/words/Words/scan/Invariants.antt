@@ -8,7 +8,8 @@ use Rattle.slot_words.proofs.words.Words.scan.Given as goal
 
 abbrev pub invariant-loop-n : goal.invariant-loop-n
 invariant-loop-n g l = record {
-  same : IsSamePass l.fn.pass l.pass × KeepsAll l.fn.pass l.pass;
+  same : IsSamePass l.fn.pass l.pass;
+  keeps : KeepsAll l.fn.pass l.pass;
   len : length l.seen ≡ l.n;
   loads : trail l.pass ≡ trail l.fn.pass ++ loads_from 0 l.seen;
   words : All (λ r. (w : StateWord) × IsWordOf r w) l.seen;

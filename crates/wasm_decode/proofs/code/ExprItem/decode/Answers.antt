@@ -1,7 +1,7 @@
 use Rattle.std.proofs.Common.{◌≡◌, true, false, ◌∙◌, arith, rules}
 use Rattle.leb_read.specs.Reading.{rest}
 use Rattle.wasm_decode.specs.Contexts.{pushed, opened}
-use Rattle.wasm_decode.proofs.Reading.{exits}
+use Rattle.wasm_decode.proofs.Decoding.{exits}
 use Rattle.wasm_decode.proofs.Completions.{same-then, same-pushed, same-opened, start, none-token, none-else, else-reached, end-reached, whole-read}
 use Rattle.wasm_decode.proofs.code.ExprItem.decode.Goals as goal
 

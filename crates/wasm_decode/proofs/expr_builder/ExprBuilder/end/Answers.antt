@@ -6,7 +6,7 @@ use Rattle.wasm_decode.specs.declared.expr_builder.FrameKind.{FrameKind}
 use Rattle.wasm_decode.specs.declared.expr_builder.Frame.{Frame}
 use Rattle.wasm_decode.specs.declared.expr_builder.ExprBuilder.{ExprBuilder}
 use Rattle.wasm_decode.specs.Contexts.{StandsFor}
-use Rattle.wasm_decode.proofs.Contexts.{Names, ends-inner, ends-first, ends-outermost}
+use Rattle.wasm_decode.proofs.Contexts.{Names, ends-inner, ends-if, ends-outermost}
 use Rattle.wasm_decode.proofs.expr_builder.ExprBuilder.end.Goals as goal
 
 pub returns-in_default : goal.returns-in_default
@@ -47,7 +47,7 @@ returns-in_ok-resume-in-If c = λ s h.
     let seqs2 : c.finish_sequence-in-If.new.self.sequences.items ≡ (n.sequences.items ++ n.ops.items ∷ []) ++ [] ∷ [] =
     c.in_ok-second-in-If.ensures.sequences ∙ ap (λ (l : List Op). c.finish_sequence.new.self.sequences.items ++ l ∷ []) c.in_ok-last.ensures.ops ∙ ap (λ (l : List (List Op)). l ++ [] ∷ []) seqs in
     let second : c.in_ok-second-in-If.second ≡ length (n.sequences.items ++ n.ops.items ∷ []) = c.in_ok-second-in-If.ensures.number ∙ ap length seqs in
-    ends-first n.sequences.items c.pop.new.self.items n.ops.items o c.in_ok-last.last s.inner s.enclosing c.resume-in-If.new.self c.in-If.is c.in_ok-last.ensures.number
+    ends-if n.sequences.items c.pop.new.self.items n.ops.items o c.in_ok-last.last s.inner s.enclosing c.resume-in-If.new.self c.in-If.is c.in_ok-last.ensures.number
     (subst (λ (l : List Frame). StandsFor n.sequences.items l n.ops.items s) frames h)
     (c.in_ok-resume-in-If.ensures.sequences ∙ seqs2) (c.in_ok-resume-in-If.ensures.frames ∙ c.in_ok-second-in-If.ensures.frames)
     (c.in_ok-resume-in-If.ensures.ops ∙ ap (λ (j : ℕ). o.ops.items ++ op.If o.block_type c.in_ok-last.last j ∷ []) second)

@@ -6,7 +6,7 @@ use Rattle.leb_read.specs.Reading.{rest}
 use Rattle.wasm_decode.specs.Decoding.{IsNone, BeginsWithNone}
 use Rattle.wasm_decode.specs.declared.fault.DecodeFault.{DecodeFault}
 use Rattle.wasm_decode.specs.declared.fault.DecodeFault.TheVariants.{Malformed, NoMemory}
-use Rattle.wasm_decode.proofs.Reading.{exits, exits-as}
+use Rattle.wasm_decode.proofs.Decoding.{exits, exits-as}
 use Rattle.wasm_decode.proofs.function.SizedBodyItem.decode.Goals as goal
 
 sized-none : (contents bytes mid : List ℕ) (fault : DecodeFault) → TakesBytes contents bytes mid → IsNone (λ b. TakesBody b contents []) fault → BeginsWithNone TakesSizedBody bytes fault

@@ -1,0 +1,31 @@
+//! How early a slot is claimed.
+ghost use Rattle.std.specs.Prelude.{◌≡◌};
+ghost use Rattle.pool_core.specs.declared.words.StateWord.{StateWord};
+ghost use Rattle.pool_core.specs.StateWords.{IsWordOf, unpacked};
+ghost use Rattle.affinity_index.specs.Orders.{rank_of};
+
+use pool_core::{STAMP_LIMIT, State, unpack};
+
+// A slot and its rank. The lesser rank comes first, and of equal ranks the lesser number.
+#[derive(Clone, Copy, PartialEq, Eq, PartialOrd, Ord, Default, Debug, Drop)]
+pub(crate) struct Ranked {
+    pub rank: u64,
+    pub number: u32,
+}
+
+// The rank of a slot whose word this is, or `None` where it is held or awaits its decommit.
+pub(crate) fn rank(word: u64, tag: u32, full: bool) -> Option<u64>
+    requires { (w : StateWord) × IsWordOf word w }
+    ensures { result ≡ rank_of tag full (unpacked word) }
+{
+    let (target, held) = unpack(word);
+    if held {
+        return None;
+    }
+    match target.state {
+        State::Awaiting => None,
+        State::Cold => Some(if full { 2 * STAMP_LIMIT } else { STAMP_LIMIT }),
+        State::Warm if target.tag == tag => Some(STAMP_LIMIT - 1 - target.stamp),
+        State::Warm => Some(if full { STAMP_LIMIT } else { 2 * STAMP_LIMIT } + target.stamp),
+    }
+}

@@ -1,0 +1,14 @@
+-- What a hand-in does, by what it reads.
+use Rattle.std.specs.Prelude.{◌≡◌, ℕ, ◌-◌, ◌%◌, leb, MatchBool, List, [], ◌∷◌}
+use Rattle.pool_core.specs.declared.words.State.TheVariants.{Awaiting}
+use Rattle.pool_core.specs.declared.limits.TheConstants.{STAMP_LIMIT}
+use Rattle.pool_core.specs.StateWords.{packed, free_word}
+use Rattle.slot_words.specs.declared.views.Operation.{Operation}
+use Rattle.slot_words.specs.declared.views.Operation.TheVariants.{Release, Stamp, AwaitUp}
+use Rattle.decommit_batch.specs.Flush.{IsFlush}
+
+-- The slot is counted as awaiting, stamped and released. Where the count read was at least one less than a batch, a flush follows.
+abbrev pub IsHandIn : ℕ → ℕ → ℕ → ℕ → ℕ → List Operation → Type 0
+IsHandIn limit slots n tag batch done = (a : ℕ) × (s : ℕ) × (flushed : List Operation)
+    × (done ≡ AwaitUp a ∷ Stamp s ∷ Release n (packed (free_word (record { state = Awaiting; tag = tag; stamp = s % STAMP_LIMIT }))) ∷ flushed)
+    × MatchBool (leb (batch - 1) a) (IsFlush limit slots flushed) (flushed ≡ [])

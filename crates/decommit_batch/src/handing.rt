@@ -1,0 +1,43 @@
+//! A used slot is handed in.
+ghost use Rattle.std.specs.Prelude.{◌≡◌, ℕ, ◌<◌, ◌≤◌, false};
+ghost use Rattle.pool_core.specs.declared.words.State.TheVariants.{Awaiting};
+ghost use Rattle.slot_words.specs.Leases.{lease_number};
+ghost use Rattle.slot_words.specs.Parts.{Grew};
+ghost use Rattle.slot_words.specs.Passes.{IsIdle, IsSamePass, Holds, trail};
+ghost use Rattle.slot_words.specs.Owned.{IsPassOf, slots_of, limit_of, room_of};
+ghost use Rattle.decommit_batch.specs.HandIn.{IsHandIn};
+
+use crate::flushing::flush;
+use pool_core::{State, Target};
+use slot_words::{Lease, Pass, Pooled, Words};
+
+/// Gives a used slot back, to await its decommit. With `batch` of them awaiting, a flush follows.
+pub fn hand_in<V: Pooled>(
+    words: &Words<V>,
+    pass: &mut Pass<V>,
+    lease: Lease<V>,
+    images: &V::Images,
+    batch: u32,
+)
+    requires own { IsPassOf V.room words.now pass.old }
+    requires number { lease_number lease < slots_of words.now }
+    requires holds { Holds pass.old (lease_number lease) false false false }
+    requires used { (tag : ℕ) × V.fits Awaiting tag lease.value }
+    requires room { V.room lease.value ≡ room_of V.room words.now }
+    requires batch { 1 ≤ batch }
+    ensures same { IsSamePass pass.old pass.new }
+    ensures idle { IsIdle pass.new }
+    ensures trail { Grew (IsHandIn (limit_of words.now) (slots_of words.now) (lease_number lease) (V.own_tag lease.value) batch) (trail pass.old) (trail pass.new) }
+{
+    let waiting = words.await_up(pass);
+    let stamp = words.stamp(pass);
+    let to = Target {
+        state: State::Awaiting,
+        tag: lease.value.tag(),
+        stamp,
+    };
+    words.release(pass, lease, to);
+    if waiting >= u64::from(batch - 1) {
+        flush(words, pass, images);
+    }
+}

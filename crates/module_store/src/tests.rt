@@ -1,0 +1,232 @@
+// Worked registrations. Each store has its name from the test that opens it.
+ghost use Rattle.module_store.specs.Names.{Bears};
+
+use crate::desk::{Desk, MOST_MODULES};
+use crate::fault::LoadFault;
+use crate::naming::Naming;
+use crate::reference::ModuleRef;
+use crate::store::{ModuleStore, Opened};
+use initial_image::{Misfit, SegmentIndex};
+use pool_limits::{Measure, Numbers, Over, PoolConfig};
+use std::alloc::Global;
+use std::marker::Brand;
+use std::process::Abort;
+use std::sync::Wait;
+use std::test::Fail;
+use std::thread;
+use std::thread::Threads;
+use wasm_types::Val;
+
+const USUAL: Numbers = Numbers {
+    workers: 1,
+    instances: 4,
+    memories: 4,
+    tables: 4,
+    warm: 2,
+    batch: 4,
+    pages: 32,
+    elements: 1_024,
+    depth: 128,
+    frame: 1_024,
+};
+
+// The sum of two numbers, a counter in memory, and a store at an address.
+static ADD: [u8; 41] =
+    *b"\0asm\x01\0\0\0\x01\x07\x01\x60\x02\x7f\x7f\x01\x7f\x03\x02\x01\0\x07\x07\x01\x03add\0\0\x0a\x09\x01\x07\0\x20\0\x20\x01\x6a\x0b";
+
+static BUMP: [u8; 58] =
+    *b"\0asm\x01\0\0\0\x01\x05\x01\x60\0\x01\x7f\x03\x02\x01\0\x05\x03\x01\0\x01\x07\x08\x01\x04bump\0\0\x0a\x16\x01\x14\0\x41\0\x41\0\x28\x02\0\x41\x01\x6a\x36\x02\0\x41\0\x28\x02\0\x0b";
+
+static POKE: [u8; 48] =
+    *b"\0asm\x01\0\0\0\x01\x06\x01\x60\x02\x7f\x7f\0\x03\x02\x01\0\x05\x03\x01\0\x01\x07\x08\x01\x04poke\0\0\x0a\x0b\x01\x09\0\x20\0\x20\x01\x36\x02\0\x0b";
+
+fn open(alloc: Global) -> Result<Opened, Fail> {
+    let config = PoolConfig::new(USUAL)?;
+    Ok(Opened::open(alloc, config)?)
+}
+
+// A module's number and tag, or why it is refused.
+fn answer<N: Naming, R: Wait>(
+    rt: &R,
+    alloc: Global,
+    store: &ModuleStore<N>,
+    desk: &mut Desk<N>,
+    bytes: &[u8],
+) -> Result<(usize, u32), LoadFault> {
+    let module = store.register(rt, alloc, desk, bytes)?;
+    Ok((module.number(), module.tag()))
+}
+
+fn check_answers<N: Naming, R: Abort + Wait>(rt: &R, alloc: Global, opened: Opened)
+    requires { Bears opened N.shelves N.config }
+{
+    let (store, mut desk) = opened.named::<N>();
+    let over = |which, value, limit| Err(LoadFault::OverLimit(Over {
+        which,
+        value,
+        limit,
+    }));
+    let misfit = |which, end, size| Err(LoadFault::Segment(Misfit { which, end, size }));
+    let rows = [
+        (b"\0asm\x01\0\0".as_slice(), Err(LoadFault::Malformed)),
+        (b"\0asm\x01\0\0\0".as_slice(), Ok((0, 0))),
+        // A float, and an addition with one operand.
+        (
+            b"\0asm\x01\0\0\0\x01\x04\x01\x60\0\0\x03\x02\x01\0\x0a\x0a\x01\x08\0\x43\0\0\0\0\x1a\x0b".as_slice(),
+            Err(LoadFault::Unsupported),
+        ),
+        (
+            b"\0asm\x01\0\0\0\x01\x04\x01\x60\0\0\x03\x02\x01\0\x0a\x08\x01\x06\0\x41\x01\x6a\x1a\x0b".as_slice(),
+            Err(LoadFault::Invalid),
+        ),
+        // Two bytes at the last address of a page.
+        (
+            b"\0asm\x01\0\0\0\x05\x03\x01\0\x01\x0b\x0a\x01\0\x41\xff\xff\x03\x0b\x02ab".as_slice(),
+            misfit(SegmentIndex::Data(0), 65_537, 65_536),
+        ),
+        // 33 pages; 4,294,967,295 locals; one local more.
+        (
+            b"\0asm\x01\0\0\0\x05\x03\x01\0\x21".as_slice(),
+            over(Measure::Pages, 33, 32),
+        ),
+        (
+            b"\0asm\x01\0\0\0\x01\x04\x01\x60\0\0\x03\x02\x01\0\x0a\x0a\x01\x08\x01\xff\xff\xff\xff\x0f\x7f\x0b".as_slice(),
+            over(Measure::Frame(0), 4_294_967_296, 1_024),
+        ),
+        (
+            b"\0asm\x01\0\0\0\x01\x04\x01\x60\0\0\x03\x02\x01\0\x0a\x0c\x01\x0a\x02\xff\xff\xff\xff\x0f\x7f\x01\x7f\x0b".as_slice(),
+            Err(LoadFault::Malformed),
+        ),
+        // A count of memories that the bytes cannot fill.
+        (
+            b"\0asm\x01\0\0\0\x01\x05\xff\xff\xff\xff\x0f".as_slice(),
+            Err(LoadFault::Malformed),
+        ),
+        (ADD.as_slice(), Ok((1, 1))),
+        (ADD.as_slice(), Ok((2, 2))),
+    ];
+    for (bytes, expected) in rows {
+        assert_eq!(rt;
+            answer(rt, alloc, &store, &mut desk, bytes),
+            expected,
+            "{bytes:?}"
+        );
+    }
+}
+
+#[test]
+fn bytes_are_registered_or_refused(rt: HostRuntime) -> Result<(), Fail> {
+    let opened = open(rt.alloc())?;
+    check_answers::<Brand, HostRuntime>(&rt, rt.alloc(), opened);
+    Ok(())
+}
+
+fn check_prefixes<N: Naming, R: Abort + Wait>(rt: &R, alloc: Global, opened: Opened)
+    requires { Bears opened N.shelves N.config }
+{
+    let (store, mut desk) = opened.named::<N>();
+    let rows = [
+        (ADD.as_slice(), [8, 17]),
+        (BUMP.as_slice(), [8, 15]),
+        (POKE.as_slice(), [8, 16]),
+    ];
+    for (bytes, whole) in rows {
+        for length in 0..bytes.len() {
+            let refused = answer(rt, alloc, &store, &mut desk, &bytes[..length]).err();
+            let expected = if whole.contains(&length) {
+                None
+            } else {
+                Some(LoadFault::Malformed)
+            };
+            assert_eq!(rt; refused, expected, "{length} bytes of {bytes:?}");
+        }
+    }
+}
+
+#[test]
+fn few_prefixes_are_modules(rt: HostRuntime) -> Result<(), Fail> {
+    let opened = open(rt.alloc())?;
+    check_prefixes::<Brand, HostRuntime>(&rt, rt.alloc(), opened);
+    Ok(())
+}
+
+fn check_most<N: Naming, R: Abort + Wait>(rt: &R, alloc: Global, opened: Opened)
+    requires { Bears opened N.shelves N.config }
+{
+    let (store, mut desk) = opened.named::<N>();
+    for tag in 0..MOST_MODULES {
+        let module = answer(rt, alloc, &store, &mut desk, b"\0asm\x01\0\0\0".as_slice());
+        assert_eq!(rt; module, Ok((tag as usize, tag)));
+    }
+    let more = answer(rt, alloc, &store, &mut desk, b"no module".as_slice());
+    assert_eq!(rt; more, Err(LoadFault::TooMany));
+}
+
+#[test]
+fn a_desk_registers_so_many(rt: HostRuntime) -> Result<(), Fail> {
+    let opened = open(rt.alloc())?;
+    check_most::<Brand, HostRuntime>(&rt, rt.alloc(), opened);
+    Ok(())
+}
+
+// A module of one global, whose value is the byte; no more than 63, so that it is one byte of its number.
+fn with_global(value: u8) -> [u8; 16] {
+    let mut bytes = *b"\0asm\x01\0\0\0\x06\x06\x01\x7f\0\x41\0\x0b";
+    bytes[14] = value;
+    bytes
+}
+
+// Registers modules of a global from 1 to 60.
+fn register_all<N: Naming, R: Abort + Wait>(
+    rt: &R,
+    alloc: Global,
+    store: &ModuleStore<N>,
+    desk: &mut Desk<N>,
+) {
+    for value in 1..61u8 {
+        let module = store.register(rt, alloc, desk, with_global(value).as_slice());
+        let module = module.expect(rt, "registered");
+        assert_eq!(rt; module.tag(), value as u32);
+        assert_eq!(rt;
+            store.image(&module).globals.as_slice(),
+            [Val::I32(value as u32)].as_slice()
+        );
+    }
+}
+
+// Looks a module up again and again, and reads what it shows.
+fn read_all<N: Naming, R: Abort + Wait>(rt: &R, store: &ModuleStore<N>, module: &ModuleRef<N>) {
+    for _ in 0..1_000 {
+        let again = module.again();
+        assert!(rt; store.same(module, &again));
+        assert_eq!(rt; (again.number(), again.tag()), (0, 0));
+        assert_eq!(rt;
+            store.image(&again).globals.as_slice(),
+            [Val::I32(0)].as_slice()
+        );
+        assert_eq!(rt; store.valid(&again).module().globals.len(), 1);
+        assert_eq!(rt; store.config().numbers(), USUAL);
+    }
+}
+
+fn check_threads<N: Naming, R: Abort + Threads + Wait + Sync>(rt: &R, alloc: Global, opened: Opened)
+    requires { Bears opened N.shelves N.config }
+{
+    let (store, mut desk) = opened.named::<N>();
+    let first = store.register(rt, alloc, &mut desk, with_global(0).as_slice());
+    let first = first.expect(rt, "registered");
+    thread::join(
+        rt,
+        || read_all(rt, &store, &first),
+        || register_all(rt, alloc, &store, &mut desk),
+    );
+    let last = answer(rt, alloc, &store, &mut desk, ADD.as_slice());
+    assert_eq!(rt; last, Ok((61, 61)));
+}
+
+#[test]
+fn one_thread_registers_while_another_reads(rt: HostRuntime) -> Result<(), Fail> {
+    let opened = open(rt.alloc())?;
+    check_threads::<Brand, HostRuntime>(&rt, rt.alloc(), opened);
+    Ok(())
+}

@@ -1,0 +1,8 @@
+pub mod Parts
+pub mod Seats
+pub mod Steps
+pub mod Shadows
+pub mod Turns
+pub mod Images
+mod SmallModule
+mod Example

@@ -1,0 +1,6 @@
+pub mod Contents
+pub mod Codes
+pub mod PoolMachine
+pub mod FreshMachine
+pub mod Runs
+pub mod Worlds
