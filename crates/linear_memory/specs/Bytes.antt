@@ -26,8 +26,13 @@ pub record IsZeroed (pages : ℕ) (memory : Memory) : Type 0 where
   pub size : memory.pages ≡ 0
   pub marks : memory.marks.items ≡ replicate (pages * page_size / block_size) false
 
--- Zeros come on, and the answer is the size before, where there are then at most so many pages; and else nothing happens.
+-- Zeros come on, and the answer is the size before.
+pub record IsGrown (most pages : ℕ) (old : Memory) (before : ℕ) (new : Memory) : Type 0 where
+  pub fits : old.pages + pages ≤ most
+  pub before_is : before ≡ old.pages
+  pub shown_is : shown new ≡ shown old ++ replicate (pages * page_size) 0
+
+-- It grows where there are then at most so many pages, and else nothing happens.
 abbrev pub Grows : (most pages : ℕ) → Memory → Option ℕ → Memory → Type 0
 Grows most pages old None new = (most < old.pages + pages) × (shown new ≡ shown old)
-Grows most pages old (Some before) new =
-    (old.pages + pages ≤ most) × (before ≡ old.pages) × (shown new ≡ shown old ++ replicate (pages * page_size) 0)
+Grows most pages old (Some before) new = IsGrown most pages old before new

@@ -1,5 +1,5 @@
 //! A linear memory in bytes for its largest size.
-ghost use Rattle.std.specs.Prelude.{◌≡◌, ℕ, ◌+◌, ◌<◌, ◌≤◌, false, Option, None, Some, IfOk, if◌then◌else◌, nat_lt, not, length, replicate};
+ghost use Rattle.std.specs.Prelude.{◌≡◌, ℕ, ◌+◌, ◌<◌, ◌≤◌, false, Option, None, Some, IfOk, if◌then◌else◌, nat_lt, not, length, replicate, set, true};
 ghost use Rattle.std.specs.Int.{from_le_bytes, w8, w16, w32, w64};
 ghost use Rattle.wasm_spec.specs.Store.{written, loaded};
 ghost use Rattle.linear_memory.specs.Bytes.{Grows, IsMemory, IsZeroed, shown};
@@ -29,6 +29,16 @@ fn put(bytes: &mut Vec<u8>, start: usize, piece: &[u8])
     ensures { bytes.new.items ≡ written bytes.old.items start piece.now }
 {
     bytes[start..start + piece.len()].copy_from_slice(piece);
+}
+
+// Marks two blocks.
+fn mark(marks: &mut Vec<bool>, first: u64, last: u64)
+    requires first { first < length marks.old.items }
+    requires last { last < length marks.old.items }
+    ensures { marks.new.items ≡ set (set marks.old.items first true) last true }
+{
+    marks[first as usize] = true;
+    marks[last as usize] = true;
 }
 
 // So many bytes of zero, and so many marks that are not set.
@@ -75,8 +85,7 @@ impl Memory {
             return false;
         }
         put(&mut self.bytes, at as usize, piece);
-        self.marks[(at / BLOCK_SIZE) as usize] = true;
-        self.marks[((at + count - 1) / BLOCK_SIZE) as usize] = true;
+        mark(&mut self.marks, at / BLOCK_SIZE, (at + count - 1) / BLOCK_SIZE);
         true
     }
 

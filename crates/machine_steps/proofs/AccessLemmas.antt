@@ -153,7 +153,8 @@ grow_after None most n before limit k vs new old grown table globals is (much, s
     let pages = pages_are limit old is in
     let test : nat_lt most (length (shown old) / page_size + n) ≡ true = ap (λ (p : ℕ). nat_lt most (p + n)) pages ∙ grind (arith, nat_tests) in
     rw test (subst (λ (x : ℕ). Represents (record k { operands = val.I32 x ∷ vs }) new) e sh, ap (λ (l : List ℕ). stored l table globals) (sym same))
-grow_after (Some b) most n before limit k vs new old grown table globals is (little, size, more) e sh =
+grow_after (Some b) most n before limit k vs new old grown table globals is grows e sh =
     let pages = pages_are limit old is in
+    let fits = grows.fits in
     let test : nat_lt most (length (shown old) / page_size + n) ≡ false = ap (λ (p : ℕ). nat_lt most (p + n)) pages ∙ grind (arith, nat_tests) in
-    rw test (subst (λ (x : ℕ). Represents (record k { operands = val.I32 x ∷ vs }) new) (e ∙ size ∙ sym pages) sh, ap (λ (l : List ℕ). stored l table globals) (sym more))
+    rw test (subst (λ (x : ℕ). Represents (record k { operands = val.I32 x ∷ vs }) new) (e ∙ grows.before_is ∙ sym pages) sh, ap (λ (l : List ℕ). stored l table globals) (sym grows.shown_is))

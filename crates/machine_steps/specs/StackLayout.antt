@@ -6,7 +6,7 @@ use Rattle.machine_steps.specs.declared.machine.Label.{Label}
 use Rattle.machine_steps.specs.declared.machine.Machine.{Machine}
 use Rattle.machine_steps.specs.Configuration.{OpenBlock, Activation, Configuration}
 
--- the operands operands_under these blocks, on what lies at the bottom
+-- the operands under these blocks, on what lies at the bottom
 abbrev pub operands_under : List Val → List OpenBlock → List Val
 operands_under bottom [] = bottom
 operands_under bottom (o ∷ os) = operands_under bottom os ++ reverse o.below

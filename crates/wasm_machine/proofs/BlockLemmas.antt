@@ -63,10 +63,10 @@ module _ (m : Module) (frame : ℕ) where
 
   pub beneath_fits : (x : ℕ) (cs : List Activation) → AreTypedActivations m frame x cs → (length (frames_under cs) ≤ length cs * frame) × (length (labels_under cs) ≤ length cs * frame)
   beneath_fits x [] t = (omega arith, omega arith)
-  beneath_fits x (c ∷ cs) (resumes, blocks, locals, activations) =
+  beneath_fits x (c ∷ cs) (caller, activations) =
       let (values, labels) = beneath_fits c.function cs activations in
-      let fits = frame_fits c.function c.blocks _ _ resumes in
-      let as_many : length c.locals ≡ length (local_types m frame c.function) = sym (length-map c.locals type_of) ∙ ap length locals in (
+      let fits = frame_fits c.function c.blocks _ _ caller.resumes in
+      let as_many : length c.locals ≡ length (local_types m frame c.function) = sym (length-map c.locals type_of) ∙ ap length caller.locals in (
         omega (
           arith,
           length-append (flat.operands_under (frames_under cs ++ c.locals) c.blocks) (reverse c.below),
@@ -141,7 +141,7 @@ module _ (m : Module) (limits : RunLimits) (frame : ℕ) where
             typed = subst (λ (c : Code). Typed (under (result_types t) C) c [] (result_types t)) (sym named) inside_typed;
             fits = subst (λ (c : Code). length (local_types m frame x) + highest (operand_count os + length k.operands) (under (result_types t) C) c 0 + deepest (suc (length os) + 1) c ≤ frame) (sym named) (omega arith);
           };
-          around = record { locals = b.around.locals; blocks = (resumes, resumes, b.around.blocks); activations = b.around.activations; deep = b.around.deep };
+          around = record { locals = b.around.locals; blocks = (record { at_end = resumes; at_branch = resumes }, b.around.blocks); activations = b.around.activations; deep = b.around.deep };
         };
         stored = b.stored;
         room = room_kept limits.depth frame old new b.room keeps;
@@ -186,7 +186,7 @@ module _ (m : Module) (limits : RunLimits) (frame : ℕ) where
             typed = subst (λ (c : Code). Typed (under [] C) c [] (result_types t)) (sym named) inside_typed;
             fits = subst (λ (c : Code). length (local_types m frame x) + highest (operand_count os + length k.operands) (under [] C) c 0 + deepest (suc (length os) + 1) c ≤ frame) (sym named) (omega arith);
           };
-          around = record { locals = b.around.locals; blocks = (resumes, again, b.around.blocks); activations = b.around.activations; deep = b.around.deep };
+          around = record { locals = b.around.locals; blocks = (record { at_end = resumes; at_branch = again }, b.around.blocks); activations = b.around.activations; deep = b.around.deep };
         };
         stored = b.stored;
         room = room_kept limits.depth frame old new b.room keeps;

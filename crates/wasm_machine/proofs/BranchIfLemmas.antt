@@ -92,7 +92,7 @@ module _ (m : Module) (limits : RunLimits) (frame : ℕ) where
         configuration = record k { operands = c.rest };
         represents = p.1;
         around = record { locals = b.around.locals; blocks = b.around.blocks; activations = b.around.activations; deep = b.around.deep };
-        ready = (c.label, c.below, c.there, c.types);
+        ready = record { label = c.label; below = c.below; there = c.there; types = c.types };
         stored = b.stored;
         room = room_kept limits.depth frame old new b.room keeps;
         goes = λ g.

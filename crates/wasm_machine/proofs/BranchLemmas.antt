@@ -31,21 +31,21 @@ module _ (m : Module) (limits : RunLimits) (frame : ℕ) where
   target : (x : ℕ) (os : List OpenBlock) (l : ℕ) (o : OpenBlock) (rest : List OpenBlock) → drop l os ≡ o ∷ rest → AreTypedBlocks m frame x os → Target x o rest
   target x [] zero o rest e t = absurd (cc)
   target x [] (suc l) o rest e t = absurd (cc)
-  target x (p ∷ os) zero o rest e (after, back, blocks) =
+  target x (p ∷ os) zero o rest e (block, blocks) =
       let same : p ≡ o = cc in
       let others : os ≡ rest = cc in
       record {
         resumes = subst (λ (u : OpenBlock). IsTypedAt m frame x rest (u.label ++ map type_of u.below) u.sequence u.target) same
-            (subst (λ (us : List OpenBlock). IsTypedAt m frame x us (p.label ++ map type_of p.below) p.sequence p.target) others back);
+            (subst (λ (us : List OpenBlock). IsTypedAt m frame x us (p.label ++ map type_of p.below) p.sequence p.target) others block.at_branch);
         blocks = subst (λ (us : List OpenBlock). AreTypedBlocks m frame x us) others blocks;
       }
-  target x (p ∷ os) (suc l) o rest e (after, back, blocks) = target x os l o rest e blocks
+  target x (p ∷ os) (suc l) o rest e (block, blocks) = target x os l o rest e blocks
 
   -- the values that the branch takes are there
   label_cut : (k : Configuration) (l : ℕ) (g : Found k.blocks l) → HasExitOperands m frame (ToLabel l) k → Cut k.operands g.here.label (map type_of (drop (length g.here.label) k.operands))
-  label_cut k l g (ts, below, there, e) =
-      let same : ts ≡ g.here.label = label_found k.blocks (results m k.function) l g.here g.rest ts g.is there in
-      let c = types_cut k.operands g.here.label below (e ∙ ap (λ (us : List ValType). us ++ below) same) in
+  label_cut k l g taken =
+      let same : taken.label ≡ g.here.label = label_found k.blocks (results m k.function) l g.here g.rest taken.label g.is taken.there in
+      let c = types_cut k.operands g.here.label taken.below (taken.types ∙ ap (λ (us : List ValType). us ++ taken.below) same) in
       record { enough = c.enough; upper = c.upper; lower = refl }
 
   pub base_there : (old : Machine) (l index : ℕ) (label : Label) (store : Store) (r : ℕ → Ended) (e : SimulatesExit (ToLabel l) m limits frame old store r) → l < length e.configuration.blocks
@@ -106,8 +106,8 @@ module _ (m : Module) (limits : RunLimits) (frame : ℕ) where
   pub branch_returns : (machine : Machine) (l : ℕ) (store : Store) (r : ℕ → Ended) (e : SimulatesExit (ToLabel l) m limits frame machine store r) → length e.configuration.blocks ≤ l → SimulatesExit ByReturn m limits frame machine store r
   branch_returns machine l store r e le =
       let k = e.configuration in
-      let (ts, below, there, is) = e.ready in
-      let (here, last) = label_last k.blocks (results m k.function) l ts le there in
+      let taken = e.ready in
+      let (here, last) = label_last k.blocks (results m k.function) l taken.label le taken.there in
       let d = length k.activations + 1 in
       record {
         configuration = k;
@@ -115,7 +115,7 @@ module _ (m : Module) (limits : RunLimits) (frame : ℕ) where
         around = e.around;
         stored = e.stored;
         room = e.room;
-        ready = (below, is ∙ ap (λ (us : List ValType). us ++ below) last);
+        ready = (taken.below, taken.types ∙ ap (λ (us : List ValType). us ++ taken.below) last);
         goes = λ fuel.
             let s : State = state k store in
             ap (return_to m limits k.function k.activations) (leave_blocks-Returned m limits d k.function k.blocks s fuel)
@@ -139,7 +139,7 @@ module _ (m : Module) (limits : RunLimits) (frame : ℕ) where
       let here = label_of (length (operands_under bottom (o ∷ os))) o in
       let last = same_from_push new.labels.items (labels_under cs ++ labels_of bottom os) label here
       (sym labels ∙ sh.labels ∙ sym (append_assoc (labels_under cs) (labels_of bottom os) (here ∷ []))) in
-      let (after, back, blocks) = ar.blocks in
+      let (block, blocks) = ar.blocks in
       let types : map type_of (vs ++ o.below) ≡ o.ends ++ map type_of o.below = map-append vs o.below ∙ ap (λ (us : List ValType). us ++ map type_of o.below) ready in
       record {
         configuration = configuration_of x o.sequence o.after ls (vs ++ o.below) os cs;
@@ -150,7 +150,7 @@ module _ (m : Module) (limits : RunLimits) (frame : ℕ) where
           frames = frames ∙ sh.frames;
         };
         typed = record {
-          here = subst (λ (us : List ValType). IsTypedAt m frame x os us o.sequence o.after) (sym types) after;
+          here = subst (λ (us : List ValType). IsTypedAt m frame x os us o.sequence o.after) (sym types) block.at_end;
           around = record { locals = ar.locals; blocks = blocks; activations = ar.activations; deep = ar.deep };
         };
         stored = stored;

@@ -89,7 +89,7 @@ module _ (m : Module) (limits : RunLimits) (frame : ℕ) where
         configuration = record k { operands = c.rest };
         represents = p.1;
         around = record { locals = b.around.locals; blocks = b.around.blocks; activations = b.around.activations; deep = b.around.deep };
-        ready = (t.label, t.below, ap (slice_get C.labels) e ∙ t.there c.n, c.types);
+        ready = record { label = t.label; below = t.below; there = ap (slice_get C.labels) e ∙ t.there c.n; types = c.types };
         stored = b.stored;
         room = room_kept limits.depth frame old new b.room keeps;
         goes = λ g.

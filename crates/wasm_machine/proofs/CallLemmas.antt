@@ -204,7 +204,7 @@ module _ (m : Module) (limits : RunLimits) (frame : ℕ) where
         represents = represents k c.represents enough;
         typed = record {
           here = body_resumes m frame x f t run c.there c.typed;
-          around = record { locals = locals; blocks = tt; activations = (resumes, c.around.blocks, c.around.locals, c.around.activations); deep = omega (arith, deep_as k old c.represents) };
+          around = record { locals = locals; blocks = tt; activations = (record { resumes = resumes; blocks = c.around.blocks; locals = c.around.locals }, c.around.activations); deep = omega (arith, deep_as k old c.represents) };
         };
         stored = c.stored;
         room = room_kept limits.depth frame old new c.room keeps;

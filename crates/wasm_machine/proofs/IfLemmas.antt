@@ -116,7 +116,7 @@ module _ (m : Module) (limits : RunLimits) (frame : ℕ) where
             typed = subst (λ (z : Code). Typed (under (result_types t) C) z [] (result_types t)) (sym named) arm_typed;
             fits = subst (λ (z : Code). length (local_types m frame x) + highest (operand_count os + length cond.rest) (under (result_types t) C) z 0 + deepest (suc (length os) + 1) z ≤ frame) (sym named) arm_fits;
           };
-          around = record { locals = b.around.locals; blocks = (resumes, resumes, b.around.blocks); activations = b.around.activations; deep = b.around.deep };
+          around = record { locals = b.around.locals; blocks = (record { at_end = resumes; at_branch = resumes }, b.around.blocks); activations = b.around.activations; deep = b.around.deep };
         };
         stored = b.stored;
         room = room_kept limits.depth frame old new b.room keeps;

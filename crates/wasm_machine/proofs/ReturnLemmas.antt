@@ -75,7 +75,7 @@ module _ (m : Module) (limits : RunLimits) (frame : ℕ) where
       let typed = results_cut k ready in
       let enough : n ≤ length vs = typed.enough in
       let last = same_from_push new.frames.items (frames_of cs) new.at (position_of c.function c.sequence c.after cs) (sym fr ∙ sh.frames) in
-      let (resumes, blocks, locals, activations) = ar.activations in
+      let (caller, activations) = ar.activations in
       let deep = ar.deep in
       let types : map type_of (take n vs ++ c.below) ≡ results m x ++ map type_of c.below =
       map-append (take n vs) c.below ∙ ap (λ (l : List ValType). l ++ map type_of c.below) typed.upper in
@@ -88,8 +88,8 @@ module _ (m : Module) (limits : RunLimits) (frame : ℕ) where
           frames = last.0;
         };
         typed = record {
-          here = subst (λ (ts : List ValType). IsTypedAt m frame c.function c.blocks ts c.sequence c.after) (sym types) resumes;
-          around = record { locals = locals; blocks = blocks; activations = activations; deep = omega arith };
+          here = subst (λ (ts : List ValType). IsTypedAt m frame c.function c.blocks ts c.sequence c.after) (sym types) caller.resumes;
+          around = record { locals = caller.locals; blocks = caller.blocks; activations = activations; deep = omega arith };
         };
         stored = stored;
         room = room_kept limits.depth frame old new room keeps;

@@ -22,7 +22,7 @@ use Rattle.wasm_machine.specs.Remaining.{resume_at, after_sequence}
 use Rattle.machine_steps.specs.StackLayout.{Represents, HasRoom, KeepsRoom}
 use Rattle.wasm_machine.specs.TypedConfiguration.{operand_count, IsTypedContext, IsTypedStore, context, local_types, ends_of}
 use Rattle.machine_steps.specs.PlainSteps.{EndsAs, with_state}
-use Rattle.wasm_machine.specs.Simulation.{HasFetched, SimulatesCall, SimulatesPlain, IsPreserved, SimulatesExit, ToLabel, ByReturn, body_of, paid}
+use Rattle.wasm_machine.specs.Simulation.{HasFetched, HasLabelOperands, SimulatesCall, SimulatesPlain, IsPreserved, SimulatesExit, ToLabel, ByReturn, body_of, paid}
 use Rattle.wasm_machine.proofs.RemainingLemmas.{after_sequence-Trapped}
 use Rattle.machine_steps.proofs.StackLayoutLemmas.{room_kept}
 
@@ -105,9 +105,9 @@ module _ (m : Module) (limits : RunLimits) (frame : ℕ) where
       ap (after_sequence m limits k) (sym (exec-Plain (module_tree m) limits (length k.activations + 1) i (code_at (body_of m k) k.sequence k.place) (state k store) g)) ∙ b.goes (suc g)
 
   label_there : (C : Context) (l : ℕ) (o : Option (List ValType)) (ts middle : List ValType) → slice_get C.labels l ≡ o → Takes (branch o) ts middle
-      → (us below : List ValType) × (slice_get C.labels l ≡ Some us) × (ts ≡ us ++ below)
+      → HasLabelOperands C.labels l ts
   label_there C l None ts middle e h = absurd h
-  label_there C l (Some us) ts middle e (below, is) = (us, below, e, is)
+  label_there C l (Some us) ts middle e (below, is) = record { label = us; below = below; there = e; types = is }
 
   pub br_leaves : (machine : Machine) (store : Store) (here l : ℕ) (r : ℕ → Ended) → HasFetched m limits frame machine store here (op.Plain (instr.Br l)) r → SimulatesExit (ToLabel l) m limits frame machine store (paid r)
   br_leaves machine store here l r b =

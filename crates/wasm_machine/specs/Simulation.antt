@@ -48,11 +48,17 @@ signal_of AtEnd s = Next s
 signal_of (ToLabel l) s = Branch l s
 signal_of ByReturn s = Returned s
 
+-- the operands that a branch to the label l takes are there
+pub record HasLabelOperands (labels : List (List ValType)) (l : ℕ) (operands : List ValType) : Type 0 where
+  pub label : List ValType
+  pub below : List ValType
+  pub there : slice_get labels l ≡ Some label
+  pub types : operands ≡ label ++ below
+
 -- the operands that the way takes are there
 abbrev pub HasExitOperands : Module → ℕ → Exit → Configuration → Type 0
 HasExitOperands m frame AtEnd k = map type_of k.operands ≡ ends_of m frame k.function k.blocks
-HasExitOperands m frame (ToLabel l) k =
-    (ts below : List ValType) × (slice_get (context m frame k.function k.blocks).labels l ≡ Some ts) × (map type_of k.operands ≡ ts ++ below)
+HasExitOperands m frame (ToLabel l) k = HasLabelOperands (context m frame k.function k.blocks).labels l (map type_of k.operands)
 HasExitOperands m frame ByReturn k = (below : List ValType) × (map type_of k.operands ≡ results m k.function ++ below)
 
 -- the same, where the current sequence is left this way

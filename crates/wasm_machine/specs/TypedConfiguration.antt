@@ -44,20 +44,24 @@ module _ (m : Module) (frame : ℕ) where
   abbrev pub IsTypedAt : (x : ℕ) (os : List OpenBlock) (ts : List ValType) (q place : ℕ) → Type 0
   IsTypedAt x os ts q place = IsTypedCode x os (code_at (function_of m x).body q place) ts
 
+  -- a block can be left at its end, and by a branch to it
+  pub record IsTypedBlock (x : ℕ) (os : List OpenBlock) (o : OpenBlock) : Type 0 where
+    pub at_end : IsTypedAt x os (o.ends ++ map type_of o.below) o.sequence o.after
+    pub at_branch : IsTypedAt x os (o.label ++ map type_of o.below) o.sequence o.target
+
   abbrev pub AreTypedBlocks : ℕ → List OpenBlock → Type 0
   AreTypedBlocks x [] = Unit {0}
-  AreTypedBlocks x (o ∷ os) =
-      IsTypedAt x os (o.ends ++ map type_of o.below) o.sequence o.after
-      × IsTypedAt x os (o.label ++ map type_of o.below) o.sequence o.target
-      × AreTypedBlocks x os
+  AreTypedBlocks x (o ∷ os) = IsTypedBlock x os o × AreTypedBlocks x os
+
+  -- a caller can go on with results of these types
+  pub record IsTypedActivation (types : List ValType) (c : Activation) : Type 0 where
+    pub resumes : IsTypedAt c.function c.blocks (types ++ map type_of c.below) c.sequence c.after
+    pub blocks : AreTypedBlocks c.function c.blocks
+    pub locals : map type_of c.locals ≡ local_types c.function
 
   abbrev pub AreTypedActivations : ℕ → List Activation → Type 0
   AreTypedActivations x [] = Unit {0}
-  AreTypedActivations x (c ∷ cs) =
-      IsTypedAt c.function c.blocks (results m x ++ map type_of c.below) c.sequence c.after
-      × AreTypedBlocks c.function c.blocks
-      × (map type_of c.locals ≡ local_types c.function)
-      × AreTypedActivations c.function cs
+  AreTypedActivations x (c ∷ cs) = IsTypedActivation (results m x) c × AreTypedActivations c.function cs
 
   -- what surrounds the current sequence
   pub record IsTypedContext (depth : ℕ) (k : Configuration) : Type 0 where

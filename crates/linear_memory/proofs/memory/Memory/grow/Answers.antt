@@ -8,7 +8,7 @@ returns-clause-grown c =
     let (limit, is, le) = c.requires in
     let old : Memory = c.args.self.now in
     let new : Memory = record { bytes = old.bytes; pages = old.pages + c.args.pages; marks = old.marks } in
-    (omega arith, refl, shown_grown limit c.args.pages old new is (omega arith) refl refl refl)
+    record { fits = omega arith; before_is = refl; shown_is = shown_grown limit c.args.pages old new is (omega arith) refl refl refl }
 
 pub returns-clause-memory : goal.returns-clause-memory
 returns-clause-memory c limit le is =
