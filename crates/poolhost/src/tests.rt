@@ -19,7 +19,11 @@ fn words_end_with_their_status_and_text(rt: HostRuntime) -> Result<(), Fail> {
     let rows: [(io::Result<&[&str]>, u8, &[u8]); 4] = [
         (Ok(&["poolhost", "run"]), 2, b"line 1: unknown module\n"),
         (Ok(&["poolhost", "walk"]), 2, b"refused words\n"),
-        (Err(io::ErrorKind::InvalidData.into()), 2, b"refused words\n"),
+        (
+            Err(io::ErrorKind::InvalidData.into()),
+            2,
+            b"refused words\n",
+        ),
         (Err(io::ErrorKind::OutOfMemory.into()), 5, b""),
     ];
     for (words, status, text) in rows {
