@@ -11,7 +11,7 @@ use command_line::Options;
 use host_edge::Gate;
 use request_text::{ParseFault, parse, report_text, write_text_fault};
 use std::alloc::Global;
-use wasm_types::outcome::NoMemory;
+use wasm_types::NoMemory;
 
 // What a request file of these bytes is answered, once its calls are made.
 pub(crate) fn answer<G: Gate>(

@@ -12,7 +12,7 @@ use host_edge::Gate;
 use pool_host::{LaneAnswer, LaneHost};
 use request_text::{CallLine, Directive, MOST_CALLS};
 use std::alloc::Global;
-use wasm_types::outcome::{NoMemory, Val};
+use wasm_types::{NoMemory, Val};
 
 fn answer_line(answer: LaneAnswer) -> CallLine
     ensures { result ≡ answer_line answer }

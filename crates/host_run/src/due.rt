@@ -13,7 +13,7 @@ use command_line::{Command, WordsFault, read_command};
 use host_edge::{Gate, Source};
 use request_text::MOST_BYTES;
 use std::alloc::Global;
-use wasm_types::outcome::NoMemory;
+use wasm_types::NoMemory;
 
 // What is written where the words are refused.
 pub(crate) const REFUSED_WORDS: &[u8] = b"refused words\n";

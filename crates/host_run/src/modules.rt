@@ -8,7 +8,7 @@ use command_line::Options;
 use pool_host::{LoadFault, LoadLimits, Loaded, load};
 use request_text::{Directive, ModuleLine};
 use std::alloc::Global;
-use wasm_types::outcome::NoMemory;
+use wasm_types::NoMemory;
 
 // What became of a module line: a module that may be called, or the line that tells why it is refused.
 #[derive(Drop)]

@@ -10,8 +10,7 @@ use command_line::Options;
 use host_edge::Gate;
 use request_text::{CallLine, Directive, MOST_CALLS, ReportLine};
 use std::alloc::Global;
-use wasm_types::items::Items;
-use wasm_types::outcome::NoMemory;
+use wasm_types::{Items, NoMemory};
 
 // How many module lines and calls have been reported on.
 #[derive(Drop)]

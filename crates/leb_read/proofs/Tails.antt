@@ -47,8 +47,13 @@ left p h = (
 )
 
 -- going to where r is left
-pub goes : (p : Position) (r : List ℕ) → IsTail r (rest p) → IsMoved p (record { whole = p.whole; place = length p.whole - length r }) r
-goes p r t = record { whole = refl; within = omega arith; rest = moved p.whole r p.place t }
+pub goes : (p : Position) (r : List ℕ) → p.place ≤ length p.whole → IsTail r (rest p) → IsMoved p (record { whole = p.whole; place = length p.whole - length r }) r
+goes p r h t = record {
+  whole = refl;
+  forth = omega (arith, h, ap length t.1, length-append t.0 r, length-drop p.place p.whole);
+  within = omega arith;
+  rest = moved p.whole r p.place t;
+}
 
 pub shorter : (p : Position) (r : List ℕ) → IsTail r (rest p) → length r ≤ length p.whole
 shorter p r t = omega (arith, ap length t.1, length-append t.0 r, length-drop p.place p.whole)
@@ -58,6 +63,7 @@ pub read_is : {A : Type 0} (Takes : A → List ℕ → List ℕ → Type 0) (x :
     → bytes ≡ rest old → Takes x bytes r → IsMoved old new r → IsRead Takes old new x
 read_is Takes x old new bytes r e h m = record {
   whole = m.whole;
+  forth = m.forth;
   within = m.within;
   spelled = subst (λ (l : List ℕ). Takes x (rest old) l) (sym m.rest) (subst (λ (l : List ℕ). Takes x l r) e h);
 }

@@ -17,12 +17,14 @@ IsTail left bytes = (front : List ℕ) × (bytes ≡ front ++ left)
 -- the new place is where these bytes are left
 pub record IsMoved (old new : Position) (left : List ℕ) : Type 0 where
   pub whole : new.whole ≡ old.whole
+  pub forth : old.place ≤ new.place
   pub within : new.place ≤ length new.whole
   pub rest : rest new ≡ left
 
 -- the item x stood at the old place, and the new one is just after it
 pub record IsRead {A : Type 0} (Takes : A → List ℕ → List ℕ → Type 0) (old new : Position) (x : A) : Type 0 where
   pub whole : new.whole ≡ old.whole
+  pub forth : old.place ≤ new.place
   pub within : new.place ≤ length new.whole
   pub spelled : Takes x (rest old) (rest new)
 

@@ -1,4 +1,4 @@
-// A place in bytes, from which items are read.
+//! A place in bytes, from which items are read.
 
 ghost use Rattle.std.specs.Prelude.{◌≡◌, ℕ, [], ◌↔◌, IsTrue, MatchResult};
 ghost use Rattle.wasm_spec.specs.Numbers.{TakesUnsigned, TakesSigned, TakesName};
@@ -15,7 +15,12 @@ pub struct Malformed {
     pub at: usize,
 }
 
-/// A place in bytes. A read that is refused leaves it where it was.
+/// A place in bytes, counted in bytes from their beginning. A read takes one item from there (`IsRead`), and takes no
+/// memory; one that is refused leaves the place as it was (`IsRefused`).
+///
+/// # Errors
+///
+/// Each read answers `Malformed` exactly where no such item stands at the place.
 #[derive(Drop)]
 pub struct Cursor<'a> {
     bytes: &'a [u8],
@@ -48,14 +53,14 @@ impl<'a> Cursor<'a> {
         self.place == self.bytes.len()
     }
 
-    /// The bytes from here on.
+    // The bytes from here on.
     fn left(&self) -> &'a [u8]
         ensures { result.now ≡ rest self.now }
     {
         &self.bytes[self.place..]
     }
 
-    /// Goes to where these bytes, which end the whole, are left.
+    // Goes to where these bytes, which end the whole, are left.
     fn go_to(&mut self, left: &[u8])
         requires { IsTail left.now (rest self.old) }
         ensures { IsMoved self.old self.new left.now }

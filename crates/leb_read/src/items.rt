@@ -1,11 +1,11 @@
-// Items at the front of bytes.
+//! Items at the front of bytes.
 
 ghost use Rattle.std.specs.Prelude.{◌≡◌, ℕ, ℤ, pos, neg_ℤ, ◌<ℤ◌, ◌≤ℤ◌, ◌-◌, ◌<◌, ◌≤◌, ◌^◌, List, length, MatchOption, IfSome};
 ghost use Rattle.wasm_spec.specs.Numbers.{TakesUnsigned, TakesSigned, TakesBytes, TakesName};
 
 use simdutf8::is_utf8;
 
-/// An unsigned number of so many bits, and the bytes after it.
+// An unsigned number of so many bits, and the bytes after it.
 pub(crate) fn read_unsigned(bytes: &[u8], bits: u32) -> Option<(u32, &[u8])>
     requires { bits ≤ 32 }
     ensures small { IfSome result (λ p. p.0 < 2 ^ bits) }
@@ -33,7 +33,7 @@ pub(crate) fn read_unsigned(bytes: &[u8], bits: u32) -> Option<(u32, &[u8])>
     }
 }
 
-/// A signed number of so many bits, and the bytes after it.
+// A signed number of so many bits, and the bytes after it.
 pub(crate) fn read_signed(bytes: &[u8], bits: u32) -> Option<(i64, &[u8])>
     requires some { 1 ≤ bits }
     requires most { bits ≤ 64 }
@@ -70,13 +70,11 @@ pub(crate) fn read_signed(bytes: &[u8], bits: u32) -> Option<(i64, &[u8])>
     }
 }
 
-/// A vector of bytes, and the bytes after it.
+// A vector of bytes, and the bytes after it.
 pub(crate) fn read_bytes(bytes: &[u8]) -> Option<(&[u8], &[u8])>
     ensures { MatchOption result ((xs rest : List ℕ) → TakesBytes xs bytes.now rest → ⊥) (λ p. TakesBytes p.0.now bytes.now p.1.now) }
 {
-    let Some((count, rest)) = read_unsigned(bytes, 32) else {
-        return None;
-    };
+    let (count, rest) = read_unsigned(bytes, 32)?;
     let count = count as usize;
     if count <= rest.len() {
         Some(rest.split_at(count))
@@ -85,13 +83,11 @@ pub(crate) fn read_bytes(bytes: &[u8]) -> Option<(&[u8], &[u8])>
     }
 }
 
-/// A name, and the bytes after it.
+// A name, and the bytes after it.
 pub(crate) fn read_name(bytes: &[u8]) -> Option<(&[u8], &[u8])>
     ensures { MatchOption result ((name rest : List ℕ) → TakesName name bytes.now rest → ⊥) (λ p. TakesName p.0.now bytes.now p.1.now) }
 {
-    let Some((name, rest)) = read_bytes(bytes) else {
-        return None;
-    };
+    let (name, rest) = read_bytes(bytes)?;
     if is_utf8(name) {
         Some((name, rest))
     } else {

@@ -1,4 +1,4 @@
-// Laws of numbers.
+//! Laws of the numbers that are read, as contracts of functions that do nothing.
 
 ghost use Rattle.std.specs.Prelude.{ℕ, ℤ};
 ghost use Rattle.wasm_spec.specs.Numbers.{TakesUnsigned, TakesSigned, IsUnambiguous};

@@ -3,8 +3,10 @@
 //! Source: WebAssembly Core Specification 1.0, sections 5.2.2 (LEB128) and 5.2.4 (names).
 #![tactic(auto)]
 
-pub mod cursor;
+mod cursor;
 mod items;
 pub mod laws;
 #[cfg(test)]
 mod tests;
+
+pub use cursor::{Cursor, Malformed};

@@ -1,6 +1,6 @@
-// Numbers against what node 22's engine reads in `i32.const`, `i64.const` and a memory access's offset.
+//! Numbers against what node 22's engine reads in `i32.const`, `i64.const` and a memory access's offset.
 
-use crate::cursor::{Cursor, Malformed};
+use crate::{Cursor, Malformed};
 
 #[derive(Clone, Copy)]
 enum Number {
@@ -11,7 +11,7 @@ enum Number {
 
 use Number::{S32, S64, U32};
 
-/// The bytes of a number, and its value, if they spell one.
+// The bytes of a number, and its value, if they spell one.
 const NUMBERS: &[(Number, &[u8], Option<i64>)] = &[
     (U32, &[0x00], Some(0)),
     (U32, &[0x01], Some(1)),
@@ -202,6 +202,11 @@ const NUMBERS: &[(Number, &[u8], Option<i64>)] = &[
     (S32, &[], None),
     (S32, &[0x80], None),
     (S32, &[0x80, 0x80, 0x80, 0x80], None),
+    (
+        S64,
+        &[0x80, 0x80, 0x80, 0x80, 0x80, 0x80, 0x80, 0x80, 0x80, 0x7f],
+        Some(-9223372036854775808),
+    ),
     (S64, &[], None),
     (S64, &[0x80], None),
     (
@@ -213,14 +218,8 @@ const NUMBERS: &[(Number, &[u8], Option<i64>)] = &[
 
 fn read(number: Number, cursor: &mut Cursor) -> Result<i64, Malformed> {
     match number {
-        U32 => match cursor.u32() {
-            Ok(value) => Ok(i64::from(value)),
-            Err(malformed) => Err(malformed),
-        },
-        S32 => match cursor.s32() {
-            Ok(value) => Ok(i64::from(value)),
-            Err(malformed) => Err(malformed),
-        },
+        U32 => Ok(i64::from(cursor.u32()?)),
+        S32 => Ok(i64::from(cursor.s32()?)),
         S64 => cursor.s64(),
     }
 }

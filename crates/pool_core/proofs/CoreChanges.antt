@@ -17,7 +17,7 @@ counts p xs i y d h = sum_by-set (λ x. bit (p x)) xs i y d h
 
 -- one seat and one word change
 abbrev pub core_with_both : PoolCore → ℕ → Seat → ℕ → StateWord → ℕ → ℕ → ℕ → PoolCore
-core_with_both c s q n v warm awaiting clock = record { words = set c.words n v; seats = set c.seats s q; warm = warm; awaiting = awaiting; clock = clock; limit = c.limit }
+core_with_both c s q n v warm awaiting clock = record c { words = set c.words n v; seats = set c.seats s q; warm = warm; awaiting = awaiting; clock = clock }
 
 -- what such a change asks: of the seat and the word before and after
 pub record IsFairChange (c : PoolCore) (p q : Seat) (n : ℕ) (w v : StateWord) (warm awaiting : ℕ) : Type 0 where
@@ -88,7 +88,7 @@ pub record IsFairSeatChange (c : PoolCore) (p q : Seat) (warm awaiting : ℕ) : 
 
 -- a lawful pool stays lawful where the seat s becomes q and all words stay
 pub lawful_seat_change : (c : PoolCore) (s : ℕ) (q : Seat) (warm awaiting clock : ℕ) → Lawful c → s < length c.seats → IsFairSeatChange c (seat_at c s) q warm awaiting
-    → Lawful (record { words = c.words; seats = set c.seats s q; warm = warm; awaiting = awaiting; clock = clock; limit = c.limit })
+    → Lawful (record c { seats = set c.seats s q; warm = warm; awaiting = awaiting; clock = clock })
 lawful_seat_change c s q warm awaiting clock law here f =
     let p : Seat = seat_at c s in let ps : List Seat = c.seats in let ws : List StateWord = c.words in
     let a : ℕ = count_by is_free_warm ws in let b : ℕ = count_by has_permit ps in let r : ℕ = count_by has_refusal ps in

@@ -1,21 +1,17 @@
 -- No two seats hold one number, and a number is held exactly where a seat holds it.
-use Rattle.std.proofs.Common.{◌≡◌, ℕ, zero, suc, ◌+◌, ◌<◌, ◌≤◌, Bool, true, false, true≢false, List, [], ◌∷◌, length, refl, length-set, get_or, set, sym, ap, ◌∙◌, arith, get_or-set_other}
+use Rattle.std.proofs.Common.{◌≡◌, ℕ, zero, suc, ◌+◌, ◌<◌, ◌≤◌, Bool, true, false, List, [], ◌∷◌, length, refl, length-set, get_or, set, sym, ap, ◌∙◌, arith, get_or-set_other}
 use mathlib.Core.Logic.{dite}
 use native.Mathlib.Decide.{ℕ_discrete}
-use Rattle.std.specs.Prelude.{Option, Some, None}
+use Rattle.std.specs.Prelude.{Option, Some}
 use Rattle.std.specs.List.{count_by}
 use Rattle.std.proofs.lemmas.List.Sums.{sum_by-cons, sum_by-set, get_or-le-sum_by}
-use Rattle.std.proofs.lemmas.Bool.Decides.{nat_tests}
 use Rattle.pool_core.specs.declared.seats.Seat.{Seat}
 use Rattle.pool_core.specs.declared.seats.Stage.TheVariants.{Unmade}
 use Rattle.pool_core.specs.Lawful.{Lawful}
 use Rattle.pool_core.specs.PoolCore.{PoolCore, idle_seat, is_holding, seat_at, word_at}
 use Rattle.pool_core.specs.StateWords.{bit}
-use Rattle.pool_core.proofs.SeatChanges.{held_below_slots, held_by_seat, is_holding-self}
-
-bit_le : (b : Bool) → bit b ≤ 1
-bit_le true = omega arith
-bit_le false = omega arith
+use Rattle.pool_core.proofs.SeatChanges.{held_below_slots, held_by_seat, holds_it, is_holding-self}
+use Rattle.pool_core.proofs.WordBits.{bit_le}
 
 seat_in : (ps : List Seat) (s n : ℕ) → (get_or ps s (idle_seat Unmade)).holds ≡ Some n → s < length ps
 seat_in [] s n e = absurd (cc)
@@ -39,10 +35,6 @@ one_holder c s t n law a b = dite (ℕ_discrete s t) (λ e. e) (λ ne.
 
 pub holds_held_word : (c : PoolCore) (s n : ℕ) → Lawful c → (seat_at c s).holds ≡ Some n → (n < length c.words) × ((word_at c n).held ≡ true)
 holds_held_word c s n law a = let held = held_by_seat c s n law (seat_in c.seats s n a) a in (held_below_slots c n held, held)
-
-holds_it : (h : Option ℕ) (n : ℕ) → is_holding h n ≡ true → h ≡ Some n
-holds_it None n e = absurd (true≢false (sym e))
-holds_it (Some m) n e = let is : m ≡ n = grind (arith, nat_tests) in ap Some is
 
 -- a list in which some are counted has one that is
 counted_one : (ps : List Seat) (n : ℕ) → 1 ≤ count_by (λ p. is_holding p.holds n) ps → (s : ℕ) × ((get_or ps s (idle_seat Unmade)).holds ≡ Some n)

@@ -7,3 +7,6 @@ pub mod LawfulOpening
 mod RunLemmas
 mod LeastRule
 pub mod ChangeLemmas
+mod OutFlags
+mod LiveSeats
+mod Examples

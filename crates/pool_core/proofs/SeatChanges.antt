@@ -14,6 +14,7 @@ use Rattle.pool_core.specs.EventEffects.{winning_seat}
 use Rattle.pool_core.specs.Lawful.{Lawful}
 use Rattle.pool_core.specs.PoolCore.{PoolCore, idle_seat, is_away, is_holding, is_idle, is_live, seat_at, word_at}
 use Rattle.pool_core.specs.StateWords.{bit, cold_word, free_word, held_word, is_awaiting, is_warm, is_well_formed}
+use Rattle.pool_core.proofs.WordBits.{bit_le}
 use Rattle.pool_core.proofs.CoreChanges.{IsFairChange, lawful_change, lawful_seat_change}
 
 pub record IsAtRest (p : Seat) : Type 0 where
@@ -32,16 +33,12 @@ rest_parts (Some n) a b c e = absurd (true≢false (sym e))
 pub at_rest_of : (p : Seat) → is_idle p ≡ true → IsAtRest p
 at_rest_of p e = let r = rest_parts p.holds p.permit p.refusal p.mark e in record { holds = r.0; permit = r.1; refusal = r.2; mark = r.3 }
 
-bit_le : (b : Bool) → bit b ≤ 1
-bit_le true = omega arith
-bit_le false = omega arith
-
 warm_alone : (s : State) → bit (is_warm s) + bit (is_awaiting s) ≤ 1
 warm_alone Cold = omega arith
 warm_alone Warm = omega arith
 warm_alone Awaiting = omega arith
 
-live_away : (st : Stage) → is_live st ≡ true → is_away st ≡ true → ⊥
+pub live_away : (st : Stage) → is_live st ≡ true → is_away st ≡ true → ⊥
 live_away Unmade a b = true≢false (sym a)
 live_away Live a b = true≢false (sym b)
 live_away st a b = true≢false (sym a)
@@ -59,7 +56,7 @@ fair_claim c p n w r well free live = let one = bit_le (is_warm w.target.state) 
 
 -- a claim of a free slot
 pub lawful_when_won : (c : PoolCore) (s n : ℕ) → Lawful c → s < length c.seats → n < length c.words → (word_at c n).held ≡ false → is_live (seat_at c s).stage ≡ true → is_idle (seat_at c s) ≡ true
-    → Lawful (record { words = set c.words n (held_word (word_at c n)); seats = set c.seats s (winning_seat (seat_at c s) n (word_at c n)); warm = c.warm; awaiting = c.awaiting; clock = c.clock; limit = c.limit })
+    → Lawful (record c { words = set c.words n (held_word (word_at c n)); seats = set c.seats s (winning_seat (seat_at c s) n (word_at c n)) })
 lawful_when_won c s n law here there free live rest = lawful_change c s n (winning_seat (seat_at c s) n (word_at c n)) (held_word (word_at c n)) c.warm c.awaiting c.clock law here there (fair_claim c (seat_at c s) n (word_at c n) (at_rest_of (seat_at c s) rest) (law.words n) free live)
 
 -- what a release asks of its seat
@@ -86,6 +83,10 @@ some_positive : (b : Bool) → 1 ≤ bit b → b ≡ true
 some_positive true h = refl
 some_positive false h = absurd (omega arith)
 
+pub holds_it : (h : Option ℕ) (n : ℕ) → is_holding h n ≡ true → h ≡ Some n
+holds_it None n e = absurd (true≢false (sym e))
+holds_it (Some m) n e = let is : m ≡ n = grind (arith, nat_tests) in ap Some is
+
 pub is_holding-self : (n : ℕ) → is_holding (Some n) n ≡ true
 is_holding-self n = eq-eqb n n refl
 
@@ -106,13 +107,13 @@ pub held_below_slots : (c : PoolCore) (n : ℕ) → (word_at c n).held ≡ true 
 held_below_slots c n h = within_list c.words n h
 
 pub lawful_release : (c : PoolCore) (s n : ℕ) (to : Target) → Lawful c → s < length c.seats → n < length c.words → CanRelease (seat_at c s) n to → is_well_formed to ≡ true
-    → Lawful (record { words = set c.words n (free_word to); seats = set c.seats s (idle_seat (seat_at c s).stage); warm = c.warm; awaiting = c.awaiting; clock = c.clock; limit = c.limit })
+    → Lawful (record c { words = set c.words n (free_word to); seats = set c.seats s (idle_seat (seat_at c s).stage) })
 lawful_release c s n to law here there can well = lawful_change c s n (idle_seat (seat_at c s).stage) (free_word to) c.warm c.awaiting c.clock law here there
     (fair_release c (seat_at c s) n (word_at c n) to can well (held_by_seat c s n law here can.holds))
 
 -- a seat at rest may come to any stage
 pub lawful_restage : (c : PoolCore) (s : ℕ) (st : Stage) → Lawful c → s < length c.seats → IsAtRest (seat_at c s)
-    → Lawful (record { words = c.words; seats = set c.seats s (idle_seat st); warm = c.warm; awaiting = c.awaiting; clock = c.clock; limit = c.limit })
+    → Lawful (record c { seats = set c.seats s (idle_seat st) })
 lawful_restage c s st law here r = lawful_seat_change c s (idle_seat st) c.warm c.awaiting c.clock law here record {
   sound = record { empty = λ _. (refl, refl, refl, refl); away = λ _. refl; single = omega arith };
   places = λ m. rw (r.holds) refl;

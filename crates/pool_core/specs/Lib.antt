@@ -5,3 +5,4 @@ pub mod RefusalRules
 pub mod Lawful
 pub mod Runs
 pub mod Changes
+pub mod Laws

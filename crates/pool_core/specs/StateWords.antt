@@ -1,9 +1,10 @@
 -- A slot's word: what it says, which words there are, and the 64 bits that carry one.
-use Rattle.std.specs.Prelude.{◌≡◌, ℕ, ◌+◌, ◌*◌, ◌^◌, ◌==◌, Bool, true, false, not, cond, ltb, ◌&&◌, ◌||◌}
+use Rattle.std.specs.Prelude.{◌≡◌, ℕ, ◌+◌, ◌*◌, ◌/◌, ◌%◌, ◌==◌, Bool, true, false, not, cond, ltb, ◌&&◌, ◌||◌}
 use Rattle.pool_core.specs.declared.words.State.{State}
 use Rattle.pool_core.specs.declared.words.State.TheVariants.{Cold, Warm, Awaiting}
 use Rattle.pool_core.specs.declared.words.Target.{Target}
 use Rattle.pool_core.specs.declared.words.StateWord.{StateWord}
+use Rattle.pool_core.specs.declared.limits.TheConstants.{TAG_LIMIT, STAMP_LIMIT}
 
 abbrev pub is_cold : State → Bool
 is_cold Cold = true
@@ -20,9 +21,9 @@ is_awaiting Cold = false
 is_awaiting Warm = false
 is_awaiting Awaiting = true
 
--- a tag below 4096 and a stamp below 2^49, and neither where the state is cold
+-- a tag and a stamp that fit, and neither where the state is cold
 abbrev pub is_well_formed : Target → Bool
-is_well_formed to = ltb to.tag 4096 && ltb to.stamp (2 ^ 49) && (not (is_cold to.state) || (to.tag == 0 && to.stamp == 0))
+is_well_formed to = ltb to.tag TAG_LIMIT && ltb to.stamp STAMP_LIMIT && (not (is_cold to.state) || (to.tag == 0 && to.stamp == 0))
 
 abbrev pub cold_target : Target
 cold_target = record { state = Cold; tag = 0; stamp = 0 }
@@ -45,11 +46,19 @@ state_code Cold = 0
 state_code Warm = 1
 state_code Awaiting = 2
 
--- bit 0: held; bits 1 and 2: the state; bits 3 to 14: the tag; bits 15 to 63: the stamp
+-- bit 0: held; bits 1 and 2: the state; from bit 3 on the tag, and above it the stamp
 abbrev pub packed : StateWord → ℕ
-packed w = bit w.held + 2 * state_code w.target.state + 8 * w.target.tag + 32768 * w.target.stamp
+packed w = bit w.held + 2 * state_code w.target.state + 8 * w.target.tag + 8 * TAG_LIMIT * w.target.stamp
 
 -- the number is the 64 bits of this word
 pub record IsWordOf (number : ℕ) (w : StateWord) : Type 0 where
   pub packed_is : number ≡ packed w
   pub well_formed : is_well_formed w.target ≡ true
+
+-- no word has a code above that of awaiting
+abbrev pub coded_state : ℕ → State
+coded_state code = cond (code == 0) Cold (cond (code == 1) Warm Awaiting)
+
+-- the word that 64 bits say
+abbrev pub unpacked : ℕ → StateWord
+unpacked bits = record { target = record { state = coded_state (bits / 2 % 4); tag = bits / 8 % TAG_LIMIT; stamp = bits / (8 * TAG_LIMIT) }; held = bits % 2 == 1 }

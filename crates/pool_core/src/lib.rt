@@ -4,7 +4,8 @@
 #![tactic(auto)]
 
 mod events;
-mod laws;
+pub mod laws;
+mod limits;
 mod pool;
 mod refusals;
 mod replays;
@@ -12,11 +13,7 @@ mod seats;
 mod words;
 
 pub use events::Event;
-pub use laws::{
-    cores_are_within_their_limit, each_event_keeps_a_core_lawful, events_change_only_their_own,
-    held_words_have_one_seat, refusals_are_least, runs_keep_a_core_lawful, the_opening_is_lawful,
-    words_are_read_back,
-};
+pub use limits::{MOST_SLOTS, STAMP_LIMIT, TAG_LIMIT};
 pub use pool::{Core, NoMemory, step};
 pub use refusals::Unlawful;
 pub use replays::{ReplayFault, replay};

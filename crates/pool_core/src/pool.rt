@@ -38,7 +38,7 @@ impl Model for Core {
     ghost invariant = { λ c. Lawful (record { words = c.words.items; seats = c.seats.items; warm = c.warm; awaiting = c.awaiting; clock = c.clock; limit = c.limit }) };
 }
 
-/// There was no memory for a pool.
+/// No memory was left.
 #[derive(Clone, Copy, PartialEq, Eq, Debug, Drop, Error)]
 #[error("out of memory")]
 pub struct NoMemory;
@@ -80,6 +80,10 @@ fn close_all(seats: &mut Vec<Seat>)
 
 impl Core {
     /// A pool of so many slots, all cold and free, of which at most `warm` may be warm, with room for so many seats, of which the first is live.
+    ///
+    /// # Errors
+    ///
+    /// [`NoMemory`]: no memory was left.
     pub fn new(alloc: Global, slots: u32, warm: u32, seats: u32) -> Result<Core, NoMemory>
         requires { 1 ≤ seats }
         ensures { IfOk result (λ c. c ≡ opening_core slots warm seats) }
@@ -129,8 +133,7 @@ impl Core {
         self.clock
     }
 
-    /// A pool is lawful between any two events. This does nothing: its contract is the law.
-    pub fn stays_lawful(&self)
+    pub(crate) fn stays_lawful(&self)
         ensures { Lawful self.now }
     {
         let _ = &self.limit;
@@ -316,7 +319,11 @@ impl Core {
     }
 }
 
-/// Applies one event, or says which rule refuses it; the pool is then as before.
+/// Applies one event.
+///
+/// # Errors
+///
+/// [`Unlawful`] exactly where a rule refuses the event, with the least such rule; the pool is then as before.
 pub fn step(core: &mut Core, event: Event) -> Result<(), Unlawful>
     ensures ok { OnOk result ((refusal_of core.old event ≡ 0) × (core.new ≡ core_after core.old event)) }
     ensures err { IfErr result (λ u. (core.new ≡ core.old) × Refuses core.old event u.rule u.number) }

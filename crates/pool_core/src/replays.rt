@@ -6,7 +6,7 @@ ghost use Rattle.pool_core.specs.RefusalRules.{refusal_of};
 ghost use Rattle.pool_core.specs.Runs.{core_after_all, AllAllowed, IsRefusedAt, IsReplayFault};
 
 use crate::events::Event;
-use crate::pool::{Core, step};
+use crate::pool::{Core, NoMemory, step};
 use crate::refusals::Unlawful;
 use std::alloc::Global;
 use thiserror::Error;
@@ -17,9 +17,19 @@ pub enum ReplayFault {
     /// The first event that is refused: its place in the list from 0, the least rule that it breaks, and the slot that it names, or its seat where it names none.
     #[error("event {at} is refused by rule {rule} at number {number}")]
     Unlawful { at: usize, rule: u8, number: u32 },
-    /// There was no memory for the pool.
+    /// No memory was left.
     #[error("out of memory")]
     NoMemory,
+}
+
+impl From<NoMemory> for ReplayFault {
+    ghost use Rattle.pool_core.specs.declared.replays.ReplayFault.TheVariants.{NoMemory};
+
+    ghost from_gives = { λ _ e. e ≡ NoMemory };
+
+    fn from(_error: NoMemory) -> ReplayFault {
+        ReplayFault::NoMemory
+    }
 }
 
 // Applies the event that stands at this place of the list.
@@ -33,7 +43,12 @@ fn step_at(core: &mut Core, event: Event, at: usize) -> Result<(), ReplayFault>
     }
 }
 
-/// The pool after these events from its opening, or the first of them that it refuses.
+/// The pool after these events from its opening.
+///
+/// # Errors
+///
+/// - [`ReplayFault::Unlawful`] exactly where one of the events is refused where it comes: the first of them.
+/// - [`ReplayFault::NoMemory`]: no memory was left.
 pub fn replay(
     alloc: Global,
     slots: u32,
@@ -45,9 +60,7 @@ pub fn replay(
     ensures ok { IfOk result (λ c. AllAllowed (opening_core slots warm seats) events.now × (c ≡ core_after_all (opening_core slots warm seats) events.now)) }
     ensures err { IfErr result (IsReplayFault (opening_core slots warm seats) events.now) }
 {
-    let Ok(mut core) = Core::new(alloc, slots, warm, seats) else {
-        return Err(ReplayFault::NoMemory);
-    };
+    let mut core = Core::new(alloc, slots, warm, seats)?;
     for at in 0..events.len() {
         step_at(&mut core, events[at], at)?;
     }

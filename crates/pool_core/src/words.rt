@@ -1,19 +1,17 @@
 //! What a slot's word says, and the 64 bits that carry it.
 ghost use Rattle.std.specs.Prelude.{◌≡◌, true};
-ghost use Rattle.pool_core.specs.StateWords.{is_cold, is_warm, is_awaiting, is_well_formed, state_code, IsWordOf};
+ghost use Rattle.pool_core.specs.StateWords.{is_cold, is_warm, is_awaiting, is_well_formed, state_code, unpacked, IsWordOf};
 
-// What the lowest bit of each field stands for, and what its values stay below.
+use crate::limits::{STAMP_LIMIT, TAG_LIMIT};
+
+// What the lowest bit of each field stands for, and what the state's code stays below.
 const STATE_UNIT: u64 = 1 << 1;
 
 const STATE_LIMIT: u64 = 1 << 2;
 
 const TAG_UNIT: u64 = 1 << 3;
 
-const TAG_LIMIT: u32 = 1 << 12;
-
-const STAMP_UNIT: u64 = 1 << 15;
-
-const STAMP_LIMIT: u64 = 1 << 49;
+const STAMP_UNIT: u64 = TAG_UNIT * TAG_LIMIT as u64;
 
 /// What the value in a slot was left as.
 #[derive(Clone, Copy, PartialEq, Eq, Debug, Drop)]
@@ -30,9 +28,9 @@ pub enum State {
 #[derive(Clone, Copy, PartialEq, Eq, Debug, Drop)]
 pub struct Target {
     pub state: State,
-    /// The module's tag, below 4,096, and 0 where the state is cold.
+    /// The module's tag, below [`TAG_LIMIT`], and 0 where the state is cold.
     pub tag: u32,
-    /// When the slot was last given back, by the pool's clock, below 2^49, and 0 where the state is cold.
+    /// When the slot was last given back, by the pool's clock, below [`STAMP_LIMIT`], and 0 where the state is cold.
     pub stamp: u64,
 }
 
@@ -98,7 +96,7 @@ impl StateWord {
     };
 }
 
-/// The 64 bits of a slot's word: bit 0 says that it is held, bits 1 and 2 are the state (0 cold, 1 warm, 2 awaiting), bits 3 to 14 the tag and bits 15 to 63 the stamp.
+/// The 64 bits of a slot's word, from the lowest on: one bit says that it is held, two are the state (0 cold, 1 warm, 2 awaiting), twelve the tag and the others the stamp.
 pub fn pack(word: Target, held: bool) -> u64
     requires { is_well_formed word ≡ true }
     ensures { IsWordOf result (record { target = word; held = held }) }
@@ -112,7 +110,9 @@ pub fn pack(word: Target, held: bool) -> u64
 /// What the 64 bits of a slot's word say: its target, and whether it is held.
 pub fn unpack(word: u64) -> (Target, bool)
     requires { (w : StateWord) × IsWordOf word w }
-    ensures { (w : StateWord) → IsWordOf word w → (result.0 ≡ w.target) × (result.1 ≡ w.held) }
+    ensures said { (w : StateWord) → IsWordOf word w → (result.0 ≡ w.target) × (result.1 ≡ w.held) }
+    ensures target { result.0 ≡ (unpacked word).target }
+    ensures held { result.1 ≡ (unpacked word).held }
 {
     let state = match word / STATE_UNIT % STATE_LIMIT {
         0 => State::Cold,

@@ -7,7 +7,7 @@ ghost use Rattle.slot_words.specs.Events.{LoadsAreEvents, ClaimsAreEvents, Relea
 ghost use Rattle.slot_words.specs.Rule.{OneHolder, NoHiddenSeat, AloneWithAll};
 
 use crate::pooled::Pooled;
-use pool_core::words_are_read_back;
+use pool_core::laws::words_are_read_back;
 
 /// Each step of a pass is one event of the core that the words show, by that pass's seat.
 pub fn steps_are_events<V: Pooled>()

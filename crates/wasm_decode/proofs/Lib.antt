@@ -1,7 +1,7 @@
-pub mod Unambiguous
-pub mod Each
+pub mod Reading
+pub mod Contexts
+pub mod Completions
+pub mod Opcodes
+pub mod Shapes
 pub mod SectionList
-pub mod Steps
-pub mod Fields
-pub mod BuiltItems
 pub mod Modules

@@ -1,6 +1,7 @@
 pub mod Decoding
-pub mod Built
-pub mod Fields
-pub mod Trees
+pub mod Pairs
+pub mod Tokens
+pub mod Contexts
+pub mod Opcodes
+pub mod Bodies
 pub mod Sections
-pub mod LocalRuns

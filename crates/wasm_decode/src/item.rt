@@ -1,16 +1,18 @@
-// What can stand in a vector.
+//! Items of the binary format: what stands alone, in a row, and in a vector.
 
-ghost use Rattle.std.specs.Prelude.{ℕ, List, MatchResult};
-ghost use Rattle.wasm_spec.specs.Numbers.{TakesUnsigned, IsUnambiguous};
-ghost use Rattle.wasm_spec.proofs.UnambiguousNumbers.{unsigned-unique};
-ghost use Rattle.leb_read.specs.Reading.{rest, IsRead};
-ghost use Rattle.wasm_decode.specs.Decoding.{BeginsWithNone};
+ghost use Rattle.std.specs.Prelude.{◌≡◌, ℕ, List, [], map, MatchResult};
+ghost use Rattle.wasm_spec.specs.Numbers.{TakesUnsigned, TakesVec, TakesBytes, IsUnambiguous};
+ghost use Rattle.wasm_spec.proofs.UnambiguousNumbers.{unsigned-unique, vec-unique, byte-unique};
+ghost use Rattle.leb_read.specs.Reading.{rest, IsRead, TakesByte};
+ghost use Rattle.wasm_decode.specs.Decoding.{IsNone, BeginsWithNone};
+ghost use Rattle.wasm_decode.specs.Pairs.{TakesPair, pair-unique};
 
 use crate::fault::DecodeFault;
-use leb_read::cursor::Cursor;
+use leb_read::Cursor;
 use std::alloc::Global;
+use wasm_types::Items;
 
-/// An item of the binary format.
+// An item of the binary format.
 pub(crate) trait Item: Sized + Drop {
     // what the grammar spells, and what this stands for of it
     ghost Tree: { Type 0 };
@@ -19,11 +21,26 @@ pub(crate) trait Item: Sized + Drop {
 
     ghost Takes: { Tree → List ℕ → List ℕ → Type 0 };
 
-    /// The item at the cursor, which then stands just after it.
+    // The item at the cursor, which then stands just after it.
     fn decode(alloc: Global, cursor: &mut Cursor) -> Result<Self, DecodeFault>
         ensures { MatchResult result (λ x. IsRead Takes cursor.old cursor.new (tree x)) (BeginsWithNone Takes (rest cursor.old)) };
 
     ghost unique: { IsUnambiguous Takes };
+}
+
+impl Item for u8 {
+    ghost Tree = { ℕ };
+
+    ghost tree = { λ x. x };
+
+    ghost Takes = { TakesByte };
+
+    ghost unique = { byte-unique };
+
+    fn decode(alloc: Global, cursor: &mut Cursor) -> Result<Self, DecodeFault> {
+        let _ = alloc;
+        Ok(cursor.u8()?)
+    }
 }
 
 impl Item for u32 {
@@ -33,13 +50,69 @@ impl Item for u32 {
 
     ghost Takes = { TakesUnsigned 32 };
 
+    ghost unique = { unsigned-unique 32 };
+
     fn decode(alloc: Global, cursor: &mut Cursor) -> Result<Self, DecodeFault> {
         let _ = alloc;
-        match cursor.u32() {
-            Ok(value) => Ok(value),
-            Err(_) => Err(DecodeFault::Malformed),
-        }
+        Ok(cursor.u32()?)
     }
+}
 
-    ghost unique = { unsigned-unique 32 };
+// One after the other.
+impl<A: Item, B: Item> Item for (A, B) {
+    ghost Tree = { A.Tree × B.Tree };
+
+    ghost tree = { λ p. (A.tree p.0, B.tree p.1) };
+
+    ghost Takes = { TakesPair A.Takes B.Takes };
+
+    ghost unique = { pair-unique A.Takes B.Takes A.unique B.unique };
+
+    fn decode(alloc: Global, cursor: &mut Cursor) -> Result<Self, DecodeFault> {
+        let first = A::decode(alloc, cursor)?;
+        let second = B::decode(alloc, cursor)?;
+        Ok((first, second))
+    }
+}
+
+// A vector: a count, and that many. Source: Core Specification 1.0, section 5.1.3.
+impl<T: Item> Item for Items<T> {
+    ghost Tree = { List T.Tree };
+
+    ghost tree = { λ xs. map T.tree xs };
+
+    ghost Takes = { TakesVec T.Takes };
+
+    ghost unique = { vec-unique T.Takes T.unique };
+
+    fn decode(alloc: Global, cursor: &mut Cursor) -> Result<Self, DecodeFault> {
+        let count = cursor.u32()?;
+        let mut items = Vec::new(alloc);
+        for _ in 0..count {
+            let item = T::decode(alloc, cursor)?;
+            items.push(item)?;
+        }
+        Ok(Items::new(items))
+    }
+}
+
+// A size, and that many bytes.
+pub(crate) fn read_bytes<'a>(cursor: &mut Cursor<'a>) -> Result<&'a [u8], DecodeFault>
+    ensures { MatchResult result (λ xs. IsRead TakesBytes cursor.old cursor.new xs.now) (BeginsWithNone TakesBytes (rest cursor.old)) }
+{
+    let size = cursor.u32()?;
+    Ok(cursor.take(size as usize)?)
+}
+
+// The item that is all of these bytes.
+pub(crate) fn decode_whole<T: Item>(alloc: Global, bytes: &[u8]) -> Result<T, DecodeFault>
+    ensures { MatchResult result (λ x. T.Takes (T.tree x) bytes.now []) (IsNone (λ x. T.Takes x bytes.now [])) }
+{
+    let mut cursor = Cursor::new(bytes);
+    let item = T::decode(alloc, &mut cursor)?;
+    if cursor.is_at_end() {
+        Ok(item)
+    } else {
+        Err(DecodeFault::Malformed)
+    }
 }

@@ -4,13 +4,18 @@
 #![tactic(auto)]
 
 mod code;
-pub mod decode;
-mod export;
-pub mod fault;
+mod decoder;
+mod expr_builder;
+mod fault;
 mod function;
+mod instr;
 mod item;
+mod module;
 mod section;
 #[cfg(test)]
 mod tests;
+mod token;
 mod types;
-mod vector;
+
+pub use decoder::decode;
+pub use fault::DecodeFault;

@@ -1,41 +1,52 @@
-// The sections of a module.
+//! The sections of a module.
 
-ghost use Rattle.std.specs.Prelude.{◌≡◌, ℕ, ◌<◌, ◌≤◌, ◌↔◌, IsTrue, List, ◌∷◌, map, Option, Some, None, option_map, MatchResult, MatchOption};
-ghost use Rattle.wasm_spec.specs.Numbers.{TakesUnsigned, TakesEach};
-ghost use Rattle.wasm_spec.specs.Grammar.{TakesSection, IsCustom};
-ghost use Rattle.wasm_decode.specs.Fields.{contents_of};
+ghost use Rattle.std.specs.Prelude.{◌≡◌, ◌↔◌, ◌<◌, ℕ, [], IsTrue, IfOk, map, option_map, MatchResult};
+ghost use Rattle.wasm_spec.specs.Numbers.{TakesEach};
+ghost use Rattle.wasm_spec.specs.Grammar.{TakesSection, IsCustom, IsOrderedAbove, SpellsVec, SpellsStart, section};
 ghost use Rattle.leb_read.specs.Reading.{rest, IsRead};
 ghost use Rattle.wasm_decode.specs.Decoding.{IsNone, BeginsWithNone};
-ghost use Rattle.wasm_decode.specs.Sections.{section_of, IsSections};
+ghost use Rattle.wasm_decode.specs.Sections.{section_of};
 
 use crate::fault::DecodeFault;
-use leb_read::cursor::Cursor;
+use crate::item::{Item, decode_whole, read_bytes};
+use leb_read::Cursor;
 use std::alloc::Global;
+use wasm_types::Items;
 
-/// A section: its id, and its contents. Source: Core Specification 1.0, section 5.5.2.
+// A section: its id, and its contents. Source: Core Specification 1.0, section 5.5.2.
 #[derive(Clone, Copy)]
 pub(crate) struct Section<'a> {
-    pub id: u8,
-    pub contents: &'a [u8],
+    pub(crate) id: u8,
+    pub(crate) contents: &'a [u8],
 }
 
-/// The section at the cursor, which then stands just after it.
+// The section at the cursor, which then stands just after it.
 fn read_section<'a>(cursor: &mut Cursor<'a>) -> Result<Section<'a>, DecodeFault>
-    ensures { MatchResult result (λ s. IsRead TakesSection cursor.old cursor.new (section_of s)) (BeginsWithNone TakesSection (rest cursor.old)) }
+    ensures section { MatchResult result (λ s. IsRead TakesSection cursor.old cursor.new (section_of s)) (BeginsWithNone TakesSection (rest cursor.old)) }
+    ensures forth { IfOk result (λ _. cursor.old.place < cursor.new.place) }
 {
-    let Ok(id) = cursor.u8() else {
-        return Err(DecodeFault::Malformed);
-    };
-    let Ok(size) = cursor.u32() else {
-        return Err(DecodeFault::Malformed);
-    };
-    match cursor.take(size as usize) {
-        Ok(contents) => Ok(Section { id, contents }),
-        Err(_) => Err(DecodeFault::Malformed),
-    }
+    let id = cursor.u8()?;
+    let contents = read_bytes(cursor)?;
+    Ok(Section { id, contents })
 }
 
-/// Whether these are the contents of a custom section: a name, and then any bytes. Source: section 5.5.3.
+// All sections.
+pub(crate) fn read_sections<'a>(
+    alloc: Global,
+    bytes: &'a [u8],
+) -> Result<Vec<Section<'a>>, DecodeFault>
+    ensures { MatchResult result (λ ss. TakesEach TakesSection (map section_of ss.items) bytes.now []) (IsNone (λ ss. TakesEach TakesSection ss bytes.now [])) }
+{
+    let mut cursor = Cursor::new(bytes);
+    let mut sections = Vec::new(alloc);
+    while !cursor.is_at_end() {
+        let section = read_section(&mut cursor)?;
+        sections.push(section)?;
+    }
+    Ok(sections)
+}
+
+// Whether these are the contents of a custom section: a name, and then any bytes. Source: section 5.5.3.
 fn is_custom(contents: &[u8]) -> bool
     ensures { IsTrue result ↔ IsCustom contents.now }
 {
@@ -45,55 +56,61 @@ fn is_custom(contents: &[u8]) -> bool
     }
 }
 
-/// Whether a section of this id may follow one of the id `last`. Source: section 5.5.15.
-fn is_in_order(last: u8, id: u8) -> bool
-    ensures { IsTrue result ↔ ((last < id) × (id ≤ 11)) }
+// Whether custom sections have names, and the ids of the others rise. Source: section 5.5.15.
+pub(crate) fn are_in_order(sections: &[Section]) -> bool
+    ensures { IsTrue result ↔ IsOrderedAbove 0 (map section_of sections.now) }
 {
-    last < id && id <= 11
-}
-
-/// The sections other than custom, if the bytes are sections in their order.
-pub(crate) fn read_sections<'a>(
-    alloc: Global,
-    bytes: &'a [u8],
-) -> Result<Vec<Section<'a>>, DecodeFault>
-    ensures { MatchResult result (λ found. IsSections bytes.now (map section_of found.items)) (IsNone (IsSections bytes.now)) }
-{
-    let mut cursor = Cursor::new(bytes);
-    let mut found = Vec::new(alloc);
     let mut last = 0;
-    while !cursor.is_at_end() {
-        let section = match read_section(&mut cursor) {
-            Ok(section) => section,
-            Err(fault) => return Err(fault),
-        };
+    for section in sections {
         if section.id == 0 {
             if !is_custom(section.contents) {
-                return Err(DecodeFault::Malformed);
+                return false;
             }
         } else {
-            if !is_in_order(last, section.id) {
-                return Err(DecodeFault::Malformed);
+            if section.id <= last || 11 < section.id {
+                return false;
             }
             last = section.id;
-            found.push(section)?;
         }
     }
-    Ok(found)
+    true
 }
 
-/// The contents of the section of an id.
+// The contents of the section of an id.
 pub(crate) fn find_contents<'a>(sections: &[Section<'a>], id: u8) -> Option<&'a [u8]>
-    ensures { option_map (λ c. c.now) result ≡ contents_of id (map section_of sections.now) }
+    ensures { option_map (λ c. c.now) result ≡ option_map (λ s. s.contents) (section id (map section_of sections.now)) }
 {
-    match sections {
-        [] => None,
-        [first, others @ ..] => {
-            if first.id == id {
-                Some(first.contents)
-            } else {
-                find_contents(others, id)
-            }
+    for section in sections {
+        if section.id == id {
+            return Some(section.contents);
         }
+    }
+    None
+}
+
+// The items of the section of an id; none without the section. Source: section 5.5.2.
+pub(crate) fn decode_section<T: Item>(
+    alloc: Global,
+    sections: &[Section],
+    id: u8,
+) -> Result<Items<T>, DecodeFault>
+    ensures { MatchResult result (λ xs. SpellsVec T.Takes (map T.tree xs) (section id (map section_of sections.now))) (IsNone (λ xs. SpellsVec T.Takes xs (section id (map section_of sections.now)))) }
+{
+    match find_contents(sections, id) {
+        Some(contents) => decode_whole(alloc, contents),
+        None => Ok(Items::new(Vec::new(alloc))),
+    }
+}
+
+// The start function, if there is a start section. Source: section 5.5.11.
+pub(crate) fn decode_start(alloc: Global, sections: &[Section]) -> Result<Option<u32>, DecodeFault>
+    ensures { MatchResult result (λ x. SpellsStart x (section 8 (map section_of sections.now))) (IsNone (λ x. SpellsStart x (section 8 (map section_of sections.now)))) }
+{
+    match find_contents(sections, 8) {
+        Some(contents) => {
+            let index = decode_whole(alloc, contents)?;
+            Ok(Some(index))
+        }
+        None => Ok(None),
     }
 }

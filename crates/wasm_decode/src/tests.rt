@@ -1,16 +1,15 @@
-// A module of every section that is built, and bytes that are none.
+//! Bytes that spell modules and bytes that spell none; modules cut short, and long ones.
 
-use crate::decode::decode;
-use crate::fault::DecodeFault;
-use wasm_types::instr::{BinaryOp, Instr, Op, Width};
-use wasm_types::module::{ExportDesc, Module};
-use wasm_types::types::ValType;
+use crate::{DecodeFault, decode};
+use std::alloc::{AllocError, Global};
+use std::process::Abort;
+use std::test::Fail;
+use wasm_types::{BinaryOp, ExportDesc, Instr, Module, Op, ValType, Width};
 
-/// A module that exports `add`, a function of two i32 that adds them.
-const ADD: &[u8] =
-    b"\0asm\x01\0\0\0\x01\x07\x01\x60\x02\x7f\x7f\x01\x7f\x03\x02\x01\0\x07\x07\x01\x03add\0\0\x0a\x09\x01\x07\0\x20\0\x20\x01\x6a\x0b";
+// The magic bytes and the version.
+const HEADER: &[u8] = b"\0asm\x01\0\0\0";
 
-/// What follows the eight header bytes, and whether node's engine takes the module.
+// What follows the eight header bytes, and whether node's engine takes the module.
 const AFTER_HEADER: &[(&[u8], bool)] = &[
     // no section; custom sections; empty sections of every kind that has items
     (b"", true),
@@ -66,6 +65,24 @@ const AFTER_HEADER: &[(&[u8], bool)] = &[
         b"\x01\x04\x01\x60\0\0\x03\x02\x01\0\x0a\x05\x01\x03\0\xff\x0b",
         false,
     ),
+    // a block, an `if` with an `else` and one without, a `br_table`, a call by the table
+    (
+        b"\x01\x04\x01\x60\0\0\x03\x02\x01\0\x04\x04\x01\x70\0\x01\x0a\x1f\x01\x1d\0\x02\x40\x41\0\x04\x40\x01\x05\x01\x0b\x41\0\x04\x40\x0b\x41\0\x0e\x01\0\0\x0b\x41\0\x11\0\0\x0b",
+        true,
+    ),
+    // an `else` outside an `if`, one twice, a block that isn't closed
+    (
+        b"\x01\x04\x01\x60\0\0\x03\x02\x01\0\x0a\x05\x01\x03\0\x05\x0b",
+        false,
+    ),
+    (
+        b"\x01\x04\x01\x60\0\0\x03\x02\x01\0\x0a\x0b\x01\x09\0\x41\0\x04\x40\x05\x05\x0b\x0b",
+        false,
+    ),
+    (
+        b"\x01\x04\x01\x60\0\0\x03\x02\x01\0\x0a\x06\x01\x04\0\x02\x40\x0b",
+        false,
+    ),
     // an export of the function, one whose name isn't UTF-8, one of a kind that there isn't
     (
         b"\x01\x04\x01\x60\0\0\x03\x02\x01\0\x07\x05\x01\x01f\0\0\x0a\x04\x01\x02\0\x0b",
@@ -79,24 +96,141 @@ const AFTER_HEADER: &[(&[u8], bool)] = &[
         b"\x01\x04\x01\x60\0\0\x03\x02\x01\0\x07\x05\x01\x01f\x04\0\x0a\x04\x01\x02\0\x0b",
         false,
     ),
+    // a count of items that the bytes can't hold
+    (b"\x01\x05\xff\xff\xff\xff\x0f", false),
+    // 2^32 - 1 locals, and one more
+    (
+        b"\x01\x04\x01\x60\0\0\x03\x02\x01\0\x0a\x0a\x01\x08\x01\xff\xff\xff\xff\x0f\x7f\x0b",
+        true,
+    ),
+    (
+        b"\x01\x04\x01\x60\0\0\x03\x02\x01\0\x0a\x0c\x01\x0a\x02\xff\xff\xff\xff\x0f\x7f\x01\x7f\x0b",
+        false,
+    ),
 ];
 
-#[test]
-fn sections_and_their_contents(rt: HostRuntime) {
-    for (after, spelled) in AFTER_HEADER {
-        let mut bytes = Vec::from_slice(rt.alloc(), b"\0asm\x01\0\0\0").expect(&rt, "memory");
-        bytes.extend_from_slice(after).expect(&rt, "memory");
-        match decode(rt.alloc(), bytes.as_slice()) {
-            Ok(_) => assert!(rt; *spelled, "{after:?} was decoded"),
-            Err(fault) => {
-                assert_eq!(rt; fault, DecodeFault::Malformed, "{after:?}");
-                assert!(rt; !*spelled, "{after:?} was refused");
-            }
+// Modules, and the lengths of their beginnings that spell modules too: those that end behind a section, with no function
+// whose body is missing.
+const MODULES: &[(&[u8], &[usize])] = &[
+    // a function that adds two i32
+    (
+        b"\0asm\x01\0\0\0\x01\x07\x01\x60\x02\x7f\x7f\x01\x7f\x03\x02\x01\0\x07\x07\x01\x03add\0\0\x0a\x09\x01\x07\0\x20\0\x20\x01\x6a\x0b",
+        &[8, 17],
+    ),
+    // a function that counts at an address
+    (
+        b"\0asm\x01\0\0\0\x01\x05\x01\x60\0\x01\x7f\x03\x02\x01\0\x05\x03\x01\0\x01\x07\x08\x01\x04bump\0\0\x0a\x16\x01\x14\0\x41\0\x41\0\x28\x02\0\x41\x01\x6a\x36\x02\0\x41\0\x28\x02\0\x0b",
+        &[8, 15],
+    ),
+    // a function that stores
+    (
+        b"\0asm\x01\0\0\0\x01\x06\x01\x60\x02\x7f\x7f\0\x03\x02\x01\0\x05\x03\x01\0\x01\x07\x08\x01\x04poke\0\0\x0a\x0b\x01\x09\0\x20\0\x20\x01\x36\x02\0\x0b",
+        &[8, 16],
+    ),
+    // a function that loads far behind an address
+    (
+        b"\0asm\x01\0\0\0\x01\x06\x01\x60\x01\x7f\x01\x7f\x03\x02\x01\0\x05\x03\x01\0\x01\x07\x05\x01\x01\x77\0\0\x0a\x0d\x01\x0b\0\x20\0\x28\x02\xff\xff\xff\xff\x0f\x0b",
+        &[8, 16],
+    ),
+    // a function that grows and stores, and one that grows and loads
+    (
+        b"\0asm\x01\0\0\0\x01\x08\x02\x60\0\0\x60\0\x01\x7f\x03\x03\x02\0\x01\x05\x03\x01\0\x01\x07\x10\x02\x05dirty\0\0\x04look\0\x01\x0a\x26\x02\x15\0\x41\x01\x40\0\x1a\x41\xff\xff\x07\x41\x7f\x3a\0\0\x03\x40\x0c\0\x0b\x0b\x0e\0\x41\x01\x40\0\x1a\x41\xff\xff\x07\x2d\0\0\x0b",
+        &[8, 18],
+    ),
+    // a function that grows
+    (
+        b"\0asm\x01\0\0\0\x01\x06\x01\x60\x01\x7f\x01\x7f\x03\x02\x01\0\x05\x03\x01\0\x01\x07\x08\x01\x04grow\0\0\x0a\x08\x01\x06\0\x20\0\x40\0\x0b",
+        &[8, 16],
+    ),
+    // a function that divides, and one that takes the remainder
+    (
+        b"\0asm\x01\0\0\0\x01\x07\x01\x60\x02\x7f\x7f\x01\x7f\x03\x03\x02\0\0\x07\x09\x02\x01\x64\0\0\x01\x72\0\x01\x0a\x11\x02\x07\0\x20\0\x20\x01\x6d\x0b\x07\0\x20\0\x20\x01\x6f\x0b",
+        &[8, 17],
+    ),
+    // a function that calls through a table
+    (
+        b"\0asm\x01\0\0\0\x01\x0d\x03\x60\0\x01\x7f\x60\x01\x7f\x01\x7f\x60\0\0\x03\x04\x03\0\x02\x01\x04\x04\x01\x70\0\x03\x07\x05\x01\x01\x69\0\x02\x09\x08\x01\0\x41\0\x0b\x02\0\x01\x0a\x11\x03\x04\0\x41\x07\x0b\x02\0\x0b\x07\0\x20\0\x11\0\0\x0b",
+        &[8, 23],
+    ),
+    // a function that calls itself
+    (
+        b"\0asm\x01\0\0\0\x01\x06\x01\x60\x01\x7f\x01\x7f\x03\x02\x01\0\x07\x07\x01\x03rec\0\0\x0a\x14\x01\x12\0\x20\0\x45\x04\x7f\x41\0\x05\x20\0\x41\x01\x6b\x10\0\x0b\x0b",
+        &[8, 16],
+    ),
+    // a function that has a float
+    (
+        b"\0asm\x01\0\0\0\x01\x04\x01\x60\0\0\x03\x02\x01\0\x0a\x0a\x01\x08\0\x43\0\0\0\0\x1a\x0b",
+        &[8, 14],
+    ),
+    // a function that adds one operand
+    (
+        b"\0asm\x01\0\0\0\x01\x04\x01\x60\0\0\x03\x02\x01\0\x0a\x08\x01\x06\0\x41\x01\x6a\x1a\x0b",
+        &[8, 14],
+    ),
+    // data past the end of memory
+    (
+        b"\0asm\x01\0\0\0\x05\x03\x01\0\x01\x0b\x0a\x01\0\x41\xff\xff\x03\x0b\x02\x61\x62",
+        &[8, 13],
+    ),
+    // a function that is run at the start
+    (
+        b"\0asm\x01\0\0\0\x01\x04\x01\x60\0\0\x03\x02\x01\0\x07\x05\x01\x01\x73\0\0\x08\x01\0\x0a\x05\x01\x03\0\0\x0b",
+        &[8, 14],
+    ),
+    // a function that loops at the start
+    (
+        b"\0asm\x01\0\0\0\x01\x04\x01\x60\0\0\x03\x02\x01\0\x07\x05\x01\x01\x73\0\0\x08\x01\0\x0a\x09\x01\x07\0\x03\x40\x0c\0\x0b\x0b",
+        &[8, 14],
+    ),
+];
+
+// How code goes on and is closed again, so many times, and the number of its sequences.
+const REPEATED: &[(&[u8], &[u8], u32, usize)] = &[
+    // blocks inside each other
+    (b"\x02\x40", b"\x0b", 1_000_000, 1_000_001),
+    // `if`s, each in the second arm of the one around it
+    (b"\x41\0\x04\x40\x05", b"\x0b", 50_000, 100_001),
+    // operands
+    (b"\x41\0", b"\x1a", 4_000, 1),
+];
+
+// Whether these bytes are decoded. There is memory enough, so a refusal is for what they are.
+fn decodes(rt: &impl Abort, alloc: Global, bytes: &[u8]) -> bool {
+    match decode(alloc, bytes) {
+        Ok(_) => true,
+        Err(fault) => {
+            assert_eq!(rt; fault, DecodeFault::Malformed);
+            false
         }
     }
 }
 
-/// Whether the only type is that of two i32 to one.
+#[test]
+fn sections_and_their_contents(rt: HostRuntime) -> Result<(), Fail> {
+    for (after, spelled) in AFTER_HEADER {
+        let mut bytes = Vec::from_slice(rt.alloc(), HEADER)?;
+        bytes.extend_from_slice(after)?;
+        assert_eq!(rt;
+            decodes(&rt, rt.alloc(), bytes.as_slice()),
+            *spelled,
+            "{after:?}"
+        );
+    }
+    Ok(())
+}
+
+#[test]
+fn modules_cut_short(rt: HostRuntime) {
+    for (bytes, lengths) in MODULES {
+        assert!(rt; decodes(&rt, rt.alloc(), bytes), "{bytes:?}");
+        for length in 0..bytes.len() {
+            let spelled = decodes(&rt, rt.alloc(), &bytes[..length]);
+            assert_eq!(rt; spelled, lengths.contains(&length), "{length} of {bytes:?}");
+        }
+    }
+}
+
+// Whether the only type is that of two i32 to one.
 fn takes_two_and_gives_one(module: &Module) -> bool {
     let [signature] = module.types.as_slice() else {
         return false;
@@ -105,7 +239,7 @@ fn takes_two_and_gives_one(module: &Module) -> bool {
         && matches!(signature.results.as_slice(), [ValType::I32])
 }
 
-/// Whether the only export is the function 0, as `add`.
+// Whether the only export is the function 0, as `add`.
 fn exports_add(module: &Module) -> bool {
     let [export] = module.exports.as_slice() else {
         return false;
@@ -113,7 +247,7 @@ fn exports_add(module: &Module) -> bool {
     matches!(export.name.as_slice(), b"add") && matches!(export.desc, ExportDesc::Func(0))
 }
 
-/// Whether the only function has type 0, no locals, and adds its parameters.
+// Whether the only function has type 0, no locals, and adds its parameters.
 fn adds(module: &Module) -> bool {
     let [function] = module.functions.as_slice() else {
         return false;
@@ -132,25 +266,76 @@ fn adds(module: &Module) -> bool {
 }
 
 #[test]
-fn a_function_that_adds(rt: HostRuntime) {
-    match decode(rt.alloc(), ADD) {
-        Ok(module) => {
-            assert!(rt; takes_two_and_gives_one(&module));
-            assert!(rt; exports_add(&module));
-            assert!(rt; adds(&module));
-        }
-        Err(fault) => panic!(rt; "{fault}"),
+fn a_function_that_adds(rt: HostRuntime) -> Result<(), Fail> {
+    let (bytes, _) = MODULES[0];
+    let module = decode(rt.alloc(), bytes)?;
+    assert!(rt; takes_two_and_gives_one(&module));
+    assert!(rt; exports_add(&module));
+    assert!(rt; adds(&module));
+    Ok(())
+}
+
+// Writes a size in five bytes.
+fn push_size(bytes: &mut Vec<u8>, size: usize) -> Result<(), AllocError> {
+    for shift in [0, 7, 14, 21] {
+        bytes.push(((size >> shift) % 128) as u8 + 128)?;
     }
+    bytes.push(((size >> 28) % 16) as u8)?;
+    Ok(())
+}
+
+// A module with one function of this code.
+fn module_of(alloc: Global, code: &[u8]) -> Result<Vec<u8>, AllocError> {
+    let mut bytes = Vec::from_slice(alloc, HEADER)?;
+    bytes.extend_from_slice(b"\x01\x04\x01\x60\0\0\x03\x02\x01\0\x0a")?;
+    push_size(&mut bytes, code.len() + 7)?;
+    bytes.push(1)?;
+    push_size(&mut bytes, code.len() + 1)?;
+    bytes.push(0)?;
+    bytes.extend_from_slice(code)?;
+    Ok(bytes)
+}
+
+// Code that goes on and is closed again, so many times.
+fn repeated(
+    alloc: Global,
+    opening: &[u8],
+    closing: &[u8],
+    times: u32,
+) -> Result<Vec<u8>, AllocError> {
+    let mut code = Vec::new(alloc);
+    for _ in 0..times {
+        code.extend_from_slice(opening)?;
+    }
+    for _ in 0..times {
+        code.extend_from_slice(closing)?;
+    }
+    code.push(0x0b)?;
+    Ok(code)
 }
 
 #[test]
-fn header_bytes(rt: HostRuntime) {
-    for length in 0..8 {
-        match decode(rt.alloc(), &ADD[..length]) {
-            Ok(_) => panic!(rt; "{length} bytes were decoded"),
-            Err(fault) => assert_eq!(rt; fault, DecodeFault::Malformed),
-        }
+fn code_of_many_instructions(rt: HostRuntime) -> Result<(), Fail> {
+    for (opening, closing, times, sequences) in REPEATED {
+        let code = repeated(rt.alloc(), opening, closing, *times)?;
+        let bytes = module_of(rt.alloc(), code.as_slice())?;
+        let module = decode(rt.alloc(), bytes.as_slice())?;
+        let function = module.functions.as_slice().first().ok_or("no function")?;
+        assert_eq!(rt; function.body.sequences.as_slice().len(), *sequences);
     }
-    assert!(rt; decode(rt.alloc(), &ADD[..8]).is_ok());
-    assert!(rt; decode(rt.alloc(), b"\0asm\x02\0\0\0").is_err());
+    Ok(())
+}
+
+#[test]
+fn two_thousand_types(rt: HostRuntime) -> Result<(), Fail> {
+    let mut bytes = Vec::from_slice(rt.alloc(), HEADER)?;
+    bytes.push(1)?;
+    push_size(&mut bytes, 6_002)?;
+    bytes.extend_from_slice(b"\xd0\x0f")?;
+    for _ in 0..2_000 {
+        bytes.extend_from_slice(b"\x60\0\0")?;
+    }
+    let module = decode(rt.alloc(), bytes.as_slice())?;
+    assert_eq!(rt; module.types.as_slice().len(), 2_000);
+    Ok(())
 }

@@ -1,85 +1,165 @@
-// Types.
+//! Types.
 
-ghost use Rattle.std.specs.Prelude.{MatchResult};
+ghost use Rattle.std.specs.Prelude.{◌≡◌, MatchOption, MatchResult};
 ghost use Rattle.wasm_types.specs.declared.types.ValType.{ValType as ValTypeTree};
 ghost use Rattle.wasm_types.specs.declared.types.FuncType.{FuncType as FuncTypeTree};
-ghost use Rattle.wasm_spec.specs.TypeGrammar.{TakesValType, TakesFuncType};
-ghost use Rattle.wasm_spec.proofs.UnambiguousTypes.{val_type-unique, func_type-unique};
+ghost use Rattle.wasm_types.specs.declared.types.Limits.{Limits as LimitsTree};
+ghost use Rattle.wasm_types.specs.declared.types.GlobalType.{GlobalType as GlobalTypeTree};
+ghost use Rattle.wasm_spec.specs.TypeGrammar.{value_type_byte, TakesValType, TakesBlockType, TakesFuncType, TakesLimits, TakesTableType, TakesGlobalType};
+ghost use Rattle.wasm_spec.proofs.UnambiguousTypes.{val_type-unique, func_type-unique, limits-unique, table_type-unique, global_type-unique};
 ghost use Rattle.leb_read.specs.Reading.{rest, IsRead};
 ghost use Rattle.wasm_decode.specs.Decoding.{BeginsWithNone};
-ghost use Rattle.wasm_decode.specs.Built.{IsI32, IsBuiltType};
-ghost use Rattle.wasm_decode.specs.Trees.{Both};
 
 use crate::fault::DecodeFault;
 use crate::item::Item;
-use crate::vector::decode_vec;
-use leb_read::cursor::Cursor;
+use leb_read::Cursor;
 use std::alloc::Global;
-use wasm_types::items::Items;
-use wasm_types::types::{FuncType, ValType};
+use wasm_types::{FuncType, GlobalType, Items, Limits, ValType};
 
-/// A value type. Source: Core Specification 1.0, section 5.3.1.
-pub(crate) fn read_value_type(cursor: &mut Cursor) -> Result<ValType, DecodeFault>
-    ensures { MatchResult result (IsRead TakesValType cursor.old cursor.new) (BeginsWithNone TakesValType (rest cursor.old)) }
+// The value type of a byte. Source: Core Specification 1.0, section 5.3.1.
+pub(crate) fn value_type(byte: u8) -> Option<ValType>
+    ensures { MatchOption result ((t : ValTypeTree) → value_type_byte t ≡ byte → ⊥) (λ t. value_type_byte t ≡ byte) }
 {
-    let Ok(byte) = cursor.u8() else {
-        return Err(DecodeFault::Malformed);
-    };
     match byte {
-        0x7F => Ok(ValType::I32),
-        0x7E => Ok(ValType::I64),
-        0x7D => Ok(ValType::F32),
-        0x7C => Ok(ValType::F64),
-        _ => Err(DecodeFault::Malformed),
+        0x7F => Some(ValType::I32),
+        0x7E => Some(ValType::I64),
+        0x7D => Some(ValType::F32),
+        0x7C => Some(ValType::F64),
+        _ => None,
     }
 }
 
+// Source: section 5.3.1.
 impl Item for ValType {
     ghost Tree = { ValTypeTree };
 
     ghost tree = { λ t. t };
 
-    ghost Takes = { Both TakesValType IsI32 };
+    ghost Takes = { TakesValType };
+
+    ghost unique = { val_type-unique };
 
     fn decode(alloc: Global, cursor: &mut Cursor) -> Result<Self, DecodeFault> {
         let _ = alloc;
-        match read_value_type(cursor) {
-            Ok(ValType::I32) => Ok(ValType::I32),
-            Ok(_) => Err(DecodeFault::Malformed),
-            Err(fault) => Err(fault),
+        let byte = cursor.u8()?;
+        match value_type(byte) {
+            Some(value) => Ok(value),
+            None => Err(DecodeFault::Malformed),
         }
     }
-
-    ghost unique = { λ x y bytes r s a b. val_type-unique x y bytes r s a.0 b.0 };
 }
 
+// The type of a block. Source: section 5.3.2.
+pub(crate) fn read_block_type(cursor: &mut Cursor) -> Result<Option<ValType>, DecodeFault>
+    ensures { MatchResult result (IsRead TakesBlockType cursor.old cursor.new) (BeginsWithNone TakesBlockType (rest cursor.old)) }
+{
+    let byte = cursor.u8()?;
+    if byte == 0x40 {
+        return Ok(None);
+    }
+    match value_type(byte) {
+        Some(value) => Ok(Some(value)),
+        None => Err(DecodeFault::Malformed),
+    }
+}
+
+// Source: section 5.3.3.
 impl Item for FuncType {
     ghost Tree = { FuncTypeTree };
 
     ghost tree = { λ t. t };
 
-    ghost Takes = { Both TakesFuncType IsBuiltType };
+    ghost Takes = { TakesFuncType };
+
+    ghost unique = { func_type-unique };
 
     fn decode(alloc: Global, cursor: &mut Cursor) -> Result<Self, DecodeFault> {
-        let Ok(tag) = cursor.u8() else {
-            return Err(DecodeFault::Malformed);
-        };
-        if tag != 0x60 {
-            return Err(DecodeFault::Malformed);
+        let (tag, (params, results)) = <(u8, (Items<ValType>, Items<ValType>))>::decode(
+            alloc, cursor,
+        )?;
+        if tag == 0x60 {
+            Ok(FuncType { params, results })
+        } else {
+            Err(DecodeFault::Malformed)
         }
-        let params = match decode_vec(alloc, cursor) {
-            Ok(params) => params,
-            Err(fault) => return Err(fault),
-        };
-        let results = match decode_vec(alloc, cursor) {
-            Ok(results) => results,
-            Err(fault) => return Err(fault),
-        };
-        Ok(FuncType {
-            params: Items::new(params),
-            results: Items::new(results),
-        })
     }
+}
 
-    ghost unique = { λ x y bytes r s a b. func_type-unique x y bytes r s a.0 b.0 };
+// A memory's type is its limits. Source: sections 5.3.4 and 5.3.5.
+impl Item for Limits {
+    ghost Tree = { LimitsTree };
+
+    ghost tree = { λ l. l };
+
+    ghost Takes = { TakesLimits };
+
+    ghost unique = { limits-unique };
+
+    fn decode(alloc: Global, cursor: &mut Cursor) -> Result<Self, DecodeFault> {
+        let _ = alloc;
+        let flag = cursor.u8()?;
+        let min = cursor.u32()?;
+        match flag {
+            0x00 => Ok(Limits { min, max: None }),
+            0x01 => {
+                let max = cursor.u32()?;
+                Ok(Limits {
+                    min,
+                    max: Some(max),
+                })
+            }
+            _ => Err(DecodeFault::Malformed),
+        }
+    }
+}
+
+// A table's type: its limits, behind the type of its elements. Source: section 5.3.6.
+#[derive(Drop)]
+pub(crate) struct TableType {
+    pub(crate) limits: Limits,
+}
+
+impl Item for TableType {
+    ghost Tree = { LimitsTree };
+
+    ghost tree = { λ t. t.limits };
+
+    ghost Takes = { TakesTableType };
+
+    ghost unique = { table_type-unique };
+
+    fn decode(alloc: Global, cursor: &mut Cursor) -> Result<Self, DecodeFault> {
+        let (tag, limits) = <(u8, Limits)>::decode(alloc, cursor)?;
+        if tag == 0x70 {
+            Ok(TableType { limits })
+        } else {
+            Err(DecodeFault::Malformed)
+        }
+    }
+}
+
+// Source: section 5.3.7.
+impl Item for GlobalType {
+    ghost Tree = { GlobalTypeTree };
+
+    ghost tree = { λ g. g };
+
+    ghost Takes = { TakesGlobalType };
+
+    ghost unique = { global_type-unique };
+
+    fn decode(alloc: Global, cursor: &mut Cursor) -> Result<Self, DecodeFault> {
+        let (value, mutability) = <(ValType, u8)>::decode(alloc, cursor)?;
+        match mutability {
+            0x00 => Ok(GlobalType {
+                value,
+                mutable: false,
+            }),
+            0x01 => Ok(GlobalType {
+                value,
+                mutable: true,
+            }),
+            _ => Err(DecodeFault::Malformed),
+        }
+    }
 }

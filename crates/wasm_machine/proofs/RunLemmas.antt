@@ -1,68 +1,95 @@
--- How far straight code has run.
-use Rattle.std.proofs.Common.{◌≡◌, ◌≢◌, ℕ, suc, ◌+◌, ◌<◌, List, [], ◌∷◌, Some, None, length, drop, get_or, refl, ◌∙◌, add-one, drop-cons}
-use Rattle.wasm_types.specs.declared.types.ValType.{ValType}
-use Rattle.wasm_types.specs.declared.outcome.Val.{Val}
-use Rattle.wasm_types.specs.declared.instr.Instr.{Instr}
+-- Runs, step by step.
+use Rattle.std.proofs.Common.{◌≡◌, ℕ, suc, ◌+◌, ◌-◌, ◌<◌, ◌≤◌, ◌⊎◌, ⊎_elim, List, [], reverse, Option, Some, refl, sym, ap, ◌∙◌, subst, arith}
+use Rattle.std.specs.Prelude.{slice_get, unwrap_or}
+use Rattle.std.proofs.lemmas.Bool.{cases_lt}
+use Rattle.wasm_types.specs.declared.limits.RunLimits.{RunLimits}
+use Rattle.wasm_types.specs.declared.module.Module.{Module}
+use Rattle.wasm_types.specs.declared.outcome.Outcome.TheVariants as outcome
+use Rattle.wasm_types.specs.declared.outcome.TrapKind.{TrapKind}
 use Rattle.wasm_types.specs.declared.instr.Op.{Op}
-use Rattle.wasm_types.specs.declared.instr.Op.TheVariants as op
-use Rattle.wasm_types.specs.Tree.{Code, End, Plain, ModuleTree, code_of}
-use Rattle.wasm_spec.specs.Typing.{Context}
 use Rattle.wasm_spec.specs.Store.{Store}
-use Rattle.wasm_spec.specs.Execution.{RunLimits, Next, exec, plain}
-use Rattle.wasm_spec.proofs.Equations.{exec-End, exec-Plain, exec-zero}
-use Rattle.wasm_machine.specs.Straight.{Finishes, IsRunnable, state_of}
+use Rattle.wasm_spec.specs.Execution.{Trapped, OutOfFuel, Ended, ended}
+use Rattle.wasm_spec.specs.Result.{CallResult, result_of}
+use Rattle.linear_memory.specs.declared.memory.Memory.{Memory}
+use Rattle.linear_memory.specs.Bytes.{IsMemory, shown}
+use Rattle.linear_memory.specs.Marks.{KeepsUnmarked, MarksChanges}
+use Rattle.linear_memory.proofs.MarkedBlocks.{shown_unmarked}
+use Rattle.machine_steps.specs.declared.machine.Machine.{Machine}
+use Rattle.wasm_machine.specs.Simulation.{AreMarkedBelow, Simulates, IsOver, after, paid, op_at}
+use Rattle.wasm_machine.proofs.BlockLemmas.{no_fuel}
 
--- From the instructions that are left and these operands the code goes on as it did from the beginning.
-pub record Progress (ops : List Op) (values before : List Val) (room fuel : ℕ) (rest : List Op) (now : List Val) (left : ℕ) : Type 0 where
-  pub runnable : (C : Context) (earlier : List Code) (after : List ValType) → IsRunnable C after (code_of earlier ops) values before room
-      → IsRunnable C after (code_of earlier rest) values now room
-  pub goes : (earlier : List Code) (m : ModuleTree) (limits : RunLimits) (store : Store)
-      → exec m limits 1 (code_of earlier ops) (state_of values before store) fuel
-      ≡ exec m limits 1 (code_of earlier rest) (state_of values now store) left
+-- ---- marks
 
--- an instruction is no end
-goes_on : (earlier : List Code) (o : Op) (more : List Op) → code_of earlier (o ∷ more) ≢ End
-goes_on earlier (op.Plain i) more e = cc
-goes_on earlier (op.Block t k) more e = cc
-goes_on earlier (op.Loop t k) more e = cc
-goes_on earlier (op.If t k j) more e = cc
-goes_on earlier (op.Call x) more e = cc
-goes_on earlier (op.CallIndirect x) more e = cc
+module _ (r : ℕ → Ended) (old : Memory) where
+  -- marks only grow
+  pub marked_on : (bound n : ℕ) (mid new : Memory) → MarksChanges mid new n → AreMarkedBelow bound r old mid → AreMarkedBelow bound r old new
+  marked_on bound n mid new changes below fuel x lt is =
+      let k = below fuel x lt is in
+      record { bytes = λ i u. k.bytes i (changes.unmarked.marks i u); marks = λ i u. k.marks i (changes.unmarked.marks i u) }
 
--- the first of the instructions that are left
-pub next_op : (ops : List Op) (i : ℕ) (o : Op) → i < length ops → o ≡ get_or ops i o → drop i ops ≡ o ∷ drop (i + 1) ops
-next_op ops i o lt is = drop-cons ops i o lt ∙ rw (← is, ← add-one) refl
+  -- the fuel that comes to this store
+  pub marked_at : (most n : ℕ) (new : Memory) (x y : CallResult) (o : Option CallResult) → IsMemory most new → MarksChanges old new n
+      → o ≡ Some y → y.store.memory ≡ shown new → o ≡ Some x → KeepsUnmarked old.bytes.items x.store.memory old.marks.items new.marks.items
+  marked_at most n new x y o is changes there memory e =
+      let same : shown new ≡ x.store.memory = sym memory ∙ ap (λ (p : Option CallResult). (unwrap_or p x).store.memory) (sym there ∙ e) in
+      subst (λ (l : List ℕ). KeepsUnmarked old.bytes.items l old.marks.items new.marks.items) same (shown_unmarked most n old new is changes)
 
-module _ (ops : List Op) (values before : List Val) (room fuel : ℕ) where
-  pub begins : Progress ops values before room fuel ops before fuel
-  begins = record { runnable = λ C earlier after h. h; goes = λ earlier m limits store. refl }
+  -- and all from some fuel on, where the run ends with the same store
+  pub marked_from : (spent bound most n : ℕ) (new : Memory) (y : ℕ → CallResult) → AreMarkedBelow spent r old new → IsMemory most new → MarksChanges old new n
+      → ((g : ℕ) → spent + g < bound → result_of (r (spent + g)) ≡ Some (y g)) → ((g : ℕ) → (y g).store.memory ≡ shown new) → AreMarkedBelow bound r old new
+  marked_from spent bound most n new y below is changes ends memory fuel x lt e =
+      let later : spent ≤ fuel → KeepsUnmarked old.bytes.items x.store.memory old.marks.items new.marks.items = λ le.
+      let at : spent + (fuel - spent) ≡ fuel = omega arith in
+      let there : result_of (r fuel) ≡ Some (y (fuel - spent)) = ap (λ (k : ℕ). result_of (r k)) (sym at) ∙ ends (fuel - spent) (omega arith) in
+      marked_at most n new x (y (fuel - spent)) (result_of (r fuel)) is changes there (memory (fuel - spent)) e in
+      ⊎_elim (λ (l : fuel < spent). below fuel x l e) later (cases_lt fuel spent)
 
-  pub steps : (rest : List Op) (now : List Val) (left less : ℕ) (i : Instr) (more : List Op) (next : List Val) (free free' : ℕ)
-      → Progress ops values before room fuel rest now left → left ≡ suc less → rest ≡ op.Plain i ∷ more → free ≡ room → free' ≡ free
-      → ((m : ModuleTree) (limits : RunLimits) (store : Store) → plain m limits i (state_of values now store) ≡ Next (state_of values next store))
-      → ((C : Context) (code : Code) (after : List ValType) → IsRunnable C after (Plain i code) values now free → IsRunnable C after code values next free')
-      → Progress ops values before room fuel more next less
-  steps rest now left less i more next free free' p paid is same same' does keeps =
-      let q : Progress ops values before room fuel (op.Plain i ∷ more) now (suc less) = rw (is, paid) at p in
-      record {
-        runnable = λ C earlier after h.
-            let k : IsRunnable C after (Plain i (code_of earlier more)) values now free = rw same (q.runnable C earlier after h) in
-            rw (same' ∙ same) at (keeps C (code_of earlier more) after k);
-        goes = λ earlier m limits store.
-            q.goes earlier m limits store
-            ∙ exec-Plain m limits 1 i (code_of earlier more) (state_of values now store) less
-            ∙ rw (does m limits store);
-      }
+-- ---- fuel
 
-  pub runs_out : (rest : List Op) (now : List Val) (left : ℕ) (o : Op) (more : List Op)
-      → Progress ops values before room fuel rest now left → left ≡ 0 → rest ≡ o ∷ more
-      → (earlier : List Code) → Finishes None (code_of earlier ops) values before now fuel
-  runs_out rest now left o more p none is earlier m limits store =
-      let q : Progress ops values before room fuel (o ∷ more) now 0 = rw (is, none) at p in
-      q.goes earlier m limits store ∙ exec-zero m limits 1 (code_of earlier (o ∷ more)) (state_of values now store) (goes_on earlier o more)
+-- where the fuel ends there
+pub marked_out : (r : ℕ → Ended) (old : Memory) (store : Store) (spent bound most n : ℕ) (new : Memory) → AreMarkedBelow spent r old new → IsMemory most new → MarksChanges old new n
+    → store.memory ≡ shown new → bound ≤ spent + 1 → r spent ≡ ended (OutOfFuel store) 0 → AreMarkedBelow bound r old new
+marked_out r old store spent bound most n new below is changes memory le out =
+    let y : CallResult = record { outcome = outcome.Fuel; store = store; fuel = 0 } in
+    marked_from r old spent bound most n new (λ g. y) below is changes
+    (λ g lt. ap (λ (k : ℕ). result_of (r k)) (omega arith) ∙ ap result_of out) (λ g. memory)
 
-  pub ends : (rest : List Op) (now : List Val) (left : ℕ) → Progress ops values before room fuel rest now left → rest ≡ []
-      → (earlier : List Code) → Finishes (Some left) (code_of earlier ops) values before now fuel
-  ends rest now left p is earlier m limits store =
-      let q : Progress ops values before room fuel [] now left = rw is at p in
-      q.goes earlier m limits store ∙ exec-End m limits 1 (state_of values now store) left
+-- where the run is over there
+pub marked_over : (r : ℕ → Ended) (old : Memory) (m : Module) (machine : Machine) (store : Store) (spent bound most n : ℕ) (new : Memory) → AreMarkedBelow spent r old new → IsMemory most new → MarksChanges old new n
+    → store.memory ≡ shown new → IsOver m machine store (after spent r) → AreMarkedBelow bound r old new
+marked_over r old m machine store spent bound most n new below is changes memory over =
+    let y : ℕ → CallResult = λ g. record { outcome = outcome.Done (slice_get (reverse machine.values.items) 0); store = store; fuel = g } in
+    marked_from r old spent bound most n new y below is changes (λ g lt. ap result_of (over.goes g)) (λ g. memory)
+
+-- where it traps there
+pub marked_trap : (r : ℕ → Ended) (old : Memory) (t : TrapKind) (store : Store) (spent bound most n : ℕ) (new : Memory) → AreMarkedBelow spent r old new → IsMemory most new → MarksChanges old new n
+    → store.memory ≡ shown new → ((g : ℕ) → r (spent + g) ≡ ended (Trapped t store) g) → AreMarkedBelow bound r old new
+marked_trap r old t store spent bound most n new below is changes memory traps =
+    let y : ℕ → CallResult = λ g. record { outcome = outcome.Trap t; store = store; fuel = g } in
+    marked_from r old spent bound most n new y below is changes (λ g lt. ap result_of (traps g)) (λ g. memory)
+
+module _ (m : Module) (limits : RunLimits) (frame : ℕ) where
+  pub simulates_same : (machine : Machine) (store : Store) (r s : ℕ → Ended) → ((g : ℕ) → r g ≡ s g) → Simulates m limits frame machine store r → Simulates m limits frame machine store s
+  simulates_same machine store r s e l = record { configuration = l.configuration; represents = l.represents; typed = l.typed; stored = l.stored; room = l.room; goes = λ g. l.goes g ∙ e g }
+
+  pub more_spent : (r : ℕ → Ended) (spent : ℕ) (g : ℕ) → paid (after spent r) g ≡ after (spent + 1) r g
+  more_spent r spent g = ap r (omega arith)
+
+  pub over_at : (machine : Machine) (store : Store) (r : ℕ → Ended) (spent spent' : ℕ) → spent ≡ spent' → IsOver m machine store (after spent r) → IsOver m machine store (after spent' r)
+  over_at machine store r spent spent' e h = subst (λ (n : ℕ). IsOver m machine store (after n r)) e h
+
+  pub over_paid : (machine : Machine) (store : Store) (r : ℕ → Ended) (spent spent' : ℕ) → spent + 1 ≡ spent' → IsOver m machine store (paid (after spent r)) → IsOver m machine store (after spent' r)
+  over_paid machine store r spent spent' e h = record { stored = h.stored; goes = λ g. ap r (omega arith) ∙ h.goes g }
+
+  pub trap_paid : (t : TrapKind) (store : Store) (r : ℕ → Ended) (spent spent' : ℕ) → spent + 1 ≡ spent' → ((g : ℕ) → paid (after spent r) g ≡ ended (Trapped t store) g) → (g : ℕ) → r (spent' + g) ≡ ended (Trapped t store) g
+  trap_paid t store r spent spent' e h g = ap r (omega arith) ∙ h g
+
+  pub spent_all : (machine : Machine) (store : Store) (r : ℕ → Ended) (spent fuel : ℕ) (o : Op) → spent ≡ fuel → Simulates m limits frame machine store (after spent r) → op_at m machine ≡ Some o → r fuel ≡ ended (OutOfFuel store) 0
+  spent_all machine store r spent fuel o e l there = ap r (omega arith) ∙ no_fuel m limits frame machine store (after spent r) o l there
+
+  -- one turn more, from an instruction on
+  pub marked_next : (r : ℕ → Ended) (old : Memory) (machine : Machine) (store : Store) (o : Op) (spent most n k : ℕ) (mid new : Memory) → AreMarkedBelow spent r old mid → IsMemory most mid → MarksChanges old mid n
+      → store.memory ≡ shown mid → Simulates m limits frame machine store (after spent r) → op_at m machine ≡ Some o → MarksChanges mid new k → AreMarkedBelow (spent + 1) r old new
+  marked_next r old machine store o spent most n k mid new below is changes memory e there more =
+      let out : r spent ≡ ended (OutOfFuel store) 0 = spent_all machine store r spent spent o refl e there in
+      marked_on r old (spent + 1) k mid new more (marked_out r old store spent (spent + 1) most n mid below is changes memory (omega arith) out)

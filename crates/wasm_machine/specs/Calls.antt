@@ -1,29 +1,26 @@
--- A call from outside of a function, and what is left of the parts after it.
+-- A call from outside.
 use Rattle.std.specs.Prelude.{◌≡◌, ℕ, ◌≤◌, List, map, Some, slice_get}
 use Rattle.wasm_types.specs.declared.types.FuncType.{FuncType}
 use Rattle.wasm_types.specs.declared.outcome.Val.{Val}
-use Rattle.wasm_types.specs.Tree.{FunctionTree, ModuleTree}
+use Rattle.wasm_types.specs.declared.outcome.Outcome.{Outcome}
+use Rattle.wasm_types.specs.declared.outcome.Outcome.TheVariants as outcome
+use Rattle.wasm_types.specs.declared.module.Module.{Module}
+use Rattle.wasm_types.specs.Tree.{FunctionTree, module_tree}
 use Rattle.wasm_spec.specs.Typing.{type_of}
 use Rattle.wasm_spec.specs.Need.{need}
-use Rattle.wasm_spec.specs.Store.{Store}
-use Rattle.wasm_spec.specs.Execution as execution
-use Rattle.wasm_spec.specs.Result.{function_result}
-use Rattle.wasm_machine.specs.declared.running.RunLimits.{RunLimits}
-use Rattle.wasm_machine.specs.declared.running.RunEnd.{RunEnd}
 
--- the module has this function, the arguments have its types, and a frame of this size is enough for it
-pub record IsCall (m : ModuleTree) (x : ℕ) (args : List Val) (frame : ℕ) : Type 0 where
+-- the module has this function, and the arguments have its types
+pub record IsCall (m : Module) (x : ℕ) (args : List Val) : Type 0 where
   pub function : FunctionTree
   pub type : FuncType
-  pub there : slice_get m.functions x ≡ Some function
+  pub there : slice_get (module_tree m).functions x ≡ Some function
   pub typed : slice_get m.types function.type_index ≡ Some type
   pub args_fit : map type_of args ≡ type.params
-  pub frame_fits : need m function ≤ frame
 
-abbrev pub limits_of : RunLimits → execution.RunLimits
-limits_of l = record { pages = l.pages; depth = l.depth }
+-- the need of each function fits a frame of this size
+abbrev pub FitsFrame : Module → ℕ → Type 0
+FitsFrame m frame = (x : ℕ) (f : FunctionTree) → slice_get (module_tree m).functions x ≡ Some f → need (module_tree m) f ≤ frame
 
--- what the definition gives the function in any store, which it leaves as it was: no instruction that is built touches it
-abbrev pub GivesResult : ModuleTree → RunLimits → ℕ → List Val → ℕ → RunEnd → Type 0
-GivesResult m limits x args fuel end = (store : Store)
-    → function_result m (limits_of limits) x args store fuel ≡ Some (record { outcome = end.outcome; store = store; fuel = end.left })
+abbrev pub IsDone : Outcome → Type 0
+IsDone (outcome.Done v) = Unit {0}
+IsDone _ = ⊥

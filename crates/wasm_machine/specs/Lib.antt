@@ -1,4 +1,6 @@
-pub mod OperandStack
-pub mod Room
-pub mod Straight
+pub mod Remaining
+pub mod TypedConfiguration
+pub mod Simulation
+pub mod Lent
 pub mod Calls
+pub mod Room

@@ -5,3 +5,7 @@ use Rattle.std.specs.Prelude.{ℕ}
 pub record Room : Type 0 where
   pub depth : ℕ
   pub frame : ℕ
+
+-- what contracts see of the stacks
+pub record StacksView : Type 0 where
+  pub room : Room

@@ -1,11 +1,14 @@
-//! Runs a function of a valid module on fuel, over stacks that are lent to it. It takes no memory.
+//! Runs a function of a valid module on fuel, over a memory, a table, globals and stacks that are lent to it. It takes no memory.
 #![tactic(auto)]
 
-mod body;
+mod calls;
+mod control;
+mod invocation;
 mod lookup;
-mod operands;
 mod running;
 mod stacks;
 
-pub use running::{RunEnd, RunLimits, run};
+pub use invocation::{RunEnd, run};
+pub use linear_memory::Memory;
 pub use stacks::Stacks;
+pub use wasm_types::RunLimits;

@@ -1,85 +1,214 @@
-//! A function's run from its beginning to its end.
-ghost use Rattle.std.specs.Prelude.{◌≡◌, ◌<◌, ◌≤◌, ◌*◌, [], Some, slice_get};
-ghost use Rattle.wasm_types.specs.Tree.{module_tree};
-ghost use Rattle.wasm_spec.specs.Built.{IsBuilt};
-ghost use Rattle.wasm_spec.specs.Validity.{IsValid};
-ghost use Rattle.wasm_machine.specs.Calls.{GivesResult, IsCall};
+//! A run from a place on.
+ghost use Rattle.std.specs.Prelude.{◌≡◌, ℕ, ◌+◌, ◌-◌, ◌*◌, ◌<◌, ◌≤◌, ◌^◌, Option, Some, None, IfSome, length, option_copied};
+ghost use Rattle.wasm_types.specs.declared.outcome.Val.{Val};
+ghost use Rattle.wasm_types.specs.declared.instr.Op.TheVariants as op;
+ghost use Rattle.wasm_types.specs.declared.limits.RunLimits.{RunLimits as Limits};
+ghost use Rattle.wasm_spec.specs.Execution.{Ended};
+ghost use Rattle.wasm_spec.specs.Store.{Store};
+ghost use Rattle.machine_steps.specs.StackLayout.{KeepsRoom};
+ghost use Rattle.linear_memory.specs.Bytes.{IsMemory};
+ghost use Rattle.linear_memory.specs.Marks.{MarksChanges};
+ghost use Rattle.wasm_spec.specs.Instances.{room_for};
+ghost use Rattle.machine_steps.specs.Lent.{store_of};
+ghost use Rattle.wasm_machine.specs.TypedConfiguration.{IsRunnable};
+ghost use Rattle.wasm_machine.specs.Simulation.{AreMarkedBelow, HasFetched, CanContinue, HaltsAs, Simulates, Fetches, SimulatesStep, left_of, op_at, paid, chosen_arm, step_unless_trapped, step_unless_over};
 
-use crate::body::run_body;
-use crate::lookup::outermost;
-use crate::operands::Operands;
-use crate::stacks::Stacks;
-use wasm_types::module::Module;
-use wasm_types::outcome::{Outcome, Val};
-use wasm_validate::Valid;
+use crate::calls::{invoke, invoke_indirect};
+use crate::control::{end_sequence, jump};
+use crate::lookup::{most_pages, named_by, op_of, value_count};
+use linear_memory::Memory;
+use machine_steps::{Machine, is_jump};
+use wasm_types::{Instr, Module, Op, RunLimits, TrapKind, Val};
 
-/// What bounds a run beside its fuel: the pages of 65,536 bytes that a memory may have, and how many calls may be open at once.
+/// What a step comes to: the run goes on, is over, or traps.
 #[derive(Clone, Copy, Debug, PartialEq, Eq)]
-pub struct RunLimits {
-    pub pages: u32,
-    pub depth: u32,
+pub enum Step {
+    Continues,
+    Finishes,
+    Traps(TrapKind),
 }
 
-/// How a run ended, and the fuel that it left.
+/// How a run halts: at its end, by a trap, or for want of fuel, and the fuel that is left.
 #[derive(Clone, Copy, Debug, PartialEq, Eq)]
-pub struct RunEnd {
-    pub outcome: Outcome,
-    pub left: u64,
+pub enum Halt {
+    Done(u64),
+    Trapped(TrapKind, u64),
+    OutOfFuel,
 }
 
-// Runs the module's function in this room.
-fn run_function(
-    program: &Module,
-    function: u32,
-    args: &[Val],
-    fuel: u64,
-    limits: RunLimits,
-    operands: &mut Operands,
-) -> RunEnd
-    requires built { IsBuilt (module_tree program.now) }
-    requires valid { IsValid (module_tree program.now) }
-    requires call { IsCall (module_tree program.now) function args.now operands.old.room }
-    requires depth { 0 < limits.depth }
-    ensures result { GivesResult (module_tree program.now) limits function args.now fuel result }
-    ensures room { operands.new.room ≡ operands.old.room }
+// The sequence of the arm that a condition chooses.
+fn arm_of(condition: u32, first: usize, second: usize) -> usize
+    ensures { result ≡ chosen_arm condition first second }
 {
-    let function = &program.functions.as_slice()[function as usize];
-    operands.clear();
-    match run_body(outermost(&function.body), args, operands, fuel) {
-        Some(left) => RunEnd {
-            outcome: Outcome::Done(operands.top()),
-            left,
-        },
-        None => RunEnd {
-            outcome: Outcome::Fuel,
-            left: 0,
-        },
+    if condition == 0 { second } else { first }
+}
+
+// Whether a run is over.
+fn unless_over(over: bool) -> Step
+    ensures { result ≡ step_unless_over over }
+{
+    if over {
+        Step::Finishes
+    } else {
+        Step::Continues
     }
 }
 
-/// Runs a function of a valid module from its beginning to its end. It takes no memory.
-///
-/// Each instruction costs one unit of fuel. Source: Core Specification 1.0, section 4.5.5 (invocation).
-pub fn run(
-    valid: &Valid,
-    function: u32,
-    args: &[Val],
-    fuel: u64,
-    limits: RunLimits,
-    stacks: &mut Stacks,
-) -> RunEnd
-    requires call { IsCall (module_tree valid.now) function args.now stacks.old.frame }
-    requires depth { 0 < limits.depth }
-    requires room { limits.depth ≤ stacks.old.depth }
-    ensures result { GivesResult (module_tree valid.now) limits function args.now fuel result }
-    ensures stacks { stacks.new ≡ stacks.old }
+// Whether a run stops.
+fn unless_trapped(trap: Option<TrapKind>) -> Step
+    ensures { result ≡ step_unless_trapped trap }
 {
-    run_function(
-        valid.module(),
-        function,
-        args,
-        fuel,
-        limits,
-        &mut stacks.operands,
-    )
+    match trap {
+        None => Step::Continues,
+        Some(t) => Step::Traps(t),
+    }
+}
+
+// Ends the sequences that are over, up to the next instruction. None: the run is over.
+fn fetch<'m>(machine: &mut Machine, m: &'m Module) -> Option<&'m Op>
+    requires { CanContinue m.now machine.old }
+    ensures steps { (limits : Limits) (frame : ℕ) (store : Store) (r : ℕ → Ended)
+        → Simulates m.now limits frame machine.old store r → Fetches (option_copied result) m.now limits frame machine.new store r }
+    ensures room { KeepsRoom machine.old machine.new }
+    ensures fits { IfSome result (λ _. machine.new.at.place + 1 < 2 ^ 64) }
+{
+    loop {
+        match op_of(
+            m,
+            machine.at.function,
+            machine.at.sequence,
+            machine.at.place,
+        ) {
+            Some(op) => return Some(op),
+            None => {
+                if end_sequence(machine, m) {
+                    return None;
+                }
+            }
+        }
+    }
+}
+
+// The instruction at which the machine stands.
+fn execute(
+    machine: &mut Machine,
+    m: &Module,
+    limits: RunLimits,
+    memory: &mut Memory,
+    table: &[Option<u32>],
+    globals: &mut [Val],
+    op: &Op,
+) -> Step
+    requires there { op_at m.now machine.old ≡ Some op.now }
+    requires fits { machine.old.at.place + 1 < 2 ^ 64 }
+    requires runs { (frame : ℕ) × (r : ℕ → Ended) × IsRunnable m.now frame
+        × Simulates m.now limits frame machine.old (store_of memory.old table.now globals.old) r }
+    requires memory { IsMemory (room_for m.now.memories limits.pages) memory.old }
+    ensures steps { (frame : ℕ) (r : ℕ → Ended) → IsRunnable m.now frame
+        → Simulates m.now limits frame machine.old (store_of memory.old table.now globals.old) r
+        → SimulatesStep result m.now limits frame machine.new (store_of memory.new table.now globals.new) (paid r) }
+    ensures room { KeepsRoom machine.old machine.new }
+    ensures memory { IsMemory (room_for m.now.memories limits.pages) memory.new }
+    ensures marks { MarksChanges memory.old memory.new 2 }
+    ensures globals { length globals.new ≡ length globals.old }
+{
+    let here = machine.at.place;
+    machine.at.place = here + 1;
+    match op {
+        Op::Block(t, q) => {
+            let inner = named_by(m, machine.at.function, machine.at.sequence, *q);
+            machine.enter_block(value_count(*t), here + 1, inner);
+            Step::Continues
+        }
+        Op::Loop(_, q) => {
+            let inner = named_by(m, machine.at.function, machine.at.sequence, *q);
+            machine.enter_block(0, here, inner);
+            Step::Continues
+        }
+        Op::Call(x) => invoke(machine, m, limits, *x as usize),
+        Op::Plain(instr) => execute_plain(machine, m, limits, memory, table, globals, instr, here),
+        Op::If(t, first, second) => {
+            let c = machine.pop32();
+            let inner = named_by(
+                m,
+                machine.at.function,
+                machine.at.sequence,
+                arm_of(c, *first, *second),
+            );
+            machine.enter_block(value_count(*t), here + 1, inner);
+            Step::Continues
+        }
+        Op::CallIndirect(x) => invoke_indirect(machine, m, limits, table, *x),
+    }
+}
+
+// A plain instruction, behind which the machine stands.
+fn execute_plain(
+    machine: &mut Machine,
+    m: &Module,
+    limits: RunLimits,
+    memory: &mut Memory,
+    table: &[Option<u32>],
+    globals: &mut [Val],
+    instr: &Instr,
+    here: usize,
+) -> Step
+    requires runs { (frame : ℕ) × (r : ℕ → Ended) × IsRunnable m.now frame
+        × HasFetched m.now limits frame machine.old (store_of memory.old table.now globals.old) here (op.Plain instr.now) r }
+    requires memory { IsMemory (room_for m.now.memories limits.pages) memory.old }
+    ensures steps { (frame : ℕ) (r : ℕ → Ended) → IsRunnable m.now frame
+        → HasFetched m.now limits frame machine.old (store_of memory.old table.now globals.old) here (op.Plain instr.now) r
+        → SimulatesStep result m.now limits frame machine.new (store_of memory.new table.now globals.new) (paid r) }
+    ensures room { KeepsRoom machine.old machine.new }
+    ensures memory { IsMemory (room_for m.now.memories limits.pages) memory.new }
+    ensures marks { MarksChanges memory.old memory.new 2 }
+    ensures globals { length globals.new ≡ length globals.old }
+{
+    if is_jump(instr) {
+        unless_over(jump(machine, m, instr))
+    } else {
+        unless_trapped(machine.plain(most_pages(m, limits.pages), memory, globals, instr))
+    }
+}
+
+// Runs to the end, to a trap, or to the end of the fuel.
+pub(crate) fn advance(
+    machine: &mut Machine,
+    m: &Module,
+    limits: RunLimits,
+    memory: &mut Memory,
+    table: &[Option<u32>],
+    globals: &mut [Val],
+    fuel: u64,
+) -> Halt
+    requires runs { (frame : ℕ) × (r : ℕ → Ended) × IsRunnable m.now frame
+        × Simulates m.now limits frame machine.old (store_of memory.old table.now globals.old) r }
+    requires memory { IsMemory (room_for m.now.memories limits.pages) memory.old }
+    ensures halts { (frame : ℕ) (r : ℕ → Ended) → IsRunnable m.now frame
+        → Simulates m.now limits frame machine.old (store_of memory.old table.now globals.old) r
+        → HaltsAs result m.now limits frame machine.new (store_of memory.new table.now globals.new) fuel r }
+    ensures marked { (frame : ℕ) (r : ℕ → Ended) → IsRunnable m.now frame
+        → Simulates m.now limits frame machine.old (store_of memory.old table.now globals.old) r
+        → AreMarkedBelow (fuel + 1) r memory.old memory.new }
+    ensures left { left_of result ≤ fuel }
+    ensures unspent { left_of result ≡ fuel → memory.new.marks.items ≡ memory.old.marks.items }
+    ensures marks { MarksChanges memory.old memory.new (2 * (fuel - left_of result)) }
+    ensures room { KeepsRoom machine.old machine.new }
+    ensures memory { IsMemory (room_for m.now.memories limits.pages) memory.new }
+    ensures globals { length globals.new ≡ length globals.old }
+{
+    for spent in 0..fuel {
+        match fetch(machine, m) {
+            None => return Halt::Done(fuel - spent),
+            Some(op) => match execute(machine, m, limits, memory, table, globals, op) {
+                Step::Continues => {}
+                Step::Finishes => return Halt::Done(fuel - spent - 1),
+                Step::Traps(t) => return Halt::Trapped(t, fuel - spent - 1),
+            },
+        }
+    }
+    match fetch(machine, m) {
+        None => Halt::Done(0),
+        Some(_) => Halt::OutOfFuel,
+    }
 }

@@ -1,39 +1,43 @@
-//! The stacks of a run.
+//! The stacks that are lent to a run.
 ghost use Rattle.std.specs.Prelude.{◌≡◌, IfOk};
 
-use crate::operands::Operands;
+use machine_steps::Machine;
 use std::alloc::Global;
 use std::marker::Model;
-use wasm_types::outcome::NoMemory;
+use wasm_types::NoMemory;
 
 /// Room for the frames of a run: so many of them, each of so many entries.
 #[derive(Drop)]
 pub struct Stacks {
-    pub(crate) operands: Operands,
+    pub(crate) machine: Machine,
     depth: u32,
     frame: u32,
 }
 
 impl Model for Stacks {
-    ghost use Rattle.std.specs.Prelude.{◌≡◌, ◌*◌};
-    ghost use Rattle.wasm_machine.specs.Room.{Room};
+    ghost use Rattle.wasm_machine.specs.Room.{StacksView};
+    ghost use Rattle.machine_steps.specs.StackLayout.{HasRoom};
 
-    ghost Value = { Room };
+    ghost Value = { StacksView };
 
-    ghost view = { λ s. record { depth = s.depth; frame = s.frame } };
+    ghost view = { λ s. record { room = record { depth = s.depth; frame = s.frame } } };
 
-    ghost invariant = { λ s. s.operands.room ≡ s.depth * s.frame };
+    ghost invariant = { λ s. HasRoom s.depth s.frame s.machine };
 }
 
 impl Stacks {
     /// Stacks for `depth` frames of `frame` entries each.
+    ///
+    /// # Errors
+    ///
+    /// `NoMemory` where memory was refused.
     pub fn open(alloc: Global, depth: u32, frame: u32) -> Result<Stacks, NoMemory>
-        ensures { IfOk result (λ s. s ≡ record { depth = depth; frame = frame }) }
+        ensures { IfOk result (λ s. s.room ≡ record { depth = depth; frame = frame }) }
     {
-        let room = depth as usize * frame as usize;
-        match Operands::open(alloc, room) {
-            Ok(operands) => Ok(Stacks {
-                operands,
+        let entries = depth as usize * frame as usize;
+        match Machine::with_room(alloc, entries, depth as usize) {
+            Ok(machine) => Ok(Stacks {
+                machine,
                 depth,
                 frame,
             }),

@@ -7,11 +7,7 @@ use Rattle.std.proofs.Math.Path.{ap₂}
 use Rattle.std.proofs.Math.Pow.{shr_lt}
 use Rattle.std.proofs.Math.Seq.{take-append_seam, drop-append_seam}
 use Rattle.wasm_spec.specs.Operators.{binary_digits}
-
-pub digits-length : (n i : ℕ) → length (binary_digits n i) ≡ n
-unfolding binary_digits
-digits-length zero i = refl
-digits-length (suc n) i = ap suc (digits-length n (i / 2))
+use Rattle.wasm_numeric.proofs.StdOperators.{digits-length, moved-up}
 
 pub digits-zero : (n : ℕ) → binary_digits n 0 ≡ replicate n 0
 unfolding binary_digits
@@ -62,13 +58,6 @@ highest-digits m k a =
     let low : List ℕ = binary_digits m (a % 2 ^ m) in
     let high : List ℕ = binary_digits k (a / 2 ^ m) in
     ap (drop m) (digits-split m k a) ∙ ap (λ (i : ℕ). drop i (low ++ high)) (sym (digits-length m (a % 2 ^ m))) ∙ drop-append_seam low high
-
--- the digits that stay when a is moved up by k places
-moved-up : (a m k : ℕ) → a * 2 ^ k % 2 ^ (m + k) ≡ a % 2 ^ m * 2 ^ k
-moved-up a m k =
-    mod-pow-add (a * 2 ^ k) m k
-    ∙ ap₂ (λ (x y : ℕ). x % 2 ^ m * 2 ^ k + y) (mul-div_cancel a (pow_pos k)) (mul-mod_left a (2 ^ k))
-    ∙ add-zero (a % 2 ^ m * 2 ^ k)
 
 -- a of m + k digits, moved up by k places; what leaves comes in below
 pub digits-moved-up : (m k a : ℕ) → a < 2 ^ (m + k)

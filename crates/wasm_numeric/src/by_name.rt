@@ -1,6 +1,6 @@
-// The operators by name, as an instruction gives it.
-//
-// Source: WebAssembly Core Specification 1.0, section 4.3.2.
+//! The operators by name, as an instruction gives it.
+//!
+//! Source: WebAssembly Core Specification 1.0, section 4.3.2.
 
 ghost use Rattle.std.specs.Prelude.{◌≡◌};
 ghost use Rattle.wasm_spec.specs.Operators.{binary, compare, unary};
@@ -15,8 +15,7 @@ use crate::i64_operators::{
     i64_gt_u, i64_le_s, i64_le_u, i64_lt_s, i64_lt_u, i64_mul, i64_ne, i64_or, i64_popcnt,
     i64_rem_s, i64_rem_u, i64_rotl, i64_rotr, i64_shl, i64_shr_s, i64_shr_u, i64_sub, i64_xor,
 };
-use wasm_types::instr::{BinaryOp, CompareOp, UnaryOp};
-use wasm_types::outcome::TrapKind;
+use wasm_types::{BinaryOp, CompareOp, TrapKind, UnaryOp};
 
 /// The value of an operator of one operand of 32 bits.
 pub fn unary32(op: UnaryOp, a: u32) -> u32

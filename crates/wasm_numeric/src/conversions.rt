@@ -1,6 +1,6 @@
-// The conversions between integers of 32 and of 64 bits.
-//
-// Source: WebAssembly Core Specification 1.0, section 4.3.4.
+//! The conversions between integers of 32 and of 64 bits.
+//!
+//! Source: WebAssembly Core Specification 1.0, section 4.3.4.
 
 ghost use Rattle.std.specs.Prelude.{◌≡◌};
 ghost use Rattle.wasm_spec.specs.Operators.{extend_s, wrap};

@@ -1,15 +1,16 @@
-// The operators on integers of 64 bits.
-//
-// An `i64` of the standard is a `u64`; a signed operator reads it as a number in two's complement.
-// Source: WebAssembly Core Specification 1.0, section 4.3.2.
+//! The operators on integers of 64 bits.
+//!
+//! An `i64` of the standard is a `u64`; a signed operator reads it as a number in two's complement.
+//! Source: WebAssembly Core Specification 1.0, section 4.3.2.
 
 ghost use Rattle.std.specs.Prelude.{◌≡◌, bit_and, bit_or, bit_xor};
 ghost use Rattle.wasm_types.specs.declared.instr.CompareOp.TheVariants as compare_op;
 ghost use Rattle.wasm_spec.specs.Operators.{add, clz, compare, ctz, div_s, div_u, eqz, mul, popcnt, rem_s, rem_u, rotl, rotr, shl, shr_s, shr_u, sub};
 
-use wasm_types::outcome::TrapKind;
+use wasm_types::TrapKind;
 
 /// How many of the digits at the upper end are 0: all of them where the number is 0. Standard: `iclz`.
+#[tactic(auto, using(crate::proofs::StdOperators::clz_in_std))]
 pub fn i64_clz(a: u64) -> u64
     ensures { result ≡ clz 64 a }
 {
@@ -17,6 +18,7 @@ pub fn i64_clz(a: u64) -> u64
 }
 
 /// How many of the digits at the lower end are 0: all of them where the number is 0. Standard: `ictz`.
+#[tactic(auto, using(crate::proofs::StdOperators::ctz_in_std))]
 pub fn i64_ctz(a: u64) -> u64
     ensures { result ≡ ctz 64 a }
 {
@@ -24,6 +26,7 @@ pub fn i64_ctz(a: u64) -> u64
 }
 
 /// How many of the digits are 1. Standard: `ipopcnt`.
+#[tactic(auto, using(crate::proofs::StdOperators::popcnt_in_std))]
 pub fn i64_popcnt(a: u64) -> u64
     ensures { result ≡ popcnt 64 a }
 {

@@ -1,7 +1,7 @@
-// Laws of the operators' definitions in the standard's own words, as contracts of functions that do nothing.
-//
-// `binary_digits` lists the digits from the lowest on, so what the standard moves to the left goes towards the list's
-// end. Source: WebAssembly Core Specification 1.0, section 4.3.2.
+//! Laws of the operators' definitions in the standard's own words, as contracts of functions that do nothing.
+//!
+//! `binary_digits` lists the digits from the lowest on, so what the standard moves to the left goes towards the list's
+//! end. Source: WebAssembly Core Specification 1.0, section 4.3.2.
 
 ghost use Rattle.std.specs.Prelude.{◌≡◌, ◌↔◌, ℕ, ◌-◌, ◌/◌, ◌%◌, ◌^◌, ◌<◌, ◌++◌, take, drop, replicate, ℤ, pos, ◌+ℤ◌, ◌*ℤ◌, ◌≤ℤ◌, int_div, unsigned_abs};
 ghost use Rattle.wasm_types.specs.declared.instr.Width.{Width};

@@ -1,5 +1,5 @@
-// Each operator at boundary operands. The results are those of another engine, the V8 of Node 20, which ran a
-// module of one function for each operator.
+//! Each operator at boundary operands. The results are those of another engine, the V8 of Node 20, which ran a
+//! module of one function for each operator.
 
 use crate::by_name::{binary32, binary64, compare32, compare64, unary32, unary64};
 use crate::conversions::{i32_wrap_i64, i64_extend_i32_s, i64_extend_i32_u};
@@ -8,7 +8,7 @@ use crate::i64_operators::i64_eqz;
 use std::alloc::Global;
 use std::process::Abort;
 use std::test::Fail;
-use wasm_types::instr::{BinaryOp, CompareOp, UnaryOp};
+use wasm_types::{BinaryOp, CompareOp, UnaryOp};
 
 const PAIRS_32: [(u32, u32); 10] = [
     (0x7fff_ffff, 1),

@@ -5,10 +5,11 @@ use Rattle.std.specs.Prelude.{slice_get, not}
 use Rattle.wasm_types.specs.declared.types.ValType.{ValType}
 use Rattle.wasm_types.specs.declared.instr.Instr.{Instr}
 use Rattle.wasm_types.specs.declared.outcome.TrapKind.TheVariants as trap
+use Rattle.wasm_types.specs.SameTypes.{same_type}
 use Rattle.wasm_types.specs.Tree.{Code, End, Plain, Block, Loop, If, Call, CallIndirect, ModuleTree}
-use Rattle.wasm_spec.specs.Execution.{RunLimits, State, Next, Trapped, OutOfFuel, Ended, ended, Continuation, plain, and_then, leave, arity, pop_index, choose, inside, invoke, with_function, same_type, exec_within, exec}
-use Rattle.wasm_spec.specs.Equations.{exec_arm, exec_call, exec_typed_call, exec_element_call}
-use Rattle.wasm_spec.proofs.FuelLaws.{Spends, Agree, within-spends, within-exec, and_then-same, leave-same, invoke-same, with_function-same, with_type-same, with_element-same, pop_index-same, choose-same, choose-spends, unless-same}
+use Rattle.wasm_types.specs.declared.limits.RunLimits.{RunLimits}
+use Rattle.wasm_spec.specs.Execution.{State, Next, Trapped, OutOfFuel, Ended, ended, Continuation, plain, and_then, leave, arity, pop_index, choose, inside, invoke, arm, with_function, call, typed_call, element_call, exec_within, exec}
+use Rattle.wasm_spec.proofs.FuelLaws.{Spends, Agree, within-spends, within-exec, and_then-same, leave-same, invoke-same, with_function-same, if_there-same, with_element-same, pop_index-same, choose-same, choose-spends, unless-same}
 
 module _ (m : ModuleTree) (limits : RunLimits) where
   -- below k, any index from k on goes on as `exec` does
@@ -68,7 +69,7 @@ module _ (m : ModuleTree) (limits : RunLimits) where
       ∙ ap (λ (r : Ended). leave 0 s.operands r go' again') (within-exec m limits n body depth (inside s) fuel (omega arith))
 
   pub exec-If : (depth : ℕ) (t : Option ValType) (first second rest : Code) (s : State) (fuel : ℕ)
-      → exec m limits depth (If t first second rest) s (suc fuel) ≡ pop_index s.operands (exec_arm m limits depth t first second rest) s fuel
+      → exec m limits depth (If t first second rest) s (suc fuel) ≡ pop_index s.operands (arm t (exec m limits depth first) (exec m limits depth second) (exec m limits depth rest)) s fuel
   unfolding exec
   exec-If depth t first second rest s fuel =
       let n : ℕ = suc (suc fuel) in
@@ -79,28 +80,28 @@ module _ (m : ModuleTree) (limits : RunLimits) where
       let b : Continuation = exec_within m limits n second depth in
       let a' : Continuation = exec m limits depth first in
       let b' : Continuation = exec m limits depth second in
-      pop_index-same s.operands (suc fuel) _ (exec_arm m limits depth t first second rest) (λ c s g l.
+      pop_index-same s.operands (suc fuel) _ (arm t (exec m limits depth first) (exec m limits depth second) (exec m limits depth rest)) (λ c s g l.
       let arm_spends : Spends (choose c a b) = choose-spends c a b (within-spends m limits n first depth) (within-spends m limits n second depth) in
       let arms : Agree (suc fuel) (choose c a b) (choose c a' b') = choose-same c (suc fuel) a a' b b' (agree n (suc fuel) first depth (omega arith)) (agree n (suc fuel) second depth (omega arith)) in
       leave-same (arity t) s.operands (choose c a b (inside s) g).signal (choose c a b (inside s) g).fuel (suc fuel) go go' go go' (omega (arith, arm_spends (inside s) g)) h h
       ∙ ap (λ (r : Ended). leave (arity t) s.operands r go' go') (arms (inside s) g l)) s fuel (omega arith)
 
   pub exec-Call : (depth x : ℕ) (rest : Code) (s : State) (fuel : ℕ)
-      → exec m limits depth (Call x rest) s (suc fuel) ≡ with_function m x (exec_call m limits depth rest) s fuel
+      → exec m limits depth (Call x rest) s (suc fuel) ≡ with_function m x (call m limits depth (exec m limits (depth + 1)) (exec m limits depth rest)) s fuel
   unfolding exec
   exec-Call depth x rest s fuel =
       let n : ℕ = suc fuel in
-      with_function-same m (slice_get m.functions x) n _ (exec_call m limits depth rest) (λ f t.
+      with_function-same m x n _ (call m limits depth (exec m limits (depth + 1)) (exec m limits depth rest)) (λ f t.
       invoke-same limits depth f t n (exec_within m limits n f.body (depth + 1)) (exec m limits (depth + 1) f.body) (exec_within m limits (suc n) rest depth) (exec m limits depth rest)
       (within-spends m limits n f.body (depth + 1)) (agree n n f.body (depth + 1) (omega arith)) (agree (suc n) n rest depth (omega arith))) s fuel (omega arith)
 
   pub exec-CallIndirect : (depth x : ℕ) (rest : Code) (s : State) (fuel : ℕ)
-      → exec m limits depth (CallIndirect x rest) s (suc fuel) ≡ pop_index s.operands (exec_element_call m limits depth x rest) s fuel
+      → exec m limits depth (CallIndirect x rest) s (suc fuel) ≡ pop_index s.operands (element_call m limits depth (exec m limits (depth + 1)) (exec m limits depth rest) x) s fuel
   unfolding exec
   exec-CallIndirect depth x rest s fuel =
       let n : ℕ = suc fuel in
-      pop_index-same s.operands n _ (exec_element_call m limits depth x rest) (λ i s. with_element-same (slice_get s.store.table i) n _ _ (λ y.
-      with_type-same (slice_get m.types x) n _ _ (λ u. with_function-same m (slice_get m.functions y) n _ (exec_typed_call m limits depth rest u) (λ f t s.
+      pop_index-same s.operands n _ (element_call m limits depth (exec m limits (depth + 1)) (exec m limits depth rest) x) (λ i s. with_element-same (slice_get s.store.table i) n _ _ (λ y.
+      if_there-same (slice_get m.types x) n _ _ (λ u. with_function-same m y n _ (typed_call m limits depth (exec m limits (depth + 1)) (exec m limits depth rest) u) (λ f t s.
       let run : Continuation = exec_within m limits n f.body (depth + 1) in
       let run' : Continuation = exec m limits (depth + 1) f.body in
       let go : Continuation = exec_within m limits (suc n) rest depth in

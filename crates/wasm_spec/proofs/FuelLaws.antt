@@ -6,9 +6,11 @@ use Rattle.wasm_types.specs.declared.types.ValType.{ValType}
 use Rattle.wasm_types.specs.declared.outcome.Val.{Val}
 use Rattle.wasm_types.specs.declared.outcome.Val.TheVariants as val
 use Rattle.wasm_types.specs.declared.outcome.TrapKind.TheVariants as trap
+use Rattle.wasm_types.specs.SameTypes.{same_type}
 use Rattle.wasm_types.specs.Tree.{Code, End, Plain, Block, Loop, If, Call, CallIndirect, FunctionTree, ModuleTree}
 use Rattle.wasm_spec.specs.Store.{Store}
-use Rattle.wasm_spec.specs.Execution.{RunLimits, State, Signal, Next, Branch, Returned, Trapped, OutOfFuel, Stuck, Ended, Continuation, plain, pay, and_then, unless, keep, leave_by, leave, arity, pop_index, choose, inside, return_by, return, entered, invoke, with_type, with_function, with_type_as, with_function_as, with_element, same_type, exec_within, exec}
+use Rattle.wasm_types.specs.declared.limits.RunLimits.{RunLimits}
+use Rattle.wasm_spec.specs.Execution.{element_call, typed_call, call, State, Signal, Next, Branch, Returned, Trapped, OutOfFuel, Stuck, Ended, Continuation, plain, pay, and_then, unless, keep, leave_by, leave, arity, pop_index, choose, inside, arm, return_by, return, entered, callee, invoke, with_type, if_there, with_function, with_element, exec_within, exec}
 
 -- ---- fuel only falls
 
@@ -56,10 +58,6 @@ return-spends n caller below (Trapped t store) fuel g next h le = le
 return-spends n caller below (OutOfFuel store) fuel g next h le = le
 return-spends n caller below Stuck fuel g next h le = le
 
--- a call, once its operands are there and its depth is one that may be
-abbrev callee : FunctionTree → FuncType → Continuation → Continuation → Continuation
-callee f t run next s fuel = return (length t.results) s (drop (length t.params) s.operands) (run (entered f t s) fuel) next
-
 callee-spends : (f : FunctionTree) (t : FuncType) (run next : Continuation) → Spends run → Spends next → Spends (callee f t run next)
 callee-spends f t run next hr h s fuel =
     let inner : Ended = run (entered f t s) fuel in
@@ -72,14 +70,14 @@ invoke-spends limits depth f t run next hr h s fuel =
     unless-spends (nat_lt (length s.operands) (length t.params)) Stuck within
     (unless-spends (nat_le limits.depth depth) (Trapped trap.Exhausted s.store) (callee f t run next) (callee-spends f t run next hr h)) s fuel
 
-with_type-spends : (o : Option FuncType) (next : FuncType → Continuation) → ((t : FuncType) → Spends (next t)) → Spends (with_type_as o next)
-with_type-spends None next h s fuel = omega arith
-with_type-spends (Some t) next h s fuel = h t s fuel
+if_there-spends : {A : Type 0} (o : Option A) (next : A → Continuation) → ((x : A) → Spends (next x)) → Spends (if_there o next)
+if_there-spends None next h s fuel = omega arith
+if_there-spends (Some x) next h s fuel = h x s fuel
 
-pub with_function-spends : (m : ModuleTree) (o : Option FunctionTree) (next : FunctionTree → FuncType → Continuation)
-    → ((f : FunctionTree) (t : FuncType) → Spends (next f t)) → Spends (with_function_as m o next)
-with_function-spends m None next h s fuel = omega arith
-with_function-spends m (Some f) next h s fuel = with_type-spends (slice_get m.types f.type_index) (next f) (h f) s fuel
+pub with_function-spends : (m : ModuleTree) (x : ℕ) (next : FunctionTree → FuncType → Continuation)
+    → ((f : FunctionTree) (t : FuncType) → Spends (next f t)) → Spends (with_function m x next)
+with_function-spends m x next h =
+    if_there-spends (slice_get m.functions x) (λ f. with_type m f.type_index (next f)) (λ f. if_there-spends (slice_get m.types f.type_index) (next f) (h f))
 
 pop_index-spends : (vs : List Val) (next : ℕ → Continuation) → ((n : ℕ) → Spends (next n)) → Spends (pop_index vs next)
 pop_index-spends [] next h s fuel = omega arith
@@ -102,21 +100,23 @@ module _ (m : ModuleTree) (limits : RunLimits) where
       leave (arity t) s.operands (exec_within m limits n body depth (inside s) fuel) (exec_within m limits n rest depth) (exec_within m limits n rest depth)
 
   abbrev within_arm : ℕ → ℕ → Option ValType → Code → Code → Code → ℕ → Continuation
-  within_arm n depth t first second rest c s fuel =
-      leave (arity t) s.operands (choose c (exec_within m limits n first depth) (exec_within m limits n second depth) (inside s) fuel)
-      (exec_within m limits n rest depth) (exec_within m limits n rest depth)
+  within_arm n depth t first second rest =
+      arm t (exec_within m limits n first depth) (exec_within m limits n second depth) (exec_within m limits n rest depth)
+
+  abbrev within_body : ℕ → ℕ → Code → Continuation
+  within_body n depth c = exec_within m limits n c (depth + 1)
 
   abbrev within_call : ℕ → ℕ → Code → FunctionTree → FuncType → Continuation
-  within_call n depth rest f t = invoke limits depth f t (exec_within m limits n f.body (depth + 1)) (exec_within m limits (suc n) rest depth)
+  within_call n depth rest = call m limits depth (within_body n depth) (exec_within m limits (suc n) rest depth)
 
   abbrev within_typed_call : ℕ → ℕ → Code → FuncType → FunctionTree → FuncType → Continuation
-  within_typed_call n depth rest u f t s = unless (not (same_type u t)) (Trapped trap.Signature s.store) (within_call n depth rest f t) s
+  within_typed_call n depth rest = typed_call m limits depth (within_body n depth) (exec_within m limits (suc n) rest depth)
 
   abbrev within_element : ℕ → ℕ → ℕ → Code → ℕ → Continuation
   within_element n depth x rest y = with_type m x (λ u. with_function m y (within_typed_call n depth rest u))
 
   abbrev within_element_call : ℕ → ℕ → ℕ → Code → ℕ → Continuation
-  within_element_call n depth x rest i s = with_element (slice_get s.store.table i) (within_element n depth x rest) s
+  within_element_call n depth x rest = element_call m limits depth (within_body n depth) (exec_within m limits (suc n) rest depth) x
 
   pub within-spends : (n : ℕ) (c : Code) (depth : ℕ) → Spends (exec_within m limits n c depth)
   within-spends n End depth s fuel = omega arith
@@ -142,8 +142,8 @@ module _ (m : ModuleTree) (limits : RunLimits) where
       (within-spends (suc n) rest depth) (within-spends n (Loop t body rest) depth) (within-spends (suc n) body depth (inside s) g))
   within-spends zero (Call x rest) depth s fuel = omega arith
   within-spends (suc n) (Call x rest) depth s fuel =
-      pay-spends s.store fuel (with_function_as m (slice_get m.functions x) (within_call n depth rest) s)
-      (with_function-spends m (slice_get m.functions x) (within_call n depth rest) (λ f t.
+      pay-spends s.store fuel (with_function m x (within_call n depth rest) s)
+      (with_function-spends m x (within_call n depth rest) (λ f t.
       invoke-spends limits depth f t (exec_within m limits n f.body (depth + 1)) (exec_within m limits (suc n) rest depth)
       (within-spends n f.body (depth + 1)) (within-spends (suc n) rest depth)) s)
   within-spends zero (CallIndirect x rest) depth s fuel = omega arith
@@ -151,8 +151,8 @@ module _ (m : ModuleTree) (limits : RunLimits) where
       pay-spends s.store fuel (pop_index s.operands (within_element_call n depth x rest) s)
       (pop_index-spends s.operands (within_element_call n depth x rest) (λ i s.
       with_element-spends (slice_get s.store.table i) (within_element n depth x rest) (λ y.
-      with_type-spends (slice_get m.types x) (λ u. with_function m y (within_typed_call n depth rest u)) (λ u.
-      with_function-spends m (slice_get m.functions y) (within_typed_call n depth rest u) (λ f t s.
+      if_there-spends (slice_get m.types x) (λ u. with_function m y (within_typed_call n depth rest u)) (λ u.
+      with_function-spends m y (within_typed_call n depth rest u) (λ f t s.
       unless-spends (not (same_type u t)) (Trapped trap.Signature s.store) (within_call n depth rest f t)
       (invoke-spends limits depth f t (exec_within m limits n f.body (depth + 1)) (exec_within m limits (suc n) rest depth)
       (within-spends n f.body (depth + 1)) (within-spends (suc n) rest depth)) s))) s) s)
@@ -224,15 +224,16 @@ invoke-same limits depth f t k run run' next next' spends hr h s fuel lt =
     unless-same (nat_lt (length s.operands) (length t.params)) Stuck k (unless deep exhausted (callee f t run next)) (unless deep exhausted (callee f t run' next'))
     (unless-same deep exhausted k (callee f t run next) (callee f t run' next') (callee-same f t k run run' next next' spends hr h)) s fuel lt
 
-pub with_type-same : (o : Option FuncType) (k : ℕ) (next next' : FuncType → Continuation)
-    → ((t : FuncType) → Agree k (next t) (next' t)) → Agree k (with_type_as o next) (with_type_as o next')
-with_type-same None k next next' h s fuel lt = refl
-with_type-same (Some t) k next next' h s fuel lt = h t s fuel lt
+pub if_there-same : {A : Type 0} (o : Option A) (k : ℕ) (next next' : A → Continuation)
+    → ((x : A) → Agree k (next x) (next' x)) → Agree k (if_there o next) (if_there o next')
+if_there-same None k next next' h s fuel lt = refl
+if_there-same (Some x) k next next' h s fuel lt = h x s fuel lt
 
-pub with_function-same : (m : ModuleTree) (o : Option FunctionTree) (k : ℕ) (next next' : FunctionTree → FuncType → Continuation)
-    → ((f : FunctionTree) (t : FuncType) → Agree k (next f t) (next' f t)) → Agree k (with_function_as m o next) (with_function_as m o next')
-with_function-same m None k next next' h s fuel lt = refl
-with_function-same m (Some f) k next next' h s fuel lt = with_type-same (slice_get m.types f.type_index) k (next f) (next' f) (h f) s fuel lt
+pub with_function-same : (m : ModuleTree) (x k : ℕ) (next next' : FunctionTree → FuncType → Continuation)
+    → ((f : FunctionTree) (t : FuncType) → Agree k (next f t) (next' f t)) → Agree k (with_function m x next) (with_function m x next')
+with_function-same m x k next next' h =
+    if_there-same (slice_get m.functions x) k (λ f. with_type m f.type_index (next f)) (λ f. with_type m f.type_index (next' f))
+    (λ f. if_there-same (slice_get m.types f.type_index) k (next f) (next' f) (h f))
 
 pub pop_index-same : (vs : List Val) (k : ℕ) (next next' : ℕ → Continuation) → ((n : ℕ) → Agree k (next n) (next' n)) → Agree k (pop_index vs next) (pop_index vs next')
 pop_index-same [] k next next' h s fuel lt = refl
@@ -293,7 +294,7 @@ module _ (m : ModuleTree) (limits : RunLimits) where
   within-enough (suc n) zero (Call x rest) depth s fuel lt lt' = absurd (omega arith)
   within-enough (suc n) (suc n') (Call x rest) depth s fuel lt lt' =
       let h : Agree fuel (exec_within m limits (suc n) rest depth) (exec_within m limits (suc n') rest depth) = λ u j l. within-enough (suc n) (suc n') rest depth u j (omega arith) (omega arith) in
-      pay-same s.store fuel _ _ (λ g l. with_function-same m (slice_get m.functions x) fuel _ _ (λ f t.
+      pay-same s.store fuel _ _ (λ g l. with_function-same m x fuel _ _ (λ f t.
       invoke-same limits depth f t fuel (exec_within m limits n f.body (depth + 1)) (exec_within m limits n' f.body (depth + 1)) (exec_within m limits (suc n) rest depth) (exec_within m limits (suc n') rest depth)
       (within-spends m limits n f.body (depth + 1)) (λ u j l. within-enough n n' f.body (depth + 1) u j (omega arith) (omega arith)) h) s g l)
   within-enough zero n' (CallIndirect x rest) depth s fuel lt lt' = absurd (omega arith)
@@ -303,7 +304,7 @@ module _ (m : ModuleTree) (limits : RunLimits) where
       let go' : Continuation = exec_within m limits (suc n') rest depth in
       let h : Agree fuel go go' = λ u j l. within-enough (suc n) (suc n') rest depth u j (omega arith) (omega arith) in
       pay-same s.store fuel _ _ (λ g l. pop_index-same s.operands fuel _ _ (λ i s. with_element-same (slice_get s.store.table i) fuel _ _ (λ y.
-      with_type-same (slice_get m.types x) fuel _ _ (λ u. with_function-same m (slice_get m.functions y) fuel _ _ (λ f t s.
+      if_there-same (slice_get m.types x) fuel _ _ (λ u. with_function-same m y fuel _ _ (λ f t s.
       let run : Continuation = exec_within m limits n f.body (depth + 1) in
       let run' : Continuation = exec_within m limits n' f.body (depth + 1) in
       unless-same (not (same_type u t)) (Trapped trap.Signature s.store) fuel (invoke limits depth f t run go) (invoke limits depth f t run' go')

@@ -52,11 +52,11 @@ instr-unique i j bytes r s a b =
     shape-unique (shape a.opcode) i j a.after r s a.follows (subst (λ (l : List ℕ). P a.opcode l) (sym (same_others a.leads b.leads)) f)
 
 -- what code begins with: a plain instruction, or this byte
-lead_of_shape : Shape → ℕ → ℕ
+unfoldable pub lead_of_shape : Shape → ℕ → ℕ
 lead_of_shape NotPlain b = b
 lead_of_shape _ b = 256
 
-lead : List ℕ → ℕ
+unfoldable pub lead : List ℕ → ℕ
 lead [] = 257
 lead (b ∷ bytes) = lead_of_shape (shape b) b
 
@@ -69,7 +69,7 @@ code_lead k (If t first second more) = 0x04
 code_lead k (Call x more) = 0x10
 code_lead k (CallIndirect x more) = 0x11
 
-plain_lead : (k : Shape) (b : ℕ) (i : Instr) (bytes rest : List ℕ) → TakesShape k i bytes rest → lead_of_shape k b ≡ 256
+pub plain_lead : (k : Shape) (b : ℕ) (i : Instr) (bytes rest : List ℕ) → TakesShape k i bytes rest → lead_of_shape k b ≡ 256
 unfolding lead_of_shape
 plain_lead (Alone j) b i bytes rest h = refl
 plain_lead (WithIndex make) b i bytes rest h = refl
@@ -81,7 +81,7 @@ plain_lead WithI64 b i bytes rest h = refl
 plain_lead (WithBytes n j) b i bytes rest h = refl
 plain_lead NotPlain b i bytes rest h = absurd h
 
-closes : (k : Closer) (rest : List ℕ) → lead (closing_byte k ∷ rest) ≡ closing_byte k
+pub closes : (k : Closer) (rest : List ℕ) → lead (closing_byte k ∷ rest) ≡ closing_byte k
 unfolding lead lead_of_shape shape
 closes ByEnd rest = refl
 closes ByElse rest = refl

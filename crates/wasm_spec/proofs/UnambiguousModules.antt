@@ -15,12 +15,12 @@ use Rattle.wasm_types.specs.Tree.{Code, FunctionTree, GlobalTree, ElementTree, D
 use Rattle.wasm_spec.specs.Numbers.{TakesUnsigned, TakesEach, TakesVec, TakesBytes, TakesName, IsUnambiguous}
 use Rattle.wasm_spec.specs.TypeGrammar.{TakesValType, TakesFuncType, TakesLimits, TakesMemoryType, TakesTableType, TakesGlobalType}
 use Rattle.wasm_spec.specs.InstrGrammar.{TakesExpr}
-use Rattle.wasm_spec.specs.Grammar.{TakesImportDesc, TakesImport, TakesGlobal, TakesExportDesc, TakesExport, TakesElement, TakesLocalRun, Body, TakesBody, TakesSizedBody, body_of, type_index_of, TakesData, Section, TakesSection, section, SpellsVec, SpellsStart, Spells}
+use Rattle.wasm_spec.specs.Grammar.{TakesImportDesc, TakesImport, TakesGlobal, TakesExportDesc, TakesExport, TakesElement, TakesLocalRun, Body, TakesBody, TakesSizedBody, body_of, type_index_of, TakesData, Section, TakesSection, section, SpellsVec, SpellsStart, SpellsFields, Spells}
 use Rattle.wasm_spec.proofs.UnambiguousNumbers.{same_first, same_others, unsigned-unique, vec-unique, bytes-unique, name-unique}
 use Rattle.wasm_spec.proofs.UnambiguousTypes.{val_type-unique, func_type-unique, limits-unique, table_type-unique, global_type-unique}
 use Rattle.wasm_spec.proofs.UnambiguousInstrs.{expr-unique}
 
-import_desc-unique : IsUnambiguous TakesImportDesc
+pub import_desc-unique : IsUnambiguous TakesImportDesc
 import_desc-unique (import.Func x) (import.Func y) bytes r s a b =
     let u = unsigned-unique 32 x y a.0 r s a.2 (subst (λ (l : List ℕ). TakesUnsigned 32 y l s) (sym (same_others a.1 b.1)) b.2) in
     (ap (λ (z : ℕ). import.Func z) u.0, u.1)
@@ -38,7 +38,7 @@ import_desc-unique (import.Table x) _ bytes r s a b = absurd (omega (arith, same
 import_desc-unique (import.Memory x) _ bytes r s a b = absurd (omega (arith, same_first a.1 b.1))
 import_desc-unique (import.Global x) _ bytes r s a b = absurd (omega (arith, same_first a.1 b.1))
 
-import-unique : IsUnambiguous TakesImport
+pub import-unique : IsUnambiguous TakesImport
 import-unique i j bytes r s a b =
     let u = name-unique i.module_name j.module_name bytes a.after_module b.after_module a.module_name b.module_name in
     let v = name-unique i.item_name j.item_name a.after_module a.after_item b.after_item a.item_name
@@ -47,14 +47,14 @@ import-unique i j bytes r s a b =
     let make : List ℕ → List ℕ → ImportDesc → Import = λ m n d. record { module_name = m; item_name = n; desc = d } in
     (ap (λ (z : List ℕ). make z i.item_name i.desc) u.0 ∙ ap (λ (z : List ℕ). make j.module_name z i.desc) v.0 ∙ ap (λ (z : ImportDesc). make j.module_name j.item_name z) w.0, w.1)
 
-global-unique : IsUnambiguous TakesGlobal
+pub global-unique : IsUnambiguous TakesGlobal
 global-unique g h bytes r s a b =
     let u = global_type-unique g.global_type h.global_type bytes a.mid b.mid a.global_type b.global_type in
     let v = expr-unique g.init h.init a.mid r s a.init (subst (λ (l : List ℕ). TakesExpr h.init l s) (sym u.1) b.init) in
     let make : GlobalType → Code → GlobalTree = λ t c. record { global_type = t; init = c } in
     (ap (λ (z : GlobalType). make z g.init) u.0 ∙ ap (λ (z : Code). make h.global_type z) v.0, v.1)
 
-export_desc-unique : IsUnambiguous TakesExportDesc
+pub export_desc-unique : IsUnambiguous TakesExportDesc
 export_desc-unique (export.Func x) (export.Func y) bytes r s a b =
     let u = unsigned-unique 32 x y a.0 r s a.2 (subst (λ (l : List ℕ). TakesUnsigned 32 y l s) (sym (same_others a.1 b.1)) b.2) in
     (ap (λ (z : ℕ). export.Func z) u.0, u.1)
@@ -79,7 +79,7 @@ export-unique e f bytes r s a b =
     let make : List ℕ → ExportDesc → Export = λ n d. record { name = n; desc = d } in
     (ap (λ (z : List ℕ). make z e.desc) u.0 ∙ ap (λ (z : ExportDesc). make f.name z) v.0, v.1)
 
-element-unique : IsUnambiguous TakesElement
+pub element-unique : IsUnambiguous TakesElement
 element-unique e f bytes r s a b =
     let u = unsigned-unique 32 e.table f.table bytes a.after_table b.after_table a.table b.table in
     let v = expr-unique e.offset f.offset a.after_table a.after_offset b.after_offset a.offset
@@ -89,14 +89,14 @@ element-unique e f bytes r s a b =
     let make : ℕ → Code → List ℕ → ElementTree = λ t o fs. record { table = t; offset = o; functions = fs } in
     (ap (λ (z : ℕ). make z e.offset e.functions) u.0 ∙ ap (λ (z : Code). make f.table z e.functions) v.0 ∙ ap (λ (z : List ℕ). make f.table f.offset z) w.0, w.1)
 
-local_run-unique : IsUnambiguous TakesLocalRun
+pub local_run-unique : IsUnambiguous TakesLocalRun
 local_run-unique p q bytes r s a b =
     let u = unsigned-unique 32 p.count q.count bytes a.mid b.mid a.count b.count in
     let v = val_type-unique p.value q.value a.mid r s a.value (subst (λ (l : List ℕ). TakesValType q.value l s) (sym u.1) b.value) in
     let make : ℕ → ValType → LocalRun = λ n t. record { count = n; value = t } in
     (ap (λ (z : ℕ). make z p.value) u.0 ∙ ap (λ (z : ValType). make q.count z) v.0, v.1)
 
-body-unique : IsUnambiguous TakesBody
+pub body-unique : IsUnambiguous TakesBody
 body-unique p q bytes r s a b =
     let u = vec-unique TakesLocalRun local_run-unique a.runs b.runs bytes a.mid b.mid a.spelled b.spelled in
     let v = expr-unique p.code q.code a.mid r s a.code (subst (λ (l : List ℕ). TakesExpr q.code l s) (sym u.1) b.code) in
@@ -104,13 +104,13 @@ body-unique p q bytes r s a b =
     let make : List ValType → Code → Body = λ l c. record { locals = l; code = c } in
     (ap (λ (z : List ValType). make z p.code) w ∙ ap (λ (z : Code). make q.locals z) v.0, v.1)
 
-sized_body-unique : IsUnambiguous TakesSizedBody
+pub sized_body-unique : IsUnambiguous TakesSizedBody
 sized_body-unique p q bytes r s a b =
     let u = bytes-unique a.contents b.contents bytes r s a.sized b.sized in
     let v = body-unique p q a.contents [] [] a.body (subst (λ (l : List ℕ). TakesBody q l []) (sym u.0) b.body) in
     (v.0, u.1)
 
-data-unique : IsUnambiguous TakesData
+pub data-unique : IsUnambiguous TakesData
 data-unique d e bytes r s a b =
     let u = unsigned-unique 32 d.memory e.memory bytes a.after_memory b.after_memory a.memory b.memory in
     let v = expr-unique d.offset e.offset a.after_memory a.after_offset b.after_offset a.offset
@@ -126,7 +126,7 @@ section-unique p q bytes r s a b =
     (ap (λ (z : ℕ). make z p.contents) (same_first a.id b.id) ∙ ap (λ (z : List ℕ). make q.id z) u.0, u.1)
 
 -- sections that follow each other up to the end
-sections-unique : (ss ts : List Section) (bytes : List ℕ) → TakesEach TakesSection ss bytes [] → TakesEach TakesSection ts bytes [] → ss ≡ ts
+pub sections-unique : (ss ts : List Section) (bytes : List ℕ) → TakesEach TakesSection ss bytes [] → TakesEach TakesSection ts bytes [] → ss ≡ ts
 sections-unique [] [] bytes a b = refl
 sections-unique [] (t ∷ ts) bytes a b = absurd (omega (arith, ap length (a ∙ b.1.id)))
 sections-unique (s ∷ ss) [] bytes a b = absurd (omega (arith, ap length (b ∙ a.1.id)))
@@ -135,12 +135,12 @@ sections-unique (s ∷ ss) (t ∷ ts) bytes a b =
     let v = sections-unique ss ts a.0 a.2 (subst (λ (l : List ℕ). TakesEach TakesSection ts l []) (sym u.1) b.2) in
     ap (λ (z : Section). z ∷ ss) u.0 ∙ ap (λ (l : List Section). t ∷ l) v
 
-spelled_vec-unique : {A : Type 0} (Takes : A → List ℕ → List ℕ → Type 0) → IsUnambiguous Takes
+pub spelled_vec-unique : {A : Type 0} (Takes : A → List ℕ → List ℕ → Type 0) → IsUnambiguous Takes
     → (xs ys : List A) (o : Option Section) → SpellsVec Takes xs o → SpellsVec Takes ys o → xs ≡ ys
 spelled_vec-unique Takes u xs ys None a b = a ∙ sym b
 spelled_vec-unique Takes u xs ys (Some s) a b = let v = vec-unique Takes u xs ys s.contents [] [] a b in v.0
 
-start-unique : (x y : Option ℕ) (o : Option Section) → SpellsStart x o → SpellsStart y o → x ≡ y
+pub start-unique : (x y : Option ℕ) (o : Option Section) → SpellsStart x o → SpellsStart y o → x ≡ y
 start-unique x y None a b = a ∙ sym b
 start-unique x y (Some s) a b =
     let u = unsigned-unique 32 a.0 b.0 s.contents [] [] a.2 b.2 in
@@ -159,7 +159,7 @@ tail_of [] = []
 tail_of (x ∷ xs) = xs
 
 -- functions of the same types and the same bodies
-functions-equal : (fs gs : List FunctionTree) → map type_index_of fs ≡ map type_index_of gs → map body_of fs ≡ map body_of gs → fs ≡ gs
+pub functions-equal : (fs gs : List FunctionTree) → map type_index_of fs ≡ map type_index_of gs → map body_of fs ≡ map body_of gs → fs ≡ gs
 functions-equal [] [] e h = refl
 functions-equal [] (g ∷ gs) e h = absurd (omega (arith, ap length e))
 functions-equal (f ∷ fs) [] e h = absurd (omega (arith, ap length e))
@@ -173,33 +173,19 @@ functions-equal (f ∷ fs) (g ∷ gs) e h =
 abbrev eight_off : List ℕ → List ℕ
 eight_off l = tail_of (tail_of (tail_of (tail_of (tail_of (tail_of (tail_of (tail_of l)))))))
 
-pub spells-unique : (bytes : List ℕ) (m n : ModuleTree) → Spells bytes m → Spells bytes n → m ≡ n
-spells-unique bytes m n a b =
-    let rests : a.after ≡ b.after = ap eight_off (sym a.header ∙ b.header) in
-    let e : a.sections ≡ b.sections = sections-unique a.sections b.sections a.after a.whole (subst (λ (l : List ℕ). TakesEach TakesSection b.sections l []) (sym rests) b.whole) in
-    let at : (k : ℕ) → section k a.sections ≡ section k b.sections = λ k. ap (λ (ss : List Section). section k ss) e in
-    let types = spelled_vec-unique TakesFuncType func_type-unique m.types n.types (section 1 a.sections) a.types
-    (subst (λ (o : Option Section). SpellsVec TakesFuncType n.types o) (sym (at 1)) b.types) in
-    let imports = spelled_vec-unique TakesImport import-unique m.imports n.imports (section 2 a.sections) a.imports
-    (subst (λ (o : Option Section). SpellsVec TakesImport n.imports o) (sym (at 2)) b.imports) in
-    let indices = spelled_vec-unique (TakesUnsigned 32) (unsigned-unique 32) (map type_index_of m.functions) (map type_index_of n.functions) (section 3 a.sections) a.function_types
-    (subst (λ (o : Option Section). SpellsVec (TakesUnsigned 32) (map type_index_of n.functions) o) (sym (at 3)) b.function_types) in
-    let tables = spelled_vec-unique TakesTableType table_type-unique m.tables n.tables (section 4 a.sections) a.tables
-    (subst (λ (o : Option Section). SpellsVec TakesTableType n.tables o) (sym (at 4)) b.tables) in
-    let memories = spelled_vec-unique TakesMemoryType limits-unique m.memories n.memories (section 5 a.sections) a.memories
-    (subst (λ (o : Option Section). SpellsVec TakesMemoryType n.memories o) (sym (at 5)) b.memories) in
-    let globals = spelled_vec-unique TakesGlobal global-unique m.globals n.globals (section 6 a.sections) a.globals
-    (subst (λ (o : Option Section). SpellsVec TakesGlobal n.globals o) (sym (at 6)) b.globals) in
-    let exports = spelled_vec-unique TakesExport export-unique m.exports n.exports (section 7 a.sections) a.exports
-    (subst (λ (o : Option Section). SpellsVec TakesExport n.exports o) (sym (at 7)) b.exports) in
-    let start = start-unique m.start n.start (section 8 a.sections) a.start
-    (subst (λ (o : Option Section). SpellsStart n.start o) (sym (at 8)) b.start) in
-    let elements = spelled_vec-unique TakesElement element-unique m.element_segments n.element_segments (section 9 a.sections) a.element_segments
-    (subst (λ (o : Option Section). SpellsVec TakesElement n.element_segments o) (sym (at 9)) b.element_segments) in
-    let bodies = spelled_vec-unique TakesSizedBody sized_body-unique (map body_of m.functions) (map body_of n.functions) (section 10 a.sections) a.bodies
-    (subst (λ (o : Option Section). SpellsVec TakesSizedBody (map body_of n.functions) o) (sym (at 10)) b.bodies) in
-    let datas = spelled_vec-unique TakesData data-unique m.data_segments n.data_segments (section 11 a.sections) a.data_segments
-    (subst (λ (o : Option Section). SpellsVec TakesData n.data_segments o) (sym (at 11)) b.data_segments) in
+pub fields-unique : (sections : List Section) (m n : ModuleTree) → SpellsFields sections m → SpellsFields sections n → m ≡ n
+fields-unique sections m n a b =
+    let types = spelled_vec-unique TakesFuncType func_type-unique m.types n.types (section 1 sections) a.types b.types in
+    let imports = spelled_vec-unique TakesImport import-unique m.imports n.imports (section 2 sections) a.imports b.imports in
+    let indices = spelled_vec-unique (TakesUnsigned 32) (unsigned-unique 32) (map type_index_of m.functions) (map type_index_of n.functions) (section 3 sections) a.function_types b.function_types in
+    let tables = spelled_vec-unique TakesTableType table_type-unique m.tables n.tables (section 4 sections) a.tables b.tables in
+    let memories = spelled_vec-unique TakesMemoryType limits-unique m.memories n.memories (section 5 sections) a.memories b.memories in
+    let globals = spelled_vec-unique TakesGlobal global-unique m.globals n.globals (section 6 sections) a.globals b.globals in
+    let exports = spelled_vec-unique TakesExport export-unique m.exports n.exports (section 7 sections) a.exports b.exports in
+    let start = start-unique m.start n.start (section 8 sections) a.start b.start in
+    let elements = spelled_vec-unique TakesElement element-unique m.element_segments n.element_segments (section 9 sections) a.element_segments b.element_segments in
+    let bodies = spelled_vec-unique TakesSizedBody sized_body-unique (map body_of m.functions) (map body_of n.functions) (section 10 sections) a.bodies b.bodies in
+    let datas = spelled_vec-unique TakesData data-unique m.data_segments n.data_segments (section 11 sections) a.data_segments b.data_segments in
     let functions = functions-equal m.functions n.functions indices bodies in
     λ i. record {
       types = types i;
@@ -213,3 +199,15 @@ spells-unique bytes m n a b =
       element_segments = elements i;
       data_segments = datas i;
     }
+
+-- bytes after the same header have the same sections
+pub sections-are : (bytes after : List ℕ) (sections : List Section) (m : ModuleTree) → bytes ≡ 0x00 ∷ 0x61 ∷ 0x73 ∷ 0x6D ∷ 0x01 ∷ 0x00 ∷ 0x00 ∷ 0x00 ∷ after
+    → TakesEach TakesSection sections after [] → (h : Spells bytes m) → h.sections ≡ sections
+sections-are bytes after sections m e whole h =
+    let rests : h.after ≡ after = ap eight_off (sym h.header ∙ e) in
+    sections-unique h.sections sections after (subst (λ (l : List ℕ). TakesEach TakesSection h.sections l []) rests h.whole) whole
+
+pub spells-unique : (bytes : List ℕ) (m n : ModuleTree) → Spells bytes m → Spells bytes n → m ≡ n
+spells-unique bytes m n a b =
+    let e = sections-are bytes b.after b.sections m b.header b.whole a in
+    fields-unique b.sections m n (subst (λ (ss : List Section). SpellsFields ss m) e a.fields) b.fields

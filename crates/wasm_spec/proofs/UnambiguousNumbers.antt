@@ -17,6 +17,9 @@ same_first e f = ap first (sym e ∙ f)
 pub same_others : {bytes a b : List ℕ} {x y : ℕ} → bytes ≡ x ∷ a → bytes ≡ y ∷ b → a ≡ b
 same_others e f = ap others (sym e ∙ f)
 
+pub byte-unique : (x y : ℕ) (bytes r s : List ℕ) → bytes ≡ x ∷ r → bytes ≡ y ∷ s → (x ≡ y) × (r ≡ s)
+byte-unique x y bytes r s a b = (same_first a b, same_others a b)
+
 pub unsigned-unique : (n : ℕ) (x y : ℕ) (bytes r s : List ℕ) → TakesUnsigned n x bytes r → TakesUnsigned n y bytes s → (x ≡ y) × (r ≡ s)
 unsigned-unique n x y [] r s a b = absurd a
 unsigned-unique n x y (c ∷ bytes) r s (inl a) (inl b) = (a.2 ∙ sym b.2, a.3 ∙ sym b.3)

@@ -5,8 +5,9 @@
 -- left is not executed.
 --
 -- The operands are those of the innermost block alone, the topmost first: a block's inner sequence begins with none, and
--- what lay below comes back when it is left. So a missing operand is met exactly where the standard's rules have no step,
--- which is `Stuck`.
+-- what lay below comes back when it is left. A run is `Stuck` where it asks for an operand, a local, a global, a function
+-- or a type that isn't there, or that has another type. No run of a valid module is.
+use Rattle.wasm_types.specs.declared.limits.RunLimits.{RunLimits}
 use Rattle.std.specs.Prelude.{ℕ, zero, suc, ◌+◌, ◌-◌, ◌*◌, ◌/◌, ◌^◌, List, [], ◌∷◌, ◌++◌, Bool, true, false, Result, Ok, Err, Option, Some, None, nat_lt, nat_le, not, if◌then◌else◌, ◌&&◌, slice_get, slice_set, length, take, drop, reverse, map, replicate, min, unwrap_or}
 use Rattle.std.specs.Int as int
 use Rattle.std.specs.Int.{w8, w16, w32, byte_len, to_le_bytes}
@@ -22,19 +23,13 @@ use Rattle.wasm_types.specs.declared.instr.Width.{Width}
 use Rattle.wasm_types.specs.declared.instr.Width.TheVariants.{W32, W64}
 use Rattle.wasm_types.specs.declared.instr.Sign.{Sign}
 use Rattle.wasm_types.specs.declared.instr.Sign.TheVariants.{Signed, Unsigned}
-use Rattle.wasm_types.specs.declared.instr.PackSize.{PackSize}
-use Rattle.wasm_types.specs.declared.instr.PackSize.TheVariants.{Pack8, Pack16, Pack32}
 use Rattle.wasm_types.specs.declared.instr.Instr.{Instr}
 use Rattle.wasm_types.specs.declared.instr.Instr.TheVariants as instr
 use Rattle.wasm_types.specs.Tree.{Code, End, Plain, Block, Loop, If, Call, CallIndirect, FunctionTree, ModuleTree}
-use Rattle.wasm_spec.specs.Typing.{all_same}
-use Rattle.wasm_spec.specs.Operators.{bit_width, int_width, unary, binary, compare, eqz, extend_s, wrap}
+use Rattle.wasm_types.specs.SameTypes.{same_type}
+use Rattle.wasm_spec.specs.Typing.{function_at}
+use Rattle.wasm_spec.specs.Operators.{bit_width, int_width, pack_width, pack_bits, unary, binary, compare, eqz, extend_s, wrap}
 use Rattle.wasm_spec.specs.Store.{Store, page_size, written, loaded}
-
--- what bounds a run beside its fuel: the pages that a memory may have, and the calls that may be open at once
-pub record RunLimits : Type 0 where
-  pub pages : ℕ
-  pub depth : ℕ
 
 -- the current function's locals, the operands, and the store
 pub record State : Type 0 where
@@ -43,7 +38,7 @@ pub record State : Type 0 where
   pub store : Store
 
 -- how a sequence of instructions ends: at its end, on the way to a label (the innermost is 0) or out of the function, by a
--- trap, for want of fuel, or where the standard has no step
+-- trap, for want of fuel, or where something that it asks for isn't there
 pub data Signal : Type 0 where
   Next : (s : State) → Signal
   Branch : (l : ℕ) (s : State) → Signal
@@ -109,17 +104,6 @@ or_trap (Err t) s next = Trapped t s.store
 
 -- ---- memory (section 4.4.4)
 
--- a narrow part of an integer, as std's words on bytes take it
-abbrev pub pack_width : PackSize → int.Width
-pack_width Pack8 = w8
-pack_width Pack16 = w16
-pack_width Pack32 = w32
-
-abbrev pub pack_bits : PackSize → ℕ
-pack_bits Pack8 = 8
-pack_bits Pack16 = 16
-pack_bits Pack32 = 32
-
 -- a number of so many bits in a type of n bits
 abbrev pub extended : ℕ → ℕ → Sign → ℕ → ℕ
 extended m n Signed i = extend_s m n i
@@ -131,14 +115,14 @@ load_number width what at vs s =
     if nat_lt (length s.store.memory) (at + byte_len width) then Trapped trap.Memory s.store
     else with_operands (what (loaded width s.store.memory at) ∷ vs) s
 
-abbrev pub with_memory : List ℕ → Store → Store
-with_memory bytes store = record store { memory = bytes }
+abbrev pub memory_set : List ℕ → Store → Store
+memory_set bytes store = record store { memory = bytes }
 
 -- a number's bytes to an address, if they fit the memory; a store that traps writes nothing
 abbrev pub store_number : int.Width → ℕ → ℕ → List Val → State → Signal
 store_number width n at vs s =
     if nat_lt (length s.store.memory) (at + byte_len width) then Trapped trap.Memory s.store
-    else Next (record s { operands = vs; store = with_memory (written s.store.memory at (to_le_bytes width n)) s.store })
+    else Next (record s { operands = vs; store = memory_set (written s.store.memory at (to_le_bytes width n)) s.store })
 
 -- the address of an access: the operand and the offset as a whole number, which does not wrap
 abbrev pub at_address : Val → ℕ → (ℕ → Signal) → Signal
@@ -147,9 +131,9 @@ at_address base offset next = given (number W32 base) (λ a. next (a + offset))
 abbrev pub pages_of : Store → ℕ
 pages_of store = length store.memory / page_size
 
--- the pages that the memory may have: at most the declared maximum of the memory, if it declares one
+-- the pages that the memory may have: at most the declared maximum of the memory, if it declares one; none where there is none
 abbrev pub most_pages : List Limits → ℕ → ℕ
-most_pages [] pages = pages
+most_pages [] pages = 0
 most_pages (limits ∷ _) pages = min pages (unwrap_or limits.max pages)
 
 -- so many pages of zeros more, and the old size; or -1 exactly where that would be too many
@@ -157,7 +141,7 @@ abbrev pub grow : ℕ → ℕ → List Val → State → Signal
 grow most n vs s =
     let old = pages_of s.store in
     if nat_lt most (old + n) then with_operands (val.I32 (2 ^ 32 - 1) ∷ vs) s
-    else Next (record s { operands = val.I32 old ∷ vs; store = with_memory (s.store.memory ++ replicate (n * page_size) 0) s.store })
+    else Next (record s { operands = val.I32 old ∷ vs; store = memory_set (s.store.memory ++ replicate (n * page_size) 0) s.store })
 
 -- ---- plain instructions (sections 4.4.1 to 4.4.5)
 
@@ -296,27 +280,27 @@ return n caller below inner next = return_by n caller below inner.signal inner.f
 abbrev pub entered : FunctionTree → FuncType → State → State
 entered f t s = record s { locals = reverse (take (length t.params) s.operands) ++ map zero_of f.locals; operands = [] }
 
+-- a function's body, and then the caller again
+abbrev pub callee : FunctionTree → FuncType → Continuation → Continuation → Continuation
+callee f t run next s fuel = return (length t.results) s (drop (length t.params) s.operands) (run (entered f t s) fuel) next
+
 -- A call of a function of this type, whose body `run` executes, from so many calls that are open.
 abbrev pub invoke : RunLimits → ℕ → FunctionTree → FuncType → Continuation → Continuation → Continuation
-invoke limits depth f t run next s fuel =
-    let n = length t.params in
-    unless (nat_lt (length s.operands) n) Stuck (unless (nat_le limits.depth depth) (Trapped trap.Exhausted s.store) (λ s fuel.
-    return (length t.results) s (drop n s.operands) (run (entered f t s) fuel) next)) s fuel
+invoke limits depth f t run next s =
+    unless (nat_lt (length s.operands) (length t.params)) Stuck
+    (unless (nat_le limits.depth depth) (Trapped trap.Exhausted s.store) (callee f t run next)) s
 
-abbrev pub with_type_as : Option FuncType → (FuncType → Continuation) → Continuation
-with_type_as None next s fuel = ended Stuck fuel
-with_type_as (Some t) next s fuel = next t s fuel
+-- what is done with what is there
+abbrev pub if_there : {A : Type 0} → Option A → (A → Continuation) → Continuation
+if_there None next s fuel = ended Stuck fuel
+if_there (Some x) next s fuel = next x s fuel
 
 abbrev pub with_type : ModuleTree → ℕ → (FuncType → Continuation) → Continuation
-with_type m x next s fuel = with_type_as (slice_get m.types x) next s fuel
-
-abbrev pub with_function_as : ModuleTree → Option FunctionTree → (FunctionTree → FuncType → Continuation) → Continuation
-with_function_as m None next s fuel = ended Stuck fuel
-with_function_as m (Some f) next s fuel = with_type m f.type_index (next f) s fuel
+with_type m x next = if_there (slice_get m.types x) next
 
 -- the function with an index, and its type
 abbrev pub with_function : ModuleTree → ℕ → (FunctionTree → FuncType → Continuation) → Continuation
-with_function m x next s fuel = with_function_as m (slice_get m.functions x) next s fuel
+with_function m x next = if_there (function_at m x) (λ f. with_type m f.type_index (next f))
 
 -- the function that an element of the table is, if there is such an element and it is not empty
 abbrev pub with_element : Option (Option ℕ) → (ℕ → Continuation) → Continuation
@@ -324,13 +308,25 @@ with_element None next s fuel = ended (Trapped trap.Element s.store) fuel
 with_element (Some None) next s fuel = ended (Trapped trap.Uninit s.store) fuel
 with_element (Some (Some x)) next s fuel = next x s fuel
 
--- two function types are the same
-abbrev pub same_type : FuncType → FuncType → Bool
-same_type a b = all_same a.params b.params && all_same a.results b.results
-
 -- ---- sequences of instructions
 
+-- the arm that the condition chooses, as a block
+abbrev pub arm : Option ValType → Continuation → Continuation → Continuation → ℕ → Continuation
+arm t first second rest c s fuel = leave (arity t) s.operands (choose c first second (inside s) fuel) rest rest
+
 module _ (m : ModuleTree) (limits : RunLimits) where
+  -- Calls, where so many calls are open, `run` executes a body and `rest` is what follows: of a function, of one that must
+  -- have the type that the instruction names, and of an element of the table.
+  module _ (depth : ℕ) (run : Code → Continuation) (rest : Continuation) where
+    abbrev pub call : FunctionTree → FuncType → Continuation
+    call f t = invoke limits depth f t (run f.body) rest
+
+    abbrev pub typed_call : FuncType → FunctionTree → FuncType → Continuation
+    typed_call u f t s = unless (not (same_type u t)) (Trapped trap.Signature s.store) (call f t) s
+
+    abbrev pub element_call : ℕ → ℕ → Continuation
+    element_call x i s = with_element (slice_get s.store.table i) (λ y. with_type m x (λ u. with_function m y (typed_call u))) s
+
   -- A sequence, where so many calls are open. A loop that is executed again and a call take one from the index n. Each takes
   -- one from the fuel first, so an index above the fuel is enough, and a higher one gives the same.
   abbrev pub exec_within : ℕ → Code → ℕ → Continuation
@@ -341,9 +337,7 @@ module _ (m : ModuleTree) (limits : RunLimits) where
       pay s.store fuel (λ g.
       leave (arity t) s.operands (exec_within n body depth (inside s) g) (exec_within n rest depth) (exec_within n rest depth))
   exec_within n (If t first second rest) depth s fuel =
-      pay s.store fuel (pop_index s.operands (λ c s g.
-      leave (arity t) s.operands (choose c (exec_within n first depth) (exec_within n second depth) (inside s) g)
-      (exec_within n rest depth) (exec_within n rest depth)) s)
+      pay s.store fuel (pop_index s.operands (arm t (exec_within n first depth) (exec_within n second depth) (exec_within n rest depth)) s)
   exec_within zero (Loop t body rest) depth s fuel = ended (OutOfFuel s.store) 0
   exec_within (suc n) (Loop t body rest) depth s fuel =
       pay s.store fuel (λ g.
@@ -351,14 +345,10 @@ module _ (m : ModuleTree) (limits : RunLimits) where
       (exec_within (suc n) rest depth) (exec_within n (Loop t body rest) depth))
   exec_within zero (Call x rest) depth s fuel = ended (OutOfFuel s.store) 0
   exec_within (suc n) (Call x rest) depth s fuel =
-      pay s.store fuel (with_function m x (λ f t.
-      invoke limits depth f t (exec_within n f.body (depth + 1)) (exec_within (suc n) rest depth)) s)
+      pay s.store fuel (with_function m x (call depth (λ c. exec_within n c (depth + 1)) (exec_within (suc n) rest depth)) s)
   exec_within zero (CallIndirect x rest) depth s fuel = ended (OutOfFuel s.store) 0
   exec_within (suc n) (CallIndirect x rest) depth s fuel =
-      pay s.store fuel (pop_index s.operands (λ i s. with_element (slice_get s.store.table i) (λ y.
-      with_type m x (λ u. with_function m y (λ f t s.
-      unless (not (same_type u t)) (Trapped trap.Signature s.store)
-      (invoke limits depth f t (exec_within n f.body (depth + 1)) (exec_within (suc n) rest depth)) s))) s) s)
+      pay s.store fuel (pop_index s.operands (element_call depth (λ c. exec_within n c (depth + 1)) (exec_within (suc n) rest depth) x) s)
 
   -- what a sequence does, where so many calls are open
   unfoldable pub exec : ℕ → Code → Continuation

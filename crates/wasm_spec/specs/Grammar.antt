@@ -130,14 +130,9 @@ abbrev pub SpellsStart : Option ℕ → Option Section → Type 0
 SpellsStart start None = start ≡ None
 SpellsStart start (Some s) = (x : ℕ) × (start ≡ Some x) × TakesUnsigned 32 x s.contents []
 
--- Section 5.5.15: the magic bytes, the version, and sections up to the end. The function section has the functions'
--- types, and the code section their bodies.
-pub record Spells (bytes : List ℕ) (m : ModuleTree) : Type 0 where
-  pub after : List ℕ
-  pub sections : List Section
-  pub header : bytes ≡ 0x00 ∷ 0x61 ∷ 0x73 ∷ 0x6D ∷ 0x01 ∷ 0x00 ∷ 0x00 ∷ 0x00 ∷ after
-  pub whole : TakesEach TakesSection sections after []
-  pub ordered : IsOrderedAbove 0 sections
+-- section 5.5.15: what the sections say of a module; the function section has the functions' types, and the code section
+-- their bodies
+pub record SpellsFields (sections : List Section) (m : ModuleTree) : Type 0 where
   pub types : SpellsVec TakesFuncType m.types (section 1 sections)
   pub imports : SpellsVec TakesImport m.imports (section 2 sections)
   pub function_types : SpellsVec (TakesUnsigned 32) (map type_index_of m.functions) (section 3 sections)
@@ -149,3 +144,12 @@ pub record Spells (bytes : List ℕ) (m : ModuleTree) : Type 0 where
   pub element_segments : SpellsVec TakesElement m.element_segments (section 9 sections)
   pub bodies : SpellsVec TakesSizedBody (map body_of m.functions) (section 10 sections)
   pub data_segments : SpellsVec TakesData m.data_segments (section 11 sections)
+
+-- section 5.5.15: the magic bytes, the version, and sections up to the end
+pub record Spells (bytes : List ℕ) (m : ModuleTree) : Type 0 where
+  pub after : List ℕ
+  pub sections : List Section
+  pub header : bytes ≡ 0x00 ∷ 0x61 ∷ 0x73 ∷ 0x6D ∷ 0x01 ∷ 0x00 ∷ 0x00 ∷ 0x00 ∷ after
+  pub whole : TakesEach TakesSection sections after []
+  pub ordered : IsOrderedAbove 0 sections
+  pub fields : SpellsFields sections m

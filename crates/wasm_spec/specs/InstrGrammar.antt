@@ -1,5 +1,7 @@
 -- Instructions in the binary format. Source: WebAssembly Core Specification 1.0, section 5.4.
-use Rattle.std.specs.Prelude.{◌≡◌, ℕ, ◌≤◌, ◌⊎◌, List, [], ◌∷◌, ◌++◌, get_or, drop, length, replicate, ℤ}
+use Rattle.std.specs.Prelude.{◌≡◌, ℕ, ◌≤◌, ◌⊎◌, ◌==◌, List, [], ◌∷◌, ◌++◌, drop, find, length, replicate, ℤ}
+use Rattle.std.specs.Option.{option_map_or}
+use Rattle.std.specs.List.{enumerate_from}
 use Rattle.std.specs.Int.{cast_unsigned, w32, w64}
 use Rattle.wasm_types.specs.declared.outcome.Val.TheVariants as val
 use Rattle.wasm_types.specs.declared.instr.Instr.{Instr}
@@ -29,36 +31,63 @@ pub data Shape : Type 0 where
   WithBytes : (n : ℕ) (i : Instr) → Shape
   NotPlain : Shape
 
--- sections 5.4.1 to 5.4.3: control, parametric and variable instructions, by opcode from 0x00 to 0x27
-abbrev pub control_to_variable : List Shape
-control_to_variable =
-    Alone instr.Unreachable ∷ Alone instr.Nop ∷ []
-    ++ replicate 10 NotPlain
-    ++ WithIndex (λ l. instr.Br l) ∷ WithIndex (λ l. instr.BrIf l) ∷ WithLabels ∷ Alone instr.Return ∷ []
-    ++ replicate 10 NotPlain
-    ++ Alone instr.Drop ∷ Alone instr.Select ∷ []
-    ++ replicate 4 NotPlain
-    ++ WithIndex (λ x. instr.LocalGet x) ∷ WithIndex (λ x. instr.LocalSet x) ∷ WithIndex (λ x. instr.LocalTee x)
-    ∷ WithIndex (λ x. instr.GlobalGet x) ∷ WithIndex (λ x. instr.GlobalSet x) ∷ []
-    ++ replicate 3 NotPlain
+-- section 5.4.1: control instructions that are plain
+abbrev pub control : List (ℕ × Shape)
+control =
+    (0x00, Alone instr.Unreachable)
+    ∷ (0x01, Alone instr.Nop)
+    ∷ (0x0C, WithIndex (λ l. instr.Br l))
+    ∷ (0x0D, WithIndex (λ l. instr.BrIf l))
+    ∷ (0x0E, WithLabels)
+    ∷ (0x0F, Alone instr.Return)
+    ∷ []
 
-abbrev float_access : Shape
-float_access = WithAddress (λ m. instr.Float)
+-- section 5.4.2
+abbrev pub parametric : List (ℕ × Shape)
+parametric =
+    (0x1A, Alone instr.Drop)
+    ∷ (0x1B, Alone instr.Select)
+    ∷ []
 
--- section 5.4.4: memory instructions, by opcode from 0x28 to 0x40
-abbrev pub memory : List Shape
+-- section 5.4.3
+abbrev pub variable : List (ℕ × Shape)
+variable =
+    (0x20, WithIndex (λ x. instr.LocalGet x))
+    ∷ (0x21, WithIndex (λ x. instr.LocalSet x))
+    ∷ (0x22, WithIndex (λ x. instr.LocalTee x))
+    ∷ (0x23, WithIndex (λ x. instr.GlobalGet x))
+    ∷ (0x24, WithIndex (λ x. instr.GlobalSet x))
+    ∷ []
+
+-- section 5.4.4
+abbrev pub memory : List (ℕ × Shape)
 memory =
-    WithAddress (λ m. instr.Load W32 m) ∷ WithAddress (λ m. instr.Load W64 m) ∷ float_access ∷ float_access
-    ∷ WithAddress (λ m. instr.LoadPacked W32 Pack8 Signed m) ∷ WithAddress (λ m. instr.LoadPacked W32 Pack8 Unsigned m)
-    ∷ WithAddress (λ m. instr.LoadPacked W32 Pack16 Signed m) ∷ WithAddress (λ m. instr.LoadPacked W32 Pack16 Unsigned m)
-    ∷ WithAddress (λ m. instr.LoadPacked W64 Pack8 Signed m) ∷ WithAddress (λ m. instr.LoadPacked W64 Pack8 Unsigned m)
-    ∷ WithAddress (λ m. instr.LoadPacked W64 Pack16 Signed m) ∷ WithAddress (λ m. instr.LoadPacked W64 Pack16 Unsigned m)
-    ∷ WithAddress (λ m. instr.LoadPacked W64 Pack32 Signed m) ∷ WithAddress (λ m. instr.LoadPacked W64 Pack32 Unsigned m)
-    ∷ WithAddress (λ m. instr.Store W32 m) ∷ WithAddress (λ m. instr.Store W64 m) ∷ float_access ∷ float_access
-    ∷ WithAddress (λ m. instr.StorePacked W32 Pack8 m) ∷ WithAddress (λ m. instr.StorePacked W32 Pack16 m)
-    ∷ WithAddress (λ m. instr.StorePacked W64 Pack8 m) ∷ WithAddress (λ m. instr.StorePacked W64 Pack16 m)
-    ∷ WithAddress (λ m. instr.StorePacked W64 Pack32 m)
-    ∷ WithZero instr.MemorySize ∷ WithZero instr.MemoryGrow ∷ []
+    (0x28, WithAddress (λ m. instr.Load W32 m))
+    ∷ (0x29, WithAddress (λ m. instr.Load W64 m))
+    ∷ (0x2A, WithAddress (λ m. instr.Float))
+    ∷ (0x2B, WithAddress (λ m. instr.Float))
+    ∷ (0x2C, WithAddress (λ m. instr.LoadPacked W32 Pack8 Signed m))
+    ∷ (0x2D, WithAddress (λ m. instr.LoadPacked W32 Pack8 Unsigned m))
+    ∷ (0x2E, WithAddress (λ m. instr.LoadPacked W32 Pack16 Signed m))
+    ∷ (0x2F, WithAddress (λ m. instr.LoadPacked W32 Pack16 Unsigned m))
+    ∷ (0x30, WithAddress (λ m. instr.LoadPacked W64 Pack8 Signed m))
+    ∷ (0x31, WithAddress (λ m. instr.LoadPacked W64 Pack8 Unsigned m))
+    ∷ (0x32, WithAddress (λ m. instr.LoadPacked W64 Pack16 Signed m))
+    ∷ (0x33, WithAddress (λ m. instr.LoadPacked W64 Pack16 Unsigned m))
+    ∷ (0x34, WithAddress (λ m. instr.LoadPacked W64 Pack32 Signed m))
+    ∷ (0x35, WithAddress (λ m. instr.LoadPacked W64 Pack32 Unsigned m))
+    ∷ (0x36, WithAddress (λ m. instr.Store W32 m))
+    ∷ (0x37, WithAddress (λ m. instr.Store W64 m))
+    ∷ (0x38, WithAddress (λ m. instr.Float))
+    ∷ (0x39, WithAddress (λ m. instr.Float))
+    ∷ (0x3A, WithAddress (λ m. instr.StorePacked W32 Pack8 m))
+    ∷ (0x3B, WithAddress (λ m. instr.StorePacked W32 Pack16 m))
+    ∷ (0x3C, WithAddress (λ m. instr.StorePacked W64 Pack8 m))
+    ∷ (0x3D, WithAddress (λ m. instr.StorePacked W64 Pack16 m))
+    ∷ (0x3E, WithAddress (λ m. instr.StorePacked W64 Pack32 m))
+    ∷ (0x3F, WithZero instr.MemorySize)
+    ∷ (0x40, WithZero instr.MemoryGrow)
+    ∷ []
 
 -- section 5.4.5: eqz and the comparisons of a width, which are eleven
 abbrev pub comparisons : Width → List Shape
@@ -80,18 +109,42 @@ operators w =
     ∷ Alone (instr.Binary w binary.Shl) ∷ Alone (instr.Binary w binary.ShrS) ∷ Alone (instr.Binary w binary.ShrU)
     ∷ Alone (instr.Binary w binary.Rotl) ∷ Alone (instr.Binary w binary.Rotr) ∷ []
 
--- section 5.4.5: numeric instructions, by opcode from 0x41 to 0xBF
-abbrev pub numeric : List Shape
+-- section 5.4.5: constants and conversions
+abbrev pub constants_and_conversions : List (ℕ × Shape)
+constants_and_conversions =
+    (0x41, WithI32)
+    ∷ (0x42, WithI64)
+    ∷ (0x43, WithBytes 4 instr.Float)
+    ∷ (0x44, WithBytes 8 instr.Float)
+    ∷ (0xA7, Alone instr.Wrap)
+    ∷ (0xAC, Alone (instr.Extend Signed))
+    ∷ (0xAD, Alone (instr.Extend Unsigned))
+    ∷ []
+
+-- so many instructions on floats
+abbrev floats : ℕ → List Shape
+floats n = replicate n (Alone instr.Float)
+
+-- section 5.4.5: rows in a run, from their first opcode on
+abbrev pub numeric : List (ℕ × Shape)
 numeric =
-    WithI32 ∷ WithI64 ∷ WithBytes 4 instr.Float ∷ WithBytes 8 instr.Float ∷ []
-    ++ comparisons W32 ++ comparisons W64 ++ replicate 12 (Alone instr.Float)
-    ++ operators W32 ++ operators W64 ++ replicate 28 (Alone instr.Float)
-    ++ Alone instr.Wrap ∷ [] ++ replicate 4 (Alone instr.Float)
-    ++ Alone (instr.Extend Signed) ∷ Alone (instr.Extend Unsigned) ∷ [] ++ replicate 18 (Alone instr.Float)
+    constants_and_conversions
+    ++ enumerate_from 0x45 (comparisons W32)
+    ++ enumerate_from 0x50 (comparisons W64)
+    ++ enumerate_from 0x5B (floats 12)
+    ++ enumerate_from 0x67 (operators W32)
+    ++ enumerate_from 0x79 (operators W64)
+    ++ enumerate_from 0x8B (floats 28)
+    ++ enumerate_from 0xA8 (floats 4)
+    ++ enumerate_from 0xAE (floats 18)
+
+-- the opcodes of plain instructions
+abbrev pub opcodes : List (ℕ × Shape)
+opcodes = control ++ parametric ++ variable ++ memory ++ numeric
 
 -- what an opcode stands for
 unfoldable pub shape : ℕ → Shape
-shape opcode = get_or (control_to_variable ++ memory ++ numeric) opcode NotPlain
+shape opcode = option_map_or (λ row. row.1) (find (λ row. row.0 == opcode) opcodes) NotPlain
 
 -- what follows the opcode of a shape
 abbrev pub TakesShape : Shape → Instr → List ℕ → List ℕ → Type 0

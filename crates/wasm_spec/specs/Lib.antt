@@ -4,11 +4,11 @@ pub mod Validity
 pub mod Need
 pub mod Store
 pub mod Execution
-pub mod Equations
 pub mod Result
+pub mod Instances
+pub mod MoreFuel
 pub mod Numbers
 pub mod TypeGrammar
 pub mod InstrGrammar
 pub mod Grammar
 pub mod Loading
-pub mod Built

@@ -1,17 +1,12 @@
 -- Loading: the one module that bytes spell, or the first refusal that applies.
 use Rattle.std.specs.Prelude.{◌≡◌, ℕ, List, ◌∷◌, Option, Some, None, Result, Ok, Err, length, map, find, nat_lt}
 use Rattle.std.specs.List.{enumerate_from}
+use Rattle.wasm_types.specs.declared.limits.LoadLimits.{LoadLimits}
 use Rattle.wasm_types.specs.Tree.{ModuleTree}
 use Rattle.wasm_spec.specs.Validity.{IsSupported, IsValid}
 use Rattle.wasm_spec.specs.Need.{need}
 use Rattle.wasm_spec.specs.Grammar.{Spells}
 use Rattle.wasm_spec.specs.Store.{Extent, minimum_of, first_misfit}
-
--- the greatest numbers of pages, of table elements and of frame entries that are allowed
-pub record LoadLimits : Type 0 where
-  pub pages : ℕ
-  pub elements : ℕ
-  pub frame : ℕ
 
 pub data Measure : Type 0 where
   Pages : Measure
@@ -52,19 +47,34 @@ refusal_of None None = None
 abbrev pub late_refusal : LoadLimits → ModuleTree → Option Refusal
 late_refusal limits m = refusal_of (first_over limits m) (first_misfit m)
 
--- what loading answers for a module: unsupported before invalid, and then the limits and the segments
-abbrev pub Answers : LoadLimits → ModuleTree → Result ModuleTree Refusal → Type 0
-Answers limits m (Ok t) = IsSupported m × IsValid m × (late_refusal limits m ≡ None) × (t ≡ m)
-Answers limits m (Err Malformed) = ⊥
-Answers limits m (Err Unsupported) = ¬ (IsSupported m)
-Answers limits m (Err Invalid) = IsSupported m × ¬ (IsValid m)
-Answers limits m (Err (OverLimit demand)) = IsSupported m × IsValid m × (late_refusal limits m ≡ Some (OverLimit demand))
-Answers limits m (Err (Segment extent)) = IsSupported m × IsValid m × (late_refusal limits m ≡ Some (Segment extent))
+-- What loading answers, where `Runs` says which modules the host runs.
+module _ (Runs : ModuleTree → Type 0) (limits : LoadLimits) where
+  -- a module that is run and valid, and what the limits and its segments refuse of it then
+  pub record IsChecked (m : ModuleTree) (late : Option Refusal) : Type 0 where
+    pub runs : Runs m
+    pub valid : IsValid m
+    pub late_is : late_refusal limits m ≡ late
 
--- the answer for the module that the bytes spell by this grammar, or malformed where they spell none
-abbrev pub LoadsBy : (Grammar : List ℕ → ModuleTree → Type 0) → List ℕ → LoadLimits → Result ModuleTree Refusal → Type 0
-LoadsBy Grammar bytes limits (Err Malformed) = (m : ModuleTree) → Grammar bytes m → ⊥
-LoadsBy Grammar bytes limits answer = (m : ModuleTree) × Grammar bytes m × Answers limits m answer
+  -- the answer for a module: unsupported before invalid, and then the limits and the segments
+  abbrev pub Answers : ModuleTree → Result ModuleTree Refusal → Type 0
+  Answers m (Ok t) = IsChecked m None × (t ≡ m)
+  Answers m (Err Malformed) = ⊥
+  Answers m (Err Unsupported) = ¬ (Runs m)
+  Answers m (Err Invalid) = Runs m × ¬ (IsValid m)
+  Answers m (Err (OverLimit demand)) = IsChecked m (Some (OverLimit demand))
+  Answers m (Err (Segment extent)) = IsChecked m (Some (Segment extent))
 
+  -- the module that the bytes spell, and its answer
+  pub record IsAnswered (bytes : List ℕ) (answer : Result ModuleTree Refusal) : Type 0 where
+    pub tree : ModuleTree
+    pub spells : Spells bytes tree
+    pub answers : Answers tree answer
+
+-- the answer for the module that the bytes spell, or malformed where they spell none
+abbrev pub LoadsBy : (Runs : ModuleTree → Type 0) → List ℕ → LoadLimits → Result ModuleTree Refusal → Type 0
+LoadsBy Runs bytes limits (Err Malformed) = (m : ModuleTree) → Spells bytes m → ⊥
+LoadsBy Runs bytes limits answer = IsAnswered Runs limits bytes answer
+
+-- where all modules are run that import nothing and use no floats
 abbrev pub Loads : List ℕ → LoadLimits → Result ModuleTree Refusal → Type 0
-Loads bytes limits answer = LoadsBy Spells bytes limits answer
+Loads bytes limits answer = LoadsBy IsSupported bytes limits answer

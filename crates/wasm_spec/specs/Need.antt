@@ -3,7 +3,7 @@
 -- Operands are counted by the typing rules (Core Specification 1.0, section 3.3), by heights alone.
 use Rattle.std.specs.Prelude.{ℕ, ◌+◌, ◌-◌, [], length, max}
 use Rattle.wasm_types.specs.Tree.{Code, End, Plain, Block, Loop, If, Call, CallIndirect, FunctionTree, ModuleTree}
-use Rattle.wasm_spec.specs.Typing.{values, Context, under, Rule, Fixed, Diverges, Drops, Selects, Wrong, rule, call_rule, call_indirect_rule, body_context}
+use Rattle.wasm_spec.specs.Typing.{result_types, Context, under, Rule, Fixed, Diverges, Drops, Selects, Wrong, rule, call_rule, call_indirect_rule, body_context}
 
 -- how many operands of the innermost block are left. Where none is, a pop leaves none; what isn't reached begins with none.
 abbrev pub height : Rule → ℕ → ℕ
@@ -18,13 +18,13 @@ abbrev pub highest : (base : ℕ) → Context → Code → (h : ℕ) → ℕ
 highest base C End h = base + h
 highest base C (Plain i rest) h = max (base + h) (highest base C rest (height (rule C i) h))
 highest base C (Block t body rest) h =
-    max (highest (base + h) (under (values t) C) body 0) (highest base C rest (h + length (values t)))
+    max (highest (base + h) (under (result_types t) C) body 0) (highest base C rest (h + length (result_types t)))
 highest base C (Loop t body rest) h =
-    max (highest (base + h) (under [] C) body 0) (highest base C rest (h + length (values t)))
+    max (highest (base + h) (under [] C) body 0) (highest base C rest (h + length (result_types t)))
 highest base C (If t first second rest) h =
     max (base + h)
-    (max (max (highest (base + (h - 1)) (under (values t) C) first 0) (highest (base + (h - 1)) (under (values t) C) second 0))
-    (highest base C rest ((h - 1) + length (values t))))
+    (max (max (highest (base + (h - 1)) (under (result_types t) C) first 0) (highest (base + (h - 1)) (under (result_types t) C) second 0))
+    (highest base C rest ((h - 1) + length (result_types t))))
 highest base C (Call x rest) h = max (base + h) (highest base C rest (height (call_rule C x) h))
 highest base C (CallIndirect x rest) h = max (base + h) (highest base C rest (height (call_indirect_rule C x) h))
 

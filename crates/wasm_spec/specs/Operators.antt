@@ -2,10 +2,12 @@
 -- A value of N bits is a number below 2 ^ N, and n stands for N, which is 32 or 64.
 use Rattle.std.specs.Prelude.{ℕ, zero, suc, ◌+◌, ◌-◌, ◌*◌, ◌/◌, ◌%◌, ◌^◌, ◌==◌, List, [], ◌∷◌, sum, Bool, true, false, not, ◌&&◌, if◌then◌else◌, Result, Ok, Err, nat_lt, nat_le, ℤ, pos, negsuc, ◌-ℤ◌, int_lt, int_le, int_div, int_rem, bit_and, bit_or, bit_xor}
 use Rattle.std.specs.Int as int
-use Rattle.std.specs.Int.{int_shr, w32, w64}
+use Rattle.std.specs.Int.{int_shr, w8, w16, w32, w64}
 use Rattle.std.specs.List.{prefix_len, suffix_len}
 use Rattle.wasm_types.specs.declared.instr.Width.{Width}
 use Rattle.wasm_types.specs.declared.instr.Width.TheVariants.{W32, W64}
+use Rattle.wasm_types.specs.declared.instr.PackSize.{PackSize}
+use Rattle.wasm_types.specs.declared.instr.PackSize.TheVariants.{Pack8, Pack16, Pack32}
 use Rattle.wasm_types.specs.declared.instr.UnaryOp.{UnaryOp}
 use Rattle.wasm_types.specs.declared.instr.UnaryOp.TheVariants as unary_op
 use Rattle.wasm_types.specs.declared.instr.BinaryOp.{BinaryOp}
@@ -23,6 +25,17 @@ bit_width W64 = 64
 abbrev pub int_width : Width → int.Width
 int_width W32 = w32
 int_width W64 = w64
+
+-- a narrow part of an integer, as std's words on bytes take it
+abbrev pub pack_width : PackSize → int.Width
+pack_width Pack8 = w8
+pack_width Pack16 = w16
+pack_width Pack32 = w32
+
+abbrev pub pack_bits : PackSize → ℕ
+pack_bits Pack8 = 8
+pack_bits Pack16 = 16
+pack_bits Pack32 = 32
 
 -- ---- representations (section 4.3.1)
 

@@ -3,6 +3,7 @@
 -- Lists of operands have the top first, and are those of the innermost block alone.
 use Rattle.std.specs.Prelude.{◌≡◌, ℕ, ◌^◌, List, [], ◌∷◌, ◌++◌, Bool, true, false, ◌&&◌, Option, Some, None, slice_get, reverse, nat_le, if◌then◌else◌, option_and_then, option_map, IsSome}
 use Rattle.std.specs.List.{list_all}
+use Rattle.std.specs.Int.{byte_len}
 use Rattle.wasm_types.specs.declared.types.ValType.{ValType}
 use Rattle.wasm_types.specs.declared.types.ValType.TheVariants.{I32, I64, F32, F64}
 use Rattle.wasm_types.specs.declared.types.FuncType.{FuncType}
@@ -13,16 +14,17 @@ use Rattle.wasm_types.specs.declared.outcome.Val.TheVariants as val
 use Rattle.wasm_types.specs.declared.instr.Width.{Width}
 use Rattle.wasm_types.specs.declared.instr.Width.TheVariants.{W32, W64}
 use Rattle.wasm_types.specs.declared.instr.PackSize.{PackSize}
-use Rattle.wasm_types.specs.declared.instr.PackSize.TheVariants.{Pack8, Pack16, Pack32}
 use Rattle.wasm_types.specs.declared.instr.MemArg.{MemArg}
 use Rattle.wasm_types.specs.declared.instr.Instr.{Instr}
 use Rattle.wasm_types.specs.declared.instr.Instr.TheVariants as instr
+use Rattle.wasm_types.specs.SameTypes.{all_same}
 use Rattle.wasm_types.specs.Tree.{Code, End, Plain, Block, Loop, If, Call, CallIndirect, FunctionTree, ModuleTree}
+use Rattle.wasm_spec.specs.Operators.{int_width, pack_width}
 
 -- section 2.3.2: a block has one result or none
-abbrev pub values : Option ValType → List ValType
-values None = []
-values (Some t) = t ∷ []
+abbrev pub result_types : Option ValType → List ValType
+result_types None = []
+result_types (Some t) = t ∷ []
 
 abbrev pub type_of : Val → ValType
 type_of (val.I32 n) = I32
@@ -32,22 +34,13 @@ abbrev pub integer_type : Width → ValType
 integer_type W32 = I32
 integer_type W64 = I64
 
--- whether two types are the same
-abbrev pub same : ValType → ValType → Bool
-same I32 I32 = true
-same I64 I64 = true
-same F32 F32 = true
-same F64 F64 = true
-same _ _ = false
+-- a function, in a module that imports nothing
+abbrev pub function_at : ModuleTree → ℕ → Option FunctionTree
+function_at m x = slice_get m.functions x
 
-abbrev pub all_same : List ValType → List ValType → Bool
-all_same [] [] = true
-all_same (t ∷ ts) (u ∷ us) = same t u && all_same ts us
-all_same _ _ = false
-
--- a function's type, in a module that imports nothing
+-- and its type
 abbrev pub function_type : ModuleTree → ℕ → Option FuncType
-function_type m x = option_and_then (λ f. slice_get m.types f.type_index) (slice_get m.functions x)
+function_type m x = option_and_then (λ f. slice_get m.types f.type_index) (function_at m x)
 
 abbrev pub global_type : ModuleTree → ℕ → Option GlobalType
 global_type m x = option_map (λ g. g.global_type) (slice_get m.globals x)
@@ -99,23 +92,20 @@ global_set None = Wrong
 global_set (Some g) = if g.mutable then Fixed (g.value ∷ []) [] else Wrong
 
 -- section 3.3.4: memory 0 is there
-abbrev pub with_memory : List Limits → Rule → Rule
-with_memory [] r = Wrong
-with_memory (_ ∷ _) r = r
+abbrev pub needs_memory : List Limits → Rule → Rule
+needs_memory [] r = Wrong
+needs_memory (_ ∷ _) r = r
 
 -- the access width in bytes
 abbrev pub byte_width : Width → ℕ
-byte_width W32 = 4
-byte_width W64 = 8
+byte_width w = byte_len (int_width w)
 
 abbrev pub packed_width : PackSize → ℕ
-packed_width Pack8 = 1
-packed_width Pack16 = 2
-packed_width Pack32 = 4
+packed_width p = byte_len (pack_width p)
 
 -- an access to memory, whose alignment is at most its width
 abbrev pub access : List Limits → MemArg → ℕ → Rule → Rule
-access memories arg bytes r = with_memory memories (if nat_le (2 ^ arg.align) bytes then r else Wrong)
+access memories arg bytes r = needs_memory memories (if nat_le (2 ^ arg.align) bytes then r else Wrong)
 
 -- section 3.3.5
 abbrev pub branch : Option (List ValType) → Rule
@@ -164,8 +154,8 @@ rule C (instr.Load w arg) = access C.defined.memories arg (byte_width w) (Fixed 
 rule C (instr.LoadPacked w p s arg) = access C.defined.memories arg (packed_width p) (Fixed (I32 ∷ []) (integer_type w ∷ []))
 rule C (instr.Store w arg) = access C.defined.memories arg (byte_width w) (Fixed (integer_type w ∷ I32 ∷ []) [])
 rule C (instr.StorePacked w p arg) = access C.defined.memories arg (packed_width p) (Fixed (integer_type w ∷ I32 ∷ []) [])
-rule C instr.MemorySize = with_memory C.defined.memories (Fixed [] (I32 ∷ []))
-rule C instr.MemoryGrow = with_memory C.defined.memories (Fixed (I32 ∷ []) (I32 ∷ []))
+rule C instr.MemorySize = needs_memory C.defined.memories (Fixed [] (I32 ∷ []))
+rule C instr.MemoryGrow = needs_memory C.defined.memories (Fixed (I32 ∷ []) (I32 ∷ []))
 rule C (instr.Const v) = Fixed [] (type_of v ∷ [])
 rule C (instr.Eqz w) = Fixed (integer_type w ∷ []) (I32 ∷ [])
 rule C (instr.Compare w op) = Fixed (integer_type w ∷ integer_type w ∷ []) (I32 ∷ [])
@@ -194,12 +184,12 @@ abbrev pub Typed : Context → Code → List ValType → List ValType → Type 0
 Typed C End before after = before ≡ after
 Typed C (Plain i rest) before after = (middle : List ValType) × Takes (rule C i) before middle × Typed C rest middle after
 Typed C (Block t body rest) before after =
-    Typed (under (values t) C) body [] (values t) × Typed C rest (values t ++ before) after
+    Typed (under (result_types t) C) body [] (result_types t) × Typed C rest (result_types t ++ before) after
 Typed C (Loop t body rest) before after =
-    Typed (under [] C) body [] (values t) × Typed C rest (values t ++ before) after
+    Typed (under [] C) body [] (result_types t) × Typed C rest (result_types t ++ before) after
 Typed C (If t first second rest) before after =
-    (below : List ValType) × (before ≡ I32 ∷ below) × Typed (under (values t) C) first [] (values t) × Typed (under (values t) C) second [] (values t)
-    × Typed C rest (values t ++ below) after
+    (below : List ValType) × (before ≡ I32 ∷ below) × Typed (under (result_types t) C) first [] (result_types t) × Typed (under (result_types t) C) second [] (result_types t)
+    × Typed C rest (result_types t ++ below) after
 Typed C (Call x rest) before after = (middle : List ValType) × Takes (call_rule C x) before middle × Typed C rest middle after
 Typed C (CallIndirect x rest) before after =
     (middle : List ValType) × Takes (call_indirect_rule C x) before middle × Typed C rest middle after

@@ -1,5 +1,5 @@
 -- Valid modules: WebAssembly Core Specification 1.0, section 3.4, for modules that import nothing and use no floats.
-use Rattle.std.specs.Prelude.{◌≡◌, ◌≢◌, ℕ, ◌≤◌, List, [], Bool, true, false, ◌||◌, Option, Some, None, length, slice_get, IfSome, IsSome, All, AllPairs, option_and_then, if◌then◌else◌}
+use Rattle.std.specs.Prelude.{◌≡◌, ◌≢◌, ℕ, ◌≤◌, List, [], Bool, true, false, ◌||◌, Option, Some, None, length, slice_get, IfSome, IsSome, All, AllPairs, option_and_then, option_map, if◌then◌else◌}
 use Rattle.std.specs.List.{list_any}
 use Rattle.wasm_types.specs.declared.types.ValType.{ValType}
 use Rattle.wasm_types.specs.declared.types.ValType.TheVariants.{I32, I64, F32, F64}
@@ -13,7 +13,7 @@ use Rattle.wasm_types.specs.declared.module.Export.{Export}
 use Rattle.wasm_types.specs.declared.module.ExportDesc.{ExportDesc}
 use Rattle.wasm_types.specs.declared.module.ExportDesc.TheVariants as desc
 use Rattle.wasm_types.specs.Tree.{Code, End, Plain, Block, Loop, If, Call, CallIndirect, GlobalTree, ElementTree, DataTree, ModuleTree}
-use Rattle.wasm_spec.specs.Typing.{type_of, values, function_type, IsTypedFunction}
+use Rattle.wasm_spec.specs.Typing.{type_of, result_types, function_at, function_type, IsTypedFunction}
 
 -- floats: a float type, or an instruction on floats, anywhere in the module (sections 2.3.1 and 2.4.1)
 abbrev pub is_float : ValType → Bool
@@ -32,9 +32,9 @@ is_float_instruction _ = false
 abbrev pub code_uses_floats : Code → Bool
 code_uses_floats End = false
 code_uses_floats (Plain i rest) = is_float_instruction i || code_uses_floats rest
-code_uses_floats (Block t body rest) = has_float (values t) || code_uses_floats body || code_uses_floats rest
-code_uses_floats (Loop t body rest) = has_float (values t) || code_uses_floats body || code_uses_floats rest
-code_uses_floats (If t first second rest) = has_float (values t) || code_uses_floats first || code_uses_floats second || code_uses_floats rest
+code_uses_floats (Block t body rest) = has_float (result_types t) || code_uses_floats body || code_uses_floats rest
+code_uses_floats (Loop t body rest) = has_float (result_types t) || code_uses_floats body || code_uses_floats rest
+code_uses_floats (If t first second rest) = has_float (result_types t) || code_uses_floats first || code_uses_floats second || code_uses_floats rest
 code_uses_floats (Call x rest) = code_uses_floats rest
 code_uses_floats (CallIndirect x rest) = code_uses_floats rest
 
@@ -73,13 +73,13 @@ abbrev pub constant_global : GlobalTree → Option ℕ
 constant_global g = if g.global_type.mutable then None else option_and_then i32_value (initial_value g)
 
 -- the value of a segment's offset, where it is one i32.const, or global.get of an immutable i32 global of the module
-abbrev pub offset_of : ModuleTree → Instr → Option ℕ
-offset_of m (instr.Const v) = i32_value v
-offset_of m (instr.GlobalGet x) = option_and_then constant_global (slice_get m.globals x)
-offset_of m _ = None
+abbrev pub constant_offset : ModuleTree → Instr → Option ℕ
+constant_offset m (instr.Const v) = i32_value v
+constant_offset m (instr.GlobalGet x) = option_and_then constant_global (slice_get m.globals x)
+constant_offset m _ = None
 
 abbrev pub offset_value : ModuleTree → Code → Option ℕ
-offset_value m c = option_and_then (offset_of m) (single_instruction c)
+offset_value m c = option_and_then (constant_offset m) (single_instruction c)
 
 -- section 3.2.1
 abbrev pub AreOrdered : Limits → Type 0
@@ -93,13 +93,13 @@ pub record IsMemoryType (l : Limits) : Type 0 where
 
 -- section 3.4.4
 abbrev pub IsInitialised : GlobalTree → Type 0
-IsInitialised g = (v : Val) × (initial_value g ≡ Some v) × (type_of v ≡ g.global_type.value)
+IsInitialised g = option_map type_of (initial_value g) ≡ Some g.global_type.value
 
 -- section 3.4.5
 pub record IsElementSegment (m : ModuleTree) (s : ElementTree) : Type 0 where
   pub table : IsSome (slice_get m.tables s.table)
   pub offset : IsSome (offset_value m s.offset)
-  pub functions : All (λ x. IsSome (slice_get m.functions x)) s.functions
+  pub functions : All (λ x. IsSome (function_at m x)) s.functions
 
 -- section 3.4.6
 pub record IsDataSegment (m : ModuleTree) (s : DataTree) : Type 0 where
@@ -107,12 +107,15 @@ pub record IsDataSegment (m : ModuleTree) (s : DataTree) : Type 0 where
   pub offset : IsSome (offset_value m s.offset)
 
 -- section 3.4.7: the start function takes nothing and gives nothing
-abbrev pub IsStart : ModuleTree → ℕ → Type 0
-IsStart m x = (t : FuncType) × (function_type m x ≡ Some t) × (t.params ≡ []) × (t.results ≡ [])
+pub record IsStart (m : ModuleTree) (x : ℕ) : Type 0 where
+  pub type : FuncType
+  pub there : function_type m x ≡ Some type
+  pub no_params : type.params ≡ []
+  pub no_results : type.results ≡ []
 
 -- section 3.4.8: what is exported is there
 abbrev pub IsDefined : ModuleTree → ExportDesc → Type 0
-IsDefined m (desc.Func x) = IsSome (slice_get m.functions x)
+IsDefined m (desc.Func x) = IsSome (function_at m x)
 IsDefined m (desc.Table x) = IsSome (slice_get m.tables x)
 IsDefined m (desc.Memory x) = IsSome (slice_get m.memories x)
 IsDefined m (desc.Global x) = IsSome (slice_get m.globals x)
@@ -133,5 +136,9 @@ pub record IsValid (m : ModuleTree) : Type 0 where
   pub names_differ : AllPairs (λ a b. a.name ≢ b.name) m.exports
 
 -- the function that is exported under a name
-abbrev pub Exports : ModuleTree → List ℕ → ℕ → Type 0
-Exports m name x = (i : ℕ) × (e : Export) × (slice_get m.exports i ≡ Some e) × (e.name ≡ name) × (e.desc ≡ desc.Func x)
+pub record Exports (exports : List Export) (name : List ℕ) (x : ℕ) : Type 0 where
+  pub place : ℕ
+  pub export : Export
+  pub there : slice_get exports place ≡ Some export
+  pub named : export.name ≡ name
+  pub function : export.desc ≡ desc.Func x

@@ -1,11 +1,21 @@
-// Laws of the definitions, as contracts of functions that do nothing.
+//! Laws of the definitions, as contracts of functions that do nothing.
 
-ghost use Rattle.std.specs.Prelude.{◌≡◌, ◌≢◌, ◌<◌, ◌≤◌, ℕ, suc, Option};
+ghost use Rattle.std.specs.Prelude.{◌≡◌, ◌≢◌, ◌<◌, ◌≤◌, ◌+◌, ℕ, suc, false, List, Option, Some, None, Result};
+ghost use Rattle.wasm_types.specs.declared.outcome.Val.{Val};
 ghost use Rattle.wasm_types.specs.declared.types.ValType.{ValType};
 ghost use Rattle.wasm_types.specs.declared.instr.Instr.{Instr};
+ghost use Rattle.wasm_types.specs.declared.limits.LoadLimits.{LoadLimits};
 ghost use Rattle.wasm_types.specs.Tree.{Code, End, Plain, Block, Loop, If, Call, CallIndirect, ModuleTree};
-ghost use Rattle.wasm_spec.specs.Execution.{RunLimits, State, Next, OutOfFuel, ended, plain, and_then, leave, arity, pop_index, inside, with_function, exec, exec_within};
-ghost use Rattle.wasm_spec.specs.Equations.{exec_arm, exec_call, exec_element_call};
+ghost use Rattle.wasm_types.specs.declared.limits.RunLimits.{RunLimits};
+ghost use Rattle.wasm_spec.specs.Execution.{State, Next, OutOfFuel, ended, plain, and_then, leave, arity, pop_index, inside, arm, with_function, call, element_call, exec, exec_within};
+ghost use Rattle.wasm_spec.specs.Store.{Store, minimum_of, first_misfit, fresh_store};
+ghost use Rattle.wasm_spec.specs.Result.{CallResult, result_from, call_result};
+ghost use Rattle.wasm_spec.specs.Instances.{IsInstance};
+ghost use Rattle.wasm_spec.specs.MoreFuel.{is_fuel_end, with_more};
+ghost use Rattle.wasm_spec.specs.Loading.{Refusal, LoadsBy, Loads};
+ghost use Rattle.wasm_spec.specs.Validity.{IsSupported};
+
+pub use crate::grammar_laws::bytes_spell_at_most_one_module;
 
 /// No code leaves more fuel than it was given.
 pub fn fuel_only_falls()
@@ -40,11 +50,59 @@ pub fn execution_obeys_its_equations()
         (exec m limits depth rest) (exec m limits depth (Loop t body rest)) }
     ensures an_if { (m : ModuleTree) (limits : RunLimits) (depth : ℕ) (t : Option ValType) (first second rest : Code) (s : State) (fuel : ℕ)
         → exec m limits depth (If t first second rest) s (suc fuel)
-        ≡ pop_index s.operands (exec_arm m limits depth t first second rest) s fuel }
+        ≡ pop_index s.operands (arm t (exec m limits depth first) (exec m limits depth second) (exec m limits depth rest)) s fuel }
     ensures call { (m : ModuleTree) (limits : RunLimits) (depth x : ℕ) (rest : Code) (s : State) (fuel : ℕ)
         → exec m limits depth (Call x rest) s (suc fuel)
-        ≡ with_function m x (exec_call m limits depth rest) s fuel }
+        ≡ with_function m x (call m limits depth (exec m limits (depth + 1)) (exec m limits depth rest)) s fuel }
     ensures call_indirect { (m : ModuleTree) (limits : RunLimits) (depth x : ℕ) (rest : Code) (s : State) (fuel : ℕ)
         → exec m limits depth (CallIndirect x rest) s (suc fuel)
-        ≡ pop_index s.operands (exec_element_call m limits depth x rest) s fuel }
+        ≡ pop_index s.operands (element_call m limits depth (exec m limits (depth + 1)) (exec m limits depth rest) x) s fuel }
 {}
+
+/// Every store that a call comes to has the fresh store's table, as many globals, and whole pages of memory within the limit.
+pub fn each_store_is_of_the_instance()
+    ensures { (m : ModuleTree) (limits : RunLimits) (x : ℕ) (arguments : List Val) (fuel : ℕ) (r : CallResult)
+        → first_misfit m ≡ None → minimum_of m.memories ≤ limits.pages → call_result m limits x arguments fuel ≡ Some r
+        → IsInstance m limits.pages (fresh_store m).table r.store }
+{}
+
+/// Without fuel a call leaves the store as it is.
+pub fn no_fuel_changes_nothing()
+    ensures { (m : ModuleTree) (limits : RunLimits) (x : ℕ) (arguments : List Val) (store : Store) (r : CallResult)
+        → result_from m limits x arguments store 0 ≡ Some r → r.store ≡ store }
+{}
+
+/// A call that does not end for want of fuel gives the same on more fuel, and leaves what it was given more. So one that is
+/// stuck is stuck on more fuel.
+pub fn more_fuel_gives_the_same()
+    ensures { (m : ModuleTree) (limits : RunLimits) (x : ℕ) (arguments : List Val) (store : Store) (fuel more : ℕ)
+        → is_fuel_end (result_from m limits x arguments store fuel) ≡ false
+        → result_from m limits x arguments store (fuel + more) ≡ with_more more (result_from m limits x arguments store fuel) }
+{}
+
+/// Which modules a host runs.
+pub trait Hosting {
+    ghost runs: { ModuleTree → Type 0 };
+}
+
+/// Bytes load to at most one answer under the same limits, whichever modules are run: the module that they spell, or one
+/// refusal.
+pub fn bytes_have_at_most_one_answer<P: Hosting>()
+    ensures { (bytes : List ℕ) (limits : LoadLimits) (a b : Result ModuleTree Refusal)
+        → LoadsBy P.runs bytes limits a → LoadsBy P.runs bytes limits b → a ≡ b }
+{}
+
+/// The host that runs every module which imports nothing and uses no floats.
+pub struct Supported;
+
+impl Hosting for Supported {
+    ghost runs = { IsSupported };
+}
+
+/// The same of such a host.
+pub fn loading_has_at_most_one_answer()
+    ensures { (bytes : List ℕ) (limits : LoadLimits) (a b : Result ModuleTree Refusal)
+        → Loads bytes limits a → Loads bytes limits b → a ≡ b }
+{
+    bytes_have_at_most_one_answer::<Supported>();
+}

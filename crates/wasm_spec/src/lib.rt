@@ -3,6 +3,5 @@
 //! Source: WebAssembly Core Specification 1.0.
 #![tactic(auto)]
 
-pub mod grammar_laws;
+mod grammar_laws;
 pub mod laws;
-pub mod loading_laws;

@@ -1,1 +1,3 @@
 pub mod Tree
+pub mod Sequences
+pub mod SameTypes

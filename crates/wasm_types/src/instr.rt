@@ -1,4 +1,4 @@
-// Instructions, and code as numbered sequences of them.
+//! Instructions, and code as numbered sequences of them.
 
 use crate::items::Items;
 use crate::outcome::Val;

@@ -1,4 +1,4 @@
-// Lists that contracts see as lists.
+//! Lists that contracts see as lists.
 
 ghost use Rattle.std.specs.Prelude.{◌≡◌, ◌↔◌, [], List, length, IsTrue};
 

@@ -3,8 +3,21 @@
 //! Source: WebAssembly Core Specification 1.0, chapter 2 (structure) and section 4.2 (runtime structure).
 #![tactic(auto)]
 
-pub mod instr;
-pub mod items;
-pub mod module;
-pub mod outcome;
-pub mod types;
+mod instr;
+mod items;
+mod limits;
+mod module;
+mod outcome;
+mod sequences;
+mod types;
+
+pub use instr::{BinaryOp, CompareOp, Expr, Instr, MemArg, Op, PackSize, Sign, UnaryOp, Width};
+pub use items::Items;
+pub use limits::{LoadLimits, RunLimits};
+pub use module::{
+    DataSegment, ElementSegment, Export, ExportDesc, Function, Global, Import, ImportDesc,
+    LocalRun, Module,
+};
+pub use outcome::{NoMemory, Outcome, TrapKind, Val};
+pub use sequences::{named, op_at};
+pub use types::{FuncType, GlobalType, Limits, ValType, same_function_types};

@@ -1,4 +1,4 @@
-// Modules.
+//! Modules.
 
 use crate::instr::Expr;
 use crate::items::Items;

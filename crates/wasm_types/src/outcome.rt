@@ -1,4 +1,4 @@
-// Values and how a call ends.
+//! Values and how a call ends.
 
 /// A value of an integer type. Source: Core Specification 1.0, section 4.2.1.
 #[derive(Clone, Copy, Debug, PartialEq, Eq)]

@@ -1,4 +1,7 @@
-// Types of values, functions, memories, tables and globals.
+//! Types of values, functions, memories, tables and globals.
+
+ghost use Rattle.std.specs.Prelude.{◌≡◌};
+ghost use Rattle.wasm_types.specs.SameTypes.{all_same, same_type};
 
 use crate::items::Items;
 
@@ -31,4 +34,19 @@ pub struct Limits {
 pub struct GlobalType {
     pub value: ValType,
     pub mutable: bool,
+}
+
+// Whether two lists of value types are the same.
+fn same_types(a: &[ValType], b: &[ValType]) -> bool
+    ensures { result ≡ all_same a.now b.now }
+{
+    a == b
+}
+
+/// Whether two function types are the same: parameters and results, in order.
+pub fn same_function_types(a: &FuncType, b: &FuncType) -> bool
+    ensures { result ≡ same_type a.now b.now }
+{
+    same_types(a.params.as_slice(), b.params.as_slice())
+        && same_types(a.results.as_slice(), b.results.as_slice())
 }

@@ -1,11 +1,5 @@
-pub mod Exact
-pub mod Needs
-pub mod Stacks
-pub mod Steps
-pub mod Trees
-pub mod Turns
-pub mod Functions
-pub mod Distinct
-pub mod BuiltModules
-pub mod Exported
-pub mod Fixtures
+pub mod ByName
+pub mod Constants
+pub mod FloatCode
+pub mod FunctionNeeds
+pub mod Parts

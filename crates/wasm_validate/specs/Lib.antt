@@ -1,7 +1,5 @@
-pub mod Check
-pub mod Sequences
-pub mod Subject
-pub mod Walk
+pub mod ByName
 pub mod Checked
 pub mod Exported
-pub mod Fixture
+pub mod Fault
+pub mod Floats

@@ -1,18 +1,14 @@
 //! Validation of WebAssembly 1.0 modules, and what each function's frame needs.
 //!
-//! Source: WebAssembly Core Specification 1.0, chapter 3 (validation) and its appendix A.3 (validation algorithm).
+//! Source: WebAssembly Core Specification 1.0, chapter 3 (validation).
 #![tactic(auto)]
 
-mod checker;
-mod function;
-mod lookup;
+mod constant;
+mod floats;
+mod functions;
 mod module;
 mod names;
-mod plain;
-mod step;
-#[cfg(test)]
-mod tests;
 mod valid;
-mod walk;
 
+pub use constant::{initial_value, offset_value};
 pub use valid::{Valid, ValidFault, validate};

@@ -1,53 +1,161 @@
-// A module's parts, all functions among them.
+//! The conditions on a module's parts, one function each.
 
-ghost use Rattle.std.specs.Prelude.{◌≡◌, ◌≢◌, ◌↔◌, ℕ, List, [], All, AllPairs, IsTrue, IfOk, option_map};
-ghost use Rattle.wasm_types.specs.Tree.{module_tree, function_tree};
-ghost use Rattle.wasm_spec.specs.Validity.{IsDefined};
-ghost use Rattle.wasm_validate.specs.Checked.{ChecksAll};
-ghost use Rattle.wasm_validate.specs.Subject.{HaveOneResult, HaveNoLocals};
+ghost use Rattle.std.specs.Prelude.{◌≡◌, ◌≤◌, ◌↔◌, ℕ, List, All, IsTrue, IsSome, IfSome, slice_get, length};
+ghost use Rattle.wasm_types.specs.Tree.{module_tree, global_tree, element_tree, data_tree};
+ghost use Rattle.wasm_spec.specs.Validity as validity;
+ghost use Rattle.wasm_spec.specs.Validity.{AreOrdered, IsMemoryType, IsInitialised, IsElementSegment, IsDataSegment, IsStart, IsDefined};
+ghost use Rattle.wasm_validate.specs.Checked.{HasValidParts};
 
-use crate::function::check_function;
-use std::alloc::{AllocError, Global};
-use wasm_types::module::{Export, ExportDesc, Module};
+use crate::constant::{initial_value, offset_value};
+use wasm_checker::{function_type, type_of};
+use wasm_types::{DataSegment, ElementSegment, ExportDesc, Global, Limits, Module};
 
-/// Whether each function type has at most one result.
-pub fn have_one_result(m: &Module) -> bool
-    ensures { IsTrue result ↔ HaveOneResult m.now }
+// Whether each function type has at most one result.
+fn have_one_result(m: &Module) -> bool
+    ensures { IsTrue result ↔ All (λ t. length t.results ≤ 1) m.now.types }
 {
     m.types.as_slice().iter().all(|t| t.results.len() <= 1)
 }
 
-/// Whether what is exported is there.
-pub fn is_defined(m: &Module, desc: ExportDesc) -> bool
+fn are_ordered(l: &Limits) -> bool
+    ensures { IsTrue result ↔ AreOrdered l.now }
+{
+    match l.max {
+        Some(max) => l.min <= max,
+        None => true,
+    }
+}
+
+// Whether a memory has at most 65,536 pages.
+fn is_memory_type(l: &Limits) -> bool
+    ensures { IsTrue result ↔ IsMemoryType l.now }
+{
+    l.min <= 65536 && are_ordered(l) && is_at_most(l.max, 65536)
+}
+
+fn is_at_most(max: Option<u32>, limit: u32) -> bool
+    ensures { IsTrue result ↔ IfSome max (λ most. most ≤ limit) }
+{
+    match max {
+        Some(max) => max <= limit,
+        None => true,
+    }
+}
+
+// Whether a global's initialiser is one constant of its type.
+fn is_initialised(g: &Global) -> bool
+    ensures { IsTrue result ↔ IsInitialised (global_tree g.now) }
+{
+    match initial_value(g) {
+        Some(v) => type_of(v) == g.global_type.value,
+        None => false,
+    }
+}
+
+fn has_function(m: &Module, x: u32) -> bool
+    ensures { IsTrue result ↔ IsSome (slice_get (module_tree m.now).functions x) }
+{
+    (x as usize) < m.functions.len()
+}
+
+fn is_element_segment(m: &Module, s: &ElementSegment) -> bool
+    ensures { IsTrue result ↔ IsElementSegment (module_tree m.now) (element_tree s.now) }
+{
+    (s.table as usize) < m.tables.len()
+        && offset_value(m, &s.offset).is_some()
+        && s.functions.as_slice().iter().all(|x| has_function(m, *x))
+}
+
+fn is_data_segment(m: &Module, s: &DataSegment) -> bool
+    ensures { IsTrue result ↔ IsDataSegment (module_tree m.now) (data_tree s.now) }
+{
+    (s.memory as usize) < m.memories.len() && offset_value(m, &s.offset).is_some()
+}
+
+// Whether a function takes nothing and gives nothing.
+fn is_start(m: &Module, x: u32) -> bool
+    ensures { IsTrue result ↔ IsStart (module_tree m.now) x }
+{
+    match function_type(m, x) {
+        Some(t) => t.params.is_empty() && t.results.is_empty(),
+        None => false,
+    }
+}
+
+// Whether what starts is a function that may.
+fn has_start(m: &Module) -> bool
+    ensures { IsTrue result ↔ IfSome m.now.start (IsStart (module_tree m.now)) }
+{
+    match m.start {
+        Some(x) => is_start(m, x),
+        None => true,
+    }
+}
+
+// Whether what is exported is there.
+fn is_defined(m: &Module, desc: ExportDesc) -> bool
     ensures { IsTrue result ↔ IsDefined (module_tree m.now) desc }
 {
     match desc {
-        ExportDesc::Func(x) => (x as usize) < m.functions.len(),
+        ExportDesc::Func(x) => has_function(m, x),
         ExportDesc::Table(x) => (x as usize) < m.tables.len(),
         ExportDesc::Memory(x) => (x as usize) < m.memories.len(),
         ExportDesc::Global(x) => (x as usize) < m.globals.len(),
     }
 }
 
-/// Whether all that is exported is there.
-pub fn are_defined(m: &Module) -> bool
+fn have_tables(m: &Module) -> bool
+    ensures { IsTrue result ↔ ((length m.now.tables ≤ 1) × All AreOrdered m.now.tables) }
+{
+    m.tables.len() <= 1 && m.tables.as_slice().iter().all(|l| are_ordered(l))
+}
+
+fn have_memories(m: &Module) -> bool
+    ensures { IsTrue result ↔ ((length m.now.memories ≤ 1) × All IsMemoryType m.now.memories) }
+{
+    m.memories.len() <= 1 && m.memories.as_slice().iter().all(|l| is_memory_type(l))
+}
+
+fn are_initialised(m: &Module) -> bool
+    ensures { IsTrue result ↔ All (λ g. IsInitialised (global_tree g)) m.now.globals }
+{
+    m.globals.as_slice().iter().all(|g| is_initialised(g))
+}
+
+fn are_element_segments(m: &Module) -> bool
+    ensures { IsTrue result ↔ All (λ s. IsElementSegment (module_tree m.now) (element_tree s)) m.now.element_segments }
+{
+    m.element_segments
+        .as_slice()
+        .iter()
+        .all(|s| is_element_segment(m, s))
+}
+
+fn are_data_segments(m: &Module) -> bool
+    ensures { IsTrue result ↔ All (λ s. IsDataSegment (module_tree m.now) (data_tree s)) m.now.data_segments }
+{
+    m.data_segments
+        .as_slice()
+        .iter()
+        .all(|s| is_data_segment(m, s))
+}
+
+fn are_defined(m: &Module) -> bool
     ensures { IsTrue result ↔ All (λ e. IsDefined (module_tree m.now) e.desc) m.now.exports }
 {
     m.exports.as_slice().iter().all(|e| is_defined(m, e.desc))
 }
 
-/// Each function's frame need, if each function is typed.
-pub fn frame_needs(alloc: Global, m: &Module) -> Result<Option<Vec<u64>>, AllocError>
-    requires types { HaveOneResult m.now }
-    requires locals { HaveNoLocals m.now }
-    ensures { IfOk result (λ v. ChecksAll (module_tree m.now) (option_map (λ needs. needs.items) v)) }
+/// Whether all is valid but for the functions' code and the names of the exports.
+pub(crate) fn has_valid_parts(m: &Module) -> bool
+    ensures { IsTrue result ↔ HasValidParts m.now }
 {
-    let mut needs = Vec::new(alloc);
-    for f in m.functions.as_slice() {
-        match check_function(alloc, m, f)? {
-            Some(need) => needs.push(need)?,
-            None => return Ok(None),
-        }
-    }
-    Ok(Some(needs))
+    have_one_result(m)
+        && have_tables(m)
+        && have_memories(m)
+        && are_initialised(m)
+        && are_element_segments(m)
+        && are_data_segments(m)
+        && has_start(m)
+        && are_defined(m)
 }

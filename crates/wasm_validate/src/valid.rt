@@ -1,19 +1,23 @@
-// Valid modules.
+//! Valid modules.
 
-ghost use Rattle.std.specs.Prelude.{◌≡◌, ◌<◌, ◌↔◌, ℕ, List, length, slice_get, IfSome, IfNone, IfOk, OnOk, IsErrOf, MatchOption, map};
+ghost use Rattle.std.specs.Prelude.{◌≡◌, ◌<◌, ◌↔◌, ℕ, List, length, slice_get, IfSome, IfNone, IfOk, OnOk, IsErrOf, IsTrue, map};
 ghost use Rattle.wasm_types.specs.Tree.{module_tree};
-ghost use Rattle.wasm_spec.specs.Built.{IsBuilt};
 ghost use Rattle.wasm_spec.specs.Need.{need};
 ghost use Rattle.wasm_spec.specs.Validity.{IsSupported, IsValid, Exports};
 ghost use Rattle.wasm_validate.specs.Checked.{IsValidated};
+ghost use Rattle.wasm_validate.specs.ByName.{AreByName};
+ghost use Rattle.wasm_validate.specs.Fault.{valid_fault};
 ghost use Rattle.wasm_validate.specs.declared.valid.ValidFault.TheVariants.{NoMemory};
 
-use crate::module::{are_defined, frame_needs, have_one_result};
-use crate::names::{exported, names_differ};
+use crate::floats::uses_floats;
+use crate::functions::frame_needs;
+use crate::module::has_valid_parts;
+use crate::names::{exported, exports_by_name};
 use std::alloc::{AllocError, Global};
 use std::marker::Model;
 use thiserror::Error;
-use wasm_types::module::Module;
+use wasm_checker::CheckFault;
+use wasm_types::Module;
 
 /// Why a module is refused.
 #[derive(Clone, Copy, Debug, PartialEq, Eq, Error)]
@@ -37,15 +41,27 @@ impl From<AllocError> for ValidFault {
     }
 }
 
-/// A valid module, and what each of its functions' frames needs. Contracts see it as the module.
+impl From<CheckFault> for ValidFault {
+    ghost from_gives = { λ fault e. e ≡ valid_fault fault };
+
+    fn from(fault: CheckFault) -> ValidFault {
+        match fault {
+            CheckFault::Invalid => ValidFault::Invalid,
+            CheckFault::NoMemory => ValidFault::NoMemory,
+        }
+    }
+}
+
+/// A valid module, the numbers of its exports by name, and what each of its functions' frames needs. Contracts see it as the
+/// module.
 #[derive(Drop)]
 pub struct Valid {
     module: Module,
+    by_name: Vec<u32>,
     needs: Vec<u64>,
 }
 
 impl Model for Valid {
-    ghost use Rattle.wasm_types.specs.Tree.{module_tree};
     ghost use Rattle.wasm_types.specs.declared.module.Module.{Module};
     ghost use Rattle.wasm_validate.specs.Checked.{IsValidated};
 
@@ -53,46 +69,61 @@ impl Model for Valid {
 
     ghost view = { λ v. v.module };
 
-    ghost invariant = { λ v. IsValidated (module_tree v.module) v.needs.items };
+    ghost invariant = { λ v. IsValidated v.module v.by_name.items v.needs.items };
 }
 
-/// Each function's frame need, exactly where a module is valid.
-fn check_module(alloc: Global, m: &Module) -> Result<Option<Vec<u64>>, AllocError>
-    requires { IsBuilt (module_tree m.now) }
-    ensures { IfOk result (λ v. MatchOption v (¬ (IsValid (module_tree m.now))) (λ needs. IsValidated (module_tree m.now) needs.items)) }
+// Whether this host runs modules of this kind.
+fn is_supported(alloc: Global, m: &Module) -> Result<bool, AllocError>
+    ensures { IfOk result (λ b. IsTrue b ↔ IsSupported (module_tree m.now)) }
 {
-    if !have_one_result(m) || !are_defined(m) {
-        return Ok(None);
-    }
-    if !names_differ(alloc, m.exports.as_slice())? {
-        return Ok(None);
-    }
-    let needs = frame_needs(alloc, m)?;
-    Ok(needs)
+    Ok(m.imports.is_empty() && !uses_floats(alloc, m)?)
 }
 
-/// The module, where it is valid.
+// The numbers of a module's exports by name, and each function's frame need.
+fn check_module(alloc: Global, m: &Module) -> Result<(Vec<u32>, Vec<u64>), CheckFault>
+    ensures valid { OnOk result (IsValid (module_tree m.now)) }
+    ensures by_name { IfOk result (λ v. AreByName m.now.exports v.0.items) }
+    ensures needs { IfOk result (λ v. v.1.items ≡ map (need (module_tree m.now)) (module_tree m.now).functions) }
+    ensures invalid { IsErrOf result CheckFault.Invalid → ¬ (IsValid (module_tree m.now)) }
+{
+    if !has_valid_parts(m) {
+        return Err(CheckFault::Invalid);
+    }
+    let by_name = exports_by_name(alloc, m.exports.as_slice())?;
+    let needs = frame_needs(alloc, m)?;
+    Ok((by_name, needs))
+}
+
+/// The module, where this host runs it and it is valid.
 ///
-/// Source: Core Specification 1.0, section 3.4.10. Of the modules that are built so far none is unsupported.
+/// Source: Core Specification 1.0, section 3.4.10.
+///
+/// # Errors
+///
+/// `Unsupported` exactly where the module uses floats or has an import, `Invalid` exactly where it has neither and is
+/// not valid. `NoMemory` in place of any answer.
 pub fn validate(alloc: Global, m: Module) -> Result<Valid, ValidFault>
-    requires { IsBuilt (module_tree m) }
     ensures ok { IfOk result (λ v. v ≡ m) }
     ensures supported { OnOk result (IsSupported (module_tree m)) }
     ensures valid { OnOk result (IsValid (module_tree m)) }
     ensures unsupported { IsErrOf result ValidFault.Unsupported → ¬ (IsSupported (module_tree m)) }
     ensures invalid { IsErrOf result ValidFault.Invalid → IsSupported (module_tree m) × ¬ (IsValid (module_tree m)) }
 {
-    match check_module(alloc, &m)? {
-        Some(needs) => Ok(Valid { module: m, needs }),
-        None => Err(ValidFault::Invalid),
+    if !is_supported(alloc, &m)? {
+        return Err(ValidFault::Unsupported);
     }
+    let (by_name, needs) = check_module(alloc, &m)?;
+    Ok(Valid {
+        module: m,
+        by_name,
+        needs,
+    })
 }
 
 impl Valid {
     /// The module.
     pub fn module(&self) -> &Module
         ensures same { result.now ≡ self.now }
-        ensures built { IsBuilt (module_tree self.now) }
         ensures supported { IsSupported (module_tree self.now) }
         ensures valid { IsValid (module_tree self.now) }
     {
@@ -114,11 +145,16 @@ impl Valid {
         &self.needs
     }
 
-    /// The function that is exported under a name, if there is one.
+    /// The function that is exported under a name, if there is one, found in steps that grow with the logarithm of the number
+    /// of exports.
     pub fn function(&self, export: &[u8]) -> Option<u32>
         ensures found { IfSome result (Exports (module_tree self.now) export.now) }
         ensures none { IfNone result ((x : ℕ) → ¬ (Exports (module_tree self.now) export.now x)) }
     {
-        exported(self.module.exports.as_slice(), export)
+        exported(
+            self.module.exports.as_slice(),
+            self.by_name.as_slice(),
+            export,
+        )
     }
 }

@@ -4,5 +4,5 @@ use Rattle.leb_read.proofs.items.read_bytes.Goals as goal
 
 pub returns-else-count-rest : goal.returns-else-count-rest
 returns-else-count-rest c xs rest h =
-    let u = unsigned-unique 32 (length xs) c.in-Some.count c.args.bytes.now h.mid c.in-Some.rest.now h.count c.in-Some.ensures.reads in
+    let u = unsigned-unique 32 (length xs) c.in_ok-count.count c.args.bytes.now h.mid c.in_ok-count.rest.now h.count c.in_ok-count.ensures.reads in
     omega (arith, u.0, ap length u.1, ap length h.items, length-append xs rest, c.if-count-rest.false)

@@ -18,7 +18,7 @@ loop-i-preserved g c = let i : ℕ = c.loop-i.i in let items : List ℕ = slots_
       counts = λ ws len begins.
           let inside : i < length ws = omega arith in
           let is : IsWordOf c.word.result (get_or ws i cold_word) = subst (λ (x : ℕ). IsWordOf x (get_or ws i cold_word)) (found items i c.word.result 0 c.word.ensures).1 (begins.each i inside) in
-          let u = c.unpack-held.ensures (get_or ws i cold_word) is in
+          let u = c.unpack-held.ensures.said (get_or ws i cold_word) is in
           let w_is : w ≡ get_or ws i cold_word = λ j. record { target = u.0 j; held = u.1 j } in
           c.with-counts.ensures ∙ ap (λ (x : StateWord). counts_with k x) w_is ∙ ap (λ (x : KindCounts). counts_with x (get_or ws i cold_word)) (c.loop-i.invariant.counts ws len begins) ∙ sym (kind_counts-more ws i inside);
       small = subst (λ (x : KindCounts). AreAtMost x (i + 1)) (sym c.with-counts.ensures) (counts_with-at_most k w i c.loop-i.invariant.small);

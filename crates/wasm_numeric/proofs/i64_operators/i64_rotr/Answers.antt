@@ -2,11 +2,11 @@ use Rattle.std.proofs.Common.{ℕ, ◌-◌, ◌*◌, ◌/◌, ◌%◌, ◌^◌, 
 use Rattle.std.proofs.Math.Nat.{mod-mod}
 use Rattle.std.specs.Prelude.{bit_or}
 use Rattle.wasm_types.specs.declared.instr.Width.TheVariants.{W64}
-use Rattle.wasm_spec.proofs.OperatorLaws.{rotr-rotate_right}
+use Rattle.wasm_numeric.proofs.StdOperators.{rotr_in_std}
 use Rattle.wasm_numeric.proofs.i64_operators.i64_rotr.Goals as goal
 
 pub returns : goal.returns
 returns c =
     c.rotate_right.ensures
     ∙ ap (λ (k : ℕ). bit_or (c.args.a / 2 ^ k) (c.args.a * 2 ^ ((64 - k) % 64) % 2 ^ 64)) (mod-mod c.args.b 64)
-    ∙ sym (rotr-rotate_right W64 c.args.a c.args.b c.ranges.a.fits)
+    ∙ sym (rotr_in_std W64 c.args.a c.args.b c.ranges.a.fits)

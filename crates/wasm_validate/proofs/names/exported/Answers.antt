@@ -1,14 +1,28 @@
-use Rattle.wasm_validate.proofs.Exported.{found_here, not_here, nowhere}
+use Rattle.std.proofs.Common.{◌≡◌, ℕ, Option, sym, subst, rules, tests, arith}
+use Rattle.std.specs.Prelude.{IfSome}
+use Rattle.std.proofs.lemmas.Fn.{always_returns_same}
+use Rattle.wasm_validate.specs.Exported.{Exports}
+use Rattle.wasm_validate.specs.ByName.{name_of, compare}
+use Rattle.wasm_validate.proofs.ByName.{searchable, found, none_clause, none_found}
 use Rattle.wasm_validate.proofs.names.exported.Goals as goal
 
-pub returns-in-Some-clause-found : goal.returns-in-Some-clause-found
-returns-in-Some-clause-found c =
-    found_here c.args.exports.now c.args.name.now c.loop-e.e-index c.e-item.result c.e-item.is c.loop-e-test.true c.in-Some.x ((c.function_as.ensures c.in-Some.x).0 c.in-Some.is)
+pub returns-in-Ok-clause-found : goal.returns-in-Ok-clause-found
+returns-in-Ok-clause-found c =
+    let exports = c.args.exports.now in
+    let name = c.args.name.now in
+    let equal = c.in-Ok.ensures.position (λ (i : ℕ). compare (name_of exports i) name) (always_returns_same _ _ _ (λ a r f' k. search (rules, tests))) in
+    subst (λ (o : Option ℕ). IfSome o (Exports exports name)) (sym c.function_of.ensures) (found exports c.args.by_name.now c.requires name c.in-Ok.at (omega (arith, c.in-Ok.ensures.bound)) equal)
 
-pub loop-e-preserved : goal.loop-e-preserved
-loop-e-preserved c =
-    not_here c.args.exports.now c.args.name.now c.loop-e.e-index c.e-item.result c.e-item.is c.loop-e-test.true c.loop-e.invariant
-    (λ x h. let some = (c.function_as.ensures x).1 h in cc (some, c.in-None.is))
+pub returns-in-Ok-clause-none : goal.returns-in-Ok-clause-none
+returns-in-Ok-clause-none c =
+    let exports = c.args.exports.now in
+    let name = c.args.name.now in
+    let equal = c.in-Ok.ensures.position (λ (i : ℕ). compare (name_of exports i) name) (always_returns_same _ _ _ (λ a r f' k. search (rules, tests))) in
+    none_clause exports c.args.by_name.now c.requires name c.in-Ok.at (omega (arith, c.in-Ok.ensures.bound)) equal c.function_of.result c.function_of.ensures
 
-pub returns-clause-none : goal.returns-clause-none
-returns-clause-none c = nowhere c.args.exports.now c.args.name.now c.loop-e.e-index c.loop-e-test.false c.loop-e.invariant
+pub returns-in-Err-clause-none : goal.returns-in-Err-clause-none
+returns-in-Err-clause-none c =
+    let exports = c.args.exports.now in
+    let name = c.args.name.now in
+    none_found exports c.args.by_name.now c.requires name c.in-Err.field-0
+    (c.in-Err.ensures.position (λ (i : ℕ). compare (name_of exports i) name) (always_returns_same _ _ _ (λ a r f' k. search (rules, tests))) (searchable exports c.args.by_name.now c.requires name))

@@ -13,4 +13,4 @@ returns c =
     let p : Position = record { whole = c.self.inside.bytes.now; place = c.self.inside.place } in
     let new : Position = record { whole = p.whole; place = length p.whole - length c.args.left.now } in
     subst (λ (o : Position). IsMoved o new c.args.left.now) c.self.view_is
-    (goes p c.args.left.now (subst (λ (o : Position). IsTail c.args.left.now (rest o)) (sym c.self.view_is) c.requires))
+    (goes p c.args.left.now c.self.invariant (subst (λ (o : Position). IsTail c.args.left.now (rest o)) (sym c.self.view_is) c.requires))

@@ -1,21 +1,12 @@
-use Rattle.std.proofs.Common.{ℕ, List, subst, arith}
+use Rattle.wasm_spec.specs.Numbers.{TakesUnsigned}
 use Rattle.wasm_spec.specs.TypeGrammar.{TakesValType}
 use Rattle.wasm_spec.specs.Grammar.{TakesLocalRun}
-use Rattle.wasm_spec.proofs.UnambiguousNumbers.{unsigned-unique}
 use Rattle.leb_read.specs.Reading.{rest}
-use Rattle.wasm_decode.specs.Trees.{Both, IsEmptyRun}
-use Rattle.wasm_decode.proofs.Each.{begins-through}
+use Rattle.wasm_decode.specs.Pairs.{TakesPair}
+use Rattle.wasm_decode.proofs.Reading.{exits-as}
 use Rattle.wasm_decode.proofs.function.LocalRunItem.decode.Goals as goal
 
-pub returns-then-count-ne0 : goal.returns-then-count-ne0
-returns-then-count-ne0 c = λ run after h.
-    let u = unsigned-unique 32 run.count c.in-Ok.count (rest c.args.cursor.now) h.0.mid (rest c.u32.new.self) h.0.count c.in-Ok.ensures.spelled in
-    omega (arith, u.0, h.1)
-
-pub returns-in-Err : goal.returns-in-Err
-returns-in-Err c =
-    begins-through TakesValType (Both TakesLocalRun IsEmptyRun) (rest c.args.cursor.now) (rest c.u32.new.self) c.in-Err.fault
-    (λ run after h.
-    let u = unsigned-unique 32 run.count c.in-Ok.count (rest c.args.cursor.now) h.0.mid (rest c.u32.new.self) h.0.count c.in-Ok.ensures.spelled in
-    (run.value, after, subst (λ (l : List ℕ). TakesValType run.value l after) u.1 h.0.value))
-    c.in-Err.ensures
+pub returns-in_err-count : goal.returns-in_err-count
+returns-in_err-count c =
+    exits-as (TakesPair (TakesUnsigned 32) TakesValType) TakesLocalRun c.from_residual.result _ (rest c.args.cursor.now) c.in_err-count.field-0.0 c.from_residual.ensures.1 c.in_err-count.ensures
+    (λ run after h. ((run.count, run.value), (h.mid, h.count, h.value)))

@@ -1,40 +1,24 @@
-use Rattle.std.proofs.Common.{◌≡◌, ℕ, List, ◌∷◌, ap, ◌∙◌, sym, subst, arith}
+use Rattle.std.proofs.Common.{◌∷◌, ℕ, ap, ◌∙◌}
 use Rattle.std.proofs.lemmas.List.{map-id}
-use Rattle.wasm_types.specs.declared.types.ValType.{ValType}
 use Rattle.wasm_spec.specs.Numbers.{TakesVec}
 use Rattle.wasm_spec.specs.TypeGrammar.{TakesValType, TakesFuncType}
-use Rattle.leb_read.specs.Reading.{rest}
-use Rattle.wasm_decode.specs.Built.{IsI32, IsBuiltType}
-use Rattle.wasm_decode.specs.Trees.{Both}
-use Rattle.wasm_decode.proofs.Each.{begins-through}
-use Rattle.wasm_decode.proofs.Fields.{type-params, type-results, type-is}
+use Rattle.leb_read.specs.Reading.{rest, TakesByte}
+use Rattle.wasm_decode.specs.Pairs.{TakesPair}
+use Rattle.wasm_decode.proofs.Reading.{exits-as}
 use Rattle.wasm_decode.proofs.types.FuncTypeItem.decode.Goals as goal
 
-pub returns-in-Err : goal.returns-in-Err
-returns-in-Err c =
-    let e : rest c.args.cursor.now ≡ 0x60 ∷ rest c.u8.new.self = c.in-Ok.ensures.spelled ∙ ap (λ (n : ℕ). n ∷ rest c.u8.new.self) (omega arith) in
-    begins-through (TakesVec (Both TakesValType IsI32)) (Both TakesFuncType IsBuiltType) (rest c.args.cursor.now) (rest c.u8.new.self) c.in-Err.fault
-    (λ t after h. type-params t (rest c.args.cursor.now) (rest c.u8.new.self) after e h)
-    c.in-Err.ensures
+pub returns-in_err-tag : goal.returns-in_err-tag
+returns-in_err-tag c =
+    exits-as (TakesPair TakesByte (TakesPair (TakesVec TakesValType) (TakesVec TakesValType))) TakesFuncType c.from_residual.result _ (rest c.args.cursor.now) c.in_err-tag.field-0.0 c.from_residual.ensures.1 c.in_err-tag.ensures
+    (λ t after h. ((0x60, (t.params, t.results)), (h.after, h.tag, (h.mid, h.params, h.results))))
 
-pub returns-in-Err-decode_vec : goal.returns-in-Err-decode_vec
-returns-in-Err-decode_vec c =
-    let e : rest c.args.cursor.now ≡ 0x60 ∷ rest c.u8.new.self = c.in-Ok.ensures.spelled ∙ ap (λ (n : ℕ). n ∷ rest c.u8.new.self) (omega arith) in
-    let ps = c.in-Ok-decode_vec.params.items in
-    let v = subst (λ (l : List ValType). TakesVec (Both TakesValType IsI32) l (rest c.u8.new.self) (rest c.decode_vec.new.cursor)) (map-id ps) c.in-Ok-decode_vec.ensures.spelled in
-    begins-through (TakesVec (Both TakesValType IsI32)) (Both TakesFuncType IsBuiltType) (rest c.args.cursor.now) (rest c.decode_vec.new.cursor) c.in-Err-decode_vec.fault
-    (λ t after h. type-results t ps (rest c.args.cursor.now) (rest c.u8.new.self) (rest c.decode_vec.new.cursor) after e v h)
-    c.in-Err-decode_vec.ensures
-
-pub returns : goal.returns
-returns c =
-    let e : rest c.args.cursor.now ≡ 0x60 ∷ rest c.u8.new.self = c.in-Ok.ensures.spelled ∙ ap (λ (n : ℕ). n ∷ rest c.u8.new.self) (omega arith) in
-    let ps = c.in-Ok-decode_vec.params.items in
-    let rs = c.in-Ok-decode_vec-2.results.items in
-    let p = subst (λ (l : List ValType). TakesVec (Both TakesValType IsI32) l (rest c.u8.new.self) (rest c.decode_vec.new.cursor)) (map-id ps ∙ sym c.new.ensures) c.in-Ok-decode_vec.ensures.spelled in
-    let r = subst (λ (l : List ValType). TakesVec (Both TakesValType IsI32) l (rest c.decode_vec.new.cursor) (rest c.decode_vec-2.new.cursor)) (map-id rs ∙ sym c.new-2.ensures) c.in-Ok-decode_vec-2.ensures.spelled in
+pub returns-then-tag-eq96 : goal.returns-then-tag-eq96
+returns-then-tag-eq96 c =
+    let r = simp map-id at c.in_ok-tag.ensures in
+    let s = r.spelled in
     record {
-      whole = c.in-Ok-decode_vec-2.ensures.whole ∙ c.in-Ok-decode_vec.ensures.whole ∙ c.in-Ok.ensures.whole;
-      within = c.in-Ok-decode_vec-2.ensures.within;
-      spelled = type-is c.new.result c.new-2.result (rest c.args.cursor.now) (rest c.u8.new.self) (rest c.decode_vec.new.cursor) (rest c.decode_vec-2.new.cursor) e p r;
+      whole = r.whole;
+      forth = r.forth;
+      within = r.within;
+      spelled = record { after = s.0; mid = s.2.0; tag = s.1 ∙ ap (λ (n : ℕ). n ∷ s.0) c.if-tag-eq96.true; params = s.2.1; results = s.2.2 };
     }

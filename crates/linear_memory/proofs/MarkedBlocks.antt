@@ -1,0 +1,144 @@
+-- Blocks that are marked.
+use Rattle.std.proofs.Common.{◌≡◌, ℕ, zero, suc, ◌+◌, ◌-◌, ◌*◌, ◌/◌, ◌<◌, ◌≤◌, ◌⊎◌, ⊎_elim, inl, inr, List, [], ◌∷◌, Bool, true, false, length, set, take, drop, replicate, get_or, refl, sym, ap, ◌∙◌, arith}
+use Rattle.std.specs.Prelude.{cond, count_by}
+use Rattle.std.proofs.lemmas.Bool.{cases_lt}
+use Rattle.std.proofs.lemmas.List.{get_or-drop, get_or-take, get_or_past, length-set, length-take}
+use Rattle.std.proofs.lemmas.List.Sums.{sum_by-set}
+use Rattle.wasm_spec.specs.Store.{page_size, written}
+use Rattle.linear_memory.specs.declared.memory.Memory.{Memory}
+use Rattle.linear_memory.specs.Bytes.{IsMemory, shown, size_of}
+use Rattle.linear_memory.specs.Marks.{HasSameRoom, KeepsUnmarked, MarksChanges, count_marks, is_marked}
+use Rattle.linear_memory.proofs.WrittenBytes.{drop-written, length-written, outside_written, take-written}
+
+-- ---- one mark that is set
+
+set_here : (xs : List Bool) (i : ℕ) → i < length xs → get_or (set xs i true) i false ≡ true
+set_here [] i h = absurd (omega arith)
+set_here (x ∷ xs) zero h = refl
+set_here (x ∷ xs) (suc i) h = set_here xs i (omega arith)
+
+-- what is not marked afterwards was not before
+unset_before : (xs : List Bool) (i b : ℕ) → get_or (set xs i true) b false ≡ false → get_or xs b false ≡ false
+unset_before [] i b e = e
+unset_before (x ∷ xs) zero zero e = absurd (cc)
+unset_before (x ∷ xs) zero (suc b) e = e
+unset_before (x ∷ xs) (suc i) zero e = e
+unset_before (x ∷ xs) (suc i) (suc b) e = unset_before xs i b e
+
+set_counted : (xs : List Bool) (i : ℕ) → i < length xs → count_by (λ b. b) (set xs i true) ≤ count_by (λ b. b) xs + 1
+set_counted xs i h = omega (arith, sum_by-set (λ b. cond b 1 0) xs i true true h)
+
+-- ---- the blocks of a piece
+
+-- a place within so short a piece lies in its first block or in its last
+block_of : (at n i : ℕ) → 0 < n → n ≤ 4096 → at ≤ i → i < at + n → (i / 4096 ≡ at / 4096) ⊎ (i / 4096 ≡ (at + n - 1) / 4096)
+block_of at n i p h l u = grind arith
+
+-- both marks are set, so a place that lies in no marked block lies outside the piece
+module _ (marks : List Bool) (at n i : ℕ) (some : 0 < n) (short : n ≤ 4096) (first : at / 4096 < length marks) (last : (at + n - 1) / 4096 < length marks) (unmarked : is_marked (set (set marks (at / 4096) true) ((at + n - 1) / 4096) true) i ≡ false) where
+  not_last : i / 4096 ≡ (at + n - 1) / 4096 → ⊥
+  not_last e =
+      let is : get_or (set (set marks (at / 4096) true) ((at + n - 1) / 4096) true) (i / 4096) false ≡ true =
+      ap (λ (b : ℕ). get_or (set (set marks (at / 4096) true) ((at + n - 1) / 4096) true) b false) e
+      ∙ set_here (set marks (at / 4096) true) ((at + n - 1) / 4096) (omega (arith, length-set {A = Bool})) in
+      cc (is, unmarked)
+
+  not_first : i / 4096 ≡ at / 4096 → ⊥
+  not_first e =
+      let is : get_or (set marks (at / 4096) true) (i / 4096) false ≡ true =
+      ap (λ (b : ℕ). get_or (set marks (at / 4096) true) b false) e ∙ set_here marks (at / 4096) first in
+      cc (is, unset_before (set marks (at / 4096) true) ((at + n - 1) / 4096) (i / 4096) unmarked)
+
+  not_within : at ≤ i → i < at + n → ⊥
+  not_within l u = ⊎_elim not_first not_last (block_of at n i some short l u)
+
+  pub lies_outside : (i < at) ⊎ (at + n ≤ i)
+  lies_outside = ⊎_elim (λ (l : i < at). inl l) (λ (l : at ≤ i). ⊎_elim (λ (u : i < at + n). absurd (not_within l u)) (λ (u : at + n ≤ i). inr u) (cases_lt i (at + n))) (cases_lt i at)
+
+-- ---- memories
+
+pub changes_none : (old new : Memory) → new.bytes.items ≡ old.bytes.items → new.marks.items ≡ old.marks.items → MarksChanges old new 0
+changes_none old new bytes marks = record {
+  unmarked = record { bytes = λ i u. ap (λ (l : List ℕ). get_or l i 0) bytes; marks = λ i u. ap (λ (l : List Bool). is_marked l i) (sym marks) ∙ u };
+  counted = omega (arith, ap (count_by (λ b. b)) marks);
+  room = record { bytes = ap length bytes; marks = ap length marks };
+}
+
+-- one change after another
+pub unmarked_more : (a b c : List ℕ) (x y z : List Bool) → KeepsUnmarked a b x y → KeepsUnmarked b c y z → KeepsUnmarked a c x z
+unmarked_more a b c x y z p q = record { bytes = λ i u. q.bytes i u ∙ p.bytes i (q.marks i u); marks = λ i u. p.marks i (q.marks i u) }
+
+pub changes_more : (a b c : Memory) (n k j : ℕ) → MarksChanges a b n → MarksChanges b c k → n + k ≡ j → MarksChanges a c j
+changes_more a b c n k j p q e = record {
+  unmarked = unmarked_more a.bytes.items b.bytes.items c.bytes.items a.marks.items b.marks.items c.marks.items p.unmarked q.unmarked;
+  counted = let x = p.counted in let y = q.counted in omega arith;
+  room = record { bytes = q.room.bytes ∙ p.room.bytes; marks = q.room.marks ∙ p.room.marks };
+}
+
+-- ---- what is shown
+
+all_alike : (n i d : ℕ) → get_or (replicate n d) i d ≡ d
+all_alike zero i d = refl
+all_alike (suc n) zero d = refl
+all_alike (suc n) (suc i) d = all_alike n i d
+
+-- past the size all is zero, as past the end of what is shown
+shown_byte : (most : ℕ) (memory : Memory) → IsMemory most memory → (i : ℕ) → get_or (shown memory) i 0 ≡ get_or memory.bytes.items i 0
+shown_byte most memory is i =
+    let size = size_of memory in
+    let bytes = memory.bytes.items in
+    let beyond : size ≤ i → get_or (shown memory) i 0 ≡ get_or bytes i 0 = λ le.
+    let none : get_or (shown memory) i 0 ≡ 0 = get_or_past (take size bytes) i 0 (omega (arith, length-take size bytes)) in
+    let rest : get_or bytes i 0 ≡ get_or (drop size bytes) (i - size) 0 = ap (λ (n : ℕ). get_or bytes n 0) (omega arith) ∙ sym (get_or-drop size bytes (i - size) 0) in
+    none ∙ sym (rest ∙ ap (λ (l : List ℕ). get_or l (i - size) 0) is.zeros ∙ all_alike (length bytes - size) (i - size) 0) in
+    ⊎_elim (λ (lt : i < size). get_or-take size bytes i 0 lt) beyond (cases_lt i size)
+
+-- the same of what is shown
+pub shown_unmarked : (most n : ℕ) (old new : Memory) → IsMemory most new → MarksChanges old new n → KeepsUnmarked old.bytes.items (shown new) old.marks.items new.marks.items
+shown_unmarked most n old new is changes = record { bytes = λ i u. shown_byte most new is i ∙ changes.unmarked.bytes i u; marks = changes.unmarked.marks }
+
+-- ---- a piece that is written within the size
+
+module _ (old new : Memory) (at : ℕ) (p : List ℕ) (fits : at + length p ≤ size_of old) (bytes : new.bytes.items ≡ written old.bytes.items at p) where
+  within : (most : ℕ) → IsMemory most old → at + length p ≤ length old.bytes.items
+  within most is = let r = is.bytes in let s = is.size in omega arith
+
+  pub changes_written : (most : ℕ) → IsMemory most old → 0 < length p → length p ≤ 4096
+      → new.marks.items ≡ set (set old.marks.items (at / 4096) true) ((at + length p - 1) / 4096) true → MarksChanges old new 2
+  changes_written most is some short marks =
+      let m = is.marks in
+      let s = is.size in
+      let first : at / 4096 < length old.marks.items = omega arith in
+      let last : (at + length p - 1) / 4096 < length old.marks.items = omega arith in
+      let one = set old.marks.items (at / 4096) true in
+      record {
+        unmarked = record {
+          bytes = λ i u.
+              ap (λ (l : List ℕ). get_or l i 0) bytes
+              ∙ outside_written at p old.bytes.items i (within most is) (lies_outside old.marks.items at (length p) i some short first last (ap (λ (l : List Bool). is_marked l i) (sym marks) ∙ u));
+          marks = λ i u. unset_before old.marks.items (at / 4096) (i / 4096) (unset_before one ((at + length p - 1) / 4096) (i / 4096) (ap (λ (l : List Bool). is_marked l i) (sym marks) ∙ u));
+        };
+        counted = rw marks (omega (arith, set_counted old.marks.items (at / 4096) first, set_counted one ((at + length p - 1) / 4096) (omega (arith, length-set {A = Bool}))));
+        room = record {
+          bytes = ap length bytes ∙ length-written at p old.bytes.items (within most is);
+          marks = ap length marks ∙ omega (arith, length-set {A = Bool});
+        };
+      }
+
+  pub shown_written : (most : ℕ) → IsMemory most old → new.pages ≡ old.pages → shown new ≡ written (shown old) at p
+  shown_written most is pages =
+      let r = is.bytes in
+      let s = is.size in
+      rw (bytes, pages) (take-written at p old.bytes.items (size_of old) fits (omega arith))
+
+  pub memory_written : (most : ℕ) → IsMemory most old → new.pages ≡ old.pages → length new.marks.items ≡ length old.marks.items → IsMemory most new
+  memory_written most is pages marks =
+      let r = is.bytes in
+      let s = is.size in
+      let long : length new.bytes.items ≡ length old.bytes.items = ap length bytes ∙ length-written at p old.bytes.items (within most is) in
+      record {
+        bytes = rw long is.bytes;
+        marks = rw marks is.marks;
+        size = rw pages is.size;
+        zeros = rw (long, bytes, pages) (drop-written at p old.bytes.items (size_of old) fits (omega arith) ∙ is.zeros);
+      }

@@ -1,0 +1,67 @@
+-- Bytes that are written over others.
+use Rattle.std.proofs.Common.{◌≡◌, ℕ, zero, suc, ◌+◌, ◌<◌, ◌≤◌, ◌⊎◌, ⊎_elim, inl, inr, List, [], ◌∷◌, ◌++◌, length, take, drop, get_or, refl, ap, arith}
+use Rattle.wasm_spec.specs.Store.{written}
+
+-- the list after p was written over what lies from `at` to k
+abbrev over : ℕ → ℕ → List ℕ → List ℕ → List ℕ
+over at k p xs = take at xs ++ (p ++ drop k xs)
+
+take-over : (at k : ℕ) (p xs : List ℕ) (n : ℕ) → k ≡ at + length p → k ≤ n → n ≤ length xs → take n (over at k p xs) ≡ over at k p (take n xs)
+take-over zero zero [] xs n e h l = refl
+take-over zero (suc k) [] xs n e h l = absurd (omega arith)
+take-over zero zero (b ∷ p) xs n e h l = absurd (omega arith)
+take-over zero (suc k) (b ∷ p) xs zero e h l = absurd (omega arith)
+take-over zero (suc k) (b ∷ p) [] (suc n) e h l = absurd (omega arith)
+take-over zero (suc k) (b ∷ p) (x ∷ xs) (suc n) e h l = ap (λ (l : List ℕ). b ∷ l) (take-over zero k p xs n (omega arith) (omega arith) (omega arith))
+take-over (suc at) zero p xs n e h l = absurd (omega arith)
+take-over (suc at) (suc k) p xs zero e h l = absurd (omega arith)
+take-over (suc at) (suc k) p [] (suc n) e h l = absurd (omega arith)
+take-over (suc at) (suc k) p (x ∷ xs) (suc n) e h l = ap (λ (l : List ℕ). x ∷ l) (take-over at k p xs n (omega arith) (omega arith) (omega arith))
+
+drop-over : (at k : ℕ) (p xs : List ℕ) (n : ℕ) → k ≡ at + length p → k ≤ n → n ≤ length xs → drop n (over at k p xs) ≡ drop n xs
+drop-over zero zero [] xs n e h l = refl
+drop-over zero (suc k) [] xs n e h l = absurd (omega arith)
+drop-over zero zero (b ∷ p) xs n e h l = absurd (omega arith)
+drop-over zero (suc k) (b ∷ p) xs zero e h l = absurd (omega arith)
+drop-over zero (suc k) (b ∷ p) [] (suc n) e h l = absurd (omega arith)
+drop-over zero (suc k) (b ∷ p) (x ∷ xs) (suc n) e h l = drop-over zero k p xs n (omega arith) (omega arith) (omega arith)
+drop-over (suc at) zero p xs n e h l = absurd (omega arith)
+drop-over (suc at) (suc k) p xs zero e h l = absurd (omega arith)
+drop-over (suc at) (suc k) p [] (suc n) e h l = absurd (omega arith)
+drop-over (suc at) (suc k) p (x ∷ xs) (suc n) e h l = drop-over at k p xs n (omega arith) (omega arith) (omega arith)
+
+length-over : (at k : ℕ) (p xs : List ℕ) → k ≡ at + length p → k ≤ length xs → length (over at k p xs) ≡ length xs
+length-over zero zero [] xs e h = refl
+length-over zero (suc k) [] xs e h = absurd (omega arith)
+length-over zero zero (b ∷ p) xs e h = absurd (omega arith)
+length-over zero (suc k) (b ∷ p) [] e h = absurd (omega arith)
+length-over zero (suc k) (b ∷ p) (x ∷ xs) e h = omega (arith, length-over zero k p xs (omega arith) (omega arith))
+length-over (suc at) zero p xs e h = absurd (omega arith)
+length-over (suc at) (suc k) p [] e h = absurd (omega arith)
+length-over (suc at) (suc k) p (x ∷ xs) e h = omega (arith, length-over at k p xs (omega arith) (omega arith))
+
+outside_over : (at k : ℕ) (p xs : List ℕ) (i : ℕ) → k ≡ at + length p → k ≤ length xs → (i < at) ⊎ (k ≤ i) → get_or (over at k p xs) i 0 ≡ get_or xs i 0
+outside_over zero zero [] xs i e h w = refl
+outside_over zero (suc k) [] xs i e h w = absurd (omega arith)
+outside_over zero zero (b ∷ p) xs i e h w = absurd (omega arith)
+outside_over zero (suc k) (b ∷ p) [] i e h w = absurd (omega arith)
+outside_over zero (suc k) (b ∷ p) (x ∷ xs) zero e h w = absurd (⊎_elim (λ (l : 0 < 0). omega arith) (λ (l : suc k ≤ 0). omega arith) w)
+outside_over zero (suc k) (b ∷ p) (x ∷ xs) (suc i) e h w =
+    outside_over zero k p xs i (omega arith) (omega arith) (⊎_elim (λ (l : suc i < 0). absurd (omega arith)) (λ (l : suc k ≤ suc i). inr (omega arith)) w)
+outside_over (suc at) zero p xs i e h w = absurd (omega arith)
+outside_over (suc at) (suc k) p [] i e h w = absurd (omega arith)
+outside_over (suc at) (suc k) p (x ∷ xs) zero e h w = refl
+outside_over (suc at) (suc k) p (x ∷ xs) (suc i) e h w =
+    outside_over at k p xs i (omega arith) (omega arith) (⊎_elim (λ (l : suc i < suc at). inl (omega arith)) (λ (l : suc k ≤ suc i). inr (omega arith)) w)
+
+pub take-written : (at : ℕ) (p xs : List ℕ) (n : ℕ) → at + length p ≤ n → n ≤ length xs → take n (written xs at p) ≡ written (take n xs) at p
+take-written at p xs n h l = take-over at (at + length p) p xs n refl h l
+
+pub drop-written : (at : ℕ) (p xs : List ℕ) (n : ℕ) → at + length p ≤ n → n ≤ length xs → drop n (written xs at p) ≡ drop n xs
+drop-written at p xs n h l = drop-over at (at + length p) p xs n refl h l
+
+pub length-written : (at : ℕ) (p xs : List ℕ) → at + length p ≤ length xs → length (written xs at p) ≡ length xs
+length-written at p xs h = length-over at (at + length p) p xs refl h
+
+pub outside_written : (at : ℕ) (p xs : List ℕ) (i : ℕ) → at + length p ≤ length xs → (i < at) ⊎ (at + length p ≤ i) → get_or (written xs at p) i 0 ≡ get_or xs i 0
+outside_written at p xs i h w = outside_over at (at + length p) p xs i refl h w

@@ -1,0 +1,6 @@
+//! The linear memory that is lent to a run, with a mark for each of its blocks that was written to.
+#![tactic(auto)]
+
+mod memory;
+
+pub use memory::{BLOCK_SIZE, Memory, PAGE_SIZE};

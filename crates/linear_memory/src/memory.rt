@@ -1,0 +1,162 @@
+//! A linear memory in bytes for its largest size.
+ghost use Rattle.std.specs.Prelude.{◌≡◌, ℕ, ◌+◌, ◌<◌, ◌≤◌, false, Option, None, Some, IfOk, if◌then◌else◌, nat_lt, not, length, replicate};
+ghost use Rattle.std.specs.Int.{from_le_bytes, w8, w16, w32, w64};
+ghost use Rattle.wasm_spec.specs.Store.{written, loaded};
+ghost use Rattle.linear_memory.specs.Bytes.{Grows, IsMemory, IsZeroed, shown};
+ghost use Rattle.linear_memory.specs.Marks.{MarksChanges, block_size};
+
+use std::alloc::{AllocError, Global};
+use wasm_types::NoMemory;
+
+/// How many bytes a page has (Core Specification 1.0, section 4.2.8).
+pub const PAGE_SIZE: u64 = 65536;
+
+/// How many bytes a block has, for which one mark is kept.
+pub const BLOCK_SIZE: u64 = 4096;
+
+/// A memory: bytes to its largest size, of which those past its size are zero, its size in pages, and for each block of
+/// bytes whether it was written to.
+#[derive(Drop)]
+pub struct Memory {
+    pub bytes: Vec<u8>,
+    pub pages: u32,
+    pub marks: Vec<bool>,
+}
+
+// Writes bytes over those from a place on.
+fn put(bytes: &mut Vec<u8>, start: usize, piece: &[u8])
+    requires { start + length piece.now ≤ length bytes.old.items }
+    ensures { bytes.new.items ≡ written bytes.old.items start piece.now }
+{
+    bytes[start..start + piece.len()].copy_from_slice(piece);
+}
+
+// So many bytes of zero, and so many marks that are not set.
+fn zeros(alloc: Global, bytes: usize, marks: usize) -> Result<(Vec<u8>, Vec<bool>), AllocError>
+    ensures { IfOk result (λ pair. (pair.0.items ≡ replicate bytes 0) × (pair.1.items ≡ replicate marks false)) }
+{
+    Ok((vec![in alloc; 0; bytes]?, vec![in alloc; false; marks]?))
+}
+
+impl Memory {
+    /// A memory of size 0 with bytes for so many pages, in which all is zero and no block is marked.
+    ///
+    /// # Errors
+    ///
+    /// `NoMemory` where memory was refused.
+    pub fn zeroed(alloc: Global, pages: u32) -> Result<Memory, NoMemory>
+        ensures zeroed { IfOk result (λ memory. IsZeroed pages memory) }
+        ensures memory { IfOk result (λ memory. IsMemory pages memory) }
+    {
+        let count = u64::from(pages) * PAGE_SIZE;
+        match zeros(alloc, count as usize, (count / BLOCK_SIZE) as usize) {
+            Ok((bytes, marks)) => Ok(Memory {
+                bytes,
+                pages: 0,
+                marks,
+            }),
+            Err(_) => Err(NoMemory),
+        }
+    }
+
+    /// Writes bytes at an address, if they lie within the size, and marks the blocks that they lie in. Says whether they do.
+    pub fn write(&mut self, at: u64, piece: &[u8]) -> bool
+        requires memory { (most : ℕ) × IsMemory most self.old }
+        requires some { 0 < length piece.now }
+        requires short { length piece.now ≤ block_size }
+        ensures fits { result ≡ not (nat_lt (length (shown self.old)) (at + length piece.now)) }
+        ensures after { shown self.new ≡ (if result then written (shown self.old) at piece.now else shown self.old) }
+        ensures memory { (most : ℕ) → IsMemory most self.old → IsMemory most self.new }
+        ensures marks { MarksChanges self.old self.new 2 }
+    {
+        let size = u64::from(self.pages) * PAGE_SIZE;
+        let count = piece.len() as u64;
+        if size < count || at > size - count {
+            return false;
+        }
+        put(&mut self.bytes, at as usize, piece);
+        self.marks[(at / BLOCK_SIZE) as usize] = true;
+        self.marks[((at + count - 1) / BLOCK_SIZE) as usize] = true;
+        true
+    }
+
+    /// Grows by so many pages of zeros, if there are then at most `most`: the size before.
+    pub fn grow(&mut self, most: u32, pages: u32) -> Option<u32>
+        requires { (limit : ℕ) × IsMemory limit self.old × (most ≤ limit) }
+        ensures grown { Grows most pages self.old result self.new }
+        ensures memory { (limit : ℕ) → most ≤ limit → IsMemory limit self.old → IsMemory limit self.new }
+        ensures marks { MarksChanges self.old self.new 0 }
+    {
+        let before = self.pages;
+        if pages > most || before > most - pages {
+            return None;
+        }
+        self.pages = before + pages;
+        Some(before)
+    }
+
+    /// The byte at an address, if it lies within the size.
+    pub fn read8(&self, at: u64) -> Option<u8>
+        requires { (most : ℕ) × IsMemory most self.now }
+        ensures { result ≡ (if nat_lt (length (shown self.now)) (at + 1) then None else Some (loaded w8 (shown self.now) at)) }
+    {
+        let size = u64::from(self.pages) * PAGE_SIZE;
+        if at >= size {
+            return None;
+        }
+        Some(u8::from_le_bytes([self.bytes[at as usize]]))
+    }
+
+    /// The two bytes at an address as a number, if they lie within the size.
+    pub fn read16(&self, at: u64) -> Option<u16>
+        requires { (most : ℕ) × IsMemory most self.now }
+        ensures { result ≡ (if nat_lt (length (shown self.now)) (at + 2) then None else Some (loaded w16 (shown self.now) at)) }
+    {
+        let size = u64::from(self.pages) * PAGE_SIZE;
+        if size < 2 || at > size - 2 {
+            return None;
+        }
+        let at = at as usize;
+        Some(u16::from_le_bytes([self.bytes[at], self.bytes[at + 1]]))
+    }
+
+    /// The four bytes at an address as a number, if they lie within the size.
+    pub fn read32(&self, at: u64) -> Option<u32>
+        requires { (most : ℕ) × IsMemory most self.now }
+        ensures { result ≡ (if nat_lt (length (shown self.now)) (at + 4) then None else Some (loaded w32 (shown self.now) at)) }
+    {
+        let size = u64::from(self.pages) * PAGE_SIZE;
+        if size < 4 || at > size - 4 {
+            return None;
+        }
+        let at = at as usize;
+        Some(u32::from_le_bytes([
+            self.bytes[at],
+            self.bytes[at + 1],
+            self.bytes[at + 2],
+            self.bytes[at + 3],
+        ]))
+    }
+
+    /// The eight bytes at an address as a number, if they lie within the size.
+    pub fn read64(&self, at: u64) -> Option<u64>
+        requires { (most : ℕ) × IsMemory most self.now }
+        ensures { result ≡ (if nat_lt (length (shown self.now)) (at + 8) then None else Some (loaded w64 (shown self.now) at)) }
+    {
+        let size = u64::from(self.pages) * PAGE_SIZE;
+        if size < 8 || at > size - 8 {
+            return None;
+        }
+        let at = at as usize;
+        Some(u64::from_le_bytes([
+            self.bytes[at],
+            self.bytes[at + 1],
+            self.bytes[at + 2],
+            self.bytes[at + 3],
+            self.bytes[at + 4],
+            self.bytes[at + 5],
+            self.bytes[at + 6],
+            self.bytes[at + 7],
+        ]))
+    }
+}

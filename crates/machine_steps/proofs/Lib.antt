@@ -1,0 +1,6 @@
+pub mod StackLists
+pub mod StackLayoutLemmas
+pub mod OperandLemmas
+pub mod KindLemmas
+pub mod LocalLemmas
+pub mod AccessLemmas

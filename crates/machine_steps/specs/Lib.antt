@@ -1,0 +1,5 @@
+pub mod Configuration
+pub mod StackLayout
+pub mod Lent
+pub mod InstructionKinds
+pub mod PlainSteps

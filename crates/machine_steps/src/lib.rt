@@ -1,0 +1,13 @@
+//! The stacks of a running function, and the instructions that stay in their sequence. It knows no types, no fuel and no module.
+#![tactic(auto)]
+
+mod accesses;
+mod locals;
+mod machine;
+mod operands;
+mod plain;
+mod stack;
+
+pub use machine::{Label, Machine, Position};
+pub use plain::is_jump;
+pub use stack::{keep, push};

@@ -1,0 +1,99 @@
+//! Locals and globals.
+ghost use Rattle.std.specs.Prelude.{◌≡◌, ◌<◌, None, Some, get_or, length, set, slice_get, slice_set, vec_len, vec_capacity};
+ghost use Rattle.wasm_types.specs.declared.outcome.Val.{Val as AVal};
+ghost use Rattle.wasm_types.specs.declared.instr.Instr.TheVariants as instr;
+ghost use Rattle.wasm_types.specs.declared.limits.RunLimits.{RunLimits};
+ghost use Rattle.wasm_types.specs.Tree.{ModuleTree};
+ghost use Rattle.wasm_spec.specs.Store.{Store};
+ghost use Rattle.machine_steps.specs.Configuration.{Configuration};
+ghost use Rattle.machine_steps.specs.StackLayout.{KeepsRoom, Represents};
+ghost use Rattle.machine_steps.specs.PlainSteps.{CanExecute, Executes, HasLocal};
+
+use crate::machine::Machine;
+use wasm_types::Val;
+
+// The value at a place.
+fn value_at(values: &[Val], i: usize) -> Val
+    requires { i < length values.now }
+    ensures at { (d : AVal) → result ≡ get_or values.now i d }
+    ensures there { slice_get values.now i ≡ Some result }
+{
+    values[i]
+}
+
+// Writes a value at a place.
+fn put_at(values: &mut Vec<Val>, i: usize, v: Val)
+    requires { i < length values.old.items }
+    ensures items { values.new.items ≡ set values.old.items i v }
+    ensures capacity { vec_capacity values.new ≡ vec_capacity values.old }
+{
+    values[i] = v;
+}
+
+impl Machine {
+    // Puts a local's value on the top.
+    pub(crate) fn get_local(&mut self, x: u32)
+        requires can { CanExecute (instr.LocalGet x) self.old }
+        requires free { vec_len self.old.values < vec_capacity self.old.values }
+        ensures does { (m : ModuleTree) (limits : RunLimits) (store : Store) → Executes m limits (instr.LocalGet x) self.old store None self.new store }
+        ensures room { KeepsRoom self.old self.new }
+    {
+        let v = value_at(&self.values, self.at.locals + x as usize);
+        self.push(v);
+    }
+
+    // Gives a local this value.
+    fn put_local(&mut self, x: u32, v: Val)
+        requires { HasLocal self.old x }
+        ensures represents { (k : Configuration) (old : AVal) → Represents k self.old → slice_get k.locals x ≡ Some old → Represents (record k { locals = slice_set k.locals x v }) self.new }
+        ensures room { KeepsRoom self.old self.new }
+        ensures free { vec_len self.old.values < vec_capacity self.old.values → vec_len self.new.values < vec_capacity self.new.values }
+    {
+        put_at(&mut self.values, self.at.locals + x as usize, v);
+    }
+
+    // Gives a local the topmost operand, which is taken off.
+    pub(crate) fn set_local(&mut self, x: u32)
+        requires { CanExecute (instr.LocalSet x) self.old }
+        ensures does { (m : ModuleTree) (limits : RunLimits) (store : Store) → Executes m limits (instr.LocalSet x) self.old store None self.new store }
+        ensures room { KeepsRoom self.old self.new }
+    {
+        let v = self.pop();
+        self.put_local(x, v);
+    }
+
+    // Gives a local the topmost operand.
+    pub(crate) fn tee_local(&mut self, x: u32)
+        requires { CanExecute (instr.LocalTee x) self.old }
+        ensures does { (m : ModuleTree) (limits : RunLimits) (store : Store) → Executes m limits (instr.LocalTee x) self.old store None self.new store }
+        ensures room { KeepsRoom self.old self.new }
+    {
+        let v = self.pop();
+        self.put_local(x, v);
+        self.push(v);
+    }
+
+    // Puts a global's value on the top.
+    pub(crate) fn get_global(&mut self, globals: &[Val], x: u32)
+        requires there { x < length globals.now }
+        requires free { vec_len self.old.values < vec_capacity self.old.values }
+        ensures does { (m : ModuleTree) (limits : RunLimits) (store : Store) → store.globals ≡ globals.now
+            → Executes m limits (instr.GlobalGet x) self.old store None self.new store }
+        ensures room { KeepsRoom self.old self.new }
+    {
+        self.push(value_at(globals, x as usize));
+    }
+
+    // Gives a global the topmost operand, which is taken off.
+    pub(crate) fn set_global(&mut self, globals: &mut [Val], x: u32)
+        requires can { CanExecute (instr.GlobalSet x) self.old }
+        requires there { x < length globals.old }
+        ensures does { (m : ModuleTree) (limits : RunLimits) (store : Store) → store.globals ≡ globals.old
+            → Executes m limits (instr.GlobalSet x) self.old store None self.new (record store { globals = globals.new }) }
+        ensures room { KeepsRoom self.old self.new }
+        ensures globals { length globals.new ≡ length globals.old }
+    {
+        let v = self.pop();
+        globals[x as usize] = v;
+    }
+}

@@ -1,0 +1,83 @@
+//! Where a run stands.
+ghost use Rattle.std.specs.Prelude.{◌≡◌, ◌<◌, ◌≤◌, IfOk, List, length, vec_len, vec_capacity};
+ghost use Rattle.wasm_types.specs.declared.types.ValType.{ValType};
+
+use crate::stack;
+use std::alloc::{AllocError, Global};
+use wasm_types::Val;
+
+/// Where a function goes on, and where its frame's locals and labels begin.
+#[derive(Clone, Copy, Debug, PartialEq, Eq)]
+pub struct Position {
+    pub function: usize,
+    pub sequence: usize,
+    pub place: usize,
+    pub locals: usize,
+    pub labels: usize,
+}
+
+/// An open block, loop or `if`: how many values a branch to it takes, where its operands begin, and where it goes on at
+/// its end and at a branch.
+#[derive(Clone, Copy, Debug, PartialEq, Eq)]
+pub struct Label {
+    pub arity: usize,
+    pub base: usize,
+    pub sequence: usize,
+    pub after: usize,
+    pub target: usize,
+}
+
+/// A run's position and stacks. Each frame's values are its locals, and then its operands.
+#[derive(Drop)]
+pub struct Machine {
+    pub at: Position,
+    pub values: Vec<Val>,
+    pub labels: Vec<Label>,
+    pub frames: Vec<Position>,
+}
+
+impl Machine {
+    ghost use Rattle.machine_steps.specs.Configuration.{Configuration};
+    ghost use Rattle.machine_steps.specs.StackLayout.{KeepsRoom, Represents};
+    ghost use Rattle.machine_steps.specs.PlainSteps.{in_block};
+
+    /// A machine with room for so many values and labels, and so many calls. It stands nowhere.
+    pub fn with_room(alloc: Global, entries: usize, calls: usize) -> Result<Machine, AllocError>
+        ensures values { IfOk result (λ machine. entries ≤ vec_capacity machine.values) }
+        ensures labels { IfOk result (λ machine. entries ≤ vec_capacity machine.labels) }
+        ensures frames { IfOk result (λ machine. calls ≤ vec_capacity machine.frames) }
+    {
+        let at = Position {
+            function: 0,
+            sequence: 0,
+            place: 0,
+            locals: 0,
+            labels: 0,
+        };
+        Ok(Machine {
+            at,
+            values: Vec::with_capacity(alloc, entries)?,
+            labels: Vec::with_capacity(alloc, entries)?,
+            frames: Vec::with_capacity(alloc, calls)?,
+        })
+    }
+
+    /// Enters a block, a loop or an arm: goes on in its sequence.
+    pub fn enter_block(&mut self, arity: usize, target: usize, sequence: usize)
+        requires { vec_len self.old.labels < vec_capacity self.old.labels }
+        ensures represents { (k : Configuration) (label ends : List ValType) → Represents k self.old → arity ≡ length label
+            → Represents (in_block k label ends target sequence) self.new }
+        ensures room { KeepsRoom self.old self.new }
+    {
+        let label = Label {
+            arity,
+            base: self.values.len(),
+            sequence: self.at.sequence,
+            after: self.at.place,
+            target,
+        };
+        stack::push(&mut self.labels, label);
+        self.at.sequence = sequence;
+        self.at.place = 0;
+    }
+}

@@ -1,0 +1,224 @@
+//! Instructions that only take operands and give others.
+ghost use Rattle.std.specs.Prelude.{◌≡◌, ◌≢◌, ℕ, ◌<◌, List, ◌∷◌, None, Some, Ok, vec_len, vec_capacity};
+ghost use Rattle.wasm_types.specs.declared.outcome.Val.{Val as AVal};
+ghost use Rattle.wasm_types.specs.declared.outcome.Val.TheVariants as val;
+ghost use Rattle.wasm_types.specs.declared.instr.Instr.TheVariants as instr;
+ghost use Rattle.wasm_types.specs.declared.instr.Width.TheVariants as width;
+ghost use Rattle.wasm_types.specs.declared.limits.RunLimits.{RunLimits};
+ghost use Rattle.wasm_types.specs.Tree.{ModuleTree};
+ghost use Rattle.wasm_spec.specs.Execution.{extended, number, value};
+ghost use Rattle.wasm_spec.specs.Operators as operators;
+ghost use Rattle.wasm_spec.specs.Store.{Store};
+ghost use Rattle.machine_steps.specs.Configuration.{Configuration};
+ghost use Rattle.machine_steps.specs.StackLayout.{KeepsRoom, Represents};
+ghost use Rattle.machine_steps.specs.InstructionKinds.{IsOfOne, IsOfTwo, gives_width, of_one, of_two, takes_width};
+ghost use Rattle.machine_steps.specs.PlainSteps.{CanExecute, Executes, HasNumber, HasOperand, valued};
+
+use crate::machine::Machine;
+use crate::stack;
+use wasm_numeric::{
+    binary32, binary64, compare32, compare64, i32_wrap_i64, i64_extend_i32_s, i64_extend_i32_u,
+    unary32, unary64,
+};
+use wasm_types::{BinaryOp, CompareOp, Instr, Sign, TrapKind, UnaryOp, Val, Width};
+
+// The number of an i32.
+pub(crate) fn number32(v: Val) -> u32
+    requires { number width.W32 v ≢ None }
+    ensures { number width.W32 v ≡ Some result }
+{
+    match v {
+        Val::I32(n) => n,
+        Val::I64(_) => unreachable!(),
+    }
+}
+
+// The number of an i64.
+pub(crate) fn number64(v: Val) -> u64
+    requires { number width.W64 v ≢ None }
+    ensures { number width.W64 v ≡ Some result }
+{
+    match v {
+        Val::I64(n) => n,
+        Val::I32(_) => unreachable!(),
+    }
+}
+
+// Whether a number is 0.
+fn eqz(width: Width, v: Val) -> Val
+    requires { number width v ≢ None }
+    ensures { (a : ℕ) → number width v ≡ Some a → result ≡ val.I32 (operators.eqz a) }
+{
+    match width {
+        Width::W32 => Val::I32(u32::from(number32(v) == 0)),
+        Width::W64 => Val::I32(u32::from(number64(v) == 0)),
+    }
+}
+
+// The value of an operator on one value of its width.
+fn unary(width: Width, op: UnaryOp, v: Val) -> Val
+    requires { number width v ≢ None }
+    ensures { (a : ℕ) → number width v ≡ Some a → result ≡ value width (operators.unary (operators.bit_width width) op a) }
+{
+    match width {
+        Width::W32 => Val::I32(unary32(op, number32(v))),
+        Width::W64 => Val::I64(unary64(op, number64(v))),
+    }
+}
+
+// An i32 as an i64.
+fn extend(sign: Sign, n: u32) -> Val
+    ensures { result ≡ val.I64 (extended 32 64 sign n) }
+{
+    match sign {
+        Sign::Signed => Val::I64(i64_extend_i32_s(n)),
+        Sign::Unsigned => Val::I64(i64_extend_i32_u(n)),
+    }
+}
+
+// The value of a comparison of two values of a width.
+fn compare(width: Width, op: CompareOp, first: Val, second: Val) -> Val
+    requires first { number width first ≢ None }
+    requires second { number width second ≢ None }
+    ensures { (a b : ℕ) → number width first ≡ Some a → number width second ≡ Some b
+        → result ≡ val.I32 (operators.compare (operators.bit_width width) op a b) }
+{
+    match width {
+        Width::W32 => Val::I32(compare32(op, number32(first), number32(second))),
+        Width::W64 => Val::I32(compare64(op, number64(first), number64(second))),
+    }
+}
+
+// The value of an operator on two values of its width.
+fn binary(width: Width, op: BinaryOp, first: Val, second: Val) -> Result<Val, TrapKind>
+    requires first { number width first ≢ None }
+    requires second { number width second ≢ None }
+    ensures { (a b : ℕ) → number width first ≡ Some a → number width second ≡ Some b
+        → result ≡ valued width (operators.binary (operators.bit_width width) op a b) }
+{
+    match width {
+        Width::W32 => match binary32(op, number32(first), number32(second)) {
+            Ok(n) => Ok(Val::I32(n)),
+            Err(t) => Err(t),
+        },
+        Width::W64 => match binary64(op, number64(first), number64(second)) {
+            Ok(n) => Ok(Val::I64(n)),
+            Err(t) => Err(t),
+        },
+    }
+}
+
+// The first where a condition isn't 0, and else the second.
+fn chosen(condition: u32, first: Val, second: Val) -> Val
+    ensures zero { condition ≡ 0 → result ≡ second }
+    ensures other { condition ≢ 0 → result ≡ first }
+{
+    if condition == 0 { second } else { first }
+}
+
+// What an instruction makes of one operand.
+fn one(instr: &Instr, v: Val) -> Val
+    requires kind { IsOfOne instr.now }
+    requires number { number (takes_width instr.now) v ≢ None }
+    ensures { (a : ℕ) → number (takes_width instr.now) v ≡ Some a → result ≡ value (gives_width instr.now) (of_one instr.now a) }
+{
+    match instr {
+        Instr::Eqz(width) => eqz(*width, v),
+        Instr::Unary(width, op) => unary(*width, *op, v),
+        Instr::Wrap => Val::I32(i32_wrap_i64(number64(v))),
+        Instr::Extend(sign) => extend(*sign, number32(v)),
+        _ => unreachable!(),
+    }
+}
+
+// What an instruction makes of two operands.
+fn two(instr: &Instr, first: Val, second: Val) -> Result<Val, TrapKind>
+    requires kind { IsOfTwo instr.now }
+    requires first { number (takes_width instr.now) first ≢ None }
+    requires second { number (takes_width instr.now) second ≢ None }
+    ensures { (a b : ℕ) → number (takes_width instr.now) first ≡ Some a → number (takes_width instr.now) second ≡ Some b
+        → result ≡ valued (gives_width instr.now) (of_two instr.now a b) }
+{
+    match instr {
+        Instr::Compare(width, op) => Ok(compare(*width, *op, first, second)),
+        Instr::Binary(width, op) => binary(*width, *op, first, second),
+        _ => unreachable!(),
+    }
+}
+
+impl Machine {
+    // Puts an operand on the top.
+    pub(crate) fn push(&mut self, v: Val)
+        requires { vec_len self.old.values < vec_capacity self.old.values }
+        ensures represents { (k : Configuration) → Represents k self.old → Represents (record k { operands = v ∷ k.operands }) self.new }
+        ensures room { KeepsRoom self.old self.new }
+    {
+        stack::push(&mut self.values, v);
+    }
+
+    // Takes the topmost operand off.
+    pub(crate) fn pop(&mut self) -> Val
+        requires { HasOperand self.old }
+        ensures represents { (k : Configuration) (x : AVal) (vs : List AVal) → Represents k self.old → k.operands ≡ x ∷ vs
+            → (result ≡ x) × Represents (record k { operands = vs }) self.new }
+        ensures room { KeepsRoom self.old self.new }
+        ensures free { vec_len self.new.values < vec_capacity self.new.values }
+    {
+        stack::pop(&mut self.values)
+    }
+
+    /// Takes the topmost operand off, which is an i32.
+    pub fn pop32(&mut self) -> u32
+        requires { HasNumber self.old }
+        ensures represents { (k : Configuration) (n : ℕ) (vs : List AVal) → Represents k self.old → k.operands ≡ val.I32 n ∷ vs
+            → (result ≡ n) × Represents (record k { operands = vs }) self.new }
+        ensures room { KeepsRoom self.old self.new }
+        ensures free { vec_len self.new.values < vec_capacity self.new.values }
+    {
+        match self.pop() {
+            Val::I32(n) => n,
+            Val::I64(_) => unreachable!(),
+        }
+    }
+
+    // An instruction that makes a number of the topmost operand.
+    pub(crate) fn on_one(&mut self, instr: &Instr)
+        requires kind { IsOfOne instr.now }
+        requires can { CanExecute instr.now self.old }
+        ensures does { (m : ModuleTree) (limits : RunLimits) (store : Store) → Executes m limits instr.now self.old store None self.new store }
+        ensures room { KeepsRoom self.old self.new }
+    {
+        let v = self.pop();
+        self.push(one(instr, v));
+    }
+
+    // An instruction that makes a number of the two topmost operands, or traps.
+    pub(crate) fn on_two(&mut self, instr: &Instr) -> Option<TrapKind>
+        requires kind { IsOfTwo instr.now }
+        requires can { CanExecute instr.now self.old }
+        ensures does { (m : ModuleTree) (limits : RunLimits) (store : Store) → Executes m limits instr.now self.old store result self.new store }
+        ensures room { KeepsRoom self.old self.new }
+    {
+        let second = self.pop();
+        let first = self.pop();
+        match two(instr, first, second) {
+            Ok(v) => {
+                self.push(v);
+                None
+            }
+            Err(t) => Some(t),
+        }
+    }
+
+    // Keeps the first of two operands where the topmost one isn't 0, and else the second.
+    pub(crate) fn select(&mut self)
+        requires { CanExecute instr.Select self.old }
+        ensures does { (m : ModuleTree) (limits : RunLimits) (store : Store) → Executes m limits instr.Select self.old store None self.new store }
+        ensures room { KeepsRoom self.old self.new }
+    {
+        let condition = self.pop32();
+        let second = self.pop();
+        let first = self.pop();
+        self.push(chosen(condition, first, second));
+    }
+}

@@ -1,0 +1,73 @@
+//! Branches. Source: WebAssembly Core Specification 1.0, section 3.3.5.
+
+ghost use Rattle.std.specs.Prelude.{◌≡◌, ℕ, Option, MatchResult, slice_get};
+ghost use Rattle.std.specs.List.{list_all};
+ghost use Rattle.wasm_spec.specs.Typing as typing;
+ghost use Rattle.wasm_spec.specs.Typing.{result_types};
+ghost use Rattle.wasm_checker.specs.Position.{Position, Shows, labels_of};
+ghost use Rattle.wasm_checker.specs.Steps.{Applies};
+
+use crate::checker::Checker;
+use crate::fault::CheckFault;
+use crate::widths::same_results;
+use wasm_types::ValType;
+
+impl Checker {
+    /// A branch to a label, in a function with this result.
+    pub(crate) fn branch(&mut self, body: Option<ValType>, l: u32) -> Result<(), CheckFault>
+        ensures { Applies (λ k. typing.branch (slice_get (labels_of body k.blocks) l)) self.old result self.new }
+    {
+        let t = self.label(body, l).ok_or(CheckFault::Invalid)?;
+        self.jump(t)
+    }
+
+    /// A branch to a label where the top is not 0.
+    pub(crate) fn branch_if(&mut self, body: Option<ValType>, l: u32) -> Result<(), CheckFault>
+        ensures { Applies (λ k. typing.branch_if (slice_get (labels_of body k.blocks) l)) self.old result self.new }
+    {
+        let t = self.label(body, l).ok_or(CheckFault::Invalid)?;
+        self.jump_if(t)
+    }
+
+    /// A branch to one of these labels, or to the last one, by the top.
+    pub(crate) fn branch_table(
+        &mut self,
+        body: Option<ValType>,
+        names: &[u32],
+        l: u32,
+    ) -> Result<(), CheckFault>
+        ensures { Applies (λ k. let labels = labels_of body k.blocks in typing.branch_table labels names.now (slice_get labels l))
+            self.old result self.new }
+    {
+        let t = self.label(body, l).ok_or(CheckFault::Invalid)?;
+        if self.are_labels(body, names, t) {
+            self.jump_by_index(t)
+        } else {
+            Err(CheckFault::Invalid)
+        }
+    }
+
+    // Whether these labels are there, and need just this.
+    fn are_labels(&self, body: Option<ValType>, names: &[u32], t: Option<ValType>) -> bool
+        ensures { (k : Position) → Shows k self.now
+            → result ≡ list_all (λ x. typing.is_label (result_types t) (slice_get (labels_of body k.blocks) x)) names.now }
+    {
+        for x in names {
+            if !self.is_label(body, *x, t) {
+                return false;
+            }
+        }
+        true
+    }
+
+    // Whether this label is there, and needs just this.
+    fn is_label(&self, body: Option<ValType>, l: u32, t: Option<ValType>) -> bool
+        ensures { (k : Position) → Shows k self.now
+            → result ≡ typing.is_label (result_types t) (slice_get (labels_of body k.blocks) l) }
+    {
+        match self.label(body, l) {
+            Some(other) => same_results(t, other),
+            None => false,
+        }
+    }
+}

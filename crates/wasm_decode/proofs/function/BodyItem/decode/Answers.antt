@@ -1,0 +1,28 @@
+use Rattle.std.proofs.Common.{◌≡◌, ◌<◌, ◌^◌, List, length, flat_map, IsTrue, ap, sym, ◌∙◌, arith, rules}
+use Rattle.std.proofs.lemmas.List.{map-id}
+use Rattle.wasm_types.specs.declared.module.LocalRun.{LocalRun}
+use Rattle.wasm_types.specs.Tree.{locals_of}
+use Rattle.wasm_spec.specs.Numbers.{TakesVec}
+use Rattle.wasm_spec.specs.InstrGrammar.{TakesExpr}
+use Rattle.wasm_spec.specs.Grammar.{TakesLocalRun, TakesBody}
+use Rattle.wasm_spec.proofs.UnambiguousNumbers.{vec-unique}
+use Rattle.wasm_spec.proofs.UnambiguousModules.{local_run-unique}
+use Rattle.leb_read.specs.Reading.{rest}
+use Rattle.wasm_decode.specs.Pairs.{TakesPair}
+use Rattle.wasm_decode.proofs.Reading.{exits-as}
+use Rattle.wasm_decode.proofs.function.BodyItem.decode.Goals as goal
+
+pub returns-in_err-locals : goal.returns-in_err-locals
+returns-in_err-locals c =
+    exits-as (TakesPair (TakesVec TakesLocalRun) TakesExpr) TakesBody c.from_residual.result _ (rest c.args.cursor.now) c.in_err-locals.field-0.0 c.from_residual.ensures.1 c.in_err-locals.ensures
+    (λ b after h. ((h.runs, b.code), (h.mid, h.spelled, h.code)))
+
+pub returns-else-are_few : goal.returns-else-are_few
+returns-else-are_few c = λ b after h.
+    let r = simp map-id at c.in_ok-locals.ensures in
+    let u = vec-unique TakesLocalRun local_run-unique h.runs c.in_ok-locals.locals (rest c.args.cursor.now) h.mid r.spelled.0 h.spelled r.spelled.1 in
+    let same : c.as_slice.result.now ≡ h.runs = c.as_slice.ensures ∙ sym u.0 in
+    let few : length (flat_map locals_of c.as_slice.result.now) < 2 ^ 32 =
+    omega (arith, h.few, ap length h.locals, ap (λ (l : List LocalRun). length (flat_map locals_of l)) same) in
+    let holds : IsTrue c.are_few.result = c.are_few.ensures.1 few in
+    absurd (first_of (cc, search rules))

@@ -1,0 +1,28 @@
+use Rattle.std.proofs.Common.{◌≡◌, ℕ, ◌+◌, [], ◌∷◌, ◌++◌, length, map, ap, ◌∙◌, arith}
+use Rattle.std.proofs.lemmas.List.{length-map, map-append, length_push}
+use Rattle.leb_read.specs.Reading.{rest}
+use Rattle.wasm_decode.proofs.Reading.{exits, vec-none, each-more}
+use Rattle.wasm_decode.proofs.item.ItemsItem.decode.Goals as goal
+
+pub returns-in_err-item : goal.returns-in_err-item
+returns-in_err-item g c =
+    let done = map g.T.Item.tree c.loop.items.items in
+    let long : length done ≡ length c.loop.items.items = length-map c.loop.items.items g.T.Item.tree in
+    exits c.from_residual-in_err-item.result _ _ c.in_err-item.field-0.0 c.from_residual-in_err-item.ensures.1
+    (vec-none g.T.Item.Takes g.met.T.Item.unique c.in_err-item.field-0.0 done (rest c.args.cursor.now) (rest c.u32.new.self) (rest c.loop.cursor) c.in_ok-count.count
+    c.in_ok-count.ensures.spelled c.loop.invariant.so_far (omega (arith, long, c.loop.invariant.long, c.loop-test.true)) c.in_err-item.ensures)
+
+pub loop-preserved : goal.loop-preserved
+loop-preserved g c =
+    let items = c.loop.items.items in
+    let item = c.in_ok-item.item in
+    let e : c.push.new.self.items ≡ items ++ item ∷ [] = c.in_ok-push.ensures.items in
+    let trees : map g.T.Item.tree c.push.new.self.items ≡ map g.T.Item.tree items ++ g.T.Item.tree item ∷ [] =
+    ap (map g.T.Item.tree) e ∙ map-append g.T.Item.tree items (item ∷ []) in
+    record {
+      whole = c.in_ok-item.ensures.whole ∙ c.loop.invariant.whole;
+      forth = omega (arith, c.in_ok-item.ensures.forth, c.loop.invariant.forth);
+      within = c.in_ok-item.ensures.within;
+      so_far = rw trees (each-more g.T.Item.Takes (map g.T.Item.tree items) (g.T.Item.tree item) (rest c.u32.new.self) (rest c.loop.cursor) (rest c.decode.new.cursor) c.loop.invariant.so_far c.in_ok-item.ensures.spelled);
+      long = ap length e ∙ length_push items item ∙ ap (λ (n : ℕ). n + 1) c.loop.invariant.long;
+    }

@@ -1,0 +1,12 @@
+use Rattle.wasm_spec.specs.Numbers.{TakesUnsigned, TakesBytes}
+use Rattle.wasm_spec.specs.InstrGrammar.{TakesExpr}
+use Rattle.wasm_spec.specs.Grammar.{TakesData}
+use Rattle.leb_read.specs.Reading.{rest}
+use Rattle.wasm_decode.specs.Pairs.{TakesPair}
+use Rattle.wasm_decode.proofs.Reading.{exits-as}
+use Rattle.wasm_decode.proofs.module.DataSegmentItem.decode.Goals as goal
+
+pub returns-in_err-memory : goal.returns-in_err-memory
+returns-in_err-memory c =
+    exits-as (TakesPair (TakesUnsigned 32) (TakesPair TakesExpr TakesBytes)) TakesData c.from_residual.result _ (rest c.args.cursor.now) c.in_err-memory.field-0.0 c.from_residual.ensures.1 c.in_err-memory.ensures
+    (λ d after h. ((d.memory, (d.offset, d.bytes)), (h.after_memory, h.memory, (h.after_offset, h.offset, h.contents))))

@@ -1,0 +1,89 @@
+//! Modules, from their sections.
+
+ghost use Rattle.std.specs.Prelude.{◌≡◌, ◌++◌, ℕ, List, map, IfOk, MatchOption, MatchResult};
+ghost use Rattle.wasm_types.specs.Tree.{module_tree};
+ghost use Rattle.wasm_spec.specs.Grammar.{SpellsFields, Spells};
+ghost use Rattle.wasm_decode.specs.Decoding.{IsNone};
+ghost use Rattle.wasm_decode.specs.Sections.{section_of};
+
+use crate::fault::DecodeFault;
+use crate::function::{SizedBody, join};
+use crate::section::{Section, are_in_order, decode_section, decode_start, read_sections};
+use crate::types::TableType;
+use std::alloc::{AllocError, Global};
+use wasm_types::{Items, Limits, Module};
+
+// The magic bytes and the version.
+const HEADER: [u8; 8] = [0x00, 0x61, 0x73, 0x6D, 0x01, 0x00, 0x00, 0x00];
+
+/// The module whose tree these bytes spell (`Spells`). Nothing recurses on the bytes, and the memory that is taken grows
+/// with those that have been read. Source: Core Specification 1.0, section 5.5.15.
+///
+/// # Errors
+///
+/// `Malformed` exactly where the bytes spell no module; `NoMemory` only where memory was refused.
+pub fn decode(alloc: Global, bytes: &[u8]) -> Result<Module, DecodeFault>
+    ensures { MatchResult result (λ m. Spells bytes.now (module_tree m)) (IsNone (Spells bytes.now)) }
+{
+    let Some(after) = after_header(bytes) else {
+        return Err(DecodeFault::Malformed);
+    };
+    let sections = read_sections(alloc, after)?;
+    if are_in_order(sections.as_slice()) {
+        decode_fields(alloc, sections.as_slice())
+    } else {
+        Err(DecodeFault::Malformed)
+    }
+}
+
+// The bytes after the header.
+fn after_header(bytes: &[u8]) -> Option<&[u8]>
+    ensures { MatchOption result ((after : List ℕ) → bytes.now ≡ HEADER ++ after → ⊥) (λ after. bytes.now ≡ HEADER ++ after.now) }
+{
+    bytes.strip_prefix(&HEADER)
+}
+
+// The limits of these tables.
+fn limits(alloc: Global, tables: &[TableType]) -> Result<Items<Limits>, AllocError>
+    ensures { IfOk result (λ ls. ls ≡ map (λ t. t.limits) tables.now) }
+{
+    let mut limits = Vec::new(alloc);
+    for table in tables {
+        limits.push(table.limits)?;
+    }
+    Ok(Items::new(limits))
+}
+
+// The module whose sections these are.
+fn decode_fields(alloc: Global, sections: &[Section]) -> Result<Module, DecodeFault>
+    ensures { MatchResult result (λ m. SpellsFields (map section_of sections.now) (module_tree m)) (IsNone (SpellsFields (map section_of sections.now))) }
+{
+    let types = decode_section(alloc, sections, 1)?;
+    let imports = decode_section(alloc, sections, 2)?;
+    let type_indices: Items<u32> = decode_section(alloc, sections, 3)?;
+    let tables: Items<TableType> = decode_section(alloc, sections, 4)?;
+    let memories = decode_section(alloc, sections, 5)?;
+    let globals = decode_section(alloc, sections, 6)?;
+    let exports = decode_section(alloc, sections, 7)?;
+    let start = decode_start(alloc, sections)?;
+    let element_segments = decode_section(alloc, sections, 9)?;
+    let bodies: Items<SizedBody> = decode_section(alloc, sections, 10)?;
+    let data_segments = decode_section(alloc, sections, 11)?;
+    if type_indices.len() != bodies.len() {
+        return Err(DecodeFault::Malformed);
+    }
+    let functions = join(alloc, type_indices.as_slice(), bodies.into_vec())?;
+    let tables = limits(alloc, tables.as_slice())?;
+    Ok(Module {
+        types,
+        imports,
+        functions: Items::new(functions),
+        tables,
+        memories,
+        globals,
+        exports,
+        start,
+        element_segments,
+        data_segments,
+    })
+}

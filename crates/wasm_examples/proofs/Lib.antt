@@ -1,0 +1,14 @@
+pub mod Modules
+pub mod SequenceExamples
+pub mod CallExamples
+pub mod NumberExamples
+pub mod GrammarExamples
+pub mod SpelledModule
+pub mod OperatorExamples
+pub mod ControlExamples
+pub mod TypingExamples
+pub mod TypingRows
+pub mod LoadingExamples
+pub mod NeedExamples
+pub mod ValidityExamples
+pub mod TreeExamples

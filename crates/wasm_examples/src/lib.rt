@@ -1,0 +1,6 @@
+//! Computed examples of the definitions of WebAssembly 1.0: a definition with a wrong digit or in a wrong order makes one fail.
+//!
+//! Source: WebAssembly Core Specification 1.0. Nothing stands on this crate.
+#![tactic(auto)]
+
+pub mod laws;

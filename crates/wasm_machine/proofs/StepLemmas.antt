@@ -1,0 +1,185 @@
+-- What an instruction comes to.
+use Rattle.wasm_types.specs.declared.limits.RunLimits.{RunLimits}
+use Rattle.std.proofs.Common.{◌≡◌, ◌≢◌, ℕ, suc, ◌+◌, ◌≤◌, List, ◌++◌, length, map, reverse, Option, Some, None, refl, sym, ap, ◌∙◌, subst, arith, length-append}
+use Rattle.std.specs.Prelude.{slice_get, option_and_then}
+use Rattle.wasm_types.specs.declared.types.ValType.{ValType}
+use Rattle.wasm_types.specs.declared.types.FuncType.{FuncType}
+use Rattle.wasm_types.specs.declared.outcome.TrapKind.{TrapKind}
+use Rattle.wasm_types.specs.declared.instr.Instr.{Instr}
+use Rattle.wasm_types.specs.declared.instr.Instr.TheVariants as instr
+use Rattle.wasm_types.specs.declared.instr.Op.TheVariants as op
+use Rattle.wasm_types.specs.declared.module.Module.{Module}
+use Rattle.wasm_types.specs.Tree.{Code, Plain, FunctionTree, module_tree}
+use Rattle.wasm_spec.specs.Typing.{Context, Takes, Typed, type_of, rule, branch, calling, call_rule, function_type}
+use Rattle.wasm_spec.specs.Need.{highest, deepest, height}
+use Rattle.wasm_spec.specs.Store.{Store}
+use Rattle.wasm_spec.specs.Execution.{State, Signal, Next, Branch, Returned, Trapped, OutOfFuel, Stuck, Ended, Continuation, ended, and_then, plain, with_function, if_there, with_type, call, exec}
+use Rattle.wasm_spec.proofs.Equations.{exec-Plain, exec-Call}
+use Rattle.wasm_types.specs.Sequences.{code_at}
+use Rattle.machine_steps.specs.declared.machine.Machine.{Machine}
+use Rattle.machine_steps.specs.Configuration.{Configuration, state}
+use Rattle.wasm_machine.specs.Remaining.{resume_at, after_sequence}
+use Rattle.machine_steps.specs.StackLayout.{Represents, HasRoom, KeepsRoom}
+use Rattle.wasm_machine.specs.TypedConfiguration.{operand_count, IsTypedContext, IsTypedStore, context, local_types, ends_of}
+use Rattle.machine_steps.specs.PlainSteps.{EndsAs, with_state}
+use Rattle.wasm_machine.specs.Simulation.{HasFetched, SimulatesCall, SimulatesPlain, IsPreserved, SimulatesExit, ToLabel, ByReturn, body_of, paid}
+use Rattle.wasm_machine.proofs.RemainingLemmas.{after_sequence-Trapped}
+use Rattle.machine_steps.proofs.StackLayoutLemmas.{room_kept}
+
+-- ---- calls
+
+-- the function that is called
+record Callee (m : Module) (o : Option FunctionTree) (t : FuncType) : Type 0 where
+  function : FunctionTree
+  is : o ≡ Some function
+  typed : slice_get m.types function.type_index ≡ Some t
+
+callee_of : (m : Module) (o : Option FunctionTree) (t : FuncType) → option_and_then (λ (f : FunctionTree). slice_get m.types f.type_index) o ≡ Some t → Callee m o t
+callee_of m None t e = absurd (cc)
+callee_of m (Some f) t e = record { function = f; is = refl; typed = e }
+
+pub calls_it : (m : Module) (x : ℕ) (f : FunctionTree) (t : FuncType) (next : FunctionTree → FuncType → Continuation) (s : State) (fuel : ℕ)
+    → slice_get (module_tree m).functions x ≡ Some f → slice_get m.types f.type_index ≡ Some t → with_function (module_tree m) x next s fuel ≡ next f t s fuel
+calls_it m x f t next s fuel there typed =
+    ap (λ (o : Option FunctionTree). if_there o (λ g. with_type (module_tree m) g.type_index (next g)) s fuel) there ∙ ap (λ (o : Option FuncType). if_there o (next f) s fuel) typed
+
+-- a rule of a call takes the arguments and gives the results
+record CallTyped (o : Option FuncType) (ts middle : List ValType) : Type 0 where
+  type : FuncType
+  is : o ≡ Some type
+  below : List ValType
+  takes : ts ≡ reverse type.params ++ below
+  gives : middle ≡ type.results ++ below
+  counted : height (calling o) (length ts) ≡ length middle
+
+call_typed : (o : Option FuncType) (ts middle : List ValType) → Takes (calling o) ts middle → CallTyped o ts middle
+call_typed None ts middle h = absurd h
+call_typed (Some t) ts middle (below, takes, gives) = record {
+  type = t;
+  is = refl;
+  below = below;
+  takes = takes;
+  gives = gives;
+  counted = omega (arith, ap length takes, ap length gives, length-append (reverse t.params) below, length-append t.results below);
+}
+
+module _ (m : Module) (limits : RunLimits) (frame : ℕ) where
+  pub call_calls : (machine : Machine) (store : Store) (here x : ℕ) (r : ℕ → Ended) → HasFetched m limits frame machine store here (op.Call x) r → SimulatesCall m limits frame machine store x (paid r)
+  call_calls machine store here x r b =
+      let k = b.configuration in
+      let C : Context = context m frame k.function k.blocks in
+      let rest : Code = code_at (body_of m k) k.sequence k.place in
+      let (middle, takes, typed) = b.typed.typed in
+      let c = call_typed (function_type (module_tree m) x) (map type_of k.operands) middle takes in
+      let f = callee_of m (slice_get (module_tree m).functions x) c.type c.is in
+      let fits = b.typed.fits in
+      let same : highest (operand_count k.blocks) C rest (length (c.type.results ++ c.below)) ≡ highest (operand_count k.blocks) C rest (height (call_rule C x) (length (map type_of k.operands))) =
+      ap (λ (z : ℕ). highest (operand_count k.blocks) C rest z) (ap length (sym c.gives) ∙ sym c.counted) in
+      let d = length k.activations + 1 in
+      record {
+        configuration = k;
+        represents = b.represents;
+        around = b.around;
+        stored = b.stored;
+        room = b.room;
+        type = c.type;
+        function = f.function;
+        there = f.is;
+        typed = f.typed;
+        below = c.below;
+        arguments = c.takes;
+        resumes = record { typed = subst (λ (us : List ValType). Typed C rest us (ends_of m frame k.function k.blocks)) c.gives typed; fits = omega arith };
+        goes = λ fuel.
+            ap (after_sequence m limits k)
+            (sym (exec-Call (module_tree m) limits d x rest (state k store) fuel
+            ∙ calls_it m x f.function c.type (call (module_tree m) limits d (exec (module_tree m) limits (d + 1)) (exec (module_tree m) limits d rest)) (state k store) fuel f.is f.typed))
+            ∙ b.goes (suc fuel);
+      }
+
+  -- ---- jumps
+
+  pub jumps : (machine : Machine) (store : Store) (here : ℕ) (i : Instr) (r : ℕ → Ended) (b : HasFetched m limits frame machine store here (op.Plain i) r) (g : ℕ)
+      → after_sequence m limits b.configuration (and_then (plain (module_tree m) limits i (state b.configuration store)) g (resume_at m limits (length b.configuration.activations + 1) b.configuration.function b.configuration.sequence b.configuration.place)) ≡ paid r g
+  jumps machine store here i r b g =
+      let k = b.configuration in
+      ap (after_sequence m limits k) (sym (exec-Plain (module_tree m) limits (length k.activations + 1) i (code_at (body_of m k) k.sequence k.place) (state k store) g)) ∙ b.goes (suc g)
+
+  label_there : (C : Context) (l : ℕ) (o : Option (List ValType)) (ts middle : List ValType) → slice_get C.labels l ≡ o → Takes (branch o) ts middle
+      → (us below : List ValType) × (slice_get C.labels l ≡ Some us) × (ts ≡ us ++ below)
+  label_there C l None ts middle e h = absurd h
+  label_there C l (Some us) ts middle e (below, is) = (us, below, e, is)
+
+  pub br_leaves : (machine : Machine) (store : Store) (here l : ℕ) (r : ℕ → Ended) → HasFetched m limits frame machine store here (op.Plain (instr.Br l)) r → SimulatesExit (ToLabel l) m limits frame machine store (paid r)
+  br_leaves machine store here l r b =
+      let k = b.configuration in
+      let C : Context = context m frame k.function k.blocks in
+      let (middle, takes, typed) = b.typed.typed in
+      record {
+        configuration = k;
+        represents = b.represents;
+        around = b.around;
+        stored = b.stored;
+        room = b.room;
+        ready = label_there C l (slice_get C.labels l) (map type_of k.operands) middle refl takes;
+        goes = jumps machine store here (instr.Br l) r b;
+      }
+
+  pub return_leaves : (machine : Machine) (store : Store) (here : ℕ) (r : ℕ → Ended) → HasFetched m limits frame machine store here (op.Plain instr.Return) r → SimulatesExit ByReturn m limits frame machine store (paid r)
+  return_leaves machine store here r b =
+      let (middle, (below, is), typed) = b.typed.typed in
+      record { configuration = b.configuration; represents = b.represents; around = b.around; stored = b.stored; room = b.room; ready = (below, is); goes = jumps machine store here instr.Return r b }
+
+  -- ---- the others
+
+  pub done_as : (e : Signal) (k : Configuration) (i : Instr) (middle : List ValType) (o : Option TrapKind) (old new : Machine) (store store' : Store) (r : ℕ → Ended)
+      → let C : Context = context m frame k.function k.blocks in let rest : Code = code_at (body_of m k) k.sequence k.place in
+      IsPreserved m C i (map type_of k.operands) middle e → Typed C rest middle (ends_of m frame k.function k.blocks)
+      → length (local_types m frame k.function) + highest (operand_count k.blocks) C (Plain i rest) (length (map type_of k.operands)) + deepest (length k.blocks + 1) rest ≤ frame
+      → IsTypedContext m frame limits.depth k → HasRoom limits.depth frame old → KeepsRoom old new
+      → ((g : ℕ) → after_sequence m limits k (and_then e g (resume_at m limits (length k.activations + 1) k.function k.sequence k.place)) ≡ r g)
+      → EndsAs e k o new store' → SimulatesPlain o m limits frame new store' r
+  done_as (Next s) k i middle None old new store store' r good typed fits around room keeps goes (represents, same) =
+      let C : Context = context m frame k.function k.blocks in
+      let rest : Code = code_at (body_of m k) k.sequence k.place in
+      let count : highest (operand_count k.blocks) C rest (length (map type_of s.operands)) ≡ highest (operand_count k.blocks) C rest (height (rule C i) (length (map type_of k.operands))) =
+      ap (λ (z : ℕ). highest (operand_count k.blocks) C rest z) (ap length good.types ∙ sym good.counted) in
+      record {
+        configuration = with_state k s;
+        represents = represents;
+        typed = record {
+          here = record { typed = subst (λ (us : List ValType). Typed C rest us (ends_of m frame k.function k.blocks)) (sym good.types) typed; fits = omega arith };
+          around = record { locals = good.locals; blocks = around.blocks; activations = around.activations; deep = around.deep };
+        };
+        stored = subst (λ (t : Store). IsTypedStore m t) same good.stored;
+        room = room_kept limits.depth frame old new room keeps;
+        goes = λ g. ap (λ (t : Store). after_sequence m limits k (resume_at m limits (length k.activations + 1) k.function k.sequence k.place (record { locals = s.locals; operands = s.operands; store = t }) g)) (sym same) ∙ goes g;
+      }
+  done_as (Next s) k i middle (Some t) old new store store' r good typed fits around room keeps goes after = absurd after
+  done_as (Trapped t before) k i middle None old new store store' r good typed fits around room keeps goes after = absurd after
+  done_as (Trapped t before) k i middle (Some u) old new store store' r good typed fits around room keeps goes (is, same) =
+      λ g. sym (goes g) ∙ after_sequence-Trapped m limits k t before g ∙ ap (λ (v : TrapKind). ended (Trapped v before) g) (sym is) ∙ ap (λ (st : Store). ended (Trapped u st) g) same
+  done_as (Branch l s) k i middle o old new store store' r good typed fits around room keeps goes after = absurd after
+  done_as (Returned s) k i middle o old new store store' r good typed fits around room keeps goes after = absurd after
+  done_as (OutOfFuel s) k i middle o old new store store' r good typed fits around room keeps goes after = absurd after
+  done_as Stuck k i middle o old new store store' r good typed fits around room keeps goes after = absurd after
+
+  pub not_stuck : (e : Signal) (k : Configuration) (i : Instr) (middle : List ValType) → IsPreserved m (context m frame k.function k.blocks) i (map type_of k.operands) middle e → e ≢ Stuck
+  not_stuck Stuck k i middle h n = h
+  not_stuck (Next s) k i middle h n = cc
+  not_stuck (Branch l s) k i middle h n = cc
+  not_stuck (Returned s) k i middle h n = cc
+  not_stuck (Trapped t s) k i middle h n = cc
+  not_stuck (OutOfFuel s) k i middle h n = cc
+
+  -- a plain instruction that has been done
+  pub plain_done : (old new : Machine) (store store' : Store) (here : ℕ) (i : Instr) (o : Option TrapKind) (r : ℕ → Ended) (b : HasFetched m limits frame old store here (op.Plain i) r)
+      → ((k : Configuration) (middle : List ValType) → Takes (rule (context m frame k.function k.blocks) i) (map type_of k.operands) middle → map type_of k.locals ≡ local_types m frame k.function
+      → IsPreserved m (context m frame k.function k.blocks) i (map type_of k.operands) middle (plain (module_tree m) limits i (state k store)))
+      → ((k : Configuration) → Represents k old → plain (module_tree m) limits i (state k store) ≢ Stuck → EndsAs (plain (module_tree m) limits i (state k store)) k o new store') → KeepsRoom old new
+      → SimulatesPlain o m limits frame new store' (paid r)
+  plain_done old new store store' here i o r b good after keeps =
+      let k = b.configuration in
+      let (middle, takes, typed) = b.typed.typed in
+      let fine = good k middle takes b.around.locals in
+      done_as (plain (module_tree m) limits i (state k store)) k i middle o old new store store' (paid r) fine typed b.typed.fits b.around b.room keeps (jumps old store here i r b)
+      (after k b.represents (not_stuck (plain (module_tree m) limits i (state k store)) k i middle fine))

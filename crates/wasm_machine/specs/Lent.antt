@@ -1,0 +1,18 @@
+-- The parts that are lent to a run of a module, as its store. Of the globals the first are the module's.
+use Rattle.std.specs.Prelude.{ℕ, List, Option, length, take, drop}
+use Rattle.wasm_types.specs.declared.outcome.Val.{Val}
+use Rattle.wasm_types.specs.declared.module.Module.{Module}
+use Rattle.wasm_spec.specs.Store.{Store}
+use Rattle.linear_memory.specs.declared.memory.Memory.{Memory}
+use Rattle.machine_steps.specs.Lent.{store_of}
+
+-- the module's own globals
+abbrev pub own : Module → List Val → List Val
+own m globals = take (length m.globals) globals
+
+-- and the others
+abbrev pub others : Module → List Val → List Val
+others m globals = drop (length m.globals) globals
+
+abbrev pub lent_store : Module → Memory → List (Option ℕ) → List Val → Store
+lent_store m memory table globals = store_of memory table (own m globals)

@@ -1,0 +1,53 @@
+-- What is still to do from a configuration on.
+use Rattle.wasm_types.specs.declared.limits.RunLimits.{RunLimits}
+use Rattle.std.specs.Prelude.{ℕ, ◌+◌, List, [], ◌∷◌, length, get_or}
+use Rattle.wasm_types.specs.declared.types.ValType.{ValType}
+use Rattle.wasm_types.specs.declared.outcome.Val.{Val}
+use Rattle.wasm_types.specs.declared.module.Function.{Function}
+use Rattle.wasm_types.specs.declared.module.Module.{Module}
+use Rattle.wasm_types.specs.Tree.{module_tree}
+use Rattle.wasm_spec.specs.Typing.{function_type, results_or_none}
+use Rattle.wasm_spec.specs.Store.{Store}
+use Rattle.wasm_spec.specs.Execution.{State, Ended, Continuation, leave, return, exec}
+use Rattle.wasm_spec.specs.Result.{finish}
+use Rattle.wasm_types.specs.Sequences.{code_at}
+use Rattle.machine_steps.specs.Configuration.{OpenBlock, Activation, Configuration, state}
+
+-- a function that isn't there has no code
+abbrev pub absent : Function
+absent = record { type_index = 0; locals = []; body = record { sequences = [] } }
+
+abbrev pub function_of : Module → ℕ → Function
+function_of m x = get_or m.functions x absent
+
+abbrev pub results : Module → ℕ → List ValType
+results m x = results_or_none (function_type (module_tree m) x)
+
+-- of a caller's state only its locals count once the call is made
+abbrev pub resting : List Val → State
+resting locals = record { locals = locals; operands = []; store = record { memory = []; table = []; globals = [] } }
+
+module _ (m : Module) (limits : RunLimits) where
+  -- goes on at a place of a function
+  abbrev pub resume_at : (depth x q place : ℕ) → Continuation
+  resume_at depth x q place = exec (module_tree m) limits depth (code_at (function_of m x).body q place)
+
+  -- what is left once the code inside these blocks has ended so
+  abbrev pub leave_blocks : (depth x : ℕ) → List OpenBlock → Ended → Ended
+  leave_blocks depth x [] e = e
+  leave_blocks depth x (o ∷ os) e =
+      leave_blocks depth x os (leave (length o.label) o.below e (resume_at depth x o.sequence o.after) (resume_at depth x o.sequence o.target))
+
+  -- what is left once the body of a function has ended so
+  abbrev pub return_to : (x : ℕ) → List Activation → Ended → Ended
+  return_to x [] e = return (length (results m x)) (resting []) [] e finish
+  return_to x (c ∷ cs) e =
+      return_to c.function cs (leave_blocks (length cs + 1) c.function c.blocks
+      (return (length (results m x)) (resting c.locals) c.below e (resume_at (length cs + 1) c.function c.sequence c.after)))
+
+  -- what a run comes to whose current sequence ends so
+  abbrev pub after_sequence : Configuration → Ended → Ended
+  after_sequence k e = return_to k.function k.activations (leave_blocks (length k.activations + 1) k.function k.blocks e)
+
+  abbrev pub run_from : Configuration → Store → ℕ → Ended
+  run_from k store fuel = after_sequence k (resume_at (length k.activations + 1) k.function k.sequence k.place (state k store) fuel)

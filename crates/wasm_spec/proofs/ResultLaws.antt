@@ -1,0 +1,225 @@
+-- What a call keeps of the store that it begins with.
+use Rattle.std.proofs.Common.{◌≡◌, ℕ, ◌+◌, ◌*◌, ◌/◌, ◌≤◌, List, [], ◌∷◌, ◌++◌, length, Option, Some, None, Bool, true, false, cond, refl, sym, ap, ◌∙◌, subst, arith, length-append, length-take, length-drop, length-set}
+use Rattle.std.specs.Prelude.{nat_lt, slice_get, replicate, reverse, fold, find, map}
+use Rattle.std.specs.List.{enumerate_from}
+use Rattle.std.proofs.lemmas.List.{length-map, length-replicate}
+use Rattle.std.proofs.lemmas.Bool.{ltb-false}
+use Rattle.wasm_types.specs.declared.types.FuncType.{FuncType}
+use Rattle.wasm_types.specs.declared.types.Limits.{Limits}
+use Rattle.wasm_types.specs.declared.outcome.Val.{Val}
+use Rattle.wasm_types.specs.declared.outcome.Outcome.{Outcome}
+use Rattle.wasm_types.specs.declared.outcome.Outcome.TheVariants as outcome
+use Rattle.wasm_types.specs.Tree.{Code, End, Plain, Block, Loop, If, Call, CallIndirect, FunctionTree, ModuleTree}
+use Rattle.wasm_spec.specs.Store.{Store, Extent, page_size, written, minimum_of, memory_size, table_size, element_extent, data_extent, first_misfit, write_data, write_elements, fresh_store, offset_of}
+use Rattle.wasm_types.specs.declared.limits.RunLimits.{RunLimits}
+use Rattle.wasm_spec.specs.Execution.{State, Signal, Next, Branch, Returned, Trapped, OutOfFuel, Stuck, pages_of, most_pages, invoke, entered, exec}
+use Rattle.wasm_spec.specs.Result.{CallResult, finish, run_function, result_by, function_result, if_done_by, if_done, after_start, result_from}
+use Rattle.wasm_spec.specs.Instances.{IsInstance, room_for}
+use Rattle.wasm_spec.proofs.FuelLaws.{with_function-spends, invoke-spends, exec-spends}
+use Rattle.wasm_spec.proofs.StoreLaws.{KeptIn, Keeps, IsKeptByChanges, invoke-keeps_at, with_function-keeps_at, exec-keeps}
+
+-- ---- results
+
+finish-keeps : (P : Store → Type 0) → Keeps P finish
+finish-keeps P s fuel p = p
+
+abbrev store_in : Store → Option CallResult → Store
+store_in other None = other
+store_in other (Some r) = r.store
+
+same_store : (a r : CallResult) → ◌≡◌ {A = Option CallResult} (Some a) (Some r) → a.store ≡ r.store
+same_store a r e = ap (store_in a.store) e
+
+abbrev fuel_in : ℕ → Option CallResult → ℕ
+fuel_in other None = other
+fuel_in other (Some r) = r.fuel
+
+same_fuel : (signal : Signal) (fuel : ℕ) (r : CallResult) → result_by signal fuel ≡ Some r → r.fuel ≡ fuel
+same_fuel (Next s) fuel r e = sym (ap (fuel_in fuel) e)
+same_fuel (Trapped t store) fuel r e = sym (ap (fuel_in fuel) e)
+same_fuel (OutOfFuel store) fuel r e = sym (ap (fuel_in fuel) e)
+same_fuel (Branch l s) fuel r e = absurd (cc)
+same_fuel (Returned s) fuel r e = absurd (cc)
+same_fuel Stuck fuel r e = absurd (cc)
+
+result-has : (P : Store → Type 0) (signal : Signal) (fuel : ℕ) (r : CallResult) → KeptIn P signal → result_by signal fuel ≡ Some r → P r.store
+result-has P (Next s) fuel r p e = subst P (same_store (record { outcome = outcome.Done (slice_get s.operands 0); store = s.store; fuel = fuel }) r e) p
+result-has P (Trapped t store) fuel r p e = subst P (same_store (record { outcome = outcome.Trap t; store = store; fuel = fuel }) r e) p
+result-has P (OutOfFuel store) fuel r p e = subst P (same_store (record { outcome = outcome.Fuel; store = store; fuel = fuel }) r e) p
+result-has P (Branch l s) fuel r p e = absurd (cc)
+result-has P (Returned s) fuel r p e = absurd (cc)
+result-has P Stuck fuel r p e = absurd (cc)
+
+module _ (m : ModuleTree) (limits : RunLimits) where
+  -- what one function keeps, where its body does
+  function-has : (P : Store → Type 0) (x : ℕ) (arguments : List Val) (store : Store) (fuel : ℕ) (r : CallResult) → P store
+      → ((f : FunctionTree) (t : FuncType) (s : State) → s.store ≡ store → KeptIn P (exec m limits 1 f.body (entered f t s) fuel).signal)
+      → function_result m limits x arguments store fuel ≡ Some r → P r.store
+  function-has P x arguments store fuel r p h e =
+      let s : State = record { locals = []; operands = reverse arguments; store = store } in
+      result-has P (run_function m limits x arguments store fuel).signal (run_function m limits x arguments store fuel).fuel r
+      (with_function-keeps_at P m x (λ f t. invoke limits 0 f t (exec m limits 1 f.body) finish) s fuel
+      (λ f t. invoke-keeps_at P limits 0 f t (exec m limits 1 f.body) finish s fuel p (h f t s refl) (finish-keeps P))) e
+
+  pub function-keeps : (P : Store → Type 0) → IsKeptByChanges (most_pages m.memories limits.pages) P
+      → (x : ℕ) (arguments : List Val) (store : Store) (fuel : ℕ) (r : CallResult) → P store → function_result m limits x arguments store fuel ≡ Some r → P r.store
+  function-keeps P c x arguments store fuel r p e = function-has P x arguments store fuel r p (λ f t s same. exec-keeps P m limits c 1 f.body (entered f t s) fuel (subst P (sym same) p)) e
+
+  -- what a call keeps, where each of its two runs does
+  two-keep : (P : Store → Type 0) (next : Store → ℕ → Option CallResult) → ((s : Store) (g : ℕ) (r : CallResult) → P s → next s g ≡ Some r → P r.store)
+      → (o : Outcome) (first r : CallResult) → P first.store → if_done_by o first next ≡ Some r → P r.store
+  two-keep P next h (outcome.Done v) first r p e = h first.store first.fuel r p e
+  two-keep P next h (outcome.Trap t) first r p e = subst P (same_store first r e) p
+  two-keep P next h outcome.Fuel first r p e = subst P (same_store first r e) p
+
+  done-keeps : (P : Store → Type 0) (next : Store → ℕ → Option CallResult) → ((s : Store) (g : ℕ) (r : CallResult) → P s → next s g ≡ Some r → P r.store)
+      → (o : Option CallResult) (r : CallResult) → ((first : CallResult) → o ≡ Some first → P first.store) → if_done o next ≡ Some r → P r.store
+  done-keeps P next h None r k e = absurd (cc)
+  done-keeps P next h (Some first) r k e = two-keep P next h first.outcome first r (k first refl) e
+
+  start-keeps : (P : Store → Type 0) → IsKeptByChanges (most_pages m.memories limits.pages) P → (start : Option ℕ) (x : ℕ) (arguments : List Val) (store : Store) (fuel : ℕ) (r : CallResult)
+      → P store → after_start m limits start (function_result m limits x arguments) store fuel ≡ Some r → P r.store
+  start-keeps P c None x arguments store fuel r p e = function-keeps P c x arguments store fuel r p e
+  start-keeps P c (Some y) x arguments store fuel r p e =
+      done-keeps P (function_result m limits x arguments) (λ s g r p e. function-keeps P c x arguments s g r p e) (function_result m limits y [] store fuel) r
+      (λ first e. function-keeps P c y [] store fuel first p e) e
+
+  -- What all changes of a store keep, a call keeps.
+  pub result-keeps : (P : Store → Type 0) → IsKeptByChanges (most_pages m.memories limits.pages) P
+      → (x : ℕ) (arguments : List Val) (store : Store) (fuel : ℕ) (r : CallResult) → P store → result_from m limits x arguments store fuel ≡ Some r → P r.store
+  result-keeps P c x arguments store fuel r p e = start-keeps P c m.start x arguments store fuel r p e
+
+  -- ---- no fuel
+
+  code-at_zero : (depth : ℕ) (code : Code) (s : State) → KeptIn (λ t. t ≡ s.store) (exec m limits depth code s 0).signal
+  unfolding exec
+  code-at_zero depth End s = refl
+  code-at_zero depth (Plain i rest) s = refl
+  code-at_zero depth (Block t body rest) s = refl
+  code-at_zero depth (Loop t body rest) s = refl
+  code-at_zero depth (If t first second rest) s = refl
+  code-at_zero depth (Call x rest) s = refl
+  code-at_zero depth (CallIndirect x rest) s = refl
+
+  function-at_zero : (x : ℕ) (arguments : List Val) (store : Store) (r : CallResult) → function_result m limits x arguments store 0 ≡ Some r → r.store ≡ store
+  function-at_zero x arguments store r e =
+      function-has (λ t. t ≡ store) x arguments store 0 r refl (λ f t s same. subst (λ (u : Store). KeptIn (λ t. t ≡ u) (exec m limits 1 f.body (entered f t s) 0).signal) same (code-at_zero 1 f.body (entered f t s))) e
+
+  pub function-spends : (x : ℕ) (arguments : List Val) (store : Store) (fuel : ℕ) (r : CallResult) → function_result m limits x arguments store fuel ≡ Some r → r.fuel ≤ fuel
+  function-spends x arguments store fuel r e =
+      let s : State = record { locals = []; operands = reverse arguments; store = store } in
+      let spent : (run_function m limits x arguments store fuel).fuel ≤ fuel =
+      with_function-spends m x (λ f t. invoke limits 0 f t (exec m limits 1 f.body) finish)
+      (λ f t. invoke-spends limits 0 f t (exec m limits 1 f.body) finish (exec-spends m limits 1 f.body) (λ s g. omega arith)) s fuel in
+      let same = same_fuel (run_function m limits x arguments store fuel).signal (run_function m limits x arguments store fuel).fuel r e in omega arith
+
+  two-spend : (next : Store → ℕ → Option CallResult) → ((s : Store) (g : ℕ) (r : CallResult) → next s g ≡ Some r → r.fuel ≤ g)
+      → (o : Outcome) (first r : CallResult) (fuel : ℕ) → first.fuel ≤ fuel → if_done_by o first next ≡ Some r → r.fuel ≤ fuel
+  two-spend next h (outcome.Done v) first r fuel le e = let k = h first.store first.fuel r e in omega arith
+  two-spend next h (outcome.Trap t) first r fuel le e = let same : first.fuel ≡ r.fuel = ap (fuel_in 0) e in omega arith
+  two-spend next h outcome.Fuel first r fuel le e = let same : first.fuel ≡ r.fuel = ap (fuel_in 0) e in omega arith
+
+  done-spends : (next : Store → ℕ → Option CallResult) → ((s : Store) (g : ℕ) (r : CallResult) → next s g ≡ Some r → r.fuel ≤ g)
+      → (o : Option CallResult) (r : CallResult) (fuel : ℕ) → ((first : CallResult) → o ≡ Some first → first.fuel ≤ fuel) → if_done o next ≡ Some r → r.fuel ≤ fuel
+  done-spends next h None r fuel k e = absurd (cc)
+  done-spends next h (Some first) r fuel k e = two-spend next h first.outcome first r fuel (k first refl) e
+
+  start-spends : (start : Option ℕ) (x : ℕ) (arguments : List Val) (store : Store) (fuel : ℕ) (r : CallResult)
+      → after_start m limits start (function_result m limits x arguments) store fuel ≡ Some r → r.fuel ≤ fuel
+  start-spends None x arguments store fuel r e = function-spends x arguments store fuel r e
+  start-spends (Some y) x arguments store fuel r e =
+      done-spends (function_result m limits x arguments) (λ s g r e. function-spends x arguments s g r e) (function_result m limits y [] store fuel) r fuel (λ first e. function-spends y [] store fuel first e) e
+
+  -- a call leaves at most the fuel that it was given
+  pub result-spends : (x : ℕ) (arguments : List Val) (store : Store) (fuel : ℕ) (r : CallResult) → result_from m limits x arguments store fuel ≡ Some r → r.fuel ≤ fuel
+  result-spends x arguments store fuel r e = start-spends m.start x arguments store fuel r e
+
+  two-at_zero : (next : Store → ℕ → Option CallResult) → (store : Store) → ((s : Store) (r : CallResult) → s ≡ store → next s 0 ≡ Some r → r.store ≡ store)
+      → (o : Outcome) (first r : CallResult) → first.store ≡ store → first.fuel ≡ 0 → if_done_by o first next ≡ Some r → r.store ≡ store
+  two-at_zero next store h (outcome.Done v) first r p z e = h first.store r p (ap (next first.store) (sym z) ∙ e)
+  two-at_zero next store h (outcome.Trap t) first r p z e = sym (same_store first r e) ∙ p
+  two-at_zero next store h outcome.Fuel first r p z e = sym (same_store first r e) ∙ p
+
+  done-at_zero : (next : Store → ℕ → Option CallResult) → (store : Store) → ((s : Store) (r : CallResult) → s ≡ store → next s 0 ≡ Some r → r.store ≡ store)
+      → (o : Option CallResult) (r : CallResult) → ((first : CallResult) → o ≡ Some first → (first.store ≡ store) × (first.fuel ≡ 0)) → if_done o next ≡ Some r → r.store ≡ store
+  done-at_zero next store h None r k e = absurd (cc)
+  done-at_zero next store h (Some first) r k e = let f = k first refl in two-at_zero next store h first.outcome first r f.0 f.1 e
+
+  start-at_zero : (start : Option ℕ) (x : ℕ) (arguments : List Val) (store : Store) (r : CallResult)
+      → after_start m limits start (function_result m limits x arguments) store 0 ≡ Some r → r.store ≡ store
+  start-at_zero None x arguments store r e = function-at_zero x arguments store r e
+  start-at_zero (Some y) x arguments store r e =
+      done-at_zero (function_result m limits x arguments) store (λ s r p e. function-at_zero x arguments s r e ∙ p) (function_result m limits y [] store 0) r
+      (λ first e. (function-at_zero y [] store first e, let le = function-spends y [] store 0 first e in omega arith)) e
+
+  -- without fuel a call leaves the store as it is
+  pub result-at_zero : (x : ℕ) (arguments : List Val) (store : Store) (r : CallResult) → result_from m limits x arguments store 0 ≡ Some r → r.store ≡ store
+  result-at_zero x arguments store r e = start-at_zero m.start x arguments store r e
+
+-- ---- one instance
+
+length-written : {A : Type 0} (list : List A) (at : ℕ) (items : List A) → at + length items ≤ length list → length (written list at items) ≡ length list
+length-written list at items h = simp (length-append, length-take, length-drop) (omega arith)
+
+most-in_room : (ms : List Limits) (pages n : ℕ) → n ≤ most_pages ms pages → n ≤ room_for ms pages
+most-in_room [] pages n h = h
+most-in_room (l ∷ ms) pages n h = omega arith
+
+whole_pages : (n : ℕ) → n * page_size / page_size ≡ n
+whole_pages n = omega arith
+
+sum_is : (a b k n : ℕ) → a ≡ k * page_size → b ≡ n * page_size → a + b ≡ (k + n) * page_size
+sum_is a b k n e f = omega arith
+
+least_in_room : (ms : List Limits) (pages : ℕ) → minimum_of ms ≤ pages → minimum_of ms ≤ room_for ms pages
+least_in_room [] pages h = omega arith
+least_in_room (l ∷ ms) pages h = h
+
+pub instance-kept : (m : ModuleTree) (limits : RunLimits) (table : List (Option ℕ)) → IsKeptByChanges (most_pages m.memories limits.pages) (IsInstance m limits.pages table)
+instance-kept m limits table = record {
+  global = λ store x v i. record { table_is = i.table_is; globals_are = length-set store.globals x v ∙ i.globals_are; size = i.size; whole = i.whole; within = i.within };
+  bytes = λ store at bytes h i. record { table_is = i.table_is; globals_are = i.globals_are; size = i.size; whole = length-written store.memory at bytes h ∙ i.whole; within = i.within };
+  pages = λ store n h i. let old : pages_of store ≡ i.size = ap (λ (k : ℕ). k / page_size) i.whole ∙ whole_pages i.size in record {
+    table_is = i.table_is;
+    globals_are = i.globals_are;
+    size = i.size + n;
+    whole = length-append store.memory (replicate (n * page_size) 0) ∙ sum_is (length store.memory) (length (replicate (n * page_size) 0)) i.size n i.whole (length-replicate (n * page_size) 0);
+    within = most-in_room m.memories limits.pages (i.size + n) (omega arith);
+  };
+}
+
+-- a segment that fits does not change a size
+fits-from : {A B : Type 0} (extent : ℕ × A → Extent) (write : List B → A → List B) (size : ℕ) → ((i : ℕ) (s : A) (list : List B) → (extent (i, s)).end ≤ (extent (i, s)).size → length list ≡ size → length (write list s) ≡ length list)
+    → (i : ℕ) (segments : List A) (list : List B) → length list ≡ size → find (λ e. nat_lt e.size e.end) (map extent (enumerate_from i segments)) ≡ None → length (fold write list segments) ≡ size
+fits-from extent write size h i [] list long none = long
+fits-from extent write size h i (s ∷ segments) list long none = let e : Extent = extent (i, s) in
+    let split : (b : Bool) → nat_lt e.size e.end ≡ b → ◌≡◌ {A = Option Extent} (cond b (Some e) (find (λ e. nat_lt e.size e.end) (map extent (enumerate_from (i + 1) segments)))) None → length (fold write (write list s) segments) ≡ size = elim [
+      | true ↦ λ q n. absurd (cc)
+      | false ↦ λ q n. fits-from extent write size h (i + 1) segments (write list s) (h i s list (ltb-false e.size e.end q) long ∙ long) n
+    ] in split (nat_lt e.size e.end) refl none
+
+find-left : (test : Extent → Bool) (xs ys : List Extent) → find test (xs ++ ys) ≡ None → find test xs ≡ None
+find-left test [] ys e = refl
+find-left test (x ∷ xs) ys e = let split : (b : Bool) → ◌≡◌ {A = Option Extent} (cond b (Some x) (find test (xs ++ ys))) None → ◌≡◌ {A = Option Extent} (cond b (Some x) (find test xs)) None = elim [
+  | true ↦ λ q. q
+  | false ↦ λ q. find-left test xs ys q
+] in split (test x) e
+
+find-right : (test : Extent → Bool) (xs ys : List Extent) → find test (xs ++ ys) ≡ None → find test ys ≡ None
+find-right test [] ys e = e
+find-right test (x ∷ xs) ys e = let split : (b : Bool) → ◌≡◌ {A = Option Extent} (cond b (Some x) (find test (xs ++ ys))) None → find test ys ≡ None = elim [
+  | true ↦ λ q. absurd (cc)
+  | false ↦ λ q. find-right test xs ys q
+] in split (test x) e
+
+module _ (m : ModuleTree) (fits : first_misfit m ≡ None) where
+  pub length-fresh_memory : length (fresh_store m).memory ≡ memory_size m
+  length-fresh_memory = fits-from (data_extent m) (write_data m) (memory_size m) (λ i s list h long. length-written list (offset_of m s.offset) s.bytes (omega arith)) 0 m.data_segments (replicate (memory_size m) 0) (length-replicate (memory_size m) 0)
+      (find-right (λ e. nat_lt e.size e.end) (map (element_extent m) (enumerate_from 0 m.element_segments)) (map (data_extent m) (enumerate_from 0 m.data_segments)) fits)
+
+  pub length-fresh_table : length (fresh_store m).table ≡ table_size m
+  length-fresh_table = fits-from (element_extent m) (write_elements m) (table_size m) (λ i s list h long. length-written list (offset_of m s.offset) (map (λ f. Some f) s.functions) (rw length-map (omega arith))) 0 m.element_segments (replicate (table_size m) None) (length-replicate (table_size m) None)
+      (find-left (λ e. nat_lt e.size e.end) (map (element_extent m) (enumerate_from 0 m.element_segments)) (map (data_extent m) (enumerate_from 0 m.data_segments)) fits)
+
+  pub fresh-instance : (pages : ℕ) → minimum_of m.memories ≤ pages → IsInstance m pages (fresh_store m).table (fresh_store m)
+  fresh-instance pages le = record { table_is = refl; globals_are = length-map m.globals _; size = minimum_of m.memories; whole = length-fresh_memory; within = least_in_room m.memories pages le }

@@ -1,0 +1,254 @@
+-- What every instruction keeps of a store, a run keeps.
+use Rattle.std.proofs.Common.{◌≡◌, ℕ, zero, suc, ◌+◌, ◌*◌, ◌≤◌, List, [], ◌∷◌, ◌++◌, length, take, drop, Option, Some, None, Bool, true, false, refl, ap, arith}
+use Rattle.std.specs.Prelude.{Result, Ok, Err, nat_lt, nat_le, slice_get, slice_set, not, replicate, if◌then◌else◌, ◌^◌, ◌-◌}
+use Rattle.std.specs.Int as int
+use Rattle.std.specs.Int.{byte_len, to_le_bytes, bytes_low_first}
+use Rattle.std.proofs.lemmas.Bool.{ltb-false}
+use Rattle.wasm_types.specs.declared.types.FuncType.{FuncType}
+use Rattle.wasm_types.specs.declared.outcome.Val.{Val}
+use Rattle.wasm_types.specs.declared.outcome.Val.TheVariants as val
+use Rattle.wasm_types.specs.declared.outcome.TrapKind.{TrapKind}
+use Rattle.wasm_types.specs.declared.outcome.TrapKind.TheVariants as trap
+use Rattle.wasm_types.specs.declared.instr.Width.TheVariants.{W32, W64}
+use Rattle.wasm_types.specs.declared.instr.Instr.{Instr}
+use Rattle.wasm_types.specs.declared.instr.Instr.TheVariants as instr
+use Rattle.wasm_types.specs.Tree.{Code, End, Plain, Block, Loop, If, Call, CallIndirect, FunctionTree, ModuleTree}
+use Rattle.wasm_types.specs.SameTypes.{same_type}
+use Rattle.wasm_spec.specs.Typing.{function_at}
+use Rattle.wasm_spec.specs.Operators.{bit_width, int_width, pack_width, pack_bits, binary, wrap}
+use Rattle.wasm_spec.specs.Store.{Store, page_size, written}
+use Rattle.wasm_types.specs.declared.limits.RunLimits.{RunLimits}
+use Rattle.wasm_spec.specs.Execution.{State, Signal, Next, Branch, Returned, Trapped, OutOfFuel, Stuck, Ended, Continuation, number, given, with_operands, pop, pop_two, pop_three, if_zero, or_trap, memory_set, store_number, pages_of, most_pages, grow, plain, pay, and_then, unless, keep, leave_by, arity, pop_index, choose, inside, return_by, return, entered, callee, invoke, if_there, with_type, with_function, with_element, exec_within, exec}
+
+-- the store in which a sequence ends has this property
+abbrev pub KeptIn : (Store → Type 0) → Signal → Type 0
+KeptIn P (Next s) = P s.store
+KeptIn P (Branch l s) = P s.store
+KeptIn P (Returned s) = P s.store
+KeptIn P (Trapped t store) = P store
+KeptIn P (OutOfFuel store) = P store
+KeptIn P Stuck = Unit {0}
+
+-- what goes on from a store with this property ends in one
+abbrev pub Keeps : (Store → Type 0) → Continuation → Type 0
+Keeps P next = (s : State) (fuel : ℕ) → P s.store → KeptIn P (next s fuel).signal
+
+-- the three ways in which an instruction changes a store keep the property
+pub record IsKeptByChanges (most : ℕ) (P : Store → Type 0) : Type 0 where
+  pub global : (store : Store) (x : ℕ) (v : Val) → P store → P (record store { globals = slice_set store.globals x v })
+  pub bytes : (store : Store) (at : ℕ) (bytes : List ℕ) → at + length bytes ≤ length store.memory → P store → P (memory_set (written store.memory at bytes) store)
+  pub pages : (store : Store) (n : ℕ) → pages_of store + n ≤ most → P store → P (memory_set (store.memory ++ replicate (n * page_size) 0) store)
+
+length-bytes : (i k n : ℕ) → length (bytes_low_first i k n) ≡ k
+length-bytes i zero n = refl
+length-bytes i (suc k) n = ap suc (length-bytes (suc i) k n)
+
+module _ (P : Store → Type 0) where
+  -- ---- plain instructions
+
+  given-keeps : {A : Type 0} (o : Option A) (next : A → Signal) → ((x : A) → KeptIn P (next x)) → KeptIn P (given o next)
+  given-keeps None next h = tt
+  given-keeps (Some x) next h = h x
+
+  pop-keeps : (vs : List Val) (next : Val → List Val → Signal) → ((x : Val) (r : List Val) → KeptIn P (next x r)) → KeptIn P (pop vs next)
+  pop-keeps [] next h = tt
+  pop-keeps (x ∷ r) next h = h x r
+
+  pop_two-keeps : (vs : List Val) (next : Val → Val → List Val → Signal) → ((x y : Val) (r : List Val) → KeptIn P (next x y r)) → KeptIn P (pop_two vs next)
+  pop_two-keeps [] next h = tt
+  pop_two-keeps (x ∷ []) next h = tt
+  pop_two-keeps (y ∷ x ∷ r) next h = h x y r
+
+  pop_three-keeps : (vs : List Val) (next : Val → Val → Val → List Val → Signal) → ((x y z : Val) (r : List Val) → KeptIn P (next x y z r)) → KeptIn P (pop_three vs next)
+  pop_three-keeps [] next h = tt
+  pop_three-keeps (x ∷ []) next h = tt
+  pop_three-keeps (x ∷ y ∷ []) next h = tt
+  pop_three-keeps (z ∷ y ∷ x ∷ r) next h = h x y z r
+
+  if-keeps : (b : Bool) (x y : Signal) → KeptIn P x → (b ≡ false → KeptIn P y) → KeptIn P (if b then x else y)
+  if-keeps true x y h k = h
+  if-keeps false x y h k = k refl
+
+  if_zero-keeps : (n : ℕ) (x y : Signal) → KeptIn P x → KeptIn P y → KeptIn P (if_zero n x y)
+  if_zero-keeps zero x y h k = h
+  if_zero-keeps (suc n) x y h k = k
+
+  or_trap-keeps : (r : Result ℕ TrapKind) (s : State) (next : ℕ → Signal) → P s.store → ((n : ℕ) → KeptIn P (next n)) → KeptIn P (or_trap r s next)
+  or_trap-keeps (Ok n) s next p h = h n
+  or_trap-keeps (Err t) s next p h = p
+
+  -- ---- going on
+
+  pay-keeps : (store : Store) (fuel : ℕ) (next : ℕ → Ended) → P store → ((g : ℕ) → KeptIn P (next g).signal) → KeptIn P (pay store fuel next).signal
+  pay-keeps store zero next p h = p
+  pay-keeps store (suc fuel) next p h = h fuel
+
+  and_then-keeps : (signal : Signal) (next : Continuation) → Keeps P next → (fuel : ℕ) → KeptIn P signal → KeptIn P (and_then signal fuel next).signal
+  and_then-keeps (Next s) next h fuel p = h s fuel p
+  and_then-keeps (Branch l s) next h fuel p = p
+  and_then-keeps (Returned s) next h fuel p = p
+  and_then-keeps (Trapped t store) next h fuel p = p
+  and_then-keeps (OutOfFuel store) next h fuel p = p
+  and_then-keeps Stuck next h fuel p = tt
+
+  unless-keeps : (test : Bool) (signal : Signal) (next : Continuation) (s : State) (fuel : ℕ) → KeptIn P signal → KeptIn P (next s fuel).signal → KeptIn P (unless test signal next s fuel).signal
+  unless-keeps true signal next s fuel p h = p
+  unless-keeps false signal next s fuel p h = h
+
+  keep-keeps : (n : ℕ) (below : List Val) (next : Continuation) → Keeps P next → Keeps P (keep n below next)
+  keep-keeps n below next h s fuel p = let t : State = record s { operands = take n s.operands ++ below } in
+      unless-keeps (nat_lt (length s.operands) n) Stuck next t fuel tt (h t fuel p)
+
+  leave-keeps : (n : ℕ) (below : List Val) (signal : Signal) (fuel : ℕ) (next target : Continuation)
+      → Keeps P next → Keeps P target → KeptIn P signal → KeptIn P (leave_by n below signal fuel next target).signal
+  leave-keeps n below (Next s) fuel next target h k p = h (record s { operands = s.operands ++ below }) fuel p
+  leave-keeps n below (Branch zero s) fuel next target h k p = keep-keeps n below target k s fuel p
+  leave-keeps n below (Branch (suc l) s) fuel next target h k p = p
+  leave-keeps n below (Returned s) fuel next target h k p = p
+  leave-keeps n below (Trapped t store) fuel next target h k p = p
+  leave-keeps n below (OutOfFuel store) fuel next target h k p = p
+  leave-keeps n below Stuck fuel next target h k p = tt
+
+  return-keeps : (n : ℕ) (caller : State) (below : List Val) (signal : Signal) (fuel : ℕ) (next : Continuation)
+      → Keeps P next → KeptIn P signal → KeptIn P (return_by n caller below signal fuel next).signal
+  return-keeps n caller below (Next s) fuel next h p = keep-keeps n below next h (record s { locals = caller.locals }) fuel p
+  return-keeps n caller below (Branch zero s) fuel next h p = keep-keeps n below next h (record s { locals = caller.locals }) fuel p
+  return-keeps n caller below (Branch (suc l) s) fuel next h p = tt
+  return-keeps n caller below (Returned s) fuel next h p = keep-keeps n below next h (record s { locals = caller.locals }) fuel p
+  return-keeps n caller below (Trapped t store) fuel next h p = p
+  return-keeps n caller below (OutOfFuel store) fuel next h p = p
+  return-keeps n caller below Stuck fuel next h p = tt
+
+  -- a call, where its body's run keeps the property
+  pub invoke-keeps_at : (limits : RunLimits) (depth : ℕ) (f : FunctionTree) (t : FuncType) (run next : Continuation) (s : State) (fuel : ℕ)
+      → P s.store → KeptIn P (run (entered f t s) fuel).signal → Keeps P next → KeptIn P (invoke limits depth f t run next s fuel).signal
+  invoke-keeps_at limits depth f t run next s fuel p hr h =
+      let calls : Continuation = callee f t run next in
+      let deep : Bool = nat_le limits.depth depth in
+      let inner : Ended = run (entered f t s) fuel in
+      unless-keeps (nat_lt (length s.operands) (length t.params)) Stuck (unless deep (Trapped trap.Exhausted s.store) calls) s fuel tt
+      (unless-keeps deep (Trapped trap.Exhausted s.store) calls s fuel p
+      (return-keeps (length t.results) s (drop (length t.params) s.operands) inner.signal inner.fuel next h hr))
+
+  invoke-keeps : (limits : RunLimits) (depth : ℕ) (f : FunctionTree) (t : FuncType) (run next : Continuation)
+      → Keeps P run → Keeps P next → Keeps P (invoke limits depth f t run next)
+  invoke-keeps limits depth f t run next hr h s fuel p = invoke-keeps_at limits depth f t run next s fuel p (hr (entered f t s) fuel p) h
+
+  if_there-keeps : {A : Type 0} (o : Option A) (next : A → Continuation) → ((x : A) → Keeps P (next x)) → Keeps P (if_there o next)
+  if_there-keeps None next h s fuel p = tt
+  if_there-keeps (Some x) next h s fuel p = h x s fuel p
+
+  pub with_function-keeps : (m : ModuleTree) (x : ℕ) (next : FunctionTree → FuncType → Continuation)
+      → ((f : FunctionTree) (t : FuncType) → Keeps P (next f t)) → Keeps P (with_function m x next)
+  with_function-keeps m x next h =
+      if_there-keeps (function_at m x) (λ f. with_type m f.type_index (next f)) (λ f. if_there-keeps (slice_get m.types f.type_index) (next f) (h f))
+
+  -- the same of one state
+  if_there-keeps_at : {A : Type 0} (o : Option A) (next : A → Continuation) (s : State) (fuel : ℕ)
+      → ((x : A) → KeptIn P (next x s fuel).signal) → KeptIn P (if_there o next s fuel).signal
+  if_there-keeps_at None next s fuel h = tt
+  if_there-keeps_at (Some x) next s fuel h = h x
+
+  pub with_function-keeps_at : (m : ModuleTree) (x : ℕ) (next : FunctionTree → FuncType → Continuation) (s : State) (fuel : ℕ)
+      → ((f : FunctionTree) (t : FuncType) → KeptIn P (next f t s fuel).signal) → KeptIn P (with_function m x next s fuel).signal
+  with_function-keeps_at m x next s fuel h =
+      if_there-keeps_at (function_at m x) (λ f. with_type m f.type_index (next f)) s fuel
+      (λ f. if_there-keeps_at (slice_get m.types f.type_index) (next f) s fuel (h f))
+
+  pop_index-keeps : (vs : List Val) (next : ℕ → Continuation) → ((n : ℕ) → Keeps P (next n)) → Keeps P (pop_index vs next)
+  pop_index-keeps [] next h s fuel p = tt
+  pop_index-keeps (val.I64 n ∷ vs) next h s fuel p = tt
+  pop_index-keeps (val.I32 n ∷ vs) next h s fuel p = h n (record s { operands = vs }) fuel p
+
+  with_element-keeps : (o : Option (Option ℕ)) (next : ℕ → Continuation) → ((n : ℕ) → Keeps P (next n)) → Keeps P (with_element o next)
+  with_element-keeps None next h s fuel p = p
+  with_element-keeps (Some None) next h s fuel p = p
+  with_element-keeps (Some (Some x)) next h s fuel p = h x s fuel p
+
+  choose-keeps : (n : ℕ) (first second : Continuation) → Keeps P first → Keeps P second → Keeps P (choose n first second)
+  choose-keeps zero first second h k s fuel p = k s fuel p
+  choose-keeps (suc n) first second h k s fuel p = h s fuel p
+
+module _ (P : Store → Type 0) (m : ModuleTree) (limits : RunLimits) (c : IsKeptByChanges (most_pages m.memories limits.pages) P) where
+  written-keeps : (width : int.Width) (n at : ℕ) (vs : List Val) (s : State) → P s.store → KeptIn P (store_number width n at vs s)
+  written-keeps width n at vs s p =
+      if-keeps P (nat_lt (length s.store.memory) (at + byte_len width)) (Trapped trap.Memory s.store) (Next (record s { operands = vs; store = memory_set (written s.store.memory at (to_le_bytes width n)) s.store })) p
+      (λ e. let room = ltb-false (length s.store.memory) (at + byte_len width) e in let long = length-bytes 0 (byte_len width) n in c.bytes s.store at (to_le_bytes width n) (omega arith) p)
+
+  grow-keeps : (n : ℕ) (vs : List Val) (s : State) → P s.store → KeptIn P (grow (most_pages m.memories limits.pages) n vs s)
+  grow-keeps n vs s p = let old : ℕ = pages_of s.store in
+      if-keeps P (nat_lt (most_pages m.memories limits.pages) (old + n)) (with_operands (val.I32 (2 ^ 32 - 1) ∷ vs) s)
+      (Next (record s { operands = val.I32 old ∷ vs; store = memory_set (s.store.memory ++ replicate (n * page_size) 0) s.store })) p
+      (λ e. c.pages s.store n (ltb-false (most_pages m.memories limits.pages) (old + n) e) p)
+
+  plain-keeps : (i : Instr) (s : State) → P s.store → KeptIn P (plain m limits i s)
+  plain-keeps instr.Unreachable s p = p
+  plain-keeps instr.Nop s p = p
+  plain-keeps (instr.Br l) s p = p
+  plain-keeps (instr.BrIf l) s p = pop-keeps P s.operands _ (λ c vs. given-keeps P (number W32 c) _ (λ n. if_zero-keeps P n _ _ p p))
+  plain-keeps (instr.BrTable labels l) s p = pop-keeps P s.operands _ (λ c vs. given-keeps P (number W32 c) _ (λ n. p))
+  plain-keeps instr.Return s p = p
+  plain-keeps instr.Drop s p = pop-keeps P s.operands _ (λ x vs. p)
+  plain-keeps instr.Select s p = pop_three-keeps P s.operands _ (λ x y c vs. given-keeps P (number W32 c) _ (λ n. if_zero-keeps P n _ _ p p))
+  plain-keeps (instr.LocalGet x) s p = given-keeps P (slice_get s.locals x) _ (λ v. p)
+  plain-keeps (instr.LocalSet x) s p = pop-keeps P s.operands _ (λ v vs. given-keeps P (slice_get s.locals x) _ (λ old. p))
+  plain-keeps (instr.LocalTee x) s p = pop-keeps P s.operands _ (λ v vs. given-keeps P (slice_get s.locals x) _ (λ old. p))
+  plain-keeps (instr.GlobalGet x) s p = given-keeps P (slice_get s.store.globals x) _ (λ v. p)
+  plain-keeps (instr.GlobalSet x) s p = pop-keeps P s.operands _ (λ v vs. given-keeps P (slice_get s.store.globals x) _ (λ old. c.global s.store x v p))
+  plain-keeps (instr.Load w a) s p = pop-keeps P s.operands _ (λ b vs. given-keeps P (number W32 b) _ (λ at. if-keeps P (nat_lt (length s.store.memory) (at + a.offset + byte_len (int_width w))) _ _ p (λ e. p)))
+  plain-keeps (instr.LoadPacked w k sign a) s p = pop-keeps P s.operands _ (λ b vs. given-keeps P (number W32 b) _ (λ at. if-keeps P (nat_lt (length s.store.memory) (at + a.offset + byte_len (pack_width k))) _ _ p (λ e. p)))
+  plain-keeps (instr.Store w a) s p = pop_two-keeps P s.operands _ (λ b v vs. given-keeps P (number W32 b) _ (λ at. given-keeps P (number w v) _ (λ n. written-keeps (int_width w) n (at + a.offset) vs s p)))
+  plain-keeps (instr.StorePacked w k a) s p = pop_two-keeps P s.operands _ (λ b v vs. given-keeps P (number W32 b) _ (λ at. given-keeps P (number w v) _ (λ n. written-keeps (pack_width k) (wrap (pack_bits k) n) (at + a.offset) vs s p)))
+  plain-keeps instr.MemorySize s p = p
+  plain-keeps instr.MemoryGrow s p = pop-keeps P s.operands _ (λ x vs. given-keeps P (number W32 x) _ (λ n. grow-keeps n vs s p))
+  plain-keeps (instr.Const v) s p = p
+  plain-keeps (instr.Eqz w) s p = pop-keeps P s.operands _ (λ x vs. given-keeps P (number w x) _ (λ a. p))
+  plain-keeps (instr.Compare w op) s p = pop_two-keeps P s.operands _ (λ x y vs. given-keeps P (number w x) _ (λ a. given-keeps P (number w y) _ (λ b. p)))
+  plain-keeps (instr.Unary w op) s p = pop-keeps P s.operands _ (λ x vs. given-keeps P (number w x) _ (λ a. p))
+  plain-keeps (instr.Binary w op) s p = pop_two-keeps P s.operands _ (λ x y vs. given-keeps P (number w x) _ (λ a. given-keeps P (number w y) _ (λ b. or_trap-keeps P (binary (bit_width w) op a b) s _ p (λ c. p))))
+  plain-keeps instr.Wrap s p = pop-keeps P s.operands _ (λ x vs. given-keeps P (number W64 x) _ (λ a. p))
+  plain-keeps (instr.Extend sign) s p = pop-keeps P s.operands _ (λ x vs. given-keeps P (number W32 x) _ (λ a. p))
+  plain-keeps instr.Float s p = tt
+
+  pub within-keeps : (n : ℕ) (code : Code) (depth : ℕ) → Keeps P (exec_within m limits n code depth)
+  within-keeps n End depth s fuel p = p
+  within-keeps n (Plain i rest) depth s fuel p =
+      pay-keeps P s.store fuel _ p (λ g. and_then-keeps P (plain m limits i s) (exec_within m limits n rest depth) (within-keeps n rest depth) g (plain-keeps i s p))
+  within-keeps n (Block t body rest) depth s fuel p =
+      pay-keeps P s.store fuel _ p (λ g.
+      let go : Continuation = exec_within m limits n rest depth in
+      let inner : Ended = exec_within m limits n body depth (inside s) g in
+      leave-keeps P (arity t) s.operands inner.signal inner.fuel go go (within-keeps n rest depth) (within-keeps n rest depth) (within-keeps n body depth (inside s) g p))
+  within-keeps n (If t first second rest) depth s fuel p =
+      pay-keeps P s.store fuel _ p (λ g. pop_index-keeps P s.operands _ (λ c s g p.
+      let go : Continuation = exec_within m limits n rest depth in
+      let a : Continuation = exec_within m limits n first depth in
+      let b : Continuation = exec_within m limits n second depth in
+      let inner : Ended = choose c a b (inside s) g in
+      leave-keeps P (arity t) s.operands inner.signal inner.fuel go go (within-keeps n rest depth) (within-keeps n rest depth)
+      (choose-keeps P c a b (within-keeps n first depth) (within-keeps n second depth) (inside s) g p)) s g p)
+  within-keeps zero (Loop t body rest) depth s fuel p = p
+  within-keeps (suc n) (Loop t body rest) depth s fuel p =
+      pay-keeps P s.store fuel _ p (λ g.
+      let inner : Ended = exec_within m limits (suc n) body depth (inside s) g in
+      leave-keeps P 0 s.operands inner.signal inner.fuel (exec_within m limits (suc n) rest depth) (exec_within m limits n (Loop t body rest) depth)
+      (within-keeps (suc n) rest depth) (within-keeps n (Loop t body rest) depth) (within-keeps (suc n) body depth (inside s) g p))
+  within-keeps zero (Call x rest) depth s fuel p = p
+  within-keeps (suc n) (Call x rest) depth s fuel p =
+      pay-keeps P s.store fuel _ p (λ g. with_function-keeps P m x _ (λ f t.
+      invoke-keeps P limits depth f t (exec_within m limits n f.body (depth + 1)) (exec_within m limits (suc n) rest depth)
+      (within-keeps n f.body (depth + 1)) (within-keeps (suc n) rest depth)) s g p)
+  within-keeps zero (CallIndirect x rest) depth s fuel p = p
+  within-keeps (suc n) (CallIndirect x rest) depth s fuel p =
+      pay-keeps P s.store fuel _ p (λ g. pop_index-keeps P s.operands _ (λ i s.
+      with_element-keeps P (slice_get s.store.table i) _ (λ y.
+      if_there-keeps P (slice_get m.types x) _ (λ u.
+      with_function-keeps P m y _ (λ f t s fuel p.
+      let call : Continuation = invoke limits depth f t (exec_within m limits n f.body (depth + 1)) (exec_within m limits (suc n) rest depth) in
+      unless-keeps P (not (same_type u t)) (Trapped trap.Signature s.store) call s fuel p
+      (invoke-keeps P limits depth f t (exec_within m limits n f.body (depth + 1)) (exec_within m limits (suc n) rest depth)
+      (within-keeps n f.body (depth + 1)) (within-keeps (suc n) rest depth) s fuel p)))) s) s g p)
+
+  pub exec-keeps : (depth : ℕ) (code : Code) → Keeps P (exec m limits depth code)
+  unfolding exec
+  exec-keeps depth code s fuel p = within-keeps (suc fuel) code depth s fuel p
