@@ -1,5 +1,5 @@
 -- What an exported function of a valid module is called as, and what the call gives.
-use Rattle.std.proofs.Common.{◌≡◌, ℕ, zero, suc, ◌+◌, ◌*◌, ◌<◌, [], ◌∷◌, ◌≤◌, List, Option, Some, None, map, take, length, refl, sym, ap, ◌∙◌, subst, arith}
+use Rattle.std.proofs.Common.{◌≡◌, ℕ, zero, suc, ◌+◌, ◌*◌, ◌<◌, [], ◌∷◌, ◌≤◌, List, Option, Some, None, map, take, get_or, length, refl, sym, ap, ◌∙◌, subst, arith}
 use Rattle.std.specs.Prelude.{All, IsSome, option_map, slice_get}
 use Rattle.std.proofs.lemmas.Option.{get_or_from_slice_get, slice_get_within}
 use Rattle.wasm_types.specs.declared.limits.RunLimits.{RunLimits}
@@ -7,6 +7,7 @@ use Rattle.wasm_types.specs.declared.types.FuncType.{FuncType}
 use Rattle.wasm_types.specs.declared.types.Limits.{Limits}
 use Rattle.wasm_types.specs.declared.types.ValType.{ValType}
 use Rattle.wasm_types.specs.declared.outcome.Val.{Val}
+use Rattle.wasm_types.specs.declared.module.Export.{Export}
 use Rattle.wasm_types.specs.declared.module.Module.{Module}
 use Rattle.wasm_types.specs.Tree.{DataTree, ElementTree, FunctionTree, GlobalTree, ModuleTree, module_tree}
 use Rattle.wasm_spec.specs.Instances.{room_for}
@@ -25,9 +26,6 @@ use Rattle.pool_host.specs.CallWords.{EndsWith, IsExported, LacksTypes}
 use Rattle.pool_host.specs.LoadWords.{FitsFrame, IsBuilt}
 use Rattle.pool_host.proofs.LoadLemmas.{no_data, no_elements}
 
-all_at : {A : Type 0} (P : A → Type 0) (xs : List A) (i : ℕ) (x : A) → All P xs → slice_get xs i ≡ Some x → P x
-all_at P xs i x all got = subst P (get_or_from_slice_get xs i x x got) (all i x (slice_get_within xs i x got))
-
 -- a function with its type
 pub record HasFunction (m : ModuleTree) (x : ℕ) : Type 0 where
   pub function : FunctionTree
@@ -41,9 +39,11 @@ some_there (Some x) h = (x, refl)
 
 pub exported_function : (m : ModuleTree) (export : List ℕ) (x : ℕ) → IsValid m → Exports m.exports export x → HasFunction m x
 exported_function m export x valid exports =
-    let defined : IsDefined m exports.export.desc = all_at (λ e. IsDefined m e.desc) m.exports exports.place exports.export valid.exports exports.there in
+    let e = exports.export in
+    let defined : IsDefined m e.desc = subst (λ (e : Export). IsDefined m e.desc) (get_or_from_slice_get m.exports exports.place e e exports.there)
+        (valid.exports exports.place e (slice_get_within m.exports exports.place e exports.there)) in
     let (f, there) = some_there (slice_get m.functions x) (subst (IsDefined m) exports.function defined) in
-    let typed : IsTypedFunction m f = all_at (IsTypedFunction m) m.functions x f valid.functions there in
+    let typed : IsTypedFunction m f = subst (IsTypedFunction m) (get_or_from_slice_get m.functions x f f there) (valid.functions x f (slice_get_within m.functions x f there)) in
     let (t, type) = some_there (slice_get m.types f.type_index) typed.0 in
     record { function = f; type = t; there = there; typed = type }
 
@@ -60,7 +60,11 @@ is_call v x args h fit = record { function = h.function; type = h.type; there = 
 
 pub frames_fit : (v : Module) (frame room : ℕ) → FitsFrame v frame → frame ≤ room → machine.FitsFrame v room
 frames_fit v frame room fits wide x f there =
-    let n : need (module_tree v) f ≤ frame = all_at (λ n. n ≤ frame) (map (need (module_tree v)) (module_tree v).functions) x (need (module_tree v) f) fits (mapped (module_tree v) (module_tree v).functions x f there) in
+    let needs = map (need (module_tree v)) (module_tree v).functions in
+    let n = need (module_tree v) f in
+    let got : slice_get needs x ≡ Some n = mapped (module_tree v) (module_tree v).functions x f there in
+    let is : get_or needs x 0 ≡ n = get_or_from_slice_get needs x n 0 got in
+    let le : get_or needs x 0 ≤ frame = fits x 0 (slice_get_within needs x n got) in
     omega arith
 
 -- ---- an instance without memory, table and globals
