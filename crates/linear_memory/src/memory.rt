@@ -85,7 +85,11 @@ impl Memory {
             return false;
         }
         put(&mut self.bytes, at as usize, piece);
-        mark(&mut self.marks, at / BLOCK_SIZE, (at + count - 1) / BLOCK_SIZE);
+        mark(
+            &mut self.marks,
+            at / BLOCK_SIZE,
+            (at + count - 1) / BLOCK_SIZE,
+        );
         true
     }
 
