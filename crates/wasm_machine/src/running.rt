@@ -3,7 +3,7 @@ ghost use Rattle.std.specs.Prelude.{◌≡◌, ℕ, ◌+◌, ◌-◌, ◌*◌, �
 ghost use Rattle.wasm_types.specs.declared.outcome.Val.{Val};
 ghost use Rattle.wasm_types.specs.declared.instr.Op.TheVariants as op;
 ghost use Rattle.wasm_types.specs.declared.limits.RunLimits.{RunLimits as Limits};
-ghost use Rattle.wasm_spec.specs.Execution.{Ended};
+ghost use Rattle.wasm_spec.specs.Execution.{Ended, most_pages as pages_at_most};
 ghost use Rattle.wasm_spec.specs.Store.{Store};
 ghost use Rattle.machine_steps.specs.StackLayout.{KeepsRoom};
 ghost use Rattle.linear_memory.specs.Bytes.{IsMemory};
@@ -94,6 +94,7 @@ fn execute(
     machine: &mut Machine,
     m: &Module,
     limits: RunLimits,
+    most: u32,
     memory: &mut Memory,
     table: &[Option<u32>],
     globals: &mut [Val],
@@ -101,6 +102,7 @@ fn execute(
 ) -> Step
     requires there { op_at m.now machine.old ≡ Some op.now }
     requires fits { machine.old.at.place + 1 < 2 ^ 64 }
+    requires most { most ≡ pages_at_most m.now.memories limits.pages }
     requires runs { (frame : ℕ) × (r : ℕ → Ended) × IsRunnable m.now frame
         × Simulates m.now limits frame machine.old (store_of memory.old table.now globals.old) r }
     requires memory { IsMemory (room_for m.now.memories limits.pages) memory.old }
@@ -126,7 +128,7 @@ fn execute(
             Step::Continues
         }
         Op::Call(x) => invoke(machine, m, limits, *x as usize),
-        Op::Plain(instr) => execute_plain(machine, m, limits, memory, table, globals, instr, here),
+        Op::Plain(instr) => execute_plain(machine, m, limits, most, memory, table, globals, instr, here),
         Op::If(t, first, second) => {
             let c = machine.pop32();
             let inner = named_by(
@@ -147,12 +149,14 @@ fn execute_plain(
     machine: &mut Machine,
     m: &Module,
     limits: RunLimits,
+    most: u32,
     memory: &mut Memory,
     table: &[Option<u32>],
     globals: &mut [Val],
     instr: &Instr,
     here: usize,
 ) -> Step
+    requires most { most ≡ pages_at_most m.now.memories limits.pages }
     requires runs { (frame : ℕ) × (r : ℕ → Ended) × IsRunnable m.now frame
         × HasFetched m.now limits frame machine.old (store_of memory.old table.now globals.old) here (op.Plain instr.now) r }
     requires memory { IsMemory (room_for m.now.memories limits.pages) memory.old }
@@ -167,7 +171,7 @@ fn execute_plain(
     if is_jump(instr) {
         unless_over(jump(machine, m, instr))
     } else {
-        unless_trapped(machine.plain(most_pages(m, limits.pages), memory, globals, instr))
+        unless_trapped(machine.plain(most, memory, globals, instr))
     }
 }
 
@@ -197,10 +201,11 @@ pub(crate) fn advance(
     ensures memory { IsMemory (room_for m.now.memories limits.pages) memory.new }
     ensures globals { length globals.new ≡ length globals.old }
 {
+    let most = most_pages(m, limits.pages);
     for spent in 0..fuel {
         match fetch(machine, m) {
             None => return Halt::Done(fuel - spent),
-            Some(op) => match execute(machine, m, limits, memory, table, globals, op) {
+            Some(op) => match execute(machine, m, limits, most, memory, table, globals, op) {
                 Step::Continues => {}
                 Step::Finishes => return Halt::Done(fuel - spent - 1),
                 Step::Traps(t) => return Halt::Trapped(t, fuel - spent - 1),

@@ -56,13 +56,13 @@ plain-requires-clause-ready c =
 pub plain-requires-clause-memory : goal.plain-requires-clause-memory
 plain-requires-clause-memory c =
     let m = c.args.m.now in
-    (room_for m.memories c.args.limits.pages, c.requires.memory, subst (λ (n : ℕ). n ≤ room_for m.memories c.args.limits.pages) (sym c.most_pages.ensures) (most_within m.memories c.args.limits.pages))
+    (room_for m.memories c.args.limits.pages, c.requires.memory, subst (λ (n : ℕ). n ≤ room_for m.memories c.args.limits.pages) (sym c.requires.most) (most_within m.memories c.args.limits.pages))
 
 pub returns-else-is_jump-clause-memory : goal.returns-else-is_jump-clause-memory
 returns-else-is_jump-clause-memory c =
     let m = c.args.m.now in
     let room = room_for m.memories c.args.limits.pages in
-    c.plain.ensures.memory room (subst (λ (n : ℕ). n ≤ room) (sym c.most_pages.ensures) (most_within m.memories c.args.limits.pages)) c.requires.memory
+    c.plain.ensures.memory room (subst (λ (n : ℕ). n ≤ room) (sym c.requires.most) (most_within m.memories c.args.limits.pages)) c.requires.memory
 
 pub returns-else-is_jump-clause-steps : goal.returns-else-is_jump-clause-steps
 returns-else-is_jump-clause-steps c frame r run b =
@@ -74,5 +74,5 @@ returns-else-is_jump-clause-steps c frame r run b =
     stopped c.plain.result c.unless_trapped.result m limits frame c.plain.new.self after (paid r) c.unless_trapped.ensures
     (plain_done m limits frame c.args.machine.now c.plain.new.self store after c.args.here i c.plain.result r b
     (λ k middle takes locals. plain_preserved m limits (context m frame k.function k.blocks) refl i k store middle (sym c.if-is_jump.ensures) takes locals b.stored)
-    (c.plain.ensures.does (module_tree m) limits c.args.table.now c.most_pages.ensures)
+    (c.plain.ensures.does (module_tree m) limits c.args.table.now c.requires.most)
     c.plain.ensures.room)
