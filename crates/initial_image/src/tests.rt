@@ -173,7 +173,6 @@ fn answer(
 #[test]
 fn the_first_misfit_is_named(rt: HostRuntime) -> Result<(), Fail> {
     let misfit = |which, end, size| Some(ImageFault::Segment(Misfit { which, end, size }));
-    let none = [].as_slice();
     let past_table = (Start::At(9), [0].as_slice());
     let at_table_end = (Start::At(9), [].as_slice());
     let past_memory = (Start::At(65_535), b"ab".as_slice());
@@ -181,31 +180,33 @@ fn the_first_misfit_is_named(rt: HostRuntime) -> Result<(), Fail> {
     let empty_past_memory = (Start::At(65_537), b"".as_slice());
     let empty_at_memory_end = (Start::At(65_536), b"".as_slice());
     let at_minus_one = (Start::At(u32::MAX), b"a".as_slice());
+    let fitting = [at_table_end, at_table_end];
     let rows = [
         (
-            none,
-            [past_memory, at_minus_one].as_slice(),
+            fitting,
+            [past_memory, at_minus_one],
             misfit(SegmentIndex::Data(0), 65_537, 65_536),
         ),
         (
-            [at_table_end, past_table].as_slice(),
-            [past_memory, past_memory].as_slice(),
+            [at_table_end, past_table],
+            [past_memory, past_memory],
             misfit(SegmentIndex::Element(1), 10, 9),
         ),
         (
-            [at_table_end, at_table_end].as_slice(),
-            [at_memory_end, empty_past_memory].as_slice(),
+            fitting,
+            [at_memory_end, empty_past_memory],
             misfit(SegmentIndex::Data(1), 65_537, 65_536),
         ),
         (
-            none,
-            [empty_at_memory_end, at_minus_one].as_slice(),
+            fitting,
+            [empty_at_memory_end, at_minus_one],
             misfit(SegmentIndex::Data(1), 4_294_967_296, 65_536),
         ),
-        (none, [empty_at_memory_end, at_memory_end].as_slice(), None),
+        (fitting, [empty_at_memory_end, at_memory_end], None),
     ];
     for (elements, datas, expected) in rows {
-        assert_eq!(rt; answer(rt.alloc(), elements, datas)?, expected);
+        let answer = answer(rt.alloc(), elements.as_slice(), datas.as_slice())?;
+        assert_eq!(rt; answer, expected);
     }
     Ok(())
 }

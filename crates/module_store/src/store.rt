@@ -64,7 +64,8 @@ impl Opened {
     /// The store under a name, and its desk. The name is picked by the caller's proof. Takes no memory.
     pub fn named<N: Naming>(self) -> (ModuleStore<N>, Desk<N>)
         requires { Bears self N.shelves N.config }
-        ensures { result.1 ≡ 0 }
+        ensures store { result.0 ≡ N.config }
+        ensures desk { result.1 ≡ 0 }
     {
         let Opened { modules, config } = self;
         let of = PhantomData;

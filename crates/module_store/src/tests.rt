@@ -209,7 +209,11 @@ fn read_all<N: Naming, R: Abort + Wait>(rt: &R, store: &ModuleStore<N>, module: 
     }
 }
 
-fn check_threads<N: Naming, R: Abort + Threads + Wait + Sync>(rt: &R, alloc: Global, opened: Opened)
+fn check_threads<N: Naming + Send + Sync, R: Abort + Threads + Wait + Sync>(
+    rt: &R,
+    alloc: Global,
+    opened: Opened,
+)
     requires { Bears opened N.shelves N.config }
 {
     let (store, mut desk) = opened.named::<N>();

@@ -202,6 +202,7 @@ fn global(alloc: Global) -> Result<wasm::Global, AllocError> {
     })
 }
 
+#[derive(Drop)]
 struct Asked {
     pages: Option<u32>,
     elements: Option<u32>,
