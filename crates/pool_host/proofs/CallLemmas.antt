@@ -92,9 +92,12 @@ module _ (m : ModuleTree) (built : IsBuilt m) (valid : IsValid m) where
       ap (λ (start : Option ℕ). after_start m limits start (function_result m limits x args) (fresh_store m) fuel) built.start
       ∙ ap (λ (s : Store). function_result m limits x args s fuel) fresh_is
 
-take_none : {A : Type 0} (n : ℕ) → take n [] ≡ []
-take_none {A = A} zero = refl
-take_none {A = A} (suc n) = refl
+abbrev no_values : List Val
+no_values = []
+
+take_none : (n : ℕ) → take n no_values ≡ no_values
+take_none zero = refl
+take_none (suc n) = refl
 
 no_globals : (v : Module) → own v [] ≡ []
 no_globals v = take_none (length v.globals)
@@ -134,4 +137,4 @@ module _ (v : Module) (memory : Memory) (built : IsBuilt (module_tree v)) where
   }
 
 pub lacks_types : (m : ModuleTree) (export : List ℕ) (x : ℕ) (args : List Val) (h : HasFunction m x) → Exports m.exports export x → (map type_of args ≡ h.type.params → ⊥) → LacksTypes m export args
-lacks_types m export x args h exported no = record { function = x; type = h.type; exported = record { exported = exported; typed = function_type_is m x h }; differ = no }
+lacks_types m export x args h exported other = record { function = x; type = h.type; exported = record { exported = exported; typed = function_type_is m x h }; differ = other }

@@ -1,12 +1,13 @@
 -- What a module without memory, table and globals is refused for, and which limit it passes first.
-use Rattle.std.proofs.Common.{◌≡◌, ℕ, zero, suc, ◌+◌, ◌<◌, ◌≤◌, List, [], ◌∷◌, Bool, true, false, Option, Some, None, Ok, Err, length, map, take, get_or, refl, ap, ◌∙◌, subst, arith, add-one}
+use Rattle.std.proofs.Common.{◌≡◌, ℕ, zero, suc, ◌+◌, ◌<◌, ◌≤◌, List, [], ◌∷◌, Bool, true, false, Option, Some, None, Ok, Err, length, map, take, get_or, refl, ap, ◌∙◌, subst, sym, arith, add-one}
 use Rattle.std.proofs.Math.Seq.{take-suc}
 use Rattle.std.proofs.lemmas.List.Elements.{All-append}
-use Rattle.std.specs.Prelude.{All, IsSome, find, nat_lt, slice_get}
+use Rattle.std.specs.Prelude.{All, IfErr, IfOk, IsSome, OnOk, Result, find, nat_lt, slice_get}
 use Rattle.std.specs.List.{enumerate_from}
 use Rattle.std.proofs.lemmas.Bool.Decides.{nat_tests}
 use Rattle.wasm_types.specs.declared.limits.LoadLimits.{LoadLimits}
-use Rattle.wasm_types.specs.Tree.{DataTree, ElementTree, FunctionTree, GlobalTree, ModuleTree, module_tree}
+use Rattle.wasm_types.specs.declared.module.Global.{Global}
+use Rattle.wasm_types.specs.Tree.{DataTree, ElementTree, FunctionTree, GlobalTree, ModuleTree, global_tree, module_tree}
 use Rattle.wasm_types.specs.declared.types.Limits.{Limits}
 use Rattle.wasm_spec.specs.Grammar.{Spells}
 use Rattle.wasm_spec.specs.Need.{need}
@@ -21,8 +22,9 @@ use Rattle.wasm_validate.specs.declared.valid.ValidFault.{ValidFault}
 use Rattle.wasm_validate.specs.declared.valid.ValidFault.TheVariants as validation
 use Rattle.pool_host.specs.LoadFaults.{decode_fault, valid_fault}
 use Rattle.wasm_types.specs.declared.module.Module.{Module}
-use Rattle.pool_host.specs.LoadWords.{FirstOver, IsBuilt, IsOver, IsRefused, IsRun, LoadsBuilt}
+use Rattle.pool_host.specs.LoadWords.{FirstOver, FitsFrame, IsBuilt, IsOver, IsRefused, IsRun, LoadsBuilt}
 use Rattle.pool_host.specs.declared.loading.LoadFault.{LoadFault}
+use Rattle.pool_host.specs.declared.loading.Loaded.{Loaded}
 
 -- ---- what each step refuses
 
@@ -31,7 +33,7 @@ decode_refused bytes limits decoding.Malformed none = none
 decode_refused bytes limits decoding.NoMemory none = tt
 
 pub not_built : (bytes : List ℕ) (limits : LoadLimits) (m : ModuleTree) → Spells bytes m → ¬ (IsBuilt m) → LoadsBuilt bytes limits (Err loading.Unsupported)
-not_built bytes limits m spells no = record { tree = m; spells = spells; answers = λ run. no run.built }
+not_built bytes limits m spells other = record { tree = m; spells = spells; answers = λ run. other run.built }
 
 pub valid_refused : (bytes : List ℕ) (limits : LoadLimits) (m : ModuleTree) (why : ValidFault) → Spells bytes m → IsBuilt m
     → (why ≡ validation.Unsupported → ¬ (IsSupported m)) → (why ≡ validation.Invalid → IsSupported m × ¬ (IsValid m)) → IsRefused bytes limits (valid_fault why)
@@ -39,6 +41,34 @@ valid_refused bytes limits m validation.Unsupported spells built unsupported inv
 valid_refused bytes limits m validation.Invalid spells built unsupported invalid =
     let h = invalid refl in record { tree = m; spells = spells; answers = (record { supported = h.0; built = built }, h.1) }
 valid_refused bytes limits m validation.NoMemory spells built unsupported invalid = tt
+
+-- ---- what a module has
+
+pub built_from : (m : Module) → m.memories ≡ [] → m.tables ≡ [] → m.globals ≡ [] → m.start ≡ None → IsBuilt (module_tree m)
+built_from m memories tables globals start = record { memories = memories; tables = tables; globals = ap (λ (gs : List Global). map global_tree gs) globals; start = start }
+
+none_mapped : (gs : List Global) → map global_tree gs ≡ [] → gs ≡ []
+none_mapped [] h = refl
+none_mapped (g ∷ gs) h = cc
+
+pub built_globals : (m : Module) → IsBuilt (module_tree m) → m.globals ≡ []
+built_globals m built = none_mapped m.globals built.globals
+
+-- a valid module without memory and table has no segment
+module _ (m : ModuleTree) where
+  none_of : {A : Type 0} (P : A → Type 0) (xs : List A) → All P xs → ((x : A) → P x → ⊥) → xs ≡ []
+  none_of P [] all never = refl
+  none_of P (x ∷ xs) all never = absurd (never x (all 0 x (omega arith)))
+
+  is_there : {A : Type 0} (xs : List A) (i : ℕ) → xs ≡ [] → IsSome (slice_get xs i) → ⊥
+  is_there [] i none some = cc
+  is_there (x ∷ xs) i none some = cc
+
+  pub no_elements : IsBuilt m → IsValid m → m.element_segments ≡ []
+  no_elements built valid = none_of (IsElementSegment m) m.element_segments valid.element_segments (λ s h. is_there m.tables s.table built.tables h.table)
+
+  pub no_data : IsBuilt m → IsValid m → m.data_segments ≡ []
+  no_data built valid = none_of (IsDataSegment m) m.data_segments valid.data_segments (λ s h. is_there m.memories s.memory built.memories h.memory)
 
 -- ---- the limits
 
@@ -92,22 +122,8 @@ module _ (m : ModuleTree) (limits : LoadLimits) where
       let rest : All (λ u. u ≤ limits.frame) (take i (map (need m) fs)) = λ k d lt. all (suc k) d (omega arith) in
       rw fits (first_is fs (n + 1) i j v got past rest (omega arith))
 
-  -- a valid module without memory and table has no segment
-  none_of : {A : Type 0} (P : A → Type 0) (xs : List A) → All P xs → ((x : A) → P x → ⊥) → xs ≡ []
-  none_of P [] all no = refl
-  none_of P (x ∷ xs) all no = absurd (no x (all 0 x (omega arith)))
-
-  is_there : {A : Type 0} (xs : List A) (i : ℕ) → xs ≡ [] → IsSome (slice_get xs i) → ⊥
-  is_there {A = A} xs i none some = let h : IsSome (slice_get [] i) = subst (λ (ys : List A). IsSome (slice_get ys i)) none some in cc
-
-  pub no_elements : IsBuilt m → IsValid m → m.element_segments ≡ []
-  no_elements built valid = none_of (IsElementSegment m) m.element_segments valid.element_segments (λ s h. is_there m.tables s.table built.tables h.table)
-
-  pub no_data : IsBuilt m → IsValid m → m.data_segments ≡ []
-  no_data built valid = none_of (IsDataSegment m) m.data_segments valid.data_segments (λ s h. is_there m.memories s.memory built.memories h.memory)
-
   fits_all : IsBuilt m → IsValid m → first_misfit m ≡ None
-  fits_all built valid = let none : extents m ≡ [] = rw (no_elements built valid, no_data built valid) in rw none
+  fits_all built valid = let none : extents m ≡ [] = rw (no_elements m built valid, no_data m built valid) in rw none
 
   only_frames : IsBuilt m → first_over limits m ≡ find over (frames 0 m.functions)
   unfolding frames over
@@ -152,3 +168,19 @@ pub over_refused : (bytes : List ℕ) (limits : LoadLimits) (m : Module) (why : 
     → IsOver m limits why → IsRefused bytes limits why
 over_refused bytes limits m why spells supported built valid over =
     rw over.named (past_frame (module_tree m) limits bytes spells supported built valid over.function over.need_is over.first)
+
+module _ (bytes : List ℕ) (limits : LoadLimits) (v : Module) (r : Result Loaded LoadFault) (spells : Spells bytes (module_tree v)) (supported : IsSupported (module_tree v))
+    (built : IsBuilt (module_tree v)) (valid : IsValid (module_tree v)) where
+  pub load_ok : IfOk r (λ l. l ≡ record { decoded = v; frame = limits.frame }) → OnOk r (FitsFrame v limits.frame) → IfOk r (λ l. LoadsBuilt bytes limits (Ok (module_tree l.decoded)))
+  load_ok is fits = ok r is fits
+    where
+      ok : (r : Result Loaded LoadFault) → IfOk r (λ l. l ≡ record { decoded = v; frame = limits.frame }) → OnOk r (FitsFrame v limits.frame) → IfOk r (λ l. LoadsBuilt bytes limits (Ok (module_tree l.decoded)))
+      ok (Ok l) is fits = subst (λ (x : Loaded). LoadsBuilt bytes limits (Ok (module_tree x.decoded))) (sym is) (within_limits (module_tree v) limits bytes spells supported built valid fits)
+      ok (Err why) is fits = tt
+
+  pub load_refused : IfErr r (IsOver v limits) → IfErr r (IsRefused bytes limits)
+  load_refused over = refused r over
+    where
+      refused : (r : Result Loaded LoadFault) → IfErr r (IsOver v limits) → IfErr r (IsRefused bytes limits)
+      refused (Ok l) over = tt
+      refused (Err why) over = over_refused bytes limits v why spells supported built valid over

@@ -87,13 +87,19 @@ impl Loaded {
 }
 
 // Whether the host has a place for all that the module has.
-fn is_built(module: &Module) -> bool
-    ensures { IsTrue result ↔ IsBuilt (module_tree module.now) }
+fn is_built(m: &Module) -> bool
+    ensures { IsTrue result ↔ IsBuilt (module_tree m.now) }
 {
-    module.memories.is_empty()
-        && module.tables.is_empty()
-        && module.globals.is_empty()
-        && module.start.is_none()
+    if !m.memories.is_empty() {
+        return false;
+    }
+    if !m.tables.is_empty() {
+        return false;
+    }
+    if !m.globals.is_empty() {
+        return false;
+    }
+    m.start.is_none()
 }
 
 // The first function whose frame needs more entries than the limit, and its need.
@@ -109,12 +115,12 @@ fn over_frame(needs: &[u64], frame: u32) -> Option<(usize, u64)>
 }
 
 // The module, if the host has a place for all that it has.
-fn built(module: Module) -> Result<Module, LoadFault>
-    ensures ok { IfOk result (λ m. (m ≡ module) × IsBuilt (module_tree module)) }
-    ensures refused { IfErr result (λ fault. (fault ≡ LoadFault.Unsupported) × ¬ (IsBuilt (module_tree module))) }
+fn built(m: Module) -> Result<Module, LoadFault>
+    ensures ok { IfOk result (λ r. (r ≡ m) × IsBuilt (module_tree m)) }
+    ensures refused { IfErr result (λ fault. (fault ≡ LoadFault.Unsupported) × ¬ (IsBuilt (module_tree m))) }
 {
-    if is_built(&module) {
-        Ok(module)
+    if is_built(&m) {
+        Ok(m)
     } else {
         Err(LoadFault::Unsupported)
     }
