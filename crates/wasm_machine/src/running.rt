@@ -128,7 +128,9 @@ fn execute(
             Step::Continues
         }
         Op::Call(x) => invoke(machine, m, limits, *x as usize),
-        Op::Plain(instr) => execute_plain(machine, m, limits, most, memory, table, globals, instr, here),
+        Op::Plain(instr) => execute_plain(
+            machine, m, limits, most, memory, table, globals, instr, here,
+        ),
         Op::If(t, first, second) => {
             let c = machine.pop32();
             let inner = named_by(
