@@ -49,7 +49,7 @@ returns-clause-answer g c =
     let fit = (c.fit.ensures f.type (rw c.module.ensures.same typed)).0 c.if-not-fit.false in
     let built = subst (λ (n : Module). IsBuilt (module_tree n)) (sym same) c.valid-valid.ensures.built in
     let done : EndsWith (module_tree v) c.self.inside.limits c.args.export.now c.args.args.now c.args.fuel c.run-end.result.outcome =
-        ends_with v c.self.inside.memory built c.module.ensures.valid c.self.inside.limits c.args.export.now c.in-Some.function c.args.args.now c.args.fuel _ f c.in-Some.ensures.found fit
-        c.self.invariant.memory_is c.run-end.ensures.result in
+    ends_with v c.self.inside.memory built c.module.ensures.valid c.self.inside.limits c.args.export.now c.in-Some.function c.args.args.now c.args.fuel _ f c.in-Some.ensures.found fit
+    c.self.invariant.memory_is c.run-end.ensures.result in
     subst (λ (n : Module). EndsWith (module_tree n) c.args.self.now.limits c.args.export.now c.args.args.now c.args.fuel c.run-end.result.outcome) same
     (subst (λ (l : RunLimits). EndsWith (module_tree v) l c.args.export.now c.args.args.now c.args.fuel c.run-end.result.outcome) (ap (λ (l : Lane). l.limits) c.self.view_is) done)
