@@ -1,0 +1,4 @@
+pub mod SegmentLemmas
+pub mod MisfitLemmas
+pub mod MemoryLemmas
+pub mod TableLemmas

@@ -1,0 +1,13 @@
+//! What the memory, the table and the globals of a new instance hold.
+//!
+//! Source: WebAssembly Core Specification 1.0, section 4.5.4 (instantiation).
+#![tactic(auto)]
+
+mod fill;
+mod image;
+mod segments;
+#[cfg(test)]
+mod tests;
+
+pub use image::{Image, ImageFault, build};
+pub use segments::{Misfit, SegmentIndex};

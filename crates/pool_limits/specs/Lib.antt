@@ -1,0 +1,3 @@
+pub mod Ranges
+pub mod Shares
+pub mod Limits

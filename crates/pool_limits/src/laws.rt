@@ -1,0 +1,9 @@
+//! What holds of every configuration. Each function does nothing: its contract is the law.
+ghost use Rattle.std.specs.Prelude.{◌≡◌, ◌↔◌, None};
+ghost use Rattle.pool_limits.specs.declared.numbers.Numbers.{Numbers};
+ghost use Rattle.pool_limits.specs.Ranges.{AreInRange, bad_number};
+
+/// A number is out of its range exactly where not all are in range.
+pub fn numbers_are_in_range_or_one_is_bad()
+    ensures { (n : Numbers) → (bad_number n ≡ None) ↔ AreInRange n }
+{}

@@ -1,0 +1,82 @@
+-- One call of a small module, event by event: all that the definitions ask of a call can be met.
+use Rattle.std.proofs.Common.{◌≡◌, true≢false, List, [], ◌∷◌, refl, sym, arith}
+use Rattle.std.specs.Prelude.{Some, None}
+use Rattle.wasm_types.specs.declared.outcome.Val.TheVariants.{I32}
+use Rattle.wasm_types.specs.declared.outcome.Outcome.TheVariants as outcome
+use Rattle.wasm_spec.specs.Execution.{exec}
+use Rattle.wasm_spec.proofs.TypingExamples.{add, add_type, add_valid, add_supported}
+use Rattle.wasm_spec.proofs.GrammarExamples.{add_spelled}
+use Rattle.pool_core.specs.declared.events.Event.TheVariants.{Claim, Out}
+use Rattle.pool_core.specs.PoolCore.{opening_core}
+use Rattle.pool_worlds.specs.Contents.{Named, Kind, Ticket, Memory, Table, Contents, memory_image, needs}
+use Rattle.pool_worlds.specs.PoolMachine.{World, Request, Machine, WorldEvent, Step, Begin, Turn, End, IsModule, IsCallable, AllMayHappen, answer, IsOpening}
+
+abbrev named : Named
+named = record { number = 0; tag = 0; tree = add }
+
+abbrev world : World
+world = record { limits = record { pages = 1; elements = 0; frame = 8; depth = 4 }; shelf = λ n. named; seats = λ k i. i; apart = λ k i j e. e }
+
+abbrev cold : (k : Kind) → Contents k
+cold Ticket = I32 7 ∷ []
+cold Memory = record { bytes = memory_image 1 None; pages = 0; marks = []; holds = None }
+cold Table = record { entries = []; holds = None }
+
+abbrev opened : Machine
+opened = record { core = λ k. opening_core 1 0 1; contents = λ k n. cold k; calls = λ i. None }
+
+opens : IsOpening world opened
+opens = record {
+  slots = λ k. 1;
+  limit = λ k. 0;
+  passes = λ k. 1;
+  core = λ k. refl;
+  cold = λ k n. cold-is k;
+  calls = λ i. refl;
+} where
+  cold-is : (k : Kind) → Rattle.pool_worlds.specs.Contents.IsCold 1 k (cold k)
+  cold-is Ticket = tt
+  cold-is Memory = record { holds = refl; size = refl; bytes = refl; clean = λ i. refl }
+  cold-is Table = (refl, refl)
+
+abbrev request : Request
+request = record { named = named; function = 0; arguments = I32 2 ∷ I32 3 ∷ []; fuel = 100 }
+
+abbrev events : List WorldEvent
+events = Step Ticket (Claim 0 0) ∷ Step Ticket (Out 0 0) ∷ Begin 0 request ∷ Turn 0 [] ∷ Turn 0 [] ∷ Turn 0 [] ∷ End 0 ∷ []
+
+is-module : IsModule world named
+is-module = record { on_shelf = refl; bytes = _; loads = record { tree = add; spells = add_spelled; answers = (record { runs = add_supported; valid = add_valid; late_is = refl }, refl) } }
+
+callable : IsCallable request
+callable = record { export = 97 ∷ 100 ∷ 100 ∷ []; exported = (0, _, refl, refl, refl); type = add_type; typed = refl; fitting = refl }
+
+pub all-happen : AllMayHappen world opened events
+unfolding exec
+all-happen = (
+  (refl, λ i e. refl),
+  (
+    (refl, λ i e. refl),
+    (
+      (refl, elim [ Ticket ↦ λ h. record { number = 0; holds = refl; out = refl } | Memory ↦ λ h. absurd (true≢false (sym h)) | Table ↦ λ h. absurd (true≢false (sym h)) ], is-module, callable),
+      (
+        (_, refl, record { fuel = omega arith; unfinished = refl; next = refl }, λ h. absurd (true≢false (sym h))),
+        (
+          (_, refl, record { fuel = omega arith; unfinished = refl; next = refl }, λ h. absurd (true≢false (sym h))),
+          (
+            (_, refl, record { fuel = omega arith; unfinished = refl; next = refl }, λ h. absurd (true≢false (sym h))),
+            ((_, refl, λ can. let never = can.unfinished in absurd (cc)), tt),
+          ),
+        ),
+      ),
+    ),
+  ),
+)
+
+pub is-opening : IsOpening world opened
+is-opening = opens
+
+-- and it is answered with the sum
+pub answered : answer world (record { request = request; begun = Rattle.wasm_spec.specs.Store.fresh_store add; turns = 3 }) ≡ Some (outcome.Done (Some (I32 5)))
+unfolding exec
+answered = refl

@@ -1,0 +1,367 @@
+-- What a host does for a call is turns of it.
+use Rattle.wasm_types.specs.declared.limits.RunLimits.{RunLimits}
+use Rattle.std.proofs.Common.{◌≡◌, ℕ, zero, suc, ◌+◌, ◌-◌, ◌<◌, ◌≤◌, Bool, true, false, cond, List, [], length, refl, sym, ap, ◌∙◌, subst, arith, true≢false, ◌⊎◌, inl, inr, eq-eqb}
+use Rattle.std.specs.Prelude.{Option, Some, None, is_some, replicate, slice_index}
+use Rattle.wasm_types.specs.declared.outcome.Outcome.{Outcome}
+use Rattle.wasm_types.specs.declared.outcome.Outcome.TheVariants as outcome
+use Rattle.wasm_types.specs.Tree.{ModuleTree}
+use Rattle.wasm_spec.specs.Store.{Store, fresh_store}
+use Rattle.wasm_spec.specs.Result.{CallResult, function_result, if_done_by, if_done, after_start}
+use Rattle.wasm_spec.specs.MoreFuel.{is_fuel, is_fuel_end, with_more}
+use Rattle.wasm_spec.specs.Instances.{IsInstance}
+use Rattle.wasm_spec.proofs.ResultLaws.{result-spends, function-spends, function-keeps, instance-kept, fresh-instance}
+use Rattle.wasm_spec.proofs.MoreFuel.{result-more, function-more}
+use Rattle.wasm_types.specs.declared.outcome.Val.{Val}
+use Rattle.pool_worlds.specs.Contents.{Kind, Memory, MemoryContents, Contents, needs, filled, shown, turned, Marks, is_marked}
+use Rattle.pool_worlds.specs.PoolMachine.{World, Request, Running, Machine, Turn, slot_of, slots_of, result, store_or, store_after, outcome_of, IsFuelEnd, CanTurn, after_turn, after, after_all, AllMayHappen, MayHappen, run_limits}
+use Rattle.pool_worlds.specs.FreshMachine.{FreshCall, FreshMachine}
+use Rattle.pool_worlds.specs.Runs.{Leaves, RunsFunction, GoesOn, StartsAndGoesOn, HostRunsBy, AreItsTurns}
+use Rattle.pool_worlds.specs.Worlds.{RunsAreTurns, PreparingTwiceIsOnce}
+use Rattle.pool_worlds.proofs.Parts.{fits, turned-still, turned-twice, prepared-twice}
+use Rattle.pool_worlds.proofs.Steps.{IsSound, Good, found, own-slots, next-is, instance-at}
+use Rattle.pool_worlds.proofs.Shadows.{good-at}
+
+abbrev outcome_or : Outcome → Option CallResult → Outcome
+outcome_or other None = other
+outcome_or other (Some r) = r.outcome
+
+abbrev fuel_or : ℕ → Option CallResult → ℕ
+fuel_or other None = other
+fuel_or other (Some r) = r.fuel
+
+-- ---- how many turns
+
+out_of_fuel : (o : Option CallResult) → is_fuel_end o ≡ true → IsFuelEnd o
+out_of_fuel None h = absurd (true≢false (sym h))
+out_of_fuel (Some r) h = ap (λ (o : Outcome). Some o) (fuel_is r.outcome h) where
+  fuel_is : (o : Outcome) → is_fuel o ≡ true → o ≡ outcome.Fuel
+  fuel_is outcome.Fuel h = refl
+  fuel_is (outcome.Done v) h = absurd (true≢false (sym h))
+  fuel_is (outcome.Trap t) h = absurd (true≢false (sym h))
+
+fuel_of : Option Outcome → Bool
+fuel_of None = false
+fuel_of (Some o) = is_fuel o
+
+is_end : (o : Option CallResult) → IsFuelEnd o → is_fuel_end o ≡ true
+unfolding fuel_of
+is_end None h = absurd (cc)
+is_end (Some r) h = ap fuel_of h
+
+pub some_of : (o : Option CallResult) → is_some o ≡ true → (x : CallResult) × (o ≡ Some x)
+some_of None h = absurd (true≢false (sym h))
+some_of (Some x) h = (x, refl)
+
+some_end : (o : Option CallResult) → is_fuel_end o ≡ true → is_some o ≡ true
+some_end None h = h
+some_end (Some r) h = refl
+
+-- it ends for want of fuel at each number below count, and there it does not, or count is the bound
+record Lasts (w : World) (r : Running) (bound : ℕ) : Type 0 where
+  pub count : ℕ
+  pub within : count ≤ bound
+  pub before : (j : ℕ) → j < count → is_fuel_end (result w r j) ≡ true
+  pub ends : (count ≡ bound) ⊎ (is_fuel_end (result w r count) ≡ false)
+
+lasts : (w : World) (r : Running) (bound : ℕ) → Lasts w r bound
+lasts w r zero = record { count = 0; within = omega arith; before = λ j lt. absurd (omega arith); ends = inl refl }
+lasts w r (suc bound) = let l = lasts w r bound in
+    let longer : (b : Bool) → is_fuel_end (result w r bound) ≡ b → l.count ≡ bound → Lasts w r (suc bound) = elim [
+      | true ↦ λ e is. record {
+        count = suc bound;
+        within = omega arith;
+        ends = inl refl;
+        before = λ j lt. elim (split j bound lt) [
+          | inl below ↦ l.before j (omega arith)
+          | inr same ↦ ap (λ (n : ℕ). is_fuel_end (result w r n)) same ∙ e
+        ];
+      }
+      | false ↦ λ e is. record { count = bound; within = omega arith; ends = inr e; before = λ j lt. l.before j (omega arith) }
+    ] in elim l.ends [
+      | inl is ↦ longer (is_fuel_end (result w r bound)) refl is
+      | inr e ↦ record { count = l.count; within = (let le = l.within in omega arith); before = l.before; ends = inr e }
+    ] where
+      split : (j n : ℕ) → j < suc n → (j < n) ⊎ (j ≡ n)
+      split j n lt = grind arith
+
+-- so it comes to the same there as on all its fuel
+at_all : (w : World) (r : Running) (l : Lasts w r r.request.fuel) → (l.count ≡ r.request.fuel) ⊎ (result w r r.request.fuel ≡ with_more (r.request.fuel - l.count) (result w r l.count))
+at_all w r l = let q : Request = r.request in elim l.ends [
+  | inl is ↦ inl is
+  | inr e ↦ inr (let le = l.within in let sum : q.fuel ≡ l.count + (q.fuel - l.count) = omega arith in
+      ap (result w r) sum ∙ result-more (q.fuel - l.count) q.named.tree (run_limits w.limits) q.function q.arguments r.begun l.count e)
+]
+
+with_more-some : (d : ℕ) (o : Option CallResult) → is_some (with_more d o) ≡ true → is_some o ≡ true
+with_more-some d None h = h
+with_more-some d (Some r) h = refl
+
+with_more-store : (d : ℕ) (s : Store) (o : Option CallResult) → store_or s (with_more d o) ≡ store_or s o
+with_more-store d s None = refl
+with_more-store d s (Some r) = refl
+
+module _ (w : World) (r : Running) (given : is_some (result w r r.request.fuel) ≡ true) where
+  all-given : (l : Lasts w r r.request.fuel) (j : ℕ) → j ≤ l.count → is_some (result w r j) ≡ true
+  all-given l j le = elim (split j l.count le) [
+    | inl below ↦ some_end (result w r j) (l.before j below)
+    | inr same ↦ elim (at_all w r l) [
+      | inl is ↦ ap (λ (n : ℕ). is_some (result w r n)) (same ∙ is) ∙ given
+      | inr e ↦ ap (λ (n : ℕ). is_some (result w r n)) same ∙ with_more-some (r.request.fuel - l.count) (result w r l.count) (ap (λ (o : Option CallResult). is_some o) (sym e) ∙ given)
+    ]
+  ] where
+    split : (j n : ℕ) → j ≤ n → (j < n) ⊎ (j ≡ n)
+    split j n le = grind arith
+
+  last-store : (l : Lasts w r r.request.fuel) → store_after w r l.count ≡ store_after w r r.request.fuel
+  last-store l = elim (at_all w r l) [
+    | inl is ↦ ap (store_after w r) is
+    | inr e ↦ sym (with_more-store (r.request.fuel - l.count) r.begun (result w r l.count)) ∙ ap (store_or r.begun) (sym e)
+  ]
+
+-- the call after so many turns
+abbrev at_turn : Running → ℕ → Running
+at_turn r t = record r { turns = t }
+
+can-turn : (w : World) (r : Running) (l : Lasts w r r.request.fuel) → is_some (result w r r.request.fuel) ≡ true → (t : ℕ) → t < l.count → CanTurn w (at_turn r t)
+can-turn w r l given t lt = record {
+  fuel = let le = l.within in omega arith;
+  unfinished = out_of_fuel (result w r t) (l.before t lt);
+  next = all-given w r given l (t + 1) (omega arith);
+}
+
+cannot-turn : (w : World) (r : Running) (l : Lasts w r r.request.fuel) (t : ℕ) → t ≡ l.count → CanTurn w (at_turn r t) → ⊥
+cannot-turn w r l t is can = let lt = can.fuel in elim l.ends [
+  | inl all ↦ absurd (omega arith)
+  | inr e ↦ true≢false (sym (is_end (result w r t) can.unfinished) ∙ ap (λ (n : ℕ). is_fuel_end (result w r n)) is ∙ e)
+]
+
+-- ---- one turn after another
+
+module _ (w : World) (i : ℕ) (r : Running) (marks : List Bool) (base : (k : Kind) → Contents k) where
+  -- the machine after t turns, one or more
+  record At (p : Machine) (t : ℕ) : Type 0 where
+    pub calls : p.calls i ≡ Some (at_turn r t)
+    pub contents : (k : Kind) → needs k r.request.named.tree ≡ true → slots_of w p i k ≡ turned w.limits.pages (store_after w r t) marks k (base k)
+
+  after-is : (p : Machine) (t : ℕ) → p.calls i ≡ Some (at_turn r t) → after_turn w p i marks (Some (at_turn r t)) ≡ after w p (Turn i marks)
+  after-is p t e = ap (after_turn w p i marks) (sym e)
+
+  turned-at : (p : Machine) (t : ℕ) → p.calls i ≡ Some (at_turn r t)
+      → ((k : Kind) → needs k r.request.named.tree ≡ true → turned w.limits.pages (store_after w r (t + 1)) marks k (slots_of w p i k) ≡ turned w.limits.pages (store_after w r (t + 1)) marks k (base k))
+      → At (after w p (Turn i marks)) (t + 1)
+  turned-at p t e same = subst (λ (q : Machine). At q (t + 1)) (after-is p t e) (record {
+    calls = ap (λ (b : Bool). cond b (Some (at_turn r (t + 1))) (p.calls i)) (eq-eqb i i refl);
+    contents = λ k need. own-slots w p i r.request.named.tree (turned w.limits.pages (store_after w r (t + 1)) marks) k need ∙ same k need;
+  })
+
+record Turns (w : World) (p : Machine) (i : ℕ) (r : Running) (marks : List Bool) (base : (k : Kind) → Contents k) (n t : ℕ) : Type 0 where
+  pub happen : AllMayHappen w p (replicate n (Turn i marks))
+  pub at : At w i r marks base (after_all w p (replicate n (Turn i marks))) t
+
+module _ (w : World) (i : ℕ) (r : Running) (marks : List Bool) (base : (k : Kind) → Contents k) (given : is_some (result w r r.request.fuel) ≡ true) (l : Lasts w r r.request.fuel)
+    (globals : (s t : ℕ) → length (store_after w r s).globals ≡ length (store_after w r t).globals)
+    (each : needs Memory r.request.named.tree ≡ true → (t : ℕ) (x : CallResult) → t ≤ r.request.fuel → result w r t ≡ Some x → Marks (base Memory).bytes (filled w.limits.pages x.store.memory) (base Memory).marks marks) where
+  marked : needs Memory r.request.named.tree ≡ true → (t : ℕ) → t ≤ l.count → Marks (base Memory).bytes (filled w.limits.pages (store_after w r t).memory) (base Memory).marks marks
+  marked need t le = let o = some_of (result w r t) (all-given w r given l t le) in let bound = l.within in
+      subst (λ (s : Store). Marks (base Memory).bytes (filled w.limits.pages s.memory) (base Memory).marks marks) (sym (ap (store_or r.begun) o.1)) (each need t o.0 (omega arith) o.1)
+
+  one-turn : (p : Machine) (t : ℕ) → At w i r marks base p t → t < l.count → MayHappen w p (Turn i marks) × At w i r marks base (after w p (Turn i marks)) (t + 1)
+  one-turn p t at lt = (
+    (
+      at_turn r t,
+      at.calls,
+      can-turn w r l given t lt,
+      λ need. let le = l.within in
+          let x : MemoryContents = slots_of w p i Memory in
+          let is : x ≡ turned w.limits.pages (store_after w r t) marks Memory (base Memory) = at.contents Memory need in
+          let now = marked need t (omega arith) in let next = marked need (t + 1) (omega arith) in record {
+            changed = λ j h. next.changed j h ∙ sym (now.changed j h) ∙ ap (λ (y : MemoryContents). slice_index y.bytes j) (sym is);
+            kept = λ j h. ap (λ (y : MemoryContents). is_marked y.marks j) is ∙ h;
+          },
+    ),
+    turned-at w i r marks base p t at.calls (λ k need. ap (turned w.limits.pages (store_after w r (t + 1)) marks k) (at.contents k need)
+        ∙ turned-twice w.limits.pages (store_after w r t) (store_after w r (t + 1)) marks marks k (base k) (globals t (t + 1))),
+  )
+
+  more-turns : (n t : ℕ) (p : Machine) → At w i r marks base p t → t + n ≤ l.count → Turns w p i r marks base n (t + n)
+  more-turns zero t p at le = record { happen = tt; at = subst (At w i r marks base p) (omega arith) at }
+  more-turns (suc n) t p at le = let one = one-turn p t at (omega arith) in
+      let rest = more-turns n (t + 1) (after w p (Turn i marks)) one.1 (omega arith) in
+      let sum : t + 1 + n ≡ t + suc n = omega arith in
+      record { happen = (one.0, rest.happen); at = subst (At w i r marks base (after_all w p (replicate (suc n) (Turn i marks)))) sum rest.at }
+
+  -- the first turn is from the contents that the call began with
+  first-turn : (p : Machine) → p.calls i ≡ Some (at_turn r 0) → ((k : Kind) → slots_of w p i k ≡ base k) → 0 < l.count → MayHappen w p (Turn i marks) × At w i r marks base (after w p (Turn i marks)) 1
+  first-turn p e begins lt = (
+    (
+      at_turn r 0,
+      e,
+      can-turn w r l given 0 lt,
+      λ need. let le = l.within in
+          let is : slots_of w p i Memory ≡ base Memory = begins Memory in
+          let first = marked need 1 (omega arith) in record {
+            changed = λ j h. first.changed j h ∙ ap (λ (y : MemoryContents). slice_index y.bytes j) (sym is);
+            kept = λ j h. ap (λ (y : MemoryContents). is_marked y.marks j) is ∙ first.kept j h;
+          },
+    ),
+    turned-at w i r marks base p 0 e (λ k need. ap (turned w.limits.pages (store_after w r 1) marks k) (begins k)),
+  )
+
+-- ---- the whole run
+
+-- a reached machine's call that has just begun
+record Begun (w : World) (p : Machine) (i : ℕ) (r : Running) : Type 0 where
+  pub f : FreshMachine
+  pub good : Good w p f
+  pub fresh : FreshCall
+  pub sound : IsSound w p i r fresh
+
+globals-are : (w : World) (p : Machine) (i : ℕ) (r : Running) (c : FreshCall) → IsSound w p i r c → (t : ℕ) → length (store_after w r t).globals ≡ length r.request.named.tree.globals
+globals-are w p i r c s t = ap (λ (x : Store). length x.globals) (next-is w r s.begun_is t) ∙ (instance-at w r.request s.is_module t).globals_are
+
+spent-none : (w : World) (c : Running) (r : CallResult) (l : Lasts w c c.request.fuel) → l.count ≡ 0 → result w c c.request.fuel ≡ Some r → r.fuel ≡ c.request.fuel
+spent-none w c r l none gives = let q : Request = c.request in
+    let le = result-spends q.named.tree (run_limits w.limits) q.function q.arguments c.begun q.fuel r gives in
+    elim (at_all w c l) [
+      | inl is ↦ omega arith
+      | inr e ↦ at_least (q.fuel - l.count) (result w c l.count) r (omega arith) le (sym e ∙ gives)
+    ] where
+      at_least : (d : ℕ) (o : Option CallResult) (r : CallResult) → d ≡ c.request.fuel → r.fuel ≤ c.request.fuel → with_more d o ≡ Some r → r.fuel ≡ c.request.fuel
+      at_least d None r is le e = absurd (cc)
+      at_least d (Some x) r is le e = let sum : x.fuel + d ≡ r.fuel = ap (fuel_or 0) e in omega arith
+
+runs-are : (w : World) (p : Machine) (i : ℕ) (c : Running) (new : (k : Kind) → Contents k) (marks : List Bool) (r : CallResult) → Begun w p i c → p.calls i ≡ Some c → c.turns ≡ 0
+    → Leaves w.limits.pages c.request.named.tree (result w c) c.request.fuel (slots_of w p i) new marks r → (l : Lasts w c c.request.fuel) (n : ℕ) → n ≡ l.count → AreItsTurns w p i c new marks
+runs-are w p i c new marks r b e none run l zero is = let s = b.sound in
+    let given : is_some (result w c c.request.fuel) ≡ true = ap is_some run.gives in
+    let final : store_after w c c.request.fuel ≡ r.store = ap (store_or c.begun) run.gives in
+    let stuck : CanTurn w c → ⊥ = cannot-turn w c l c.turns (none ∙ is) in
+    let begins : r.store ≡ shown c.request.named.tree (slots_of w p i) =
+    sym final ∙ sym (last-store w c given l) ∙ ap (store_after w c) (sym is ∙ sym none) ∙ next-is w c s.begun_is c.turns ∙ sym s.store in record {
+      count = 0;
+      happen = tt;
+      ends = (c, e, stuck);
+      contents = λ k need. sym (run.left k need ∙ turned-still w c.request.named.tree r.store marks (slots_of w p i) (sym begins)
+          (λ k. b.good.kept k (slot_of w p i k)) (ap (λ (x : Store). length x.globals) (sym final) ∙ globals-are w p i c b.fresh s c.request.fuel) s.past (λ need. run.still need (spent-none w c r l (sym is) run.gives)) k need);
+    }
+runs-are w p i c new marks r b e none run l (suc n) is = let s = b.sound in
+    let given : is_some (result w c c.request.fuel) ≡ true = ap is_some run.gives in
+    let final : store_after w c c.request.fuel ≡ r.store = ap (store_or c.begun) run.gives in
+    let same : c ≡ at_turn c 0 = λ k. record { request = c.request; begun = c.begun; turns = none k } in
+    let globals : (a d : ℕ) → length (store_after w c a).globals ≡ length (store_after w c d).globals = λ a d. globals-are w p i c b.fresh s a ∙ sym (globals-are w p i c b.fresh s d) in
+    let first = first-turn w i c marks (slots_of w p i) given l globals run.marked p (e ∙ ap (λ (x : Running). Some x) same) (λ k. refl) (omega arith) in
+    let rest = more-turns w i c marks (slots_of w p i) given l globals run.marked n 1 (after w p (Turn i marks)) first.1 (omega arith) in record {
+      count = suc n;
+      happen = (first.0, rest.happen);
+      ends = (at_turn c (1 + n), rest.at.calls, cannot-turn w c l (1 + n) (omega arith));
+      contents = λ k need. rest.at.contents k need
+          ∙ ap (λ (t : ℕ). turned w.limits.pages (store_after w c t) marks k (slots_of w p i k)) (omega arith)
+          ∙ ap (λ (x : Store). turned w.limits.pages x marks k (slots_of w p i k)) (last-store w c given l ∙ final) ∙ sym (run.left k need);
+    }
+
+-- ---- the start function's run and the export's
+
+marks-more : (old mid new : List ℕ) (before between after : List Bool) → Marks old mid before between → Marks mid new between after → Marks old new before after
+marks-more old mid new before between after a b = record { changed = λ i h. b.changed i h ∙ a.changed i (b.kept i h); kept = λ i h. a.kept i (b.kept i h) }
+
+module _ (pages : ℕ) (m : ModuleTree) (limits : RunLimits) (x : ℕ) (arguments : List Val) (store : Store) (fuel : ℕ) (old new : (k : Kind) → Contents k) (marks : List Bool) (r : CallResult)
+    (wide : (s : Store) (g : ℕ) (y : ℕ) (args : List Val) (r : CallResult) → IsInstance m pages (fresh_store m).table s → function_result m limits y args s g ≡ Some r → IsInstance m pages (fresh_store m).table r.store)
+    (begins : IsInstance m pages (fresh_store m).table store) where
+  abbrev next : Store → ℕ → Option CallResult
+  next = function_result m limits x arguments
+
+  abbrev whole : ℕ → ℕ → Option CallResult
+  whole y j = if_done (function_result m limits y [] store j) next
+
+  -- while the start function runs, the whole comes to what it does
+  runs-on : (o : Option CallResult) → is_fuel_end o ≡ true → if_done o next ≡ o
+  runs-on None h = refl
+  runs-on (Some f) h = by f.outcome f h refl where
+    by : (o : Outcome) (f : CallResult) → is_fuel o ≡ true → o ≡ f.outcome → if_done_by o f next ≡ Some f
+    by outcome.Fuel f h is = refl
+    by (outcome.Done v) f h is = absurd (true≢false (sym h))
+    by (outcome.Trap t) f h is = absurd (true≢false (sym h))
+
+  module _ (y : ℕ) (run : StartsAndGoesOn pages m limits y x arguments store fuel old new marks r) where
+    abbrev first : CallResult
+    first = run.first
+
+    first-instance : IsInstance m pages (fresh_store m).table first.store
+    first-instance = wide store fuel y [] first begins run.starts.gives
+
+    mid-is : needs Memory m ≡ true → run.mid Memory ≡ turned pages first.store run.mid_marks Memory (old Memory)
+    mid-is need = run.starts.left Memory need
+
+    -- the start function that has ended by the turn j ended there as it ends on all the fuel
+    ended-as : (j : ℕ) → j ≤ fuel → is_fuel_end (function_result m limits y [] store j) ≡ false → (b : CallResult) × (function_result m limits y [] store j ≡ Some b) × (b.outcome ≡ first.outcome) × (b.store ≡ first.store) × (b.fuel ≤ first.fuel)
+    ended-as j le e = by (fuel - j) (function_result m limits y [] store j) refl (sym (function-more (fuel - j) m limits y [] store j e) ∙ ap (function_result m limits y [] store) (let sum : j + (fuel - j) ≡ fuel = omega arith in sum) ∙ run.starts.gives) where
+      by : (d : ℕ) (o : Option CallResult) → o ≡ function_result m limits y [] store j → with_more d o ≡ Some first
+          → (b : CallResult) × (function_result m limits y [] store j ≡ Some b) × (b.outcome ≡ first.outcome) × (b.store ≡ first.store) × (b.fuel ≤ first.fuel)
+      by d None is e = absurd (cc)
+      by d (Some b) is e = (b, sym is, ap (λ (q : Option CallResult). outcome_or b.outcome q) e, ap (store_or b.store) e, let sum : b.fuel + d ≡ first.fuel = ap (fuel_or 0) e in omega arith)
+
+    -- the marks of the whole are those of the start function and maybe more
+    after-first : (kept : needs Memory m ≡ true → (i : ℕ) → is_marked marks i ≡ false → is_marked run.mid_marks i ≡ false) → needs Memory m ≡ true → (j : ℕ) (z : CallResult) → j ≤ fuel → function_result m limits y [] store j ≡ Some z
+        → Marks (old Memory).bytes (filled pages z.store.memory) (old Memory).marks marks
+    after-first kept need j z le e = let one = run.starts.marked need j z le e in record { changed = λ i h. one.changed i (kept need i h); kept = λ i h. one.kept i (kept need i h) }
+
+    whole-done : (v : Option Val) → outcome.Done v ≡ first.outcome → RunsFunction pages m limits x arguments first.store first.fuel run.mid new marks r → Leaves pages m (whole y) fuel old new marks r
+    whole-done v is second =
+        let last : IsInstance m pages (fresh_store m).table r.store = wide first.store first.fuel x arguments r first-instance second.gives in
+        let one = function-spends m limits y [] store fuel first run.starts.gives in
+        let two = function-spends m limits x arguments first.store first.fuel r second.gives in
+        let kept : needs Memory m ≡ true → (i : ℕ) → is_marked marks i ≡ false → is_marked run.mid_marks i ≡ false = λ need i h.
+        ap (λ (c : MemoryContents). is_marked c.marks i) (sym (mid-is need)) ∙ (second.marked need first.fuel r (omega arith) second.gives).kept i h in record {
+          gives = ap (λ (o : Option CallResult). if_done o next) run.starts.gives ∙ ap (λ (o : Outcome). if_done_by o first next) (sym is) ∙ second.gives;
+          left = λ k need. second.left k need ∙ ap (turned pages r.store marks k) (run.starts.left k need)
+              ∙ turned-twice pages first.store r.store run.mid_marks marks k (old k) (first-instance.globals_are ∙ sym last.globals_are);
+          marked = λ need j z le e.
+              let split : (b : Bool) → is_fuel_end (function_result m limits y [] store j) ≡ b → Marks (old Memory).bytes (filled pages z.store.memory) (old Memory).marks marks = elim [
+                | true ↦ λ h. after-first kept need j z le (sym (runs-on (function_result m limits y [] store j) h) ∙ e)
+                | false ↦ λ h. let b = ended-as j le h in
+                    let there : next first.store (b.0).fuel ≡ Some z = ap (λ (s : Store). next s (b.0).fuel) (sym b.3) ∙ ap (λ (o : Outcome). if_done_by o b.0 next) (is ∙ sym b.2) ∙ ap (λ (o : Option CallResult). if_done o next) (sym b.1) ∙ e in
+                    marks-more (old Memory).bytes (run.mid Memory).bytes (filled pages z.store.memory) (old Memory).marks (run.mid Memory).marks marks
+                    (subst (λ (c : MemoryContents). Marks (old Memory).bytes c.bytes (old Memory).marks c.marks) (sym (mid-is need)) (run.starts.marked need fuel first (omega arith) run.starts.gives))
+                    (second.marked need (b.0).fuel z b.4 there)
+              ] in split (is_fuel_end (function_result m limits y [] store j)) refl;
+          still = λ need e. second.still need (omega arith) ∙ ap (λ (c : MemoryContents). c.marks) (mid-is need) ∙ run.starts.still need (omega arith);
+        }
+
+    whole-stopped : ((f : CallResult) → f.outcome ≡ first.outcome → if_done_by f.outcome f next ≡ Some f) → (r ≡ first) × (marks ≡ run.mid_marks) × ((k : Kind) → needs k m ≡ true → new k ≡ run.mid k) → Leaves pages m (whole y) fuel old new marks r
+    whole-stopped stops same =
+        let kept : needs Memory m ≡ true → (i : ℕ) → is_marked marks i ≡ false → is_marked run.mid_marks i ≡ false = λ need i h. ap (λ (l : List Bool). is_marked l i) (sym same.1) ∙ h in record {
+          gives = ap (λ (o : Option CallResult). if_done o next) run.starts.gives ∙ stops first refl ∙ ap (λ (a : CallResult). Some a) (sym same.0);
+          left = λ k need. same.2 k need ∙ run.starts.left k need ∙ (λ i. turned pages ((sym same.0) i).store ((sym same.1) i) k (old k));
+          marked = λ need j z le e.
+              let split : (b : Bool) → is_fuel_end (function_result m limits y [] store j) ≡ b → Marks (old Memory).bytes (filled pages z.store.memory) (old Memory).marks marks = elim [
+                | true ↦ λ h. after-first kept need j z le (sym (runs-on (function_result m limits y [] store j) h) ∙ e)
+                | false ↦ λ h. let b = ended-as j le h in
+                    let there : ◌≡◌ {A = Option CallResult} (Some b.0) (Some z) = sym (stops b.0 b.2) ∙ ap (λ (o : Option CallResult). if_done o next) (sym b.1) ∙ e in
+                    let store_is : first.store ≡ z.store = sym b.3 ∙ ap (store_or (b.0).store) there in
+                    subst (λ (s : Store). Marks (old Memory).bytes (filled pages s.memory) (old Memory).marks marks) store_is (after-first kept need fuel first (omega arith) run.starts.gives)
+              ] in split (is_fuel_end (function_result m limits y [] store j)) refl;
+          still = λ need e. same.1 ∙ run.starts.still need (ap (λ (a : CallResult). a.fuel) (sym same.0) ∙ e);
+        }
+
+    whole-by : (o : Outcome) → o ≡ first.outcome → GoesOn pages m limits x arguments o first run.mid new run.mid_marks marks r → Leaves pages m (whole y) fuel old new marks r
+    whole-by (outcome.Done v) is second = whole-done v is second
+    whole-by (outcome.Trap t) is same = whole-stopped (λ f e. ap (λ (o : Outcome). if_done_by o f next) (e ∙ sym is)) same
+    whole-by outcome.Fuel is same = whole-stopped (λ f e. ap (λ (o : Outcome). if_done_by o f next) (e ∙ sym is)) same
+
+  whole-is : (start : Option ℕ) → HostRunsBy pages m limits start x arguments store fuel old new marks r → Leaves pages m (after_start m limits start (function_result m limits x arguments) store) fuel old new marks r
+  whole-is None run = run
+  whole-is (Some y) run = whole-by y run run.first.outcome refl run.goes_on
+
+pub runs-are-turns : RunsAreTurns
+runs-are-turns w p i c new marks r calls none runs = let g = good-at w p calls.reached in let x = found w p i (p.calls i) (g.0 i) c (g.1.calls i) calls.calls in
+    let q : Request = c.request in let m : ModuleTree = q.named.tree in let s = x.2 in let f = fits w q.named s.is_module in
+    let limits : RunLimits = run_limits w.limits in
+    let wide : (s : Store) (g : ℕ) (y : ℕ) (args : List Val) (r : CallResult) → IsInstance m w.limits.pages (fresh_store m).table s → function_result m limits y args s g ≡ Some r → IsInstance m w.limits.pages (fresh_store m).table r.store =
+    λ s g y args r is e. function-keeps m limits (IsInstance m w.limits.pages (fresh_store m).table) (instance-kept m limits (fresh_store m).table) y args s g r is e in
+    let begins : IsInstance m w.limits.pages (fresh_store m).table c.begun = subst (IsInstance m w.limits.pages (fresh_store m).table) (sym s.begun_is) (fresh-instance m f.misfit w.limits.pages f.size) in
+    let run = whole-is w.limits.pages m limits q.function q.arguments c.begun q.fuel (slots_of w p i) new marks r wide begins m.start runs in
+    let l = lasts w c q.fuel in
+    (runs-are w p i c new marks r (record { f = g.0; good = g.1; fresh = x.0; sound = s }) calls.calls none run l l.count refl, ap outcome_of run.gives)
+
+pub preparing-twice : PreparingTwiceIsOnce
+preparing-twice w p m k n e is = prepared-twice w m is k (p.contents k n) ((good-at w p e).1.kept k n)

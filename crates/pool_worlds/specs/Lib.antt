@@ -1,0 +1,5 @@
+pub mod Contents
+pub mod PoolMachine
+pub mod FreshMachine
+pub mod Runs
+pub mod Worlds

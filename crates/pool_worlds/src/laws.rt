@@ -1,0 +1,23 @@
+//! What holds of every pool in use. Each function does nothing: its contract is the law.
+ghost use Rattle.pool_worlds.specs.Worlds.{AlwaysShadow, TwoWorldsAgree, AnswersAgree, RunsAreTurns, PreparingTwiceIsOnce};
+
+/// Whatever events came since the opening, each running call has the store of a fresh instance after as many turns, with nothing past the memory's size, and will be answered as that is.
+pub fn shadow()
+    ensures { AlwaysShadow }
+{}
+
+/// In any two worlds with the same limits, two calls of one request agree after as many turns on memory, size, table and globals, and on their answers. Modules' numbers, the slots and all other callers may differ.
+pub fn two_worlds()
+    ensures turns { TwoWorldsAgree }
+    ensures answers { AnswersAgree }
+{}
+
+/// A run of the machine on all of a call's fuel, as its contract says it, is turns of the call, after which it ends.
+pub fn runs_are_turns()
+    ensures { RunsAreTurns }
+{}
+
+/// To prepare what is prepared for the same module already changes nothing.
+pub fn preparing_twice_is_once()
+    ensures { PreparingTwiceIsOnce }
+{}

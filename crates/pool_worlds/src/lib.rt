@@ -1,0 +1,4 @@
+//! What callers can see of a slot pool.
+#![tactic(auto)]
+
+pub mod laws;
