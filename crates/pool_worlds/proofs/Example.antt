@@ -4,15 +4,15 @@ use Rattle.std.specs.Prelude.{Some, None}
 use Rattle.wasm_types.specs.declared.outcome.Val.TheVariants.{I32}
 use Rattle.wasm_types.specs.declared.outcome.Outcome.TheVariants as outcome
 use Rattle.wasm_spec.specs.Execution.{exec}
-use Rattle.wasm_spec.proofs.TypingExamples.{add, add_type, add_valid, add_supported}
-use Rattle.wasm_spec.proofs.GrammarExamples.{add_spelled}
+use Rattle.wasm_spec.specs.Store.{fresh_store}
 use Rattle.pool_core.specs.declared.events.Event.TheVariants.{Claim, Out}
 use Rattle.pool_core.specs.PoolCore.{opening_core}
 use Rattle.pool_worlds.specs.Contents.{Named, Kind, Ticket, Memory, Table, Contents, memory_image, needs}
+use Rattle.pool_worlds.proofs.SmallModule.{small, small_bytes, small_loads, unit_type}
 use Rattle.pool_worlds.specs.PoolMachine.{World, Request, Machine, WorldEvent, Step, Begin, Turn, End, IsModule, IsCallable, AllMayHappen, answer, IsOpening}
 
 abbrev named : Named
-named = record { number = 0; tag = 0; tree = add }
+named = record { number = 0; tag = 0; tree = small }
 
 abbrev world : World
 world = record { limits = record { pages = 1; elements = 0; frame = 8; depth = 4 }; shelf = λ n. named; seats = λ k i. i; apart = λ k i j e. e }
@@ -40,16 +40,16 @@ opens = record {
   cold-is Table = (refl, refl)
 
 abbrev request : Request
-request = record { named = named; function = 0; arguments = I32 2 ∷ I32 3 ∷ []; fuel = 100 }
+request = record { named = named; function = 0; arguments = []; fuel = 100 }
 
 abbrev events : List WorldEvent
-events = Step Ticket (Claim 0 0) ∷ Step Ticket (Out 0 0) ∷ Begin 0 request ∷ Turn 0 [] ∷ Turn 0 [] ∷ Turn 0 [] ∷ End 0 ∷ []
+events = Step Ticket (Claim 0 0) ∷ Step Ticket (Out 0 0) ∷ Begin 0 request ∷ Turn 0 [] ∷ End 0 ∷ []
 
 is-module : IsModule world named
-is-module = record { on_shelf = refl; bytes = _; loads = record { tree = add; spells = add_spelled; answers = (record { runs = add_supported; valid = add_valid; late_is = refl }, refl) } }
+is-module = record { on_shelf = refl; bytes = small_bytes; loads = small_loads }
 
 callable : IsCallable request
-callable = record { export = 97 ∷ 100 ∷ 100 ∷ []; exported = (0, _, refl, refl, refl); type = add_type; typed = refl; fitting = refl }
+callable = record { export = []; exported = record { place = 0; export = _; there = refl; named = refl; function = refl }; type = unit_type; typed = refl; fitting = refl }
 
 pub all-happen : AllMayHappen world opened events
 unfolding exec
@@ -61,13 +61,7 @@ all-happen = (
       (refl, elim [ Ticket ↦ λ h. record { number = 0; holds = refl; out = refl } | Memory ↦ λ h. absurd (true≢false (sym h)) | Table ↦ λ h. absurd (true≢false (sym h)) ], is-module, callable),
       (
         (_, refl, record { fuel = omega arith; unfinished = refl; next = refl }, λ h. absurd (true≢false (sym h))),
-        (
-          (_, refl, record { fuel = omega arith; unfinished = refl; next = refl }, λ h. absurd (true≢false (sym h))),
-          (
-            (_, refl, record { fuel = omega arith; unfinished = refl; next = refl }, λ h. absurd (true≢false (sym h))),
-            ((_, refl, λ can. let never = can.unfinished in absurd (cc)), tt),
-          ),
-        ),
+        ((_, refl, λ can. let never = can.unfinished in absurd (cc)), tt),
       ),
     ),
   ),
@@ -76,7 +70,7 @@ all-happen = (
 pub is-opening : IsOpening world opened
 is-opening = opens
 
--- and it is answered with the sum
-pub answered : answer world (record { request = request; begun = Rattle.wasm_spec.specs.Store.fresh_store add; turns = 3 }) ≡ Some (outcome.Done (Some (I32 5)))
+-- and it is answered that it is done
+pub answered : answer world (record { request = request; begun = fresh_store small; turns = 1 }) ≡ Some (outcome.Done None)
 unfolding exec
 answered = refl

@@ -181,7 +181,7 @@ pub record IsModule (w : World) (m : Named) : Type 0 where
 -- the module exports the function, whose parameters have the arguments' types
 pub record IsCallable (q : Request) : Type 0 where
   pub export : List ℕ
-  pub exported : Exports q.named.tree export q.function
+  pub exported : Exports q.named.tree.exports export q.function
   pub type : FuncType
   pub typed : function_type q.named.tree q.function ≡ Some type
   pub fitting : map type_of q.arguments ≡ type.params
