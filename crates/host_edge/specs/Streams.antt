@@ -1,13 +1,14 @@
 -- What the calls of a source and a sink promise beside the bytes.
-use Rattle.std.specs.Prelude.{ℕ, ◌≡◌, ◌+◌, ◌-◌, ◌^◌, ◌≤◌, ◌<◌, ◌⊎◌, min, List, length, Result, IfOk, OnErr, MatchResult}
+use Rattle.std.specs.Prelude.{ℕ, ◌≡◌, ◌+◌, ◌-◌, ◌^◌, ◌≤◌, ◌<◌, ◌⊎◌, min, List, length, Result, IfOk, OnErr, OnOk, MatchResult}
 
 -- a count of faults is greater than before, or stands at its last value
 abbrev pub Rose : ℕ → ℕ → Type 0
 Rose before now = (before < now) ⊎ (now ≡ 2 ^ 64 - 1)
 
--- the count has not fallen, and a fault is answered only where it rose
+-- the count has not fallen, a call that succeeds leaves it, and a fault is answered only where it rose
 pub record HasCause {T E : Type 0} (before now : ℕ) (result : Result T E) : Type 0 where
   pub later : before ≤ now
+  pub kept : OnOk result (now ≡ before)
   pub failed : OnErr result (Rose before now)
 
 -- at least one byte is taken of a piece that has one

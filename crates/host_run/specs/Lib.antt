@@ -1,6 +1,8 @@
+pub mod Answers
 pub mod Entries
-pub mod FileLimit
-pub mod Progress
+pub mod Lines
 pub mod Report
 pub mod Serving
+pub mod Status
 pub mod Streams
+pub mod Tenants

@@ -1,21 +1,23 @@
 -- The report on a request file: one line for each directive, in file order.
-use Rattle.std.specs.Prelude.{◌≡◌, ℕ, ◌+◌, List, [], ◌∷◌, ◌++◌, Some, Result, Ok, Err, slice_get, filter_map, Option, None}
+use Rattle.std.specs.Prelude.{◌≡◌, ℕ, ◌+◌, List, [], ◌∷◌, Some, Result, Ok, Err, slice_get}
 use Rattle.wasm_types.specs.declared.outcome.Val.{Val}
 use Rattle.wasm_types.specs.Tree.{ModuleTree}
 use Rattle.wasm_spec.specs.Loading as loading
 use Rattle.wasm_spec.specs.Loading.{LoadLimits, Refusal}
-use Rattle.wasm_spec.specs.Built.{LoadsBuilt}
 use Rattle.wasm_spec.specs.Execution.{RunLimits}
 use Rattle.pool_host.specs.declared.lane.LaneAnswer.{LaneAnswer}
 use Rattle.pool_host.specs.declared.lane.LaneAnswer.TheVariants as answer
 use Rattle.pool_host.specs.CallWords.{IsAnswer, Lane}
+use Rattle.pool_host.specs.LoadWords.{LoadsBuilt}
 use Rattle.request_text.specs.declared.request.Directive.{Directive}
 use Rattle.request_text.specs.declared.request.Directive.TheVariants.{Module, Call}
 use Rattle.request_text.specs.declared.report.ModuleLine.{ModuleLine}
 use Rattle.request_text.specs.declared.report.ModuleLine.TheVariants as module_line
 use Rattle.request_text.specs.declared.report.CallLine.{CallLine}
 use Rattle.request_text.specs.declared.report.CallLine.TheVariants as call_line
-use Rattle.request_text.specs.Lines as lines
+use Rattle.request_text.specs.declared.report.ReportLine.{ReportLine}
+use Rattle.request_text.specs.declared.report.ReportLine.TheVariants as report
+use Rattle.request_text.specs.Text.{modules_of}
 use Rattle.command_line.specs.declared.options.Options.{Options}
 
 -- what bounds a module and a call: nothing else of the options does
@@ -34,9 +36,10 @@ load_limits l = record { pages = l.pages; elements = l.elements; frame = l.frame
 abbrev pub run_limits : Limits → RunLimits
 run_limits l = record { pages = l.pages; depth = l.depth }
 
--- the lane on which the calls are made
-abbrev pub lane_of : Limits → Lane
-lane_of l = record { limits = run_limits l; frame = l.frame }
+-- a lane runs its calls under these limits
+pub record IsLaneOf (limits : Limits) (lane : Lane) : Type 0 where
+  pub run : lane.limits ≡ run_limits limits
+  pub frame : lane.frame ≡ limits.frame
 
 -- ---- the line of a module
 
@@ -75,25 +78,31 @@ pub record IsCallLine (limits : Limits) (bytes export : List ℕ) (fuel : ℕ) (
 
 -- ---- all lines
 
-abbrev pub module_of : Directive → Option (List ℕ)
-module_of (Module name bytes) = Some bytes
-module_of (Call place export fuel args) = None
+-- how the call of the module at this place among the module lines goes
+pub record GoesAs (limits : Limits) (modules : List (List ℕ)) (place : ℕ) (export : List ℕ) (fuel : ℕ) (args : List Val) (how : CallLine) : Type 0 where
+  pub bytes : List ℕ
+  pub there : slice_get modules place ≡ Some bytes
+  pub goes : IsCallLine limits bytes export fuel args how
 
--- the modules of a request file, in the order of their lines
-abbrev pub modules_of : List Directive → List (List ℕ)
-modules_of requests = filter_map module_of requests
+-- the line of a directive, which has this number if it is a call
+abbrev pub IsLine : Limits → (modules : List (List ℕ)) → (number : ℕ) → Directive → ReportLine → Type 0
+IsLine limits modules number (Module name bytes) line =
+    (how : ModuleLine) × IsModuleLine limits bytes how × (line ≡ report.Module name how)
+IsLine limits modules number (Call place export fuel args) line =
+    (how : CallLine) × GoesAs limits modules place export fuel args how × (line ≡ report.Call number how)
 
--- the lines of these directives, the first call among which has this number
-abbrev pub ReportsFrom : Limits → (modules : List (List ℕ)) → (number : ℕ) → List Directive → List ℕ → Type 0
-ReportsFrom limits modules number [] text = text ≡ []
-ReportsFrom limits modules number (Module name bytes ∷ requests) text =
-    (line : ModuleLine) × (rest : List ℕ) × IsModuleLine limits bytes line
-    × ReportsFrom limits modules number requests rest × (text ≡ lines.module_line name line ++ rest)
-ReportsFrom limits modules number (Call place export fuel args ∷ requests) text =
-    (bytes : List ℕ) × (line : CallLine) × (rest : List ℕ) × (slice_get modules place ≡ Some bytes)
-    × IsCallLine limits bytes export fuel args line
-    × ReportsFrom limits modules (number + 1) requests rest × (text ≡ lines.call_line number line ++ rest)
+-- the number of the first call after a directive
+abbrev pub next_number : ℕ → Directive → ℕ
+next_number number (Module name bytes) = number
+next_number number (Call place export fuel args) = number + 1
+
+-- the lines of these directives, one of each, the first call among which has this number
+abbrev pub AreLines : Limits → (modules : List (List ℕ)) → (number : ℕ) → List Directive → List ReportLine → Type 0
+AreLines limits modules number [] lines = lines ≡ []
+AreLines limits modules number (directive ∷ requests) [] = ⊥
+AreLines limits modules number (directive ∷ requests) (line ∷ lines) =
+    IsLine limits modules number directive line × AreLines limits modules (next_number number directive) requests lines
 
 -- the report on a request file that asks for this; calls are numbered from 1
-abbrev pub IsReport : Options → List Directive → List ℕ → Type 0
-IsReport options requests text = ReportsFrom (limits_of options) (modules_of requests) 1 requests text
+abbrev pub IsReport : Options → List Directive → List ReportLine → Type 0
+IsReport options requests lines = AreLines (limits_of options) (modules_of requests) 1 requests lines

@@ -5,7 +5,9 @@ use Rattle.std.specs.declared.option.Option.{Option}
 use Rattle.std.specs.Io.KnownBytes.{Appends}
 use Rattle.host_run.specs.Streams.{AppendsPart}
 use Rattle.host_run.specs.Report.{IsReport}
-use Rattle.request_text.specs.Lines.{refusal_line}
+use Rattle.request_text.specs.declared.request.Directive.{Directive}
+use Rattle.request_text.specs.declared.report.ReportLine.{ReportLine}
+use Rattle.request_text.specs.Lines.{refusal_line, report_text}
 use Rattle.request_text.specs.Text.{requests_of}
 use Rattle.command_line.specs.Words.{is_accepted, options_of}
 use Rattle.host_run.specs.declared.due.Due.{Due}
@@ -27,16 +29,23 @@ refused line = record { status = 2; text = line }
 abbrev pub refused_words : Answer
 refused_words = refused (codes "refused words\n")
 
+-- the answer is the text of a report, with status 0
+pub record IsReported (options : Options) (requests : List Directive) (answer : Answer) : Type 0 where
+  pub status : answer.status ≡ 0
+  pub lines : List ReportLine
+  pub report : IsReport options requests lines
+  pub text : answer.text ≡ report_text lines
+
 -- what a request file is answered: the report on what it asks for, or the line that tells why it is refused
-abbrev pub IsAnswer : Options → List ℕ → Answer → Type 0
-IsAnswer options bytes answer = MatchResult (requests_of bytes)
-    (λ requests. (answer.status ≡ 0) × IsReport options requests answer.text)
+abbrev pub IsFileAnswer : Options → List ℕ → Answer → Type 0
+IsFileAnswer options bytes answer = MatchResult (requests_of bytes)
+    (λ requests. IsReported options requests answer)
     (λ refusal. answer ≡ refused (refusal_line refusal))
 
 -- what is due for the words of the command line and all bytes of the source
 abbrev pub IsDue : List (List ℕ) → List ℕ → Answer → Type 0
 IsDue words bytes answer =
-    MatchBool (is_accepted words) (IsAnswer (options_of words) bytes answer) (answer ≡ refused_words)
+    MatchBool (is_accepted words) (IsFileAnswer (options_of words) bytes answer) (answer ≡ refused_words)
 
 abbrev pub shown : Due → Answer
 shown due = record { status = due.status; text = due.text.items }

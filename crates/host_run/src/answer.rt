@@ -1,18 +1,17 @@
 //! What a request file is answered.
 ghost use Rattle.std.specs.Prelude.{◌≡◌, ◌⊎◌, ◌<◌, IfOk, IsSomeAnd};
-ghost use Rattle.host_run.specs.Serving.{IsAnswer, refused, shown};
+ghost use Rattle.host_run.specs.Serving.{IsFileAnswer, refused, shown};
 ghost use Rattle.request_text.specs.Lines.{refusal_line};
-ghost use Rattle.request_text.specs.Text.{refusal_of};
+ghost use Rattle.request_text.specs.Text.{file_refusal_of};
 
 use crate::due::{Due, refusal};
-use crate::reporting::report;
+use crate::report::report;
+use crate::status::Status;
 use command_line::Options;
 use host_edge::Gate;
-use request_text::parser::parse;
-use request_text::report::write_text_fault;
-use request_text::request::ParseFault;
+use request_text::{ParseFault, parse, report_text, write_text_fault};
 use std::alloc::Global;
-use wasm_types::outcome::NoMemory;
+use wasm_types::NoMemory;
 
 // What a request file of these bytes is answered, once its calls are made.
 pub(crate) fn answer<G: Gate>(
@@ -22,13 +21,17 @@ pub(crate) fn answer<G: Gate>(
     gate: &G,
 ) -> Result<Due, NoMemory>
     requires { 0 < options.now.depth }
-    ensures answer { IfOk result (λ due. IsAnswer options.now bytes.now (shown due)) }
+    ensures answer { IfOk result (λ due. IsFileAnswer options.now bytes.now (shown due)) }
     ensures status { IfOk result (λ due. (due.status ≡ 0) ⊎ (due.status ≡ 2)) }
 {
     match parse(alloc, bytes) {
         Ok(requests) => {
-            let text = report(alloc, options, requests.as_slice(), gate)?;
-            Ok(Due { status: 0, text })
+            let lines = report(alloc, options, requests.as_slice(), gate)?;
+            let text = report_text(alloc, &lines)?;
+            Ok(Due {
+                status: Status::Reported.code(),
+                text,
+            })
         }
         Err(fault) => refused_file(alloc, fault),
     }
@@ -36,13 +39,16 @@ pub(crate) fn answer<G: Gate>(
 
 // What is due for a request file that is refused, unless the fault was want of memory.
 fn refused_file(alloc: Global, fault: ParseFault) -> Result<Due, NoMemory>
-    ensures { IfOk result (λ due. IsSomeAnd (refusal_of fault) (λ why. shown due ≡ refused (refusal_line why))) }
+    ensures { IfOk result (λ due. IsSomeAnd (file_refusal_of fault) (λ why. shown due ≡ refused (refusal_line why))) }
 {
     match fault {
         ParseFault::TextFault { line, reason } => {
             let mut text = Vec::new(alloc);
             write_text_fault(alloc, &mut text, line, reason)?;
-            Ok(Due { status: 2, text })
+            Ok(Due {
+                status: Status::Refused.code(),
+                text,
+            })
         }
         ParseFault::TooLong => refusal(alloc, b"file too long\n"),
         ParseFault::NoMemory => Err(NoMemory),

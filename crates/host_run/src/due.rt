@@ -1,18 +1,22 @@
 //! What a run owes: a status, and the text that is due before it.
-ghost use Rattle.std.specs.Prelude.{◌≡◌, ◌⊎◌, ◌+◌, ◌≤◌, ℕ, List, IfOk, IfSome, IsErrOf, false, length, true};
+ghost use Rattle.std.specs.Prelude.{◌≡◌, ◌⊎◌, ◌+◌, ◌≤◌, ℕ, List, IfOk, IfSome, IsErrOf, OnOk, false, length, true};
 ghost use Rattle.std.specs.Io.KnownBytes.{Consumes, IsAtEnd};
 ghost use Rattle.host_edge.specs.Streams.{Rose};
-ghost use Rattle.host_run.specs.FileLimit.{most_bytes};
 ghost use Rattle.host_run.specs.Serving.{IsDue, refused, refused_words, shown, texts_of};
 ghost use Rattle.host_run.specs.Streams.{TakesAtMost};
 ghost use Rattle.command_line.specs.Words.{is_accepted};
 
 use crate::answer::answer;
+use crate::status::Status;
 use crate::streams::{InputFault, read_input};
-use command_line::{WordsFault, read_options};
+use command_line::{Command, WordsFault, read_command};
 use host_edge::{Gate, Source};
+use request_text::MOST_BYTES;
 use std::alloc::Global;
-use wasm_types::outcome::NoMemory;
+use wasm_types::NoMemory;
+
+// What is written where the words are refused.
+pub(crate) const REFUSED_WORDS: &[u8] = b"refused words\n";
 
 // A status, and the text that is due before it.
 #[derive(Drop)]
@@ -37,18 +41,21 @@ pub(crate) fn due_text<S: Source, G: Gate>(
     ensures accepted { IfOk result (λ due. due.status ≡ 0 → is_accepted (texts_of words.now) ≡ true) }
     ensures end { IfOk result (λ due. due.status ≡ 0 → IsAtEnd (S.left source.new)) }
     ensures all_read { IfOk result (λ _. is_accepted (texts_of words.now) ≡ true
-        → IfSome (S.left source.old) (λ bytes. length bytes ≤ most_bytes → IsAtEnd (S.left source.new))) }
+        → IfSome (S.left source.old) (λ bytes. length bytes ≤ MOST_BYTES → IsAtEnd (S.left source.new))) }
     ensures failed { IsErrOf result InputFault.Failed → Rose (S.faults source.old) (S.faults source.new)
         × (is_accepted (texts_of words.now) ≡ true) }
-    ensures at_most { TakesAtMost (S.left source.old) (S.left source.new) (most_bytes + 1) }
+    ensures at_most { TakesAtMost (S.left source.old) (S.left source.new) (MOST_BYTES + 1) }
+    ensures later { S.faults source.old ≤ S.faults source.new }
+    ensures quiet { OnOk result (S.faults source.new ≡ S.faults source.old) }
 {
-    let options = match read_options(alloc, words) {
-        Ok(options) => options,
-        Err(WordsFault::Refused) => return Ok(refusal(alloc, b"refused words\n")?),
-        Err(WordsFault::NoMemory) => return Err(InputFault::NoMemory),
-    };
-    let bytes = read_input(alloc, source)?;
-    Ok(answer(alloc, &options, &bytes, gate)?)
+    match read_command(alloc, words) {
+        Ok(Command::Run(options)) => {
+            let bytes = read_input(alloc, source)?;
+            Ok(answer(alloc, &options, &bytes, gate)?)
+        }
+        Err(WordsFault::Refused) => Ok(refusal(alloc, REFUSED_WORDS)?),
+        Err(WordsFault::NoMemory) => Err(InputFault::NoMemory),
+    }
 }
 
 // What is due for a refusal: this line, with status 2.
@@ -56,5 +63,8 @@ pub(crate) fn refusal(alloc: Global, line: &[u8]) -> Result<Due, NoMemory>
     ensures { IfOk result (λ due. shown due ≡ refused line.now) }
 {
     let text = line.to_vec(alloc).map_err(|_| NoMemory)?;
-    Ok(Due { status: 2, text })
+    Ok(Due {
+        status: Status::Refused.code(),
+        text,
+    })
 }

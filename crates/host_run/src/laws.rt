@@ -3,23 +3,54 @@ ghost use Rattle.std.specs.Prelude.{◌≡◌, ℕ, List};
 ghost use Rattle.wasm_types.specs.declared.outcome.Val.{Val};
 ghost use Rattle.request_text.specs.declared.report.CallLine.{CallLine};
 ghost use Rattle.request_text.specs.declared.report.ModuleLine.{ModuleLine};
-ghost use Rattle.host_run.specs.Report.{IsCallLine, IsModuleLine, Limits};
+ghost use Rattle.request_text.specs.declared.report.ReportLine.{ReportLine};
+ghost use Rattle.request_text.specs.declared.request.Directive.{Directive};
+ghost use Rattle.command_line.specs.Words.{options_of};
+ghost use Rattle.host_run.specs.Report.{IsCallLine, IsModuleLine, Limits, limits_of};
+ghost use Rattle.host_run.specs.Tenants.{CallsAt, HasReport, TellsAt};
 ghost use Rattle.host_run.specs.Serving.{Answer, IsDue};
 
-/// The line of a call is decided by the limits, the bytes of its module, its export, its fuel and its arguments. So two
-/// request files that differ in anything else have the same line for it, after the call's number.
+use pool_host::laws::{a_call_has_one_answer, bytes_load_to_one_answer, loaded_modules_are_valid};
+
+/// Two request files that were reported on under the same pages, elements, depth and frame, and in each a call of the same
+/// export of a module of the same bytes, on the same fuel and arguments: after the call's number its line tells the same in
+/// both reports, whatever else the files ask for.
 pub fn same_line()
+    ensures { (words words' : List (List ℕ)) (bytes bytes' : List ℕ) (requests requests' : List Directive)
+        (lines lines' : List ReportLine) (at at' : ℕ) (module_bytes export : List ℕ) (fuel : ℕ) (args : List Val)
+        → limits_of (options_of words) ≡ limits_of (options_of words')
+        → HasReport words bytes requests lines → HasReport words' bytes' requests' lines'
+        → CallsAt requests at module_bytes export fuel args → CallsAt requests' at' module_bytes export fuel args
+        → (how : CallLine) × TellsAt requests lines at how × TellsAt requests' lines' at' how }
+{
+    bytes_load_to_one_answer();
+    loaded_modules_are_valid();
+    a_call_has_one_answer();
+}
+
+/// The line of a call is decided by the limits, the bytes of its module, its export, its fuel and its arguments.
+pub fn a_call_has_one_line()
     ensures { (limits : Limits) (bytes export : List ℕ) (fuel : ℕ) (args : List Val) (a b : CallLine)
         → IsCallLine limits bytes export fuel args a → IsCallLine limits bytes export fuel args b → a ≡ b }
-{}
+{
+    bytes_load_to_one_answer();
+    loaded_modules_are_valid();
+    a_call_has_one_answer();
+}
 
 /// The line of a module is decided by the limits and its bytes.
 pub fn same_module_line()
     ensures { (limits : Limits) (bytes : List ℕ) (a b : ModuleLine)
         → IsModuleLine limits bytes a → IsModuleLine limits bytes b → a ≡ b }
-{}
+{
+    bytes_load_to_one_answer();
+}
 
 /// At most one answer, a status and a text, is due for the words of a command line and the bytes of a source.
 pub fn one_answer_is_due()
     ensures { (words : List (List ℕ)) (bytes : List ℕ) (a b : Answer) → IsDue words bytes a → IsDue words bytes b → a ≡ b }
-{}
+{
+    bytes_load_to_one_answer();
+    loaded_modules_are_valid();
+    a_call_has_one_answer();
+}

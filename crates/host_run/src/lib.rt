@@ -2,15 +2,17 @@
 #![tactic(auto)]
 
 mod answer;
+mod calls;
 mod due;
-mod file_limit;
 pub mod laws;
 mod modules;
-mod reporting;
+mod report;
 mod serving;
+mod status;
 mod streams;
 
 pub use serving::{refuse_words, serve};
+pub use status::Status;
 
 #[cfg(test)]
 mod tests;

@@ -1,20 +1,32 @@
 //! The modules of a request file.
 ghost use Rattle.std.specs.Prelude.{IfOk, ◌≡◌};
-ghost use Rattle.host_run.specs.Entries.{AreEntries, IsEntry};
-ghost use Rattle.host_run.specs.Report.{limits_of, modules_of};
+ghost use Rattle.request_text.specs.Text.{modules_of};
+ghost use Rattle.host_run.specs.Entries.{AreEntries, IsEntry, entry_line};
+ghost use Rattle.host_run.specs.Report.{limits_of};
 
 use command_line::Options;
 use pool_host::{LoadFault, LoadLimits, Loaded, load};
-use request_text::report::ModuleLine;
-use request_text::request::Directive;
+use request_text::{Directive, ModuleLine};
 use std::alloc::Global;
-use wasm_types::outcome::NoMemory;
+use wasm_types::NoMemory;
 
 // What became of a module line: a module that may be called, or the line that tells why it is refused.
 #[derive(Drop)]
 pub(crate) enum Entry {
     Accepted(Loaded),
     Refused(ModuleLine),
+}
+
+impl Entry {
+    // The line that it shows.
+    pub(crate) fn line(&self) -> ModuleLine
+        ensures { result ≡ entry_line self.now }
+    {
+        match self {
+            Entry::Accepted(_) => ModuleLine::Accepted,
+            Entry::Refused(line) => *line,
+        }
+    }
 }
 
 // The entry of a module line.

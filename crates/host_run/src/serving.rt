@@ -1,28 +1,23 @@
 //! The host as one call.
 ghost use Rattle.std.specs.Prelude.{◌≡◌, ◌⊎◌, ◌+◌, ◌≤◌, ℕ, List, IfSome, IsErrAnd, IsOk, IsOkAnd, false, length, true};
-ghost use Rattle.std.specs.Io.KnownBytes.{Appends, Consumes, IsAtEnd, Keeps};
+ghost use Rattle.std.specs.Io.KnownBytes.{Appends, Consumes, IsAtEnd};
 ghost use Rattle.host_edge.specs.Streams.{Rose};
-ghost use Rattle.host_run.specs.FileLimit.{most_bytes};
 ghost use Rattle.host_run.specs.Serving.{Delivers, IsDue, IsStatus, refused_words, texts_of};
 ghost use Rattle.host_run.specs.Streams.{TakesAtMost};
 ghost use Rattle.host_run.specs.Report.{IsReport};
-ghost use Rattle.request_text.specs.Lines.{refusal_line};
+ghost use Rattle.request_text.specs.declared.report.ReportLine.{ReportLine};
+ghost use Rattle.request_text.specs.Lines.{refusal_line, report_text};
 ghost use Rattle.request_text.specs.Text.{requests_of};
 ghost use Rattle.command_line.specs.Words.{is_accepted, options_of};
 
-use crate::due::due_text;
+use crate::due::{REFUSED_WORDS, due_text};
+use crate::status::Status;
 use crate::streams::{InputFault, write_text};
-use host_edge::{Gate, Sink, Source};
+use host_edge::{Failed, Gate, Sink, Source};
+use request_text::MOST_BYTES;
 use std::alloc::Global;
 use std::sync::Wait;
 use std::thread::Threads;
-
-// The statuses that a run ends with where no text is written, or not all of it.
-const SOURCE_FAILED: u8 = 3;
-
-const SINK_FAILED: u8 = 4;
-
-const NO_MEMORY: u8 = 5;
 
 /// Runs the host on the words of a command line, of which the first is the program's name: reads the source, makes
 /// the calls that it asks for, and writes the due text to the sink. Nothing is written before all calls are answered.
@@ -41,8 +36,8 @@ pub fn serve<S: Source, K: Sink, G: Gate>(
 
     // 0, after the report on all that the source had left
     ensures report { result ≡ 0 → IfSome (S.left source.old) (λ bytes. IsOkAnd (requests_of bytes) (λ requests.
-        (text : List ℕ) × IsReport (options_of (texts_of words.now)) requests text
-        × Appends (K.written sink.old) (K.written sink.new) text)) }
+        (lines : List ReportLine) × IsReport (options_of (texts_of words.now)) requests lines
+        × Appends (K.written sink.old) (K.written sink.new) (report_text lines))) }
     ensures end { result ≡ 0 → IsAtEnd (S.left source.new) }
 
     // 2, after the line that refuses the words, or the file that was read
@@ -53,13 +48,16 @@ pub fn serve<S: Source, K: Sink, G: Gate>(
         → IfSome (S.left source.old) (λ bytes. IsErrAnd (requests_of bytes) (λ why.
         Appends (K.written sink.old) (K.written sink.new) (refusal_line why))) }
     ensures all_read { is_accepted (texts_of words.now) ≡ true → (result ≡ 0) ⊎ ((result ≡ 2) ⊎ (result ≡ 4))
-        → IfSome (S.left source.old) (λ bytes. length bytes ≤ most_bytes → IsAtEnd (S.left source.new)) }
+        → IfSome (S.left source.old) (λ bytes. length bytes ≤ MOST_BYTES → IsAtEnd (S.left source.new)) }
 
     // 3 and 4, for a fault alone, and 5
     ensures source_failed { result ≡ 3
-        → Rose (S.faults source.old) (S.faults source.new) × Keeps (K.written sink.old) (K.written sink.new) }
+        → Rose (S.faults source.old) (S.faults source.new) × (sink.new ≡ sink.old) }
     ensures sink_failed { result ≡ 4 → Rose (K.faults sink.old) (K.faults sink.new) }
-    ensures no_memory { result ≡ 5 → Keeps (K.written sink.old) (K.written sink.new) }
+    ensures no_memory { result ≡ 5 → sink.new ≡ sink.old }
+    ensures quiet { (result ≡ 0) ⊎ (result ≡ 2)
+        → (S.faults source.new ≡ S.faults source.old) × (K.faults sink.new ≡ K.faults sink.old) }
+    ensures later { (S.faults source.old ≤ S.faults source.new) × (K.faults sink.old ≤ K.faults sink.new) }
 
     // for all bytes that the source had left, and for those that were taken
     ensures due { IfSome (S.left source.old) (λ bytes.
@@ -69,7 +67,7 @@ pub fn serve<S: Source, K: Sink, G: Gate>(
         × Delivers (IsDue (texts_of words.now) bytes) (K.written sink.old) (K.written sink.new) result }
 
     ensures accepted { (result ≡ 0) ⊎ (result ≡ 3) → is_accepted (texts_of words.now) ≡ true }
-    ensures at_most { TakesAtMost (S.left source.old) (S.left source.new) (most_bytes + 1) }
+    ensures at_most { TakesAtMost (S.left source.old) (S.left source.new) (MOST_BYTES + 1) }
     ensures complete { is_accepted (texts_of words.now) ≡ true
         → IfSome (S.left source.old) (λ bytes. IsOk (requests_of bytes)
         → (Rose (S.faults source.old) (S.faults source.new) → ⊥) → (Rose (K.faults sink.old) (K.faults sink.new) → ⊥)
@@ -78,10 +76,10 @@ pub fn serve<S: Source, K: Sink, G: Gate>(
     match due_text(alloc, words, source, gate) {
         Ok(due) => match write_text(sink, &due.text) {
             Ok(()) => due.status,
-            Err(_) => SINK_FAILED,
+            Err(Failed) => Status::SinkFailed.code(),
         },
-        Err(InputFault::Failed) => SOURCE_FAILED,
-        Err(InputFault::NoMemory) => NO_MEMORY,
+        Err(InputFault::Failed) => Status::SourceFailed.code(),
+        Err(InputFault::NoMemory) => Status::NoMemory.code(),
     }
 }
 
@@ -90,9 +88,11 @@ pub fn refuse_words<K: Sink>(sink: &mut K) -> u8
     ensures status { (result ≡ 2) ⊎ (result ≡ 4) }
     ensures gives { Delivers (λ due. due ≡ refused_words) (K.written sink.old) (K.written sink.new) result }
     ensures sink_failed { result ≡ 4 → Rose (K.faults sink.old) (K.faults sink.new) }
+    ensures quiet { result ≡ 2 → K.faults sink.new ≡ K.faults sink.old }
+    ensures later { K.faults sink.old ≤ K.faults sink.new }
 {
-    match write_text(sink, b"refused words\n") {
-        Ok(()) => 2,
-        Err(_) => SINK_FAILED,
+    match write_text(sink, REFUSED_WORDS) {
+        Ok(()) => Status::Refused.code(),
+        Err(_) => Status::SinkFailed.code(),
     }
 }

@@ -2,14 +2,13 @@
 ghost use Rattle.std.specs.Prelude.{◌≡◌, ◌+◌, ◌≤◌, IfOk, IsErrOf, OnErr, OnOk};
 ghost use Rattle.std.specs.Io.KnownBytes.{Appends};
 ghost use Rattle.host_edge.specs.Streams.{HasCause, Rose};
-ghost use Rattle.host_run.specs.FileLimit.{most_bytes};
 ghost use Rattle.host_run.specs.Streams.{AppendsPart, ReadsInput, TakesAtMost};
 
-use crate::file_limit::MOST_BYTES;
 use host_edge::{Failed, Sink, Source};
+use request_text::MOST_BYTES;
 use std::alloc::{AllocError, Global};
 use thiserror::Error;
-use wasm_types::outcome::NoMemory;
+use wasm_types::NoMemory;
 
 /// Why an input was not read.
 #[derive(Clone, Copy, Debug, PartialEq, Eq, Error)]
@@ -55,8 +54,9 @@ impl From<Failed> for InputFault {
 // All bytes that the source has left, or one more than a file may have.
 pub(crate) fn read_input<S: Source>(alloc: Global, source: &mut S) -> Result<Vec<u8>, InputFault>
     ensures bytes { IfOk result (λ v. ReadsInput (S.left source.old) (S.left source.new) v.items) }
-    ensures at_most { TakesAtMost (S.left source.old) (S.left source.new) (most_bytes + 1) }
+    ensures at_most { TakesAtMost (S.left source.old) (S.left source.new) (MOST_BYTES + 1) }
     ensures later { S.faults source.old ≤ S.faults source.new }
+    ensures quiet { OnOk result (S.faults source.new ≡ S.faults source.old) }
     ensures failed { IsErrOf result InputFault.Failed → Rose (S.faults source.old) (S.faults source.new) }
 {
     let mut bytes = Vec::new(alloc);

@@ -1,7 +1,12 @@
+//! Whole runs over sources and sinks in memory.
 use crate::{refuse_words, serve};
 use host_edge::{Failed, Gate, MemSink, MemSource, OpenGate, Sink};
+use request_text::{MOST_CALLS, MOST_MODULES};
+use std::alloc::Global;
+use std::sync::Wait;
 use std::sync::atomic::{AtomicU64, Ordering};
 use std::test::Fail;
+use std::thread::Threads;
 
 // A run over a source and a sink in memory. Of each: the size of its pieces, and the calls that fail.
 #[derive(Clone, Copy)]
@@ -39,6 +44,8 @@ module cut 0061736d010000
 call cut x 1
 module p 0061736d0100000001058080808000
 module q 0061736d0100000001058080808010
+module i 0061736d0100000001070160027f7f017f030201000707010361646400000a09010700200020026a0b
+module f 0061736d010000000105016000017d
 ";
 
 const BAD_ARGUMENT: &[u8] =
@@ -95,7 +102,8 @@ const RUNS: [Run; 17] = [
         source: (4096, &[]),
         sink: (4096, &[]),
         status: 0,
-        written: b"module e ok\n1 refused export\nmodule cut refused malformed\n2 refused module\nmodule p ok\nmodule q refused malformed\n",
+        written: b"module e ok\n1 refused export\nmodule cut refused malformed\n2 refused module\nmodule p ok\nmodule q refused malformed\n\
+            module i refused invalid\nmodule f refused unsupported\n",
     },
     // no line
     Run {
@@ -295,5 +303,56 @@ fn the_gate_is_told_of_each_call_and_of_each_that_begins(rt: HostRuntime) -> Res
     assert_eq!(rt; serve(&rt, alloc, RUN, &mut source, &mut sink, &gate), 0);
     assert_eq!(rt; gate.entered.load(Ordering::SeqCst), 0x11_1110);
     assert_eq!(rt; gate.answered.load(Ordering::SeqCst), 0x1111_1110);
+    Ok(())
+}
+
+// What a run over a file with ample memory writes.
+fn answered<R: Threads + Wait>(rt: &R, alloc: Global, text: &str) -> Result<MemSink, Fail> {
+    let mut source = MemSource::new(text.as_bytes().to_vec(alloc)?, 4096, Vec::new(alloc));
+    let mut sink = MemSink::new(alloc, 65536, Vec::new(alloc));
+    let status = serve(rt, alloc, RUN, &mut source, &mut sink, &OpenGate);
+    if status == 0 {
+        Ok(sink)
+    } else {
+        Err("no report".into())
+    }
+}
+
+const MODULE: &str =
+    "0061736d0100000001070160027f7f017f030201000707010361646400000a09010700200020016a0b";
+
+#[test]
+fn as_many_modules_and_calls_as_a_file_may_have_are_answered(rt: HostRuntime) -> Result<(), Fail> {
+    let alloc = rt.alloc();
+    let mut text = String::new(alloc);
+    for k in 0..MOST_MODULES {
+        write!(text, "module m{k} {MODULE}\n")?;
+    }
+    for k in 0..MOST_CALLS {
+        write!(text, "call m{} add 4 i32:{k} i32:1\n", k % MOST_MODULES)?;
+    }
+    let sink = answered(&rt, alloc, text.as_str())?;
+    assert!(rt;
+        sink.bytes()
+            .ends_with(b"\n99999 ok i32:99999\n100000 ok i32:100000\n")
+    );
+    Ok(())
+}
+
+// The last of a hundred parameters.
+#[test]
+fn a_hundred_arguments_are_handed_over(rt: HostRuntime) -> Result<(), Fail> {
+    let alloc = rt.alloc();
+    let mut text = String::from_str(alloc, "module last 0061736d010000000169016064")?;
+    for _ in 0..100 {
+        text.push_str("7f")?;
+    }
+    text.push_str("017f0302010007050101660000")?;
+    text.push_str("0a0601040020630b\ncall last f 1")?;
+    for k in 0..100 {
+        write!(text, " i32:{k}")?;
+    }
+    let sink = answered(&rt, alloc, text.as_str())?;
+    assert_eq!(rt; sink.bytes(), b"module last ok\n1 ok i32:99\n".as_slice());
     Ok(())
 }

@@ -4,9 +4,7 @@ ghost use Rattle.wasm_types.specs.declared.types.FuncType.{FuncType};
 ghost use Rattle.wasm_types.specs.Tree.{module_tree};
 ghost use Rattle.wasm_spec.specs.Typing.{function_type, type_of};
 
-use wasm_types::module::Module;
-use wasm_types::outcome::Val;
-use wasm_types::types::ValType;
+use wasm_types::{Module, Val, ValType};
 
 // The type of a value.
 fn value_type(value: &Val) -> ValType

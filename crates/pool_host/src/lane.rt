@@ -9,7 +9,7 @@ use host_edge::Gate;
 use std::alloc::Global;
 use std::marker::Model;
 use wasm_machine::{RunLimits, Stacks, run};
-use wasm_types::outcome::{NoMemory, Outcome, Val};
+use wasm_types::{NoMemory, Outcome, Val};
 
 /// How a call went.
 #[derive(Clone, Copy, Debug, PartialEq, Eq)]

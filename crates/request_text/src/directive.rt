@@ -11,8 +11,7 @@ use crate::scope::Scope;
 use crate::words::next_word;
 use std::alloc::{AllocError, Global};
 use thiserror::Error;
-use wasm_types::items::Items;
-use wasm_types::outcome::Val;
+use wasm_types::{Items, Val};
 
 // Why a line is not read.
 #[derive(Debug, Drop, Error)]

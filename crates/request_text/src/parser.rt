@@ -7,7 +7,7 @@ use crate::directive::LineFault;
 use crate::reading::Reading;
 use crate::request::{MOST_BYTES, MOST_CALLS, MOST_MODULES, ParseFault, Requests};
 use std::alloc::Global;
-use wasm_types::items::Items;
+use wasm_types::Items;
 
 // The fault of the line with this number.
 fn at_line(line: u32, fault: LineFault) -> ParseFault

@@ -6,8 +6,7 @@ ghost use Rattle.request_text.specs.Text.{BadLine};
 use crate::request::Reason;
 use itoa::Buffer;
 use std::alloc::{AllocError, Global};
-use wasm_types::items::Items;
-use wasm_types::outcome::{NoMemory, Outcome, TrapKind, Val};
+use wasm_types::{Items, NoMemory, Outcome, TrapKind, Val};
 
 /// How the loading of a module went.
 #[derive(Clone, Copy, Debug, PartialEq, Eq)]

@@ -4,8 +4,7 @@ ghost use Rattle.request_text.specs.Lines.{reason_text};
 
 use std::fmt;
 use thiserror::Error;
-use wasm_types::items::Items;
-use wasm_types::outcome::Val;
+use wasm_types::{Items, Val};
 
 /// The greatest size of a request file, in bytes.
 pub const MOST_BYTES: usize = 16_777_216;

@@ -6,7 +6,7 @@ ghost use Rattle.request_text.specs.Reading.{HasRoom};
 use crate::request::{Directive, MOST_CALLS, MOST_MODULES};
 use std::alloc::{AllocError, Global};
 use std::marker::Model;
-use wasm_types::items::Items;
+use wasm_types::Items;
 
 // The names of the modules of the lines before, and how many calls stood there.
 #[derive(Drop)]

@@ -5,7 +5,7 @@ use crate::{
 };
 use std::alloc::{AllocError, Global};
 use std::test::Fail;
-use wasm_types::outcome::{Outcome, TrapKind, Val};
+use wasm_types::{Outcome, TrapKind, Val};
 
 // Pushes a directive as one line: a module's name and bytes, or a call's place, export, fuel and arguments.
 fn push_directive(text: &mut String, directive: &Directive) -> Result<(), AllocError> {

@@ -17,20 +17,16 @@ impl Checker {
     pub(crate) fn branch(&mut self, body: Option<ValType>, l: u32) -> Result<(), CheckFault>
         ensures { Applies (λ k. typing.branch (slice_get (labels_of body k.blocks) l)) self.old result self.new }
     {
-        match self.label(body, l) {
-            Some(t) => self.jump(t),
-            None => Err(CheckFault::Invalid),
-        }
+        let t = self.label(body, l).ok_or(CheckFault::Invalid)?;
+        self.jump(t)
     }
 
     /// A branch to a label where the top is not 0.
     pub(crate) fn branch_if(&mut self, body: Option<ValType>, l: u32) -> Result<(), CheckFault>
         ensures { Applies (λ k. typing.branch_if (slice_get (labels_of body k.blocks) l)) self.old result self.new }
     {
-        match self.label(body, l) {
-            Some(t) => self.jump_if(t),
-            None => Err(CheckFault::Invalid),
-        }
+        let t = self.label(body, l).ok_or(CheckFault::Invalid)?;
+        self.jump_if(t)
     }
 
     /// A branch to one of these labels, or to the last one, by the top.
@@ -43,15 +39,11 @@ impl Checker {
         ensures { Applies (λ k. let labels = labels_of body k.blocks in typing.branch_table labels names.now (slice_get labels l))
             self.old result self.new }
     {
-        match self.label(body, l) {
-            Some(t) => {
-                if self.are_labels(body, names, t) {
-                    self.jump_by_index(t)
-                } else {
-                    Err(CheckFault::Invalid)
-                }
-            }
-            None => Err(CheckFault::Invalid),
+        let t = self.label(body, l).ok_or(CheckFault::Invalid)?;
+        if self.are_labels(body, names, t) {
+            self.jump_by_index(t)
+        } else {
+            Err(CheckFault::Invalid)
         }
     }
 

@@ -84,10 +84,8 @@ impl Checker {
         ensures { let callee = typing.function_type (module_tree m.now) x in
             Applies (λ _. calling callee) self.old result self.new }
     {
-        match function_type(m, x) {
-            Some(t) => self.operate(t.params.as_slice(), single_result(t)),
-            None => Err(CheckFault::Invalid),
-        }
+        let t = function_type(m, x).ok_or(CheckFault::Invalid)?;
+        self.operate(t.params.as_slice(), single_result(t))
     }
 
     /// A call of a function of this type that an index chooses from table 0.
@@ -99,9 +97,7 @@ impl Checker {
         if m.tables.is_empty() {
             return Err(CheckFault::Invalid);
         }
-        match type_at(m, x) {
-            Some(t) => self.operate_at_index(t.params.as_slice(), single_result(t)),
-            None => Err(CheckFault::Invalid),
-        }
+        let t = type_at(m, x).ok_or(CheckFault::Invalid)?;
+        self.operate_at_index(t.params.as_slice(), single_result(t))
     }
 }

@@ -3,13 +3,13 @@
 //! Source: WebAssembly Core Specification 1.0, chapter 2 (structure) and section 4.2 (runtime structure).
 #![tactic(auto)]
 
-pub mod instr;
-pub mod items;
-pub mod limits;
-pub mod module;
-pub mod outcome;
-pub mod sequences;
-pub mod types;
+mod instr;
+mod items;
+mod limits;
+mod module;
+mod outcome;
+mod sequences;
+mod types;
 
 pub use instr::{BinaryOp, CompareOp, Expr, Instr, MemArg, Op, PackSize, Sign, UnaryOp, Width};
 pub use items::Items;

@@ -1,4 +1,4 @@
-use Rattle.host_run.proofs.ReportLemmas.{over_limit_entry}
+use Rattle.host_run.proofs.EntryLemmas.{over_limit_entry}
 use Rattle.host_run.specs.Report.{limits_of}
 use Rattle.host_run.proofs.modules.register.Goals as goal
 

@@ -1,6 +1,6 @@
 use Rattle.std.proofs.lemmas.List.{drop_all}
 use Rattle.host_run.specs.Report.{limits_of}
-use Rattle.host_run.proofs.ReportLemmas.{all_entries}
+use Rattle.host_run.proofs.EntryLemmas.{all_entries}
 use Rattle.host_run.proofs.modules.register_all.Goals as goal
 
 pub returns : goal.returns

@@ -1,14 +1,14 @@
-use Rattle.std.proofs.Common.{◌≤◌, ◌+◌, ◌-◌, length}
+use Rattle.std.proofs.Common.{◌≡◌, ◌≤◌, ◌+◌, ◌-◌, length}
 use Rattle.std.specs.Io.KnownBytes.{Consumes}
-use Rattle.host_run.specs.FileLimit.{most_bytes}
+use Rattle.request_text.specs.declared.request.TheConstants.{MOST_BYTES}
 use Rattle.host_run.proofs.streams.read_input.Given as goal
 
 abbrev pub invariant-loop-buffer : goal.invariant-loop-buffer
 invariant-loop-buffer g l = record {
-  later : g.S.Source.faults l.initial.source ≤ g.S.Source.faults l.source;
+  quiet : g.S.Source.faults l.source ≡ g.S.Source.faults l.initial.source;
   taken : Consumes (g.S.Source.left l.initial.source) (g.S.Source.left l.source) l.bytes.items;
-  size : length l.bytes.items ≤ most_bytes + 1;
+  size : length l.bytes.items ≤ MOST_BYTES + 1;
 }
 
 abbrev pub decreases-loop-buffer : goal.decreases-loop-buffer
-decreases-loop-buffer g l = most_bytes + 1 - length l.bytes.items
+decreases-loop-buffer g l = MOST_BYTES + 1 - length l.bytes.items

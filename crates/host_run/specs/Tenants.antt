@@ -1,0 +1,26 @@
+-- Request files that have a call in common, and differ in anything else.
+use Rattle.std.specs.Prelude.{◌≡◌, ℕ, ◌+◌, List, Ok, Some, slice_get, take}
+use Rattle.wasm_types.specs.declared.outcome.Val.{Val}
+use Rattle.request_text.specs.declared.request.Directive.{Directive}
+use Rattle.request_text.specs.declared.request.Directive.TheVariants.{Call}
+use Rattle.request_text.specs.declared.report.CallLine.{CallLine}
+use Rattle.request_text.specs.declared.report.ReportLine.{ReportLine}
+use Rattle.request_text.specs.declared.report.ReportLine.TheVariants as report
+use Rattle.request_text.specs.Text.{call_count, modules_of, requests_of}
+use Rattle.command_line.specs.Words.{options_of}
+use Rattle.host_run.specs.Report.{IsReport}
+
+-- a request file of these bytes asks for this, and this is the report on it under the options that the words give
+pub record HasReport (words : List (List ℕ)) (bytes : List ℕ) (requests : List Directive) (lines : List ReportLine) : Type 0 where
+  pub asked : requests_of bytes ≡ Ok requests
+  pub report : IsReport (options_of words) requests lines
+
+-- the directive at this place is a call whose name stands for a module of these bytes
+pub record CallsAt (requests : List Directive) (at : ℕ) (bytes export : List ℕ) (fuel : ℕ) (args : List Val) : Type 0 where
+  pub place : ℕ
+  pub call : slice_get requests at ≡ Some (Call place export fuel args)
+  pub module_bytes : slice_get (modules_of requests) place ≡ Some bytes
+
+-- the line at this place tells how the call went, after the call's number: one more than the calls before it
+abbrev pub TellsAt : List Directive → List ReportLine → ℕ → CallLine → Type 0
+TellsAt requests lines at how = slice_get lines at ≡ Some (report.Call (1 + call_count (take at requests)) how)
