@@ -20,7 +20,7 @@ use Rattle.std.proofs.lemmas.Option.{slice_get_within, slice_get_cases}
 use Rattle.wasm_types.specs.declared.module.Export.{Export}
 use Rattle.wasm_types.specs.declared.module.ExportDesc.{ExportDesc}
 use Rattle.wasm_types.specs.declared.module.ExportDesc.TheVariants as desc
-use Rattle.wasm_validate.specs.Exported.{Exports}
+use Rattle.wasm_spec.specs.Validity.{Exports}
 use Rattle.wasm_validate.specs.ByName.{name_of, compare, of_numbers, Rise, AreByName, function_of, function_of_desc}
 
 -- names
@@ -136,9 +136,9 @@ module _ (exports : List Export) where
       -- no export has this name
       pub none_found : (i : ℕ) → IsPartitionPoint (λ n. compare (name_of exports n) name ≡ Less) (λ n. compare (name_of exports n) name ≡ Greater) numbers i → (x : ℕ) → Exports exports name x → ⊥
       none_found i point x h =
-          let p = place h.0 (slice_get_within exports h.0 h.1 h.2) in
-          let here : compare (name_of exports (get_or numbers p.at 0)) name ≡ compare (name_of exports h.0) name = ap (λ n. compare (name_of exports n) name) (p.is 0) in
-          let t : is_eq (compare (name_of exports (get_or numbers p.at 0)) name) ≡ true = ap is_eq here ∙ named h.0 h.1 h.2 h.3 in
+          let p = place h.place (slice_get_within exports h.place h.export h.there) in
+          let here : compare (name_of exports (get_or numbers p.at 0)) name ≡ compare (name_of exports h.place) name = ap (λ n. compare (name_of exports n) name) (p.is 0) in
+          let t : is_eq (compare (name_of exports (get_or numbers p.at 0)) name) ≡ true = ap is_eq here ∙ named h.place h.export h.there h.named in
           elim (cases_order p.at i) [
             | inl e ↦ let g = point.1 p.at 0 (omega (arith, e)) p.within in let z : false ≡ true = ap is_eq (sym g) ∙ t in cc (z)
             | inr (inl lt) ↦ let l = point.0 p.at 0 (omega arith) lt in let z : false ≡ true = ap is_eq (sym l) ∙ t in cc (z)
@@ -151,7 +151,7 @@ module _ (exports : List Export) where
         number = get_or numbers at 0
 
         found_as : (e : Export) (d : ExportDesc) → slice_get exports number ≡ Some e → e.desc ≡ d → IfSome (function_of_desc d) (Exports exports name)
-        found_as e (desc.Func x) here is = (number, e, here, sym (name_at number e here) ∙ equal_names (name_of exports number) name (equal 0), is)
+        found_as e (desc.Func x) here is = record { place = number; export = e; there = here; named = sym (name_at number e here) ∙ equal_names (name_of exports number) name (equal 0); function = is }
         found_as e (desc.Table x) here is = tt
         found_as e (desc.Memory x) here is = tt
         found_as e (desc.Global x) here is = tt
@@ -187,10 +187,10 @@ module _ (exports : List Export) where
 
         pub only_found : (x : ℕ) → Exports exports name x → option_and_then function_of (slice_get exports number) ≡ Some x
         only_found x e =
-            let p = place e.0 (slice_get_within exports e.0 e.1 e.2) in
-            let k = one_place p.at p.within (ap (λ n. is_eq (compare (name_of exports n) name)) (p.is 0) ∙ named e.0 e.1 e.2 e.3) in
-            let n : number ≡ e.0 = ap (λ i. get_or numbers i 0) (sym k) ∙ p.is 0 in
-            ap (λ i. option_and_then function_of (slice_get exports i)) n ∙ ap (λ o. option_and_then function_of o) e.2 ∙ ap function_of_desc e.4
+            let p = place e.place (slice_get_within exports e.place e.export e.there) in
+            let k = one_place p.at p.within (ap (λ n. is_eq (compare (name_of exports n) name)) (p.is 0) ∙ named e.place e.export e.there e.named) in
+            let n : number ≡ e.place = ap (λ i. get_or numbers i 0) (sym k) ∙ p.is 0 in
+            ap (λ i. option_and_then function_of (slice_get exports i)) n ∙ ap (λ o. option_and_then function_of o) e.there ∙ ap function_of_desc e.function
 
         none_exported : option_and_then function_of (slice_get exports number) ≡ None → (x : ℕ) → Exports exports name x → ⊥
         none_exported none x e = let s = only_found x e in cc (none, s)

@@ -1,5 +1,4 @@
 pub mod ByName
 pub mod Checked
-pub mod Exported
 pub mod Fault
 pub mod Floats

@@ -8,6 +8,10 @@ mod floats;
 mod functions;
 mod module;
 mod names;
+#[cfg(test)]
+mod rows;
+#[cfg(test)]
+mod tests;
 mod valid;
 
 pub use constant::{initial_value, offset_value};

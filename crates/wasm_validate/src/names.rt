@@ -2,7 +2,7 @@
 
 ghost use Rattle.std.specs.Prelude.{◌≡◌, ◌≢◌, ◌↔◌, ◌≤◌, ◌^◌, ℕ, AllPairs, IsTrue, IsErr, IsErrOf, IfOk, IfSome, IfNone, OnOk, IsPermutation, IsSorted, length, slice_get, option_and_then};
 ghost use Rattle.std.specs.List.{range_with_len};
-ghost use Rattle.wasm_validate.specs.Exported.{Exports};
+ghost use Rattle.wasm_spec.specs.Validity.{Exports};
 ghost use Rattle.wasm_validate.specs.ByName as names;
 ghost use Rattle.wasm_validate.specs.ByName.{AreByName, Rise};
 

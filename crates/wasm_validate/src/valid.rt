@@ -148,8 +148,8 @@ impl Valid {
     /// The function that is exported under a name, if there is one, found in steps that grow with the logarithm of the number
     /// of exports.
     pub fn function(&self, export: &[u8]) -> Option<u32>
-        ensures found { IfSome result (Exports (module_tree self.now) export.now) }
-        ensures none { IfNone result ((x : ℕ) → ¬ (Exports (module_tree self.now) export.now x)) }
+        ensures found { IfSome result (Exports self.now.exports export.now) }
+        ensures none { IfNone result ((x : ℕ) → ¬ (Exports self.now.exports export.now x)) }
     {
         exported(
             self.module.exports.as_slice(),

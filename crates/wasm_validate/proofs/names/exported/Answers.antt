@@ -1,7 +1,7 @@
 use Rattle.std.proofs.Common.{◌≡◌, ℕ, Option, sym, subst, rules, tests, arith}
 use Rattle.std.specs.Prelude.{IfSome}
 use Rattle.std.proofs.lemmas.Fn.{always_returns_same}
-use Rattle.wasm_validate.specs.Exported.{Exports}
+use Rattle.wasm_spec.specs.Validity.{Exports}
 use Rattle.wasm_validate.specs.ByName.{name_of, compare}
 use Rattle.wasm_validate.proofs.ByName.{searchable, found, none_clause, none_found}
 use Rattle.wasm_validate.proofs.names.exported.Goals as goal

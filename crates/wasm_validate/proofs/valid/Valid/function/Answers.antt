@@ -2,7 +2,7 @@ use Rattle.std.proofs.Common.{ℕ, List, ap, ◌∙◌, subst}
 use Rattle.std.specs.Prelude.{IfNone}
 use Rattle.wasm_types.specs.declared.module.Export.{Export}
 use Rattle.wasm_types.specs.declared.module.Module.{Module}
-use Rattle.wasm_validate.specs.Exported.{Exports}
+use Rattle.wasm_spec.specs.Validity.{Exports}
 use Rattle.wasm_validate.proofs.valid.Valid.function.Goals as goal
 
 pub returns-clause-none : goal.returns-clause-none
