@@ -1,4 +1,5 @@
 pub mod Contents
+pub mod Codes
 pub mod PoolMachine
 pub mod FreshMachine
 pub mod Runs

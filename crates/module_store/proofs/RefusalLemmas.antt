@@ -1,0 +1,27 @@
+-- What a fault of the image says of the bytes.
+use Rattle.std.proofs.Common.{◌≡◌, ℕ, List, ap, ◌∙◌}
+use Rattle.std.specs.Prelude.{Option, Some, None}
+use Rattle.wasm_types.specs.declared.limits.LoadLimits.{LoadLimits}
+use Rattle.wasm_types.specs.Tree.{ModuleTree}
+use Rattle.wasm_spec.specs.Grammar.{Spells}
+use Rattle.wasm_spec.specs.Validity.{IsSupported, IsValid}
+use Rattle.wasm_spec.specs.Store.{Extent, first_misfit}
+use Rattle.wasm_spec.specs.Loading.{Demand, first_over, refusal_of}
+use Rattle.initial_image.specs.declared.image.ImageFault.{ImageFault}
+use Rattle.initial_image.specs.declared.image.ImageFault.TheVariants.{Segment, NoMemory}
+use Rattle.initial_image.specs.Segments.{Names}
+use Rattle.module_store.specs.Faults.{IsRefusal, fault_of_image}
+
+-- a segment that does not fit is what loading answers, where the module is supported, valid and within the limits
+pub IsRefusal-image : (bytes : List ℕ) (limits : LoadLimits) (m : ModuleTree) (f : ImageFault) → Spells bytes m → IsSupported m → IsValid m → first_over limits m ≡ None
+    → Names (first_misfit m) f → IsRefusal bytes limits (fault_of_image f)
+IsRefusal-image bytes limits m (Segment misfit) spells supported valid within names = record {
+  tree = m;
+  spells = spells;
+  answers = record {
+    runs = supported;
+    valid = valid;
+    late_is = ap (λ (d : Option Demand). refusal_of d (first_misfit m)) within ∙ ap (refusal_of None) names;
+  };
+}
+IsRefusal-image bytes limits m NoMemory spells supported valid within names = tt

@@ -1,0 +1,17 @@
+//! Modules that threads share: each is loaded once, and stands under a number for good.
+#![tactic(auto)]
+
+mod desk;
+mod fault;
+mod loading;
+mod naming;
+mod reference;
+mod store;
+#[cfg(test)]
+mod tests;
+
+pub use desk::{Desk, MOST_MODULES};
+pub use fault::LoadFault;
+pub use naming::Naming;
+pub use reference::ModuleRef;
+pub use store::{ModuleStore, Opened};

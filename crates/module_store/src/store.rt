@@ -1,0 +1,159 @@
+//! The store of modules.
+ghost use Rattle.std.specs.Prelude.{◌≡◌, ◌+◌, ◌↔◌, Ok, IfErr, IfOk, IsErrOf, IsTrue, OnErr};
+ghost use Rattle.wasm_types.specs.Tree.{module_tree};
+ghost use Rattle.wasm_spec.specs.Loading.{Loads};
+ghost use Rattle.initial_image.specs.Image.{IsImageOf};
+ghost use Rattle.pool_limits.specs.Limits.{load_limits};
+ghost use Rattle.module_store.specs.Faults.{IsRefusal};
+ghost use Rattle.module_store.specs.Modules.{IsLoaded};
+ghost use Rattle.module_store.specs.Names.{Bears};
+
+use crate::desk::{Desk, MOST_MODULES};
+use crate::fault::LoadFault;
+use crate::loading::load;
+use crate::naming::Naming;
+use crate::reference::{Loaded, ModuleRef};
+use boxcar::Vec;
+use initial_image::Image;
+use pool_limits::PoolConfig;
+use std::alloc::{AllocError, Global};
+use std::marker::{Model, PhantomData};
+use std::sync::Wait;
+use wasm_types::NoMemory;
+use wasm_validate::Valid;
+
+/// A store that has no name yet.
+#[derive(Drop)]
+pub struct Opened {
+    modules: Vec<Loaded>,
+    config: PoolConfig,
+}
+
+/// Modules that threads share. Contracts see its configuration's numbers, which are those of its name.
+#[derive(Drop)]
+pub struct ModuleStore<N: Naming> {
+    modules: Vec<Loaded>,
+    config: PoolConfig,
+    of: PhantomData<N>,
+}
+
+impl<N: Naming> Model for ModuleStore<N> {
+    ghost use Rattle.std.specs.Prelude.{◌≡◌};
+    ghost use Rattle.pool_limits.specs.declared.numbers.Numbers.{Numbers};
+
+    ghost Value = { Numbers };
+
+    ghost view = { λ s. s.config };
+
+    ghost invariant = { λ s. (s.modules ≡ N.shelves) × (s.config ≡ N.config) };
+}
+
+impl Opened {
+    /// A store without a module.
+    ///
+    /// # Errors
+    ///
+    /// `NoMemory` where memory is refused.
+    pub fn open(alloc: Global, config: PoolConfig) -> Result<Opened, NoMemory>
+        ensures { IfOk result (λ s. s.config ≡ config) }
+    {
+        let modules = Vec::new(alloc).map_err(|_| NoMemory)?;
+        Ok(Opened { modules, config })
+    }
+
+    /// The store under a name, and its desk. The name is picked by the caller's proof. Takes no memory.
+    pub fn named<N: Naming>(self) -> (ModuleStore<N>, Desk<N>)
+        requires { Bears self N.shelves N.config }
+        ensures { result.1 ≡ 0 }
+    {
+        let Opened { modules, config } = self;
+        let of = PhantomData;
+        let desk = Desk {
+            registered: 0,
+            of: PhantomData,
+        };
+        (
+            ModuleStore {
+                modules,
+                config,
+                of,
+            },
+            desk,
+        )
+    }
+}
+
+impl<N: Naming> ModuleStore<N> {
+    /// Loads the module that the bytes spell, and shows it to all threads. Other threads may look and call meanwhile.
+    ///
+    /// # Errors
+    ///
+    /// `TooMany` exactly where the desk has registered [`MOST_MODULES`]. Then the first that applies: `Malformed`,
+    /// `Unsupported`, `Invalid`, `OverLimit` and `Segment`. `NoMemory` in place of any but `TooMany`. The desk is as it was
+    /// after each of them, and no module was added.
+    pub fn register<R: Wait>(
+        &self,
+        rt: &R,
+        alloc: Global,
+        desk: &mut Desk<N>,
+        bytes: &[u8],
+    ) -> Result<ModuleRef<N>, LoadFault>
+        ensures too_many { IsErrOf result LoadFault.TooMany ↔ (desk.old ≡ MOST_MODULES) }
+        ensures loaded { IfOk result (λ r. Loads bytes.now (load_limits N.config) (Ok r.tree)) }
+        ensures tag { IfOk result (λ r. (r.tag ≡ desk.old) × (desk.new ≡ desk.old + 1)) }
+        ensures refused { IfErr result (IsRefusal bytes.now (load_limits N.config)) }
+        ensures desk { OnErr result (desk.new ≡ desk.old) }
+    {
+        if desk.registered == MOST_MODULES {
+            return Err(LoadFault::TooMany);
+        }
+        let (valid, image) = load(alloc, &self.config, bytes)?;
+        let tag = desk.registered;
+        let Ok(seen) = self.modules.push_shown(rt, Loaded { tag, valid, image }) else {
+            return Err(LoadFault::NoMemory);
+        };
+        desk.registered += 1;
+        Ok(ModuleRef {
+            tag,
+            seen,
+            of: PhantomData,
+        })
+    }
+
+    /// The valid module of a reference. Takes no memory.
+    pub fn valid(&self, module: &ModuleRef<N>) -> &Valid
+        ensures tree { module_tree result.now ≡ module.now.tree }
+        ensures loaded { IsLoaded N.config module.now.tree }
+    {
+        let loaded = self.modules.value(&module.seen);
+        &loaded.valid
+    }
+
+    /// The image of a reference's module. Takes no memory.
+    pub fn image(&self, module: &ModuleRef<N>) -> &Image
+        ensures { IsImageOf module.now.tree result.now }
+    {
+        let loaded = self.modules.value(&module.seen);
+        &loaded.image
+    }
+
+    /// The configuration that it was opened with. Takes no memory.
+    pub fn config(&self) -> &PoolConfig
+        ensures same { result.now ≡ self.now }
+        ensures name { result.now ≡ N.config }
+    {
+        &self.config
+    }
+
+    /// Whether two references have one number. Then they show one module, under one tag. Takes no memory.
+    pub fn same(&self, a: &ModuleRef<N>, b: &ModuleRef<N>) -> bool
+        ensures number { IsTrue result ↔ (a.now.number ≡ b.now.number) }
+        ensures module { IsTrue result → (a.now ≡ b.now) }
+    {
+        if a.number() != b.number() {
+            return false;
+        }
+        self.modules.agrees(&a.seen, &b.seen);
+        true
+    }
+}
