@@ -1,7 +1,7 @@
 -- What a level of a parse holds where no fault comes: each argument that has a default or is required has a value that its parser takes.
 use Rattle.std.proofs.Common.{◌≡◌, ◌∙◌, Bool, true, false, cond, refl, sym, ap, subst, List, [], ◌∷◌, ◌++◌, Option, Some, None, ◌&&◌, ◌||◌, not, arith, true≢false, inl, inr, ◌⊎◌}
 use Rattle.std.proofs.lemmas.Slice.Eq.{bytes_eq-Decides}
-use Rattle.std.proofs.lemmas.Bool.{ne_eqb}
+use Rattle.std.proofs.lemmas.Bool.{and_parts, ne_eqb, not-true, or_parts, or_right}
 use Rattle.std.specs.Prelude.{find, fold, option_map, option_and_then, slice_get, nat_lt}
 use Rattle.std.specs.Option.{option_map_or}
 use Rattle.std.specs.List.{list_all, list_any}
@@ -68,17 +68,9 @@ checked s names words has below e =
 same_id : (x : Text) → bytes_eq x x ≡ true
 same_id x = (bytes_eq-Decides x x).1 refl
 
-or_right : (a b : Bool) → b ≡ true → (a || b) ≡ true
-or_right true b e = refl
-or_right false b e = e
-
 or_keep : (a b c : Bool) → (b ≡ true → c ≡ true) → (a || b) ≡ true → (a || c) ≡ true
 or_keep true b c f e = refl
 or_keep false b c f e = f e
-
-and_true : (a b : Bool) → (a && b) ≡ true → (a ≡ true) × (b ≡ true)
-and_true true b e = (refl, e)
-and_true false b e = absurd (true≢false (sym e))
 
 has_row-with_values_same : (id : Text) (how : Reading) (s : ValueSource) (values : List Text) (rows : List Row) → has_row id (with_values id how s values rows) ≡ true
 has_row-with_values_same id how s values [] = rw same_id refl
@@ -117,7 +109,7 @@ has_default x c = list_any (λ a. bytes_eq a.id x && not (is_empty a.defaults)) 
 
 has_row-with_default_same : (x : Text) (rows : List Row) (a : Rule) → (bytes_eq a.id x && not (is_empty a.defaults)) ≡ true → has_row x (with_default rows a) ≡ true
 has_row-with_default_same x rows a e =
-    let both = and_true (bytes_eq a.id x) _ e in
+    let both = and_parts (bytes_eq a.id x) _ e in
     let same : a.id ≡ x = (bytes_eq-Decides a.id x).0 both.0 in
     let P : Text → Type 0 = λ y. has_row y (with_default rows a) ≡ true in
     subst P same (go (has_row a.id rows) refl a.defaults both.1)
@@ -239,25 +231,17 @@ abbrev AreFound : List Rule → List Rule → Type 0
 AreFound all [] = Unit {0}
 AreFound all (a ∷ rest) = (arg_by_id all a.id ≡ Some a) × AreFound all rest
 
-or_false : (a b : Bool) → (a || b) ≡ false → (a ≡ false) × (b ≡ false)
-or_false true b e = absurd (true≢false e)
-or_false false b e = (refl, e)
-
-not_true : (b : Bool) → not b ≡ true → b ≡ false
-not_true true e = absurd (true≢false (sym e))
-not_true false e = refl
-
 found_under : (a : Rule) (all rest : List Rule) → list_any (λ b. bytes_eq a.id b.id) rest ≡ false → AreFound all rest → AreFound (a ∷ all) rest
 found_under a all [] e h = tt
 found_under a all (b ∷ rest) e h =
-    let both = or_false (bytes_eq a.id b.id) _ e in
+    let both = or_parts (bytes_eq a.id b.id) _ e in
     (rw both.0 h.0, found_under a all rest both.1 h.1)
 
 all_found : (rules : List Rule) → has_distinct_ids rules ≡ true → AreFound rules rules
 all_found [] e = tt
 all_found (a ∷ rest) e =
-    let both = and_true (not (list_any (λ b. bytes_eq a.id b.id) rest)) _ e in
-    (rw (same_id a.id) refl, found_under a rest rest (not_true _ both.0) (all_found rest both.1))
+    let both = and_parts (not (list_any (λ b. bytes_eq a.id b.id) rest)) _ e in
+    (rw (same_id a.id) refl, found_under a rest rest (not-true _ both.0) (all_found rest both.1))
 
 use_value : (b : Bool) (missing : List Text) → (b || not (is_empty missing)) ≡ true → (b ≡ true) ⊎ ((t : Text) × (rest : List Text) × (missing ≡ t ∷ rest))
 use_value true missing e = inl refl
@@ -267,8 +251,8 @@ use_value false (t ∷ rest) e = inr (t, rest, refl)
 all_give : (all rest : List Rule) → list_all gives_value rest ≡ true → AreFound all rest → RulesGive (TakenAmong all) rest
 all_give all [] e h = tt
 all_give all (a ∷ rest) e h =
-    let both = and_true (gives_value a) _ e in
-    let first = and_true (sets_value (action_of a)) _ both.0 in (
+    let both = and_parts (gives_value a) _ e in
+    let first = and_parts (sets_value (action_of a)) _ both.0 in (
       record {
         sets = first.0;
         some = use_value (nat_lt 0 (unwrap_or_range a.range).start_inclusive) a.missing first.1;
@@ -304,7 +288,7 @@ certain_row s words e a found false false is_default is_required h = absurd (tru
 pub reads_value : (s : Shape) (words : List Text) → is_readable s.rules ≡ true → level_fault s [] nothing_held words false [] ≡ []
     → (a : Rule) → arg_by_id s.rules a.id ≡ Some a → is_certain a ≡ true → ReadsValue a (rows_after s.rules [] words)
 reads_value s words readable e a found certain =
-    let tests = and_true (list_all gives_value s.rules) _ readable in
+    let tests = and_parts (list_all gives_value s.rules) _ readable in
     let rows = RowsHave-rows_after (TakenAmong s.rules) s [] words false [] (all_give s.rules s.rules tests.0 (all_found s.rules tests.1)) e in
     let read = one_read (TakenAmong s.rules) a.id (rows_after s.rules [] words) rows (certain_row s words e a found _ _ refl refl certain) in
     let taken : (value_passes a read.0 ≡ true) × (read.1 ≡ reading_by a) = rw found at read.3 in

@@ -1,11 +1,12 @@
 -- Each line is decided, and so is the whole answer.
+use Rattle.wasm_types.specs.declared.limits.RunLimits.{RunLimits}
+use Rattle.wasm_types.specs.declared.limits.LoadLimits.{LoadLimits}
 use Rattle.std.proofs.Common.{◌≡◌, ℕ, List, [], ◌∷◌, Bool, true, false, Some, Ok, Err, refl, sym, ap, ◌∙◌, subst}
 use Rattle.std.specs.Prelude.{Result}
 use Rattle.wasm_types.specs.declared.outcome.Val.{Val}
 use Rattle.wasm_types.specs.Tree.{ModuleTree}
-use Rattle.wasm_spec.specs.Loading.{LoadLimits, Refusal}
+use Rattle.wasm_spec.specs.Loading.{Refusal}
 use Rattle.wasm_spec.specs.Validity.{IsValid}
-use Rattle.wasm_spec.specs.Execution.{RunLimits}
 use Rattle.pool_host.specs.declared.lane.LaneAnswer.{LaneAnswer}
 use Rattle.pool_host.specs.CallWords.{IsAnswer}
 use Rattle.pool_host.specs.LoadWords.{LoadsBuilt}

@@ -1,10 +1,11 @@
 -- The report on a request file: one line for each directive, in file order.
+use Rattle.wasm_types.specs.declared.limits.RunLimits.{RunLimits}
+use Rattle.wasm_types.specs.declared.limits.LoadLimits.{LoadLimits}
 use Rattle.std.specs.Prelude.{◌≡◌, ℕ, ◌+◌, List, [], ◌∷◌, Some, Result, Ok, Err, slice_get}
 use Rattle.wasm_types.specs.declared.outcome.Val.{Val}
 use Rattle.wasm_types.specs.Tree.{ModuleTree}
 use Rattle.wasm_spec.specs.Loading as loading
-use Rattle.wasm_spec.specs.Loading.{LoadLimits, Refusal}
-use Rattle.wasm_spec.specs.Execution.{RunLimits}
+use Rattle.wasm_spec.specs.Loading.{Refusal}
 use Rattle.pool_host.specs.declared.lane.LaneAnswer.{LaneAnswer}
 use Rattle.pool_host.specs.declared.lane.LaneAnswer.TheVariants as answer
 use Rattle.pool_host.specs.CallWords.{IsAnswer, Lane}

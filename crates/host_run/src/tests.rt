@@ -48,6 +48,22 @@ module i 0061736d0100000001070160027f7f017f030201000707010361646400000a090107002
 module f 0061736d010000000105016000017d
 ";
 
+// A recursion, a division and a trap, and a module with a memory.
+const SHAPES: &[u8] =
+    b"module rec 0061736d0100000001060160017f017f03020100070501016600000a14011200200045047f410005200041016b10000b0b
+module div 0061736d0100000001070160027e7e017e03020100070501016400000a09010700200020017f0b
+module stop 0061736d0100000001040160000003020100070501017300000a05010300000b
+module mem 0061736d010000000503010001
+call rec f 893 i32:127
+call rec f 892 i32:127
+call rec f 1000 i32:128
+call div d 9 i64:-9223372036854775808 i64:-1
+call div d 9 i64:1 i64:0
+call div d 9 i64:-7 i64:2
+call stop s 1
+call mem m 1
+";
+
 const BAD_ARGUMENT: &[u8] =
     b"module add 0061736d0100000001070160027f7f017f030201000707010361646400000a09010700200020016a0b
 call add add 1 i32:4294967296 i32:0
@@ -58,7 +74,7 @@ const USED_TWICE: &[u8] =
 module add 0061736d0100000001070160027f7f017f030201000707010361646400000a09010700200020016a0b
 ";
 
-const RUNS: [Run; 17] = [
+const RUNS: [Run; 18] = [
     // a call of an addition
     Run {
         words: RUN,
@@ -104,6 +120,17 @@ const RUNS: [Run; 17] = [
         status: 0,
         written: b"module e ok\n1 refused export\nmodule cut refused malformed\n2 refused module\nmodule p ok\nmodule q refused malformed\n\
             module i refused invalid\nmodule f refused unsupported\n",
+    },
+    // functions of other shapes
+    Run {
+        words: RUN,
+        bytes: SHAPES,
+        source: (4096, &[]),
+        sink: (4096, &[]),
+        status: 0,
+        written: b"module rec ok\nmodule div ok\nmodule stop ok\nmodule mem refused unsupported\n\
+            1 ok i32:0\n2 fuel\n3 trap exhausted\n4 trap overflow\n5 trap divide\n6 ok i64:-3\n7 trap unreachable\n\
+            8 refused module\n",
     },
     // no line
     Run {

@@ -8,7 +8,7 @@ use Rattle.wasm_types.specs.declared.outcome.Val.{Val}
 use Rattle.wasm_types.specs.declared.module.Export.{Export}
 use Rattle.wasm_types.specs.declared.module.ExportDesc.TheVariants as desc
 use Rattle.wasm_types.specs.Tree.{ModuleTree}
-use Rattle.wasm_spec.specs.Execution.{RunLimits}
+use Rattle.wasm_types.specs.declared.limits.RunLimits.{RunLimits}
 use Rattle.wasm_spec.specs.Validity.{Exports, IsValid}
 use Rattle.pool_host.specs.CallWords.{IsAnswer, IsExported}
 use Rattle.pool_host.specs.declared.lane.LaneAnswer.{LaneAnswer}
@@ -28,14 +28,13 @@ one_place m name i j e f valid at at' is is' = elim (cases_lt i j) [
   | inr le ↦ elim (cases_lt j i) [ inl lt ↦ absurd (differ m name j i f e valid at' at is' is lt) | inr ge ↦ omega arith ]
 ]
 
-pub one_export : (m : ModuleTree) (name : List ℕ) (x y : ℕ) → IsValid m → Exports m name x → Exports m name y → x ≡ y
+pub one_export : (m : ModuleTree) (name : List ℕ) (x y : ℕ) → IsValid m → Exports m.exports name x → Exports m.exports name y → x ≡ y
 one_export m name x y valid h g =
-    let (i, e, at, named, is) = h in
-    let (j, f, at', named', is') = g in
-    let same : i ≡ j = one_place m name i j e f valid at at' named named' in
-    let there : slice_get m.exports j ≡ Some e = subst (λ (k : ℕ). slice_get m.exports k ≡ Some e) same at in
-    let one : e ≡ f = cc in
-    let d : desc.Func x ≡ desc.Func y = sym is ∙ ap (λ (k : Export). k.desc) one ∙ is' in cc
+    let same : h.place ≡ g.place = one_place m name h.place g.place h.export g.export valid h.there g.there h.named g.named in
+    let there : slice_get m.exports g.place ≡ Some h.export = subst (λ (k : ℕ). slice_get m.exports k ≡ Some h.export) same h.there in
+    let both : Some h.export ≡ Some g.export = sym there ∙ g.there in
+    let one : h.export ≡ g.export = cc in
+    let d : desc.Func x ≡ desc.Func y = sym h.function ∙ ap (λ (k : Export). k.desc) one ∙ g.function in cc
 
 module _ (m : ModuleTree) (limits : RunLimits) (export : List ℕ) (args : List Val) (fuel : ℕ) (valid : IsValid m) where
   one_type : (x y : ℕ) (t u : FuncType) → IsExported m export x t → IsExported m export y u → (x ≡ y) × (t ≡ u)

@@ -1,24 +1,27 @@
 -- What a call of a loaded module is answered.
-use Rattle.std.specs.Prelude.{◌≡◌, ◌≢◌, ℕ, List, map, Some}
+use Rattle.std.specs.Prelude.{◌≡◌, ◌≢◌, ◌<◌, ℕ, List, map, Some}
 use Rattle.wasm_types.specs.declared.types.FuncType.{FuncType}
 use Rattle.wasm_types.specs.declared.outcome.Outcome.{Outcome}
 use Rattle.wasm_types.specs.declared.outcome.Val.{Val}
 use Rattle.wasm_types.specs.Tree.{ModuleTree}
 use Rattle.wasm_spec.specs.Typing.{type_of, function_type}
 use Rattle.wasm_spec.specs.Validity.{Exports}
-use Rattle.wasm_spec.specs.Execution.{RunLimits}
+use Rattle.wasm_types.specs.declared.limits.RunLimits.{RunLimits}
 use Rattle.wasm_spec.specs.Result.{CallResult, call_result}
+use Rattle.linear_memory.specs.Bytes.{IsMemory}
+use Rattle.linear_memory.specs.declared.memory.Memory.{Memory}
+use Rattle.wasm_machine.specs.Room.{Room}
 use Rattle.pool_host.specs.declared.lane.LaneAnswer.{LaneAnswer}
 use Rattle.pool_host.specs.declared.lane.LaneAnswer.TheVariants.{Done, NoExport, BadArgs}
 
 -- the export is a function of this type
 pub record IsExported (m : ModuleTree) (export : List ℕ) (function : ℕ) (type : FuncType) : Type 0 where
-  pub exported : Exports m export function
+  pub exported : Exports m.exports export function
   pub typed : function_type m function ≡ Some type
 
 -- no function is exported under this name
 abbrev pub LacksExport : ModuleTree → List ℕ → Type 0
-LacksExport m export = (x : ℕ) → ¬ (Exports m export x)
+LacksExport m export = (x : ℕ) → ¬ (Exports m.exports export x)
 
 -- a function is exported under this name, and the arguments aren't of its parameters' types
 pub record LacksTypes (m : ModuleTree) (export : List ℕ) (args : List Val) : Type 0 where
@@ -53,3 +56,9 @@ pub record Lane : Type 0 where
 pub record KeepsLimits (before after : Lane) : Type 0 where
   pub limits : after.limits ≡ before.limits
   pub frame : after.frame ≡ before.frame
+
+-- what a lane's calls run on: stacks for the deepest call, and an empty memory
+pub record IsReady (room : Room) (memory : Memory) (limits : RunLimits) : Type 0 where
+  pub depth : room.depth ≡ limits.depth
+  pub some : 0 < limits.depth
+  pub memory_is : IsMemory 0 memory

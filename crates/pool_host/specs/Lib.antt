@@ -1,2 +1,3 @@
-pub mod LoadWords
 pub mod CallWords
+pub mod LoadFaults
+pub mod LoadWords

@@ -8,8 +8,8 @@ use crate::loading::Loaded;
 use host_edge::Gate;
 use std::alloc::Global;
 use std::marker::Model;
-use wasm_machine::{RunLimits, Stacks, run};
-use wasm_types::{NoMemory, Outcome, Val};
+use wasm_machine::{Memory, Stacks, run};
+use wasm_types::{NoMemory, Outcome, RunLimits, Val};
 
 /// How a call went.
 #[derive(Clone, Copy, Debug, PartialEq, Eq)]
@@ -26,18 +26,18 @@ pub enum LaneAnswer {
 #[derive(Drop)]
 pub struct LaneHost {
     stacks: Stacks,
+    memory: Memory,
     limits: RunLimits,
 }
 
 impl Model for LaneHost {
-    ghost use Rattle.std.specs.Prelude.{◌≡◌, ◌<◌};
-    ghost use Rattle.pool_host.specs.CallWords.{Lane};
+    ghost use Rattle.pool_host.specs.CallWords.{IsReady, Lane};
 
     ghost Value = { Lane };
 
-    ghost view = { λ l. record { limits = record { pages = l.limits.pages; depth = l.limits.depth }; frame = l.stacks.frame } };
+    ghost view = { λ l. record { limits = l.limits; frame = l.stacks.room.frame } };
 
-    ghost invariant = { λ l. (l.stacks.depth ≡ l.limits.depth) × (0 < l.limits.depth) };
+    ghost invariant = { λ l. IsReady l.stacks.room l.memory l.limits };
 }
 
 impl LaneHost {
@@ -48,8 +48,10 @@ impl LaneHost {
         ensures { IfOk result (λ lane. lane ≡ record { limits = record { pages = pages; depth = depth }; frame = frame }) }
     {
         let stacks = Stacks::open(alloc, depth, frame)?;
+        let memory = Memory::zeroed(alloc, 0)?;
         Ok(LaneHost {
             stacks,
+            memory,
             limits: RunLimits { pages, depth },
         })
     }
@@ -76,7 +78,18 @@ impl LaneHost {
             return LaneAnswer::BadArgs;
         }
         gate.entered(number);
-        let end = run(valid, function, args, fuel, self.limits, &mut self.stacks);
+        let (memory, stacks) = (&mut self.memory, &mut self.stacks);
+        let end = run(
+            valid,
+            function,
+            args,
+            fuel,
+            self.limits,
+            memory,
+            &[],
+            &mut [],
+            stacks,
+        );
         LaneAnswer::Done(end.outcome)
     }
 

@@ -7,4 +7,5 @@ pub mod laws;
 mod loading;
 
 pub use lane::{LaneAnswer, LaneHost};
-pub use loading::{LoadFault, LoadLimits, Loaded, load};
+pub use loading::{LoadFault, Loaded, load};
+pub use wasm_types::LoadLimits;

@@ -9,10 +9,11 @@ ghost use Rattle.host_run.specs.Serving.{Delivers, IsDue, IsStatus, refused_word
 use host_edge::{OpenGate, Sink, Source, StdSink, StdSource};
 use host_run::{Status, refuse_words, serve};
 use std::alloc::{AllocError, Global};
+use std::env;
+use std::io::{self, ErrorKind};
 use std::process::ExitCode;
 use std::sync::Wait;
 use std::thread::Threads;
-use std::{env, io};
 
 fn main(rt: HostRuntime) -> ExitCode {
     let mut source = StdSource::new(rt.reader());
@@ -41,10 +42,10 @@ fn status_of<S: Source, K: Sink>(
     ensures sink_failed { result ≡ 4 → Rose (K.faults sink.old) (K.faults sink.new) }
 
     // words that aren't text
-    ensures refused { IfErr args (λ error. error_kind error ≢ io::ErrorKind.OutOfMemory
+    ensures refused { IfErr args (λ error. error_kind error ≢ ErrorKind.OutOfMemory
         → Delivers (λ due. due ≡ refused_words) (K.written sink.old) (K.written sink.new) result) }
-    ensures refused_status { IfErr args (λ error. error_kind error ≢ io::ErrorKind.OutOfMemory → (result ≡ 2) ⊎ (result ≡ 4)) }
-    ensures no_memory { IfErr args (λ error. error_kind error ≡ io::ErrorKind.OutOfMemory → result ≡ 5) }
+    ensures refused_status { IfErr args (λ error. error_kind error ≢ ErrorKind.OutOfMemory → (result ≡ 2) ⊎ (result ≡ 4)) }
+    ensures no_memory { IfErr args (λ error. error_kind error ≡ ErrorKind.OutOfMemory → result ≡ 5) }
     ensures unwritten { result ≡ 5 → K.written sink.new ≡ K.written sink.old }
     ensures unread { IfErr args (λ _. source.new ≡ source.old) }
 {
@@ -52,7 +53,7 @@ fn status_of<S: Source, K: Sink>(
         Ok(args) => serve_args(rt, alloc, args.as_slice(), source, sink).unwrap_or(
             Status::NoMemory.code(),
         ),
-        Err(error) if error.kind() == io::ErrorKind::OutOfMemory => Status::NoMemory.code(),
+        Err(error) if error.kind() == ErrorKind::OutOfMemory => Status::NoMemory.code(),
         Err(_) => refuse_words(sink),
     }
 }

@@ -2,6 +2,7 @@
 use Rattle.std.proofs.Common.{◌≡◌, ◌==◌, ◌+◌, ◌≤◌, ℕ, suc, Bool, true, false, not, cond, List, [], ◌∷◌, length, take, drop, refl, ap, sym, ◌∙◌, Some, None, arith}
 use Rattle.std.specs.List.{slice_split, onto_first, position_or_len, position, filter}
 use Rattle.std.proofs.Common.{subst}
+use Rattle.std.proofs.lemmas.Bool.{not-true}
 use Rattle.std.proofs.lemmas.Bool.Decides.{nat_tests}
 use Rattle.std.proofs.lemmas.List.{drop_all}
 use Rattle.std.proofs.lemmas.List.Quantifiers.{position-Some}
@@ -72,10 +73,6 @@ words-word b rest other =
     kept : filter is_word (take (position_or_len is_space (b ∷ rest)) (b ∷ rest) ∷ later) ≡ take (position_or_len is_space (b ∷ rest)) (b ∷ rest) ∷ filter is_word later
     kept = let one : 1 + position_or_len is_space rest ≡ suc (position_or_len is_space rest) = omega arith in rw (other, one) refl
 
-not_true : (s : Bool) → not s ≡ true → s ≡ false
-not_true true h = cc
-not_true false h = refl
-
 -- a line of spaces has no words
 pub words-none : (line : List ℕ) → position is_other line ≡ None → line_words line ≡ []
 words-none line none =
@@ -91,4 +88,4 @@ words-first line start found =
     let first = cond_some _ _ _ found in
     let text = drop-cons line start 0 at.0 in
     sym (words-drop_spaces line) ∙ ap (λ n. line_words (drop n line)) first.1
-    ∙ subst (λ (t : List ℕ). line_words t ≡ take (position_or_len is_space t) t ∷ line_words (drop (position_or_len is_space t) t)) (sym text) (words-word _ _ (not_true _ at.1))
+    ∙ subst (λ (t : List ℕ). line_words t ≡ take (position_or_len is_space t) t ∷ line_words (drop (position_or_len is_space t) t)) (sym text) (words-word _ _ (not-true _ at.1))

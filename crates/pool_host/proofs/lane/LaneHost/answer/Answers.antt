@@ -1,9 +1,9 @@
+use Rattle.wasm_types.specs.declared.limits.RunLimits.{RunLimits}
 use Rattle.std.proofs.Common.{◌≡◌, ◌∙◌, ap, sym, subst, refl, arith, false}
 use Rattle.wasm_types.specs.Tree.{module_tree}
 use Rattle.wasm_types.specs.declared.module.Module.{Module}
 use Rattle.wasm_spec.specs.Validity.{Exports}
 use Rattle.wasm_spec.specs.Store.{fresh_store}
-use Rattle.wasm_spec.specs.Execution.{RunLimits}
 use Rattle.wasm_spec.specs.Result.{call_result}
 use Rattle.pool_host.specs.CallWords.{EndsWith, LacksTypes, Lane}
 use Rattle.pool_host.specs.LoadWords.{FitsFrame}
