@@ -1,0 +1,67 @@
+//! Tickets.
+ghost use Rattle.std.specs.Prelude.{◌≡◌, ◌≤◌, IfOk, OnOk, length, take};
+ghost use Rattle.wasm_spec.specs.Store.{fresh_store};
+ghost use Rattle.pool_worlds.specs.Contents.{Ticket, prepared};
+
+use module_store::{ModuleRef, ModuleStore, Naming};
+use pool_limits::MOST_GLOBALS;
+use std::alloc::Global;
+use std::marker::{Model, PhantomData};
+use wasm_machine::{Memory, Stacks};
+use wasm_types::{NoMemory, Val};
+
+/// The leave for one instance: globals, of which a call's module has the first, stacks for the configured depth of the
+/// configured frames, and a memory without bytes for modules that have none. Contracts see its globals.
+#[derive(Drop)]
+pub struct Ticket<N: Naming> {
+    /// As many values as a module may have globals.
+    pub globals: Vec<Val>,
+    pub stacks: Stacks,
+    /// A memory of no bytes.
+    pub memory: Memory,
+    of: PhantomData<N>,
+}
+
+impl<N: Naming> Model for Ticket<N> {
+    ghost use Rattle.std.specs.Prelude.{List};
+    ghost use Rattle.wasm_types.specs.declared.outcome.Val.{Val};
+    ghost use Rattle.instance_slots.specs.Tickets.{IsTicket};
+
+    ghost Value = { List Val };
+
+    ghost view = { λ t. t.globals.items };
+
+    ghost invariant = { λ t. IsTicket N.config t.globals.items t.stacks t.memory };
+}
+
+impl<N: Naming> Ticket<N> {
+    /// A ticket.
+    ///
+    /// # Errors
+    ///
+    /// `NoMemory` where memory is refused.
+    pub fn open(alloc: Global, store: &ModuleStore<N>) -> Result<Ticket<N>, NoMemory> {
+        let numbers = store.config().numbers();
+        let globals =
+            vec![in alloc; Val::I32(0); MOST_GLOBALS as usize].map_err(|_| NoMemory)?;
+        let stacks = Stacks::open(alloc, numbers.depth, numbers.frame)?;
+        let memory = Memory::zeroed(alloc, 0)?;
+        Ok(Ticket {
+            globals,
+            stacks,
+            memory,
+            of: PhantomData,
+        })
+    }
+
+    /// Writes the first values of the module's globals. Takes no memory.
+    pub fn prepare(&mut self, store: &ModuleStore<N>, module: &ModuleRef<N>)
+        ensures prepared { self.new ≡ prepared N.config.pages «module».now Ticket self.old }
+        ensures globals { take (length «module».now.tree.globals) self.new ≡ (fresh_store «module».now.tree).globals }
+    {
+        // A module of the store has no more globals than are there.
+        let _valid = store.valid(module);
+        let first = store.image(module).globals.as_slice();
+        self.globals[..first.len()].copy_from_slice(first);
+    }
+}

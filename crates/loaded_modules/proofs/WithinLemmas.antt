@@ -1,0 +1,51 @@
+-- A module that loading gives.
+use Rattle.std.proofs.Common.{◌≡◌, ℕ, ◌<◌, ◌≤◌, ◌+◌, Bool, true, false, cond, List, [], ◌∷◌, length, refl, sym, ap, ◌∙◌, subst, arith}
+use Rattle.std.specs.Prelude.{Option, Some, None, Ok, All, map, find, nat_lt}
+use Rattle.std.specs.List.{enumerate_from}
+use Rattle.std.proofs.lemmas.Bool.{ltb-false}
+use Rattle.std.proofs.lemmas.List.Elements.{All-nil, All-cons}
+use Rattle.wasm_types.specs.declared.limits.LoadLimits.{LoadLimits}
+use Rattle.wasm_types.specs.Tree.{FunctionTree, ModuleTree}
+use Rattle.wasm_spec.specs.Need.{need}
+use Rattle.wasm_spec.specs.Store.{Extent, minimum_of, first_misfit}
+use Rattle.wasm_spec.specs.Loading.{Measure, Frame, Demand, Loads, first_over, refusal_of}
+use Rattle.loaded_modules.specs.Within.{IsWithin}
+
+no_refusal : (d : Option Demand) (e : Option Extent) → refusal_of d e ≡ None → (d ≡ None) × (e ≡ None)
+no_refusal None None h = (refl, refl)
+no_refusal None (Some x) h = absurd (cc)
+no_refusal (Some y) e h = absurd (cc)
+
+-- a demand that is not found to be over keeps to its limit, and the others are not found either
+first_keeps : (limit value : ℕ) (d : Demand) (rest : Option Demand) → ◌≡◌ {A = Option Demand} (cond (nat_lt limit value) (Some d) rest) None
+    → (value ≤ limit) × (rest ≡ None)
+first_keeps limit value d rest h =
+    let split : (b : Bool) → nat_lt limit value ≡ b → ◌≡◌ {A = Option Demand} (cond b (Some d) rest) None → (value ≤ limit) × (rest ≡ None) = elim [
+      | true ↦ λ q n. absurd (cc)
+      | false ↦ λ q n. (ltb-false limit value q, n)
+    ] in split (nat_lt limit value) refl h
+
+frames_keep : (m : ModuleTree) (most k : ℕ) (fs : List FunctionTree)
+    → find (λ d. nat_lt d.limit d.value) (map (λ (f : ℕ × FunctionTree). record { which = Frame f.0; value = need m f.1; limit = most }) (enumerate_from k fs)) ≡ None
+    → All (λ f. need m f ≤ most) fs
+frames_keep m most k [] h = All-nil (λ f. need m f ≤ most)
+frames_keep m most k (f ∷ fs) h =
+    let first = first_keeps most (need m f) (record { which = Frame k; value = need m f; limit = most }) _ h in
+    All-cons (λ f. need m f ≤ most) f fs first.0 (frames_keep m most (k + 1) fs first.1)
+
+pub loaded-within : (bytes : List ℕ) (limits : LoadLimits) (m : ModuleTree) → Loads bytes limits (Ok m) → IsWithin limits m
+loaded-within bytes limits m loads =
+    let tree : ModuleTree = loads.tree in
+    let none = no_refusal (first_over limits tree) (first_misfit tree) loads.answers.0.late_is in
+    let pages = first_keeps limits.pages (minimum_of tree.memories) _ _ none.0 in
+    let elements = first_keeps limits.elements (minimum_of tree.tables) _ _ pages.1 in
+    let globals = first_keeps 1024 (length tree.globals) _ _ elements.1 in
+    subst (IsWithin limits) (sym loads.answers.1) (record {
+      supported = loads.answers.0.runs;
+      valid = loads.answers.0.valid;
+      segments = none.1;
+      pages = pages.0;
+      elements = elements.0;
+      globals = globals.0;
+      frames = frames_keep tree limits.frame 0 tree.functions globals.1;
+    })

@@ -1,0 +1,14 @@
+-- What every memory in a slot keeps.
+use Rattle.std.specs.Prelude.{◌≡◌, ℕ, ◌*◌, ◌≤◌, length}
+use Rattle.wasm_spec.specs.Store.{page_size}
+use Rattle.linear_memory.specs.Marks.{block_size}
+use Rattle.pool_limits.specs.declared.numbers.Numbers.{Numbers}
+use Rattle.pool_worlds.specs.Contents.{MemoryContents, memory_image, HasImageOutside}
+
+-- bytes for the configured pages, a mark for each block of them, a size within them, and outside the marked blocks its image
+pub record IsKept (config : Numbers) (x : MemoryContents) : Type 0 where
+  pub room : length x.bytes ≡ config.pages * page_size
+  pub marked : length x.bytes ≡ block_size * length x.marks
+  pub few : config.pages ≤ 256
+  pub size : x.pages ≤ config.pages
+  pub outside : HasImageOutside (memory_image config.pages x.holds) x.bytes x.marks

@@ -1,0 +1,75 @@
+//! Blocks of a memory, and how they are written over from an image.
+ghost use Rattle.std.specs.Prelude.{◌≡◌, ◌≢◌, ◌+◌, ◌*◌, ◌<◌, ◌≤◌, false, ℕ, length, slice_index, slice_index_or, count_by, if◌then◌else◌};
+ghost use Rattle.linear_memory.specs.Marks.{block_size};
+ghost use Rattle.pool_worlds.specs.Contents.{IsClean};
+ghost use Rattle.memory_slots.specs.Images.{HasImageFrom, HasImage, KeepsImage};
+
+use crate::steps::Steps;
+use linear_memory::BLOCK_SIZE;
+use std::sync::ledger::Ledger;
+
+// Writes what the image has from a place on: its bytes, and zeros past its end.
+fn write_image(part: &mut [u8], image: &[u8], from: usize)
+    ensures image { HasImageFrom from part.new image.now }
+    ensures room { length part.new ≡ length part.old }
+{
+    let rest = &image[from.min(image.len())..];
+    let kept = rest.len().min(part.len());
+    part[..kept].copy_from_slice(&rest[..kept]);
+    part[kept..].fill(0);
+}
+
+// Where the block is marked, it is written over from the image, in one step, and its mark is taken away.
+fn restore_block<L: Ledger>(
+    bytes: &mut [u8],
+    marks: &mut [bool],
+    image: &[u8],
+    block: usize,
+    steps: &mut Steps<L>,
+)
+    requires marked { length bytes.old ≡ block_size * length marks.old }
+    requires block { block < length marks.old }
+    requires outside { KeepsImage bytes.old marks.old image.now }
+    ensures outside { KeepsImage bytes.new marks.new image.now }
+    ensures clean { slice_index_or marks.new block false ≡ false }
+    ensures others { (k : ℕ) → k ≢ block → slice_index_or marks.new k false ≡ slice_index_or marks.old k false }
+    ensures room { (length bytes.new ≡ length bytes.old) × (length marks.new ≡ length marks.old) }
+    ensures steps { steps.new ≡ steps.old + (if slice_index_or marks.old block false then 1 else 0) }
+{
+    if !marks[block] {
+        return;
+    }
+    let start = block * BLOCK_SIZE as usize;
+    write_image(&mut bytes[start..start + BLOCK_SIZE as usize], image, start);
+    marks[block] = false;
+    steps.tick();
+}
+
+// Writes the blocks that are marked over from the image, in one step each, and takes their marks away.
+pub(crate) fn restore_marked<L: Ledger>(
+    bytes: &mut [u8],
+    marks: &mut [bool],
+    image: &[u8],
+    steps: &mut Steps<L>,
+)
+    requires marked { length bytes.old ≡ block_size * length marks.old }
+    requires outside { KeepsImage bytes.old marks.old image.now }
+    ensures bytes { HasImage bytes.new image.now }
+    ensures marks { IsClean marks.new }
+    ensures room { (length bytes.new ≡ length bytes.old) × (length marks.new ≡ length marks.old) }
+    ensures steps { steps.new ≡ steps.old + count_by (λ marked. marked) marks.old }
+{
+    for block in 0..marks.len() {
+        restore_block(bytes, marks, image, block, steps);
+    }
+}
+
+// Writes all over from the image, and takes all marks away.
+pub(crate) fn write_all(bytes: &mut [u8], marks: &mut [bool], image: &[u8])
+    ensures bytes { HasImage bytes.new image.now }
+    ensures marks { IsClean marks.new }
+    ensures room { (length bytes.new ≡ length bytes.old) × (length marks.new ≡ length marks.old) }
+{
+    write_image(bytes, image, 0);
+    marks.fill(false);
+}

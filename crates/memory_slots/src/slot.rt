@@ -1,0 +1,217 @@
+//! Memories in slots, and the modules that they belong to.
+ghost use Rattle.std.specs.Prelude.{◌≡◌, ◌+◌, ◌-◌, ◌*◌, ◌<◌, ◌≤◌, true, Some, None, Option, is_some, length, count_by, IfOk};
+ghost use Rattle.wasm_types.specs.Tree.{module_tree};
+ghost use Rattle.wasm_spec.specs.Instances.{room_for};
+ghost use Rattle.wasm_spec.specs.Store.{fresh_store, minimum_of};
+ghost use Rattle.wasm_spec.specs.Result.{function_result};
+ghost use Rattle.wasm_machine.specs.Calls.{IsCall, FitsFrame, IsDone};
+ghost use Rattle.wasm_machine.specs.Lent.{others};
+ghost use Rattle.wasm_machine.specs.TypedConfiguration.{IsTypedStore};
+ghost use Rattle.pool_worlds.specs.Contents.{Named, Memory, prepared, restored, shown_memory, IsCold, IsFreshMemory};
+ghost use Rattle.pool_worlds.specs.Runs.{Leaves};
+ghost use Rattle.memory_slots.specs.Kept.{IsKept};
+ghost use Rattle.memory_slots.specs.Lent.{IsReady, dirty_blocks, parts, store_in};
+
+use crate::blocks::{restore_marked, write_all};
+use crate::steps::Steps;
+use linear_memory::Memory;
+use module_store::{ModuleRef, ModuleStore, Naming};
+use std::alloc::Global;
+use std::marker::{Brand, Model};
+use std::sync::ledger::{Blank, Ledger};
+use wasm_machine::{RunEnd, Stacks, run};
+use wasm_types::{NoMemory, RunLimits, Val};
+use wasm_validate::Valid;
+
+/// A memory that lies in a slot, with bytes for the configured pages. Each byte outside its marked blocks is that of its own
+/// module's image, so it lends no `&mut` of its memory. Contracts see its contents.
+#[derive(Drop)]
+pub struct MemSlot<N: Naming> {
+    memory: Memory,
+    holds: Option<ModuleRef<N>>,
+}
+
+impl<N: Naming> Model for MemSlot<N> {
+    ghost use Rattle.pool_worlds.specs.Contents.{MemoryContents};
+    ghost use Rattle.pool_worlds.specs.Codes.{coded_memory};
+    ghost use Rattle.memory_slots.specs.Kept.{IsKept};
+
+    ghost Value = { MemoryContents };
+
+    ghost coded = { coded_memory };
+
+    ghost view = { λ s. record { bytes = s.memory.bytes.items; pages = s.memory.pages; marks = s.memory.marks.items; holds = s.holds } };
+
+    ghost invariant = { λ s. IsKept N.config (record { bytes = s.memory.bytes.items; pages = s.memory.pages; marks = s.memory.marks.items; holds = s.holds }) };
+}
+
+impl<N: Naming> MemSlot<N> {
+    /// A cold memory.
+    ///
+    /// # Errors
+    ///
+    /// `NoMemory` where memory is refused.
+    pub fn open(alloc: Global, store: &ModuleStore<N>) -> Result<MemSlot<N>, NoMemory>
+        ensures { IfOk result (IsCold N.config.pages Memory) }
+    {
+        let pages = store.config().numbers().pages;
+        let memory = Memory::zeroed(alloc, pages)?;
+        Ok(MemSlot {
+            memory,
+            holds: None,
+        })
+    }
+
+    /// Makes it the module's fresh memory. Where it belongs to that module already, the marked blocks alone are written. Takes
+    /// no memory.
+    pub fn prepare(&mut self, store: &ModuleStore<N>, module: &ModuleRef<N>)
+        ensures prepared { self.new ≡ prepared N.config.pages «module».now Memory self.old }
+        ensures fresh { IsFreshMemory N.config.pages self.new «module».now }
+        ensures shown { shown_memory true self.new ≡ (fresh_store «module».now.tree).memory }
+        ensures ready { IsReady (room_for «module».now.tree.memories N.config.pages) self.new }
+    {
+        self.prepare_uncounted::<Brand>(store, module, Blank::new(1));
+    }
+
+    /// Makes it the fresh memory of its own module, if it has one. Takes no memory.
+    pub fn restore(&mut self, store: &ModuleStore<N>)
+        ensures { self.new ≡ restored N.config.pages Memory self.old }
+    {
+        self.restore_uncounted::<Brand>(store, Blank::new(1));
+    }
+
+    /// [`MemSlot::restore`], with one step for each block that is written: as many as are marked.
+    pub fn restore_counted<L: Ledger>(&mut self, store: &ModuleStore<N>, steps: &mut Steps<L>)
+        requires { is_some self.old.holds ≡ true }
+        ensures restored { self.new ≡ restored N.config.pages Memory self.old }
+        ensures steps { steps.new ≡ steps.old + dirty_blocks self.old }
+    {
+        let Some(own) = &self.holds else {
+            unreachable!();
+        };
+        let image = store.image(own);
+        let pages = least_pages(store.valid(own));
+        restore_marked(
+            &mut self.memory.bytes,
+            &mut self.memory.marks,
+            image.memory.as_slice(),
+            steps,
+        );
+        self.memory.pages = pages;
+    }
+
+    /// Makes it cold. Takes no memory.
+    pub fn clear(&mut self)
+        ensures { IsCold N.config.pages Memory self.new }
+    {
+        write_all(&mut self.memory.bytes, &mut self.memory.marks, &[]);
+        self.memory.pages = 0;
+        self.holds = None;
+    }
+
+    /// How many blocks are marked. Takes no memory.
+    pub fn dirty(&self) -> u32
+        ensures { result ≡ dirty_blocks self.now }
+    {
+        self.memory.marks.iter().filter(|marked| **marked).count() as u32
+    }
+
+    /// Runs a function of a module on fuel, on this memory, and on a table, globals and stacks that are lent, as
+    /// [`wasm_machine::run`] does. It keeps the module that it belongs to. Takes no memory.
+    pub fn run(
+        &mut self,
+        valid: &Valid,
+        function: u32,
+        args: &[Val],
+        fuel: u64,
+        limits: RunLimits,
+        table: &[Option<u32>],
+        globals: &mut [Val],
+        stacks: &mut Stacks,
+    ) -> RunEnd
+        requires call { IsCall valid.now function args.now }
+        requires depth { 0 < limits.depth }
+        requires pages { limits.pages ≤ N.config.pages }
+        requires ready { IsReady (room_for valid.now.memories limits.pages) self.old }
+        requires store { IsTypedStore valid.now (store_in valid.now self.old table.now globals.old) }
+        requires frames { limits.depth ≤ stacks.old.room.depth }
+        requires frame { FitsFrame valid.now stacks.old.room.frame }
+        ensures result { function_result (module_tree valid.now) limits function args.now (store_in valid.now self.old table.now globals.old) fuel
+            ≡ Some (record { outcome = result.outcome; store = store_in valid.now self.new table.now globals.new; fuel = result.left }) }
+        ensures leaves { (owner : Option Named) → Leaves N.config.pages (module_tree valid.now)
+            (function_result (module_tree valid.now) limits function args.now (store_in valid.now self.old table.now globals.old)) fuel
+            (parts self.old owner table.now globals.old) (parts self.new owner table.now globals.new) self.new.marks
+            (record { outcome = result.outcome; store = store_in valid.now self.new table.now globals.new; fuel = result.left }) }
+        ensures left { result.left ≤ fuel }
+        ensures ready { IsReady (room_for valid.now.memories limits.pages) self.new }
+        ensures store { IsDone result.outcome → IsTypedStore valid.now (store_in valid.now self.new table.now globals.new) }
+        ensures holds { self.new.holds ≡ self.old.holds }
+        ensures counted { dirty_blocks self.new ≤ dirty_blocks self.old + 2 * (fuel - result.left) }
+        ensures globals { length globals.new ≡ length globals.old }
+        ensures others { others valid.now globals.new ≡ others valid.now globals.old }
+        ensures stacks { stacks.new.room ≡ stacks.old.room }
+    {
+        run(
+            valid,
+            function,
+            args,
+            fuel,
+            limits,
+            &mut self.memory,
+            table,
+            globals,
+            stacks,
+        )
+    }
+
+    fn restore_uncounted<L: Ledger>(&mut self, store: &ModuleStore<N>, blank: Blank)
+        requires name { (blank.name ≡ L.name) × (blank.parts ≡ L.parts) × (0 < blank.parts) }
+        ensures { self.new ≡ restored N.config.pages Memory self.old }
+    {
+        if self.holds.is_none() {
+            return;
+        }
+        let mut steps = Steps::<L>::new(blank);
+        self.restore_counted(store, &mut steps);
+    }
+
+    fn prepare_uncounted<L: Ledger>(
+        &mut self,
+        store: &ModuleStore<N>,
+        module: &ModuleRef<N>,
+        blank: Blank,
+    )
+        requires name { (blank.name ≡ L.name) × (blank.parts ≡ L.parts) × (0 < blank.parts) }
+        ensures prepared { self.new ≡ prepared N.config.pages «module».now Memory self.old }
+        ensures fresh { IsFreshMemory N.config.pages self.new «module».now }
+    {
+        let image = store.image(module);
+        let pages = least_pages(store.valid(module));
+        let mut steps = Steps::<L>::new(blank);
+        match &self.holds {
+            Some(own) if store.same(own, module) => restore_marked(
+                &mut self.memory.bytes,
+                &mut self.memory.marks,
+                image.memory.as_slice(),
+                &mut steps,
+            ),
+            _ => write_all(
+                &mut self.memory.bytes,
+                &mut self.memory.marks,
+                image.memory.as_slice(),
+            ),
+        }
+        self.memory.pages = pages;
+        self.holds = Some(module.again());
+    }
+}
+
+// The pages that the module's memory begins with; 0 where it has none.
+fn least_pages(valid: &Valid) -> u32
+    ensures { result ≡ minimum_of (module_tree valid.now).memories }
+{
+    match valid.module().memories.as_slice().first() {
+        Some(limits) => limits.min,
+        None => 0,
+    }
+}

@@ -1,0 +1,98 @@
+//! Tables in slots, and the modules that they belong to.
+ghost use Rattle.std.specs.Prelude.{◌≡◌, ◌≤◌, IfOk, length};
+ghost use Rattle.pool_worlds.specs.Contents.{Table, prepared, restored, IsCold, IsTableOf};
+
+use module_store::{ModuleRef, ModuleStore, Naming};
+use std::alloc::Global;
+use std::marker::Model;
+use wasm_types::NoMemory;
+
+/// A table that lies in a slot, with room for the configured elements. No run writes to a table, so its entries are those of
+/// its own module. Contracts see its contents.
+#[derive(Drop)]
+pub struct TableSlot<N: Naming> {
+    entries: Vec<Option<u32>>,
+    // How many of the entries are the table's.
+    count: usize,
+    holds: Option<ModuleRef<N>>,
+}
+
+impl<N: Naming> Model for TableSlot<N> {
+    ghost use Rattle.std.specs.Prelude.{take};
+    ghost use Rattle.pool_worlds.specs.Contents.{TableContents};
+    ghost use Rattle.pool_worlds.specs.Codes.{coded_table};
+    ghost use Rattle.table_slots.specs.Kept.{IsKept};
+
+    ghost Value = { TableContents };
+
+    ghost coded = { coded_table };
+
+    ghost view = { λ s. record { entries = take s.count s.entries.items; holds = s.holds } };
+
+    ghost invariant = { λ s. IsKept N.config s.entries.items s.count s.holds };
+}
+
+impl<N: Naming> TableSlot<N> {
+    /// A cold table.
+    ///
+    /// # Errors
+    ///
+    /// `NoMemory` where memory is refused.
+    pub fn open(alloc: Global, store: &ModuleStore<N>) -> Result<TableSlot<N>, NoMemory>
+        ensures { IfOk result (IsCold N.config.pages Table) }
+    {
+        let room = store.config().numbers().elements as usize;
+        let entries = vec![in alloc; None; room].map_err(|_| NoMemory)?;
+        Ok(TableSlot {
+            entries,
+            count: 0,
+            holds: None,
+        })
+    }
+
+    /// Makes it the module's fresh table. Where it belongs to that module already, nothing is written. Takes no memory.
+    pub fn prepare(&mut self, store: &ModuleStore<N>, module: &ModuleRef<N>)
+        ensures prepared { self.new ≡ prepared N.config.pages «module».now Table self.old }
+        ensures table { IsTableOf self.new «module».now }
+    {
+        if let Some(own) = &self.holds {
+            if store.same(own, module) {
+                return;
+            }
+        }
+        self.write(store, module);
+    }
+
+    // Writes the module's table over what is there.
+    fn write(&mut self, store: &ModuleStore<N>, module: &ModuleRef<N>)
+        ensures { IsTableOf self.new «module».now }
+    {
+        // A module of the store has no larger table than the configuration allows.
+        let _valid = store.valid(module);
+        let table = store.image(module).table.as_slice();
+        self.entries[..table.len()].copy_from_slice(table);
+        self.count = table.len();
+        self.holds = Some(module.again());
+    }
+
+    /// Makes it the fresh table of its own module, if it has one: it is that already. Takes no memory.
+    pub fn restore(&mut self, _store: &ModuleStore<N>)
+        ensures { self.new ≡ restored N.config.pages Table self.old }
+    {
+    }
+
+    /// Makes it cold. Takes no memory.
+    pub fn clear(&mut self)
+        ensures { IsCold N.config.pages Table self.new }
+    {
+        self.count = 0;
+        self.holds = None;
+    }
+
+    /// A function's index or nothing for each element of the table. Takes no memory.
+    pub fn entries(&self) -> &[Option<u32>]
+        ensures { result.now ≡ self.now.entries }
+    {
+        &self.entries[..self.count]
+    }
+}
