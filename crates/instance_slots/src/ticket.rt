@@ -1,7 +1,8 @@
 //! Tickets.
-ghost use Rattle.std.specs.Prelude.{◌≡◌, ◌≤◌, IfOk, OnOk, length, take};
+ghost use Rattle.std.specs.Prelude.{◌≡◌, ◌≤◌, ◌++◌, IfOk, length, drop, take};
 ghost use Rattle.wasm_spec.specs.Store.{fresh_store};
-ghost use Rattle.pool_worlds.specs.Contents.{Ticket, prepared};
+ghost use Rattle.pool_worlds.specs.Contents as contents;
+ghost use Rattle.pool_worlds.specs.Contents.{prepared};
 
 use module_store::{ModuleRef, ModuleStore, Naming};
 use pool_limits::MOST_GLOBALS;
@@ -34,6 +35,24 @@ impl<N: Naming> Model for Ticket<N> {
     ghost invariant = { λ t. IsTicket N.config t.globals.items t.stacks t.memory };
 }
 
+// As many values as a module may have globals.
+fn zeros(alloc: Global) -> Result<Vec<Val>, NoMemory>
+    ensures { IfOk result (λ globals. length globals.items ≡ MOST_GLOBALS) }
+{
+    match vec![in alloc; Val::I32(0); MOST_GLOBALS as usize] {
+        Ok(globals) => Ok(globals),
+        Err(_) => Err(NoMemory),
+    }
+}
+
+// Writes these values over the first.
+fn put(globals: &mut [Val], first: &[Val])
+    requires { length first.now ≤ length globals.old }
+    ensures { globals.new ≡ first.now ++ drop (length first.now) globals.old }
+{
+    globals[..first.len()].copy_from_slice(first);
+}
+
 impl<N: Naming> Ticket<N> {
     /// A ticket.
     ///
@@ -42,8 +61,7 @@ impl<N: Naming> Ticket<N> {
     /// `NoMemory` where memory is refused.
     pub fn open(alloc: Global, store: &ModuleStore<N>) -> Result<Ticket<N>, NoMemory> {
         let numbers = store.config().numbers();
-        let globals =
-            vec![in alloc; Val::I32(0); MOST_GLOBALS as usize].map_err(|_| NoMemory)?;
+        let globals = zeros(alloc)?;
         let stacks = Stacks::open(alloc, numbers.depth, numbers.frame)?;
         let memory = Memory::zeroed(alloc, 0)?;
         Ok(Ticket {
@@ -56,12 +74,12 @@ impl<N: Naming> Ticket<N> {
 
     /// Writes the first values of the module's globals. Takes no memory.
     pub fn prepare(&mut self, store: &ModuleStore<N>, module: &ModuleRef<N>)
-        ensures prepared { self.new ≡ prepared N.config.pages «module».now Ticket self.old }
+        ensures prepared { self.new ≡ prepared N.config.pages «module».now contents.Ticket self.old }
         ensures globals { take (length «module».now.tree.globals) self.new ≡ (fresh_store «module».now.tree).globals }
     {
         // A module of the store has no more globals than are there.
         let _valid = store.valid(module);
         let first = store.image(module).globals.as_slice();
-        self.globals[..first.len()].copy_from_slice(first);
+        put(&mut self.globals, first);
     }
 }

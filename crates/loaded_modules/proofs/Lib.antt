@@ -1,2 +1,1 @@
 pub mod WithinLemmas
-pub mod TypedLemmas

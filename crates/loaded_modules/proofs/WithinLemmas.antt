@@ -1,5 +1,5 @@
 -- A module that loading gives.
-use Rattle.std.proofs.Common.{◌≡◌, ℕ, ◌<◌, ◌≤◌, ◌+◌, Bool, true, false, cond, List, [], ◌∷◌, length, refl, sym, ap, ◌∙◌, subst, arith}
+use Rattle.std.proofs.Common.{◌≡◌, ℕ, ◌≤◌, ◌+◌, Bool, true, false, cond, List, [], ◌∷◌, length, refl, sym, subst}
 use Rattle.std.specs.Prelude.{Option, Some, None, Ok, All, map, find, nat_lt}
 use Rattle.std.specs.List.{enumerate_from}
 use Rattle.std.proofs.lemmas.Bool.{ltb-false}
@@ -8,7 +8,7 @@ use Rattle.wasm_types.specs.declared.limits.LoadLimits.{LoadLimits}
 use Rattle.wasm_types.specs.Tree.{FunctionTree, ModuleTree}
 use Rattle.wasm_spec.specs.Need.{need}
 use Rattle.wasm_spec.specs.Store.{Extent, minimum_of, first_misfit}
-use Rattle.wasm_spec.specs.Loading.{Measure, Frame, Demand, Loads, first_over, refusal_of}
+use Rattle.wasm_spec.specs.Loading.{Frame, Demand, Loads, first_over, refusal_of}
 use Rattle.loaded_modules.specs.Within.{IsWithin}
 
 no_refusal : (d : Option Demand) (e : Option Extent) → refusal_of d e ≡ None → (d ≡ None) × (e ≡ None)
@@ -26,7 +26,7 @@ first_keeps limit value d rest h =
     ] in split (nat_lt limit value) refl h
 
 frames_keep : (m : ModuleTree) (most k : ℕ) (fs : List FunctionTree)
-    → find (λ d. nat_lt d.limit d.value) (map (λ (f : ℕ × FunctionTree). record { which = Frame f.0; value = need m f.1; limit = most }) (enumerate_from k fs)) ≡ None
+    → find (λ (d : Demand). nat_lt d.limit d.value) (map (λ (f : ℕ × FunctionTree). record { which = Frame f.0; value = need m f.1; limit = most }) (enumerate_from k fs)) ≡ None
     → All (λ f. need m f ≤ most) fs
 frames_keep m most k [] h = All-nil (λ f. need m f ≤ most)
 frames_keep m most k (f ∷ fs) h =

@@ -1,5 +1,5 @@
 -- What loading says of a module.
-use Rattle.std.specs.Prelude.{◌≡◌, ℕ, ◌≤◌, None, length, All}
+use Rattle.std.specs.Prelude.{◌≡◌, ◌≤◌, None, length, All}
 use Rattle.wasm_types.specs.declared.limits.LoadLimits.{LoadLimits}
 use Rattle.wasm_types.specs.Tree.{ModuleTree}
 use Rattle.wasm_spec.specs.Validity.{IsSupported, IsValid}

@@ -1,12 +1,9 @@
 //! What loading says of a module. Each function does nothing: its contract is the law.
-ghost use Rattle.std.specs.Prelude.{◌≡◌, ◌*◌, ℕ, List, Ok, length};
+ghost use Rattle.std.specs.Prelude.{◌≡◌, ℕ, List, Ok, length};
 ghost use Rattle.wasm_types.specs.declared.limits.LoadLimits.{LoadLimits};
-ghost use Rattle.wasm_types.specs.declared.module.Module.{Module};
-ghost use Rattle.wasm_types.specs.Tree.{ModuleTree, module_tree};
+ghost use Rattle.wasm_types.specs.Tree.{ModuleTree};
 ghost use Rattle.wasm_spec.specs.Loading.{Loads};
 ghost use Rattle.wasm_spec.specs.Store.{fresh_store, memory_size, table_size};
-ghost use Rattle.wasm_machine.specs.Calls.{FitsFrame};
-ghost use Rattle.wasm_machine.specs.TypedConfiguration.{IsTypedStore};
 ghost use Rattle.loaded_modules.specs.Within.{IsWithin};
 
 /// A module that loading gives is supported and valid, its segments fit, and it asks for no more than the limits.
@@ -19,10 +16,4 @@ pub fn a_fresh_store_has_the_least_sizes()
     ensures memory { (limits : LoadLimits) (m : ModuleTree) → IsWithin limits m → length (fresh_store m).memory ≡ memory_size m }
     ensures table { (limits : LoadLimits) (m : ModuleTree) → IsWithin limits m → length (fresh_store m).table ≡ table_size m }
     ensures globals { (m : ModuleTree) → length (fresh_store m).globals ≡ length m.globals }
-{}
-
-/// Its fresh store is one that the machine may run it on, and its frames fit stacks of the limit.
-pub fn the_machine_may_run_it()
-    ensures store { (limits : LoadLimits) (m : Module) → IsWithin limits (module_tree m) → IsTypedStore m (fresh_store (module_tree m)) }
-    ensures frame { (limits : LoadLimits) (m : Module) → IsWithin limits (module_tree m) → FitsFrame m limits.frame }
 {}

@@ -1,5 +1,5 @@
 //! Tables in slots, and the modules that they belong to.
-ghost use Rattle.std.specs.Prelude.{◌≡◌, ◌≤◌, IfOk, length};
+ghost use Rattle.std.specs.Prelude.{◌≡◌, ◌≤◌, ◌++◌, IfOk, length, drop};
 ghost use Rattle.pool_worlds.specs.Contents.{Table, prepared, restored, IsCold, IsTableOf};
 
 use module_store::{ModuleRef, ModuleStore, Naming};
@@ -30,6 +30,14 @@ impl<N: Naming> Model for TableSlot<N> {
     ghost view = { λ s. record { entries = take s.count s.entries.items; holds = s.holds } };
 
     ghost invariant = { λ s. IsKept N.config s.entries.items s.count s.holds };
+}
+
+// Writes these entries over the first.
+fn put(entries: &mut [Option<u32>], table: &[Option<u32>])
+    requires { length table.now ≤ length entries.old }
+    ensures { entries.new ≡ table.now ++ drop (length table.now) entries.old }
+{
+    entries[..table.len()].copy_from_slice(table);
 }
 
 impl<N: Naming> TableSlot<N> {
@@ -70,7 +78,7 @@ impl<N: Naming> TableSlot<N> {
         // A module of the store has no larger table than the configuration allows.
         let _valid = store.valid(module);
         let table = store.image(module).table.as_slice();
-        self.entries[..table.len()].copy_from_slice(table);
+        put(&mut self.entries, table);
         self.count = table.len();
         self.holds = Some(module.again());
     }
@@ -78,8 +86,7 @@ impl<N: Naming> TableSlot<N> {
     /// Makes it the fresh table of its own module, if it has one: it is that already. Takes no memory.
     pub fn restore(&mut self, _store: &ModuleStore<N>)
         ensures { self.new ≡ restored N.config.pages Table self.old }
-    {
-    }
+    {}
 
     /// Makes it cold. Takes no memory.
     pub fn clear(&mut self)
