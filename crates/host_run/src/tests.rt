@@ -3,6 +3,7 @@ use crate::{refuse_words, serve};
 use host_edge::{Failed, Gate, MemSink, MemSource, OpenGate, Sink};
 use request_text::{MOST_CALLS, MOST_MODULES};
 use std::alloc::Global;
+use std::process::Abort;
 use std::sync::Wait;
 use std::sync::atomic::{AtomicU64, Ordering};
 use std::test::Fail;
@@ -146,7 +147,7 @@ call over x 1
 call wide x 1
 ";
 
-const RUNS: [Run; 27] = [
+const RUNS: [Run; 18] = [
     // a call of an addition
     Run {
         words: RUN,
@@ -203,90 +204,6 @@ const RUNS: [Run; 27] = [
         written: b"module rec ok\nmodule div ok\nmodule stop ok\nmodule mem ok\n\
             1 ok i32:0\n2 fuel\n3 trap exhausted\n4 trap overflow\n5 trap divide\n6 ok i64:-3\n7 trap unreachable\n\
             8 refused export\n",
-    },
-    // memories, each call's fresh
-    Run {
-        words: RUN,
-        bytes: MEMORY,
-        source: (4096, &[]),
-        sink: (4096, &[]),
-        status: 0,
-        written: b"module bump ok\nmodule poke ok\nmodule wrap ok\n1 ok i32:1\n2 ok\n3 ok i32:1\n4 ok i32:1\n5 fuel\n6 ok\n\
-            7 trap memory\n8 trap memory\n9 trap memory\n",
-    },
-    // memories that grow
-    Run {
-        words: RUN,
-        bytes: GROWTH,
-        source: (4096, &[]),
-        sink: (4096, &[]),
-        status: 0,
-        written: b"module grown ok\nmodule grow ok\n1 fuel\n2 ok i32:0\n3 ok i32:1\n4 ok i32:-1\n5 ok i32:1\n6 ok i32:-1\n",
-    },
-    // memories that may not grow
-    Run {
-        words: &["poolhost", "run", "--pages", "1"],
-        bytes: GROWTH,
-        source: (4096, &[]),
-        sink: (4096, &[]),
-        status: 0,
-        written: b"module grown ok\nmodule grow ok\n1 trap memory\n2 trap memory\n3 ok i32:-1\n4 ok i32:-1\n5 ok i32:1\n6 ok i32:-1\n",
-    },
-    // globals, and a start function on the same fuel
-    Run {
-        words: RUN,
-        bytes: GLOBALS,
-        source: (4096, &[]),
-        sink: (4096, &[]),
-        status: 0,
-        written: b"module count ok\nmodule set ok\n1 ok i32:42\n2 ok i32:42\n3 ok i32:7\n4 fuel\n5 fuel\n",
-    },
-    // start functions whose end is the call's
-    Run {
-        words: RUN,
-        bytes: STARTS,
-        source: (4096, &[]),
-        sink: (4096, &[]),
-        status: 0,
-        written: b"module trap ok\nmodule spin ok\n1 trap unreachable\n2 fuel\n3 fuel\n4 refused args\n5 refused export\n",
-    },
-    // tables
-    Run {
-        words: RUN,
-        bytes: TABLES,
-        source: (4096, &[]),
-        sink: (4096, &[]),
-        status: 0,
-        written: b"module ind ok\nmodule div ok\n1 ok i32:7\n2 trap signature\n3 trap uninit\n4 trap element\n5 trap element\n\
-            6 trap overflow\n7 ok i32:0\n8 ok i32:-1\n",
-    },
-    // what is past a memory or a limit
-    Run {
-        words: RUN,
-        bytes: LIMITS,
-        source: (4096, &[]),
-        sink: (4096, &[]),
-        status: 0,
-        written: b"module over refused segment\nmodule wide refused limit\nmodule long refused limit\n1 refused module\n2 refused module\n",
-    },
-    // limits that are enough
-    Run {
-        words: &["poolhost", "run", "--pages", "33", "--elements", "1025"],
-        bytes: LIMITS,
-        source: (4096, &[]),
-        sink: (4096, &[]),
-        status: 0,
-        written: b"module over refused segment\nmodule wide ok\nmodule long ok\n1 refused module\n2 refused export\n",
-    },
-    // a memory for one slot
-    Run {
-        words: &["poolhost", "run", "--instances", "1", "--memories", "1", "--tables", "1", "--warm", "0", "--batch", "1"],
-        bytes: MEMORY,
-        source: (4096, &[]),
-        sink: (4096, &[]),
-        status: 0,
-        written: b"module bump ok\nmodule poke ok\nmodule wrap ok\n1 ok i32:1\n2 ok\n3 ok i32:1\n4 ok i32:1\n5 fuel\n6 ok\n\
-            7 trap memory\n8 trap memory\n9 trap memory\n",
     },
     // no line
     Run {
@@ -398,21 +315,129 @@ const RUNS: [Run; 27] = [
     },
 ];
 
-#[test]
-fn runs_end_with_their_status_and_text(rt: HostRuntime) -> Result<(), Fail> {
-    let alloc = rt.alloc();
-    for (at, run) in RUNS.into_iter().enumerate() {
+const INSTANCES: [Run; 9] = [
+    // memories, each call's fresh
+    Run {
+        words: RUN,
+        bytes: MEMORY,
+        source: (4096, &[]),
+        sink: (4096, &[]),
+        status: 0,
+        written: b"module bump ok\nmodule poke ok\nmodule wrap ok\n1 ok i32:1\n2 ok\n3 ok i32:1\n4 ok i32:1\n5 fuel\n6 ok\n\
+            7 trap memory\n8 trap memory\n9 trap memory\n",
+    },
+    // memories that grow
+    Run {
+        words: RUN,
+        bytes: GROWTH,
+        source: (4096, &[]),
+        sink: (4096, &[]),
+        status: 0,
+        written: b"module grown ok\nmodule grow ok\n1 fuel\n2 ok i32:0\n3 ok i32:1\n4 ok i32:-1\n5 ok i32:1\n6 ok i32:-1\n",
+    },
+    // memories that may not grow
+    Run {
+        words: &["poolhost", "run", "--pages", "1"],
+        bytes: GROWTH,
+        source: (4096, &[]),
+        sink: (4096, &[]),
+        status: 0,
+        written: b"module grown ok\nmodule grow ok\n1 trap memory\n2 trap memory\n3 ok i32:-1\n4 ok i32:-1\n5 ok i32:1\n6 ok i32:-1\n",
+    },
+    // globals, and a start function on the same fuel
+    Run {
+        words: RUN,
+        bytes: GLOBALS,
+        source: (4096, &[]),
+        sink: (4096, &[]),
+        status: 0,
+        written: b"module count ok\nmodule set ok\n1 ok i32:42\n2 ok i32:42\n3 ok i32:7\n4 fuel\n5 fuel\n",
+    },
+    // start functions whose end is the call's
+    Run {
+        words: RUN,
+        bytes: STARTS,
+        source: (4096, &[]),
+        sink: (4096, &[]),
+        status: 0,
+        written: b"module trap ok\nmodule spin ok\n1 trap unreachable\n2 fuel\n3 fuel\n4 refused args\n5 refused export\n",
+    },
+    // tables
+    Run {
+        words: RUN,
+        bytes: TABLES,
+        source: (4096, &[]),
+        sink: (4096, &[]),
+        status: 0,
+        written: b"module ind ok\nmodule div ok\n1 ok i32:7\n2 trap signature\n3 trap uninit\n4 trap element\n5 trap element\n\
+            6 trap overflow\n7 ok i32:0\n8 ok i32:-1\n",
+    },
+    // what is past a memory or a limit
+    Run {
+        words: RUN,
+        bytes: LIMITS,
+        source: (4096, &[]),
+        sink: (4096, &[]),
+        status: 0,
+        written: b"module over refused segment\nmodule wide refused limit\nmodule long refused limit\n1 refused module\n2 refused module\n",
+    },
+    // limits that are enough
+    Run {
+        words: &["poolhost", "run", "--pages", "33", "--elements", "1025"],
+        bytes: LIMITS,
+        source: (4096, &[]),
+        sink: (4096, &[]),
+        status: 0,
+        written: b"module over refused segment\nmodule wide ok\nmodule long ok\n1 refused module\n2 refused export\n",
+    },
+    // a memory for one slot
+    Run {
+        words: &[
+            "poolhost",
+            "run",
+            "--instances",
+            "1",
+            "--memories",
+            "1",
+            "--tables",
+            "1",
+            "--warm",
+            "0",
+            "--batch",
+            "1",
+        ],
+        bytes: MEMORY,
+        source: (4096, &[]),
+        sink: (4096, &[]),
+        status: 0,
+        written: b"module bump ok\nmodule poke ok\nmodule wrap ok\n1 ok i32:1\n2 ok\n3 ok i32:1\n4 ok i32:1\n5 fuel\n6 ok\n\
+            7 trap memory\n8 trap memory\n9 trap memory\n",
+    },
+];
+
+fn check_runs<R: Abort + Threads + Wait>(rt: &R, alloc: Global, runs: &[Run]) -> Result<(), Fail> {
+    for (at, run) in runs.iter().enumerate() {
         let mut source = MemSource::new(
             run.bytes.to_vec(alloc)?,
             run.source.0.max(1),
             run.source.1.to_vec(alloc)?,
         );
         let mut sink = MemSink::new(alloc, run.sink.0.max(1), run.sink.1.to_vec(alloc)?);
-        let status = serve(&rt, alloc, run.words, &mut source, &mut sink, &OpenGate);
+        let status = serve(rt, alloc, run.words, &mut source, &mut sink, &OpenGate);
         assert_eq!(rt; status, run.status, "at run {at}");
         assert_eq!(rt; sink.bytes(), run.written, "at run {at}");
     }
     Ok(())
+}
+
+#[test]
+fn runs_end_with_their_status_and_text(rt: HostRuntime) -> Result<(), Fail> {
+    check_runs(&rt, rt.alloc(), &RUNS)
+}
+
+#[test]
+fn each_call_runs_on_a_fresh_instance(rt: HostRuntime) -> Result<(), Fail> {
+    check_runs(&rt, rt.alloc(), &INSTANCES)
 }
 
 // A sink that notes how many bytes each write was handed.

@@ -31,7 +31,7 @@ pub exported_function : (m : ModuleTree) (export : List ℕ) (x : ℕ) → IsVal
 exported_function m export x valid exports =
     let e = exports.export in
     let defined : IsDefined m e.desc = subst (λ (e : Export). IsDefined m e.desc) (get_or_from_slice_get m.exports exports.place e e exports.there)
-        (valid.exports exports.place e (slice_get_within m.exports exports.place e exports.there)) in
+    (valid.exports exports.place e (slice_get_within m.exports exports.place e exports.there)) in
     let (f, there) = some_there (slice_get m.functions x) (subst (IsDefined m) exports.function defined) in
     let typed : IsTypedFunction m f = subst (IsTypedFunction m) (get_or_from_slice_get m.functions x f f there) (valid.functions x f (slice_get_within m.functions x f there)) in
     let (t, type) = some_there (slice_get m.types f.type_index) typed.0 in

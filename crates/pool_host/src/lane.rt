@@ -118,13 +118,16 @@ impl<N: Naming> LaneHost<N> {
             (shown (module_tree valid.now) (slots self.old.ticket self.old.memory self.old.table)) fuel ≡ Some r) × (result ≡ r.outcome) }
     {
         let Some(start) = valid.module().start else {
-            return self.run_function(valid, function, args, fuel, limits).outcome;
+            return self
+                .run_function(valid, function, args, fuel, limits)
+                .outcome;
         };
         let end = self.run_function(valid, start, &[], fuel, limits);
         let Outcome::Done(_) = end.outcome else {
             return end.outcome;
         };
-        self.run_function(valid, function, args, end.left, limits).outcome
+        self.run_function(valid, function, args, end.left, limits)
+            .outcome
     }
 
     // Makes the call. The gate is told when the function may begin.

@@ -30,10 +30,7 @@ pub(crate) fn limits_of<N: Naming>(store: &ModuleStore<N>) -> RunLimits
 }
 
 // The entries of the table, or none where the module has no table.
-pub(crate) fn table_for<'a, N: Naming>(
-    table: &'a TableSlot<N>,
-    valid: &Valid,
-) -> &'a [Option<u32>]
+pub(crate) fn table_for<'a, N: Naming>(table: &'a TableSlot<N>, valid: &Valid) -> &'a [Option<u32>]
     ensures { result.now ≡ shown_table (needs Table (module_tree valid.now)) table.now }
 {
     if valid.module().tables.is_empty() {
