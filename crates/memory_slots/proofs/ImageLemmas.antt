@@ -1,13 +1,13 @@
 -- Bytes that were written from the image of a loaded module.
-use Rattle.std.proofs.Common.{◌≡◌, ℕ, ◌+◌, ◌-◌, ◌*◌, ◌<◌, ◌≤◌, List, [], ◌∷◌, ◌++◌, length, refl, sym, ap, ◌∙◌, subst, arith, length-append}
-use Rattle.std.specs.Prelude.{Bool, false, Some, replicate, slice_index}
+use Rattle.std.proofs.Common.{◌≡◌, ℕ, ◌+◌, ◌-◌, ◌*◌, ◌≤◌, List, length, sym, ap, ◌∙◌, arith, length-append}
+use Rattle.std.specs.Prelude.{Bool, replicate, slice_index}
 use Rattle.std.proofs.lemmas.List.{length-replicate}
 use Rattle.wasm_types.specs.Tree.{ModuleTree}
 use Rattle.wasm_types.specs.declared.types.Limits.{Limits}
 use Rattle.wasm_types.specs.declared.limits.LoadLimits.{LoadLimits}
 use Rattle.wasm_spec.specs.Store.{fresh_store, minimum_of, memory_size, page_size}
 use Rattle.wasm_spec.proofs.ResultLaws.{length-fresh_memory}
-use Rattle.pool_worlds.specs.Contents.{Named, filled, is_marked, memory_image, HasImageOutside}
+use Rattle.pool_worlds.specs.Contents.{filled, HasImageOutside}
 use Rattle.pool_worlds.proofs.Images.{from_bytes, without_zeros, filled-at, outside_from}
 use Rattle.loaded_modules.specs.Within.{IsWithin}
 use Rattle.initial_image.specs.declared.image.Image.{Image}

@@ -1,32 +1,27 @@
 -- A memory that was lent to a run.
-use Rattle.std.proofs.Common.{◌≡◌, ℕ, zero, suc, ◌+◌, ◌-◌, ◌*◌, ◌/◌, ◌<◌, ◌≤◌, ⊎_elim, Bool, false, true, List, [], ◌∷◌, ◌++◌, length, take, drop, get_or, refl, sym, ap, ◌∙◌, subst, arith}
-use Rattle.std.specs.Prelude.{Option, Some, replicate, slice_index, map}
+use Rattle.std.proofs.Common.{◌≡◌, ℕ, ◌+◌, ◌-◌, ◌*◌, ◌/◌, ◌<◌, ◌≤◌, ⊎_elim, Bool, true, List, [], ◌∷◌, ◌++◌, length, take, drop, get_or, sym, ap, ◌∙◌, arith}
+use Rattle.std.specs.Prelude.{Option, replicate, slice_index}
 use Rattle.std.proofs.lemmas.Bool.{cases_lt}
-use Rattle.std.proofs.lemmas.List.{ext_get_or, get_or-drop, get_or-take, get_or_past, get_or-replicate, length-drop, length-take, length-take-le, length-map, length-replicate, take-append-drop}
+use Rattle.std.proofs.lemmas.List.{ext_get_or, get_or-drop, get_or_past, get_or-replicate, length-drop, length-take, length-take-le, length-map, length-replicate, take-append-drop}
 use Rattle.wasm_types.specs.declared.outcome.Val.{Val}
 use Rattle.wasm_types.specs.declared.module.Module.{Module}
 use Rattle.wasm_types.specs.Tree.{ModuleTree, global_tree, module_tree}
 use Rattle.wasm_spec.specs.Store.{Store, page_size}
 use Rattle.wasm_spec.specs.Typing.{type_of}
-use Rattle.wasm_spec.specs.Result.{CallResult}
 use Rattle.wasm_spec.specs.Instances.{room_for}
 use Rattle.wasm_types.specs.declared.types.Limits.{Limits}
 use Rattle.linear_memory.specs.declared.memory.Memory.{Memory}
 use Rattle.linear_memory.specs.Bytes.{IsMemory, shown, size_of}
 use Rattle.linear_memory.specs.Marks.{HasSameRoom, KeepsUnmarked}
-use Rattle.wasm_machine.specs.Lent.{own, others}
+use Rattle.wasm_machine.specs.Lent.{own}
 use Rattle.wasm_machine.specs.TypedConfiguration.{IsTypedStore}
 use Rattle.pool_worlds.specs.Contents as contents
 use Rattle.pool_worlds.specs.Contents.{Named, Kind, Ticket, Table, MemoryContents, Contents, filled, is_marked, memory_image, needs, turned, Marks}
-use Rattle.pool_worlds.specs.Runs.{Leaves}
 use Rattle.pool_worlds.specs.Worlds.{IsZeroPast}
 use Rattle.pool_worlds.proofs.Images.{filled-at}
 use Rattle.pool_limits.specs.declared.numbers.Numbers.{Numbers}
-use Rattle.memory_slots.specs.Kept.{IsKept}
-use Rattle.memory_slots.specs.Lent.{IsReady, parts, store_in}
-
-abbrev pub contents_of : Memory → Option Named → MemoryContents
-contents_of memory holds = record { bytes = memory.bytes.items; pages = memory.pages; marks = memory.marks.items; holds = holds }
+use Rattle.memory_slots.specs.Kept.{IsKept, contents_of}
+use Rattle.memory_slots.specs.Lent.{IsReady, parts}
 
 -- ---- zeros past a place
 
@@ -37,8 +32,8 @@ zeros_from n xs past = ext_get_or 0 (drop n xs) (replicate (length xs - n) 0) (l
 zeros_past : (n : ℕ) (xs : List ℕ) → drop n xs ≡ replicate (length xs - n) 0 → (i : ℕ) → n ≤ i → slice_index xs i ≡ 0
 zeros_past n xs is i le =
     let inside : i < length xs → get_or xs i 0 ≡ 0 = λ (lt : i < length xs).
-        ap (λ (k : ℕ). get_or xs k 0) (omega arith) ∙ sym (get_or-drop n xs (i - n) 0)
-        ∙ ap (λ (l : List ℕ). get_or l (i - n) 0) is ∙ get_or-replicate (length xs - n) (i - n) 0 0 (omega arith) in
+    ap (λ (k : ℕ). get_or xs k 0) (omega arith) ∙ sym (get_or-drop n xs (i - n) 0)
+    ∙ ap (λ (l : List ℕ). get_or l (i - n) 0) is ∙ get_or-replicate (length xs - n) (i - n) 0 0 (omega arith) in
     ⊎_elim inside (λ (past : length xs ≤ i). get_or_past xs i 0 past) (cases_lt i (length xs))
 
 -- ---- before the run
@@ -116,7 +111,7 @@ pub globals_there : (m : Module) (s : Store) (globals : List Val) → s.globals 
 globals_there m s globals is typed =
     let n : ℕ = length m.globals in
     let all : length (take n globals) ≡ n =
-        ap length (sym is) ∙ sym (length-map s.globals type_of) ∙ ap length typed.globals ∙ length-map (module_tree m).globals _ ∙ length-map m.globals global_tree in
+    ap length (sym is) ∙ sym (length-map s.globals type_of) ∙ ap length typed.globals ∙ length-map (module_tree m).globals _ ∙ length-map m.globals global_tree in
     let least = length-take n globals in omega arith
 
 -- ---- all parts

@@ -1,9 +1,10 @@
 -- What every memory in a slot keeps.
-use Rattle.std.specs.Prelude.{◌≡◌, ℕ, ◌*◌, ◌≤◌, length}
+use Rattle.std.specs.Prelude.{◌≡◌, ◌*◌, ◌≤◌, Option, length}
 use Rattle.wasm_spec.specs.Store.{page_size}
+use Rattle.linear_memory.specs.declared.memory.Memory.{Memory}
 use Rattle.linear_memory.specs.Marks.{block_size}
 use Rattle.pool_limits.specs.declared.numbers.Numbers.{Numbers}
-use Rattle.pool_worlds.specs.Contents.{MemoryContents, memory_image, HasImageOutside}
+use Rattle.pool_worlds.specs.Contents.{Named, MemoryContents, memory_image, HasImageOutside}
 
 -- bytes for the configured pages, a mark for each block of them, a size within them, and outside the marked blocks its image
 pub record IsKept (config : Numbers) (x : MemoryContents) : Type 0 where
@@ -12,3 +13,7 @@ pub record IsKept (config : Numbers) (x : MemoryContents) : Type 0 where
   pub few : config.pages ≤ 256
   pub size : x.pages ≤ config.pages
   pub outside : HasImageOutside (memory_image config.pages x.holds) x.bytes x.marks
+
+-- a memory of the machine, which belongs to a module or to none, as a slot's contents
+abbrev pub contents_of : Memory → Option Named → MemoryContents
+contents_of memory holds = record { bytes = memory.bytes.items; pages = memory.pages; marks = memory.marks.items; holds = holds }

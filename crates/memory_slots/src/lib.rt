@@ -2,6 +2,7 @@
 #![tactic(auto)]
 
 mod blocks;
+mod images;
 mod slot;
 mod steps;
 

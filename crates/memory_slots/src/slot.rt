@@ -1,18 +1,19 @@
 //! Memories in slots, and the modules that they belong to.
-ghost use Rattle.std.specs.Prelude.{◌≡◌, ◌+◌, ◌-◌, ◌*◌, ◌<◌, ◌≤◌, true, Some, None, Option, is_some, length, count_by, IfOk};
+ghost use Rattle.std.specs.Prelude.{◌≡◌, ◌+◌, ◌-◌, ◌*◌, ◌<◌, ◌≤◌, true, false, Some, None, Option, is_some, length, map, IfOk, IfSome};
 ghost use Rattle.wasm_types.specs.Tree.{module_tree};
 ghost use Rattle.wasm_spec.specs.Instances.{room_for};
-ghost use Rattle.wasm_spec.specs.Store.{fresh_store, minimum_of};
+ghost use Rattle.wasm_spec.specs.Store.{fresh_store};
 ghost use Rattle.wasm_spec.specs.Result.{function_result};
 ghost use Rattle.wasm_machine.specs.Calls.{IsCall, FitsFrame, IsDone};
 ghost use Rattle.wasm_machine.specs.Lent.{others};
 ghost use Rattle.wasm_machine.specs.TypedConfiguration.{IsTypedStore};
-ghost use Rattle.pool_worlds.specs.Contents.{Named, Memory, prepared, restored, shown_memory, IsCold, IsFreshMemory};
+ghost use Rattle.pool_worlds.specs.Contents as contents;
+ghost use Rattle.pool_worlds.specs.Contents.{Named, prepared, restored, shown_memory, IsCold, IsFreshMemory};
 ghost use Rattle.pool_worlds.specs.Runs.{Leaves};
-ghost use Rattle.memory_slots.specs.Kept.{IsKept};
 ghost use Rattle.memory_slots.specs.Lent.{IsReady, dirty_blocks, parts, store_in};
 
-use crate::blocks::{restore_marked, write_all};
+use crate::blocks::write_all;
+use crate::images::{restore_memory, write_memory};
 use crate::steps::Steps;
 use linear_memory::Memory;
 use module_store::{ModuleRef, ModuleStore, Naming};
@@ -34,15 +35,15 @@ pub struct MemSlot<N: Naming> {
 impl<N: Naming> Model for MemSlot<N> {
     ghost use Rattle.pool_worlds.specs.Contents.{MemoryContents};
     ghost use Rattle.pool_worlds.specs.Codes.{coded_memory};
-    ghost use Rattle.memory_slots.specs.Kept.{IsKept};
+    ghost use Rattle.memory_slots.specs.Kept.{IsKept, contents_of};
 
     ghost Value = { MemoryContents };
 
     ghost coded = { coded_memory };
 
-    ghost view = { λ s. record { bytes = s.memory.bytes.items; pages = s.memory.pages; marks = s.memory.marks.items; holds = s.holds } };
+    ghost view = { λ s. contents_of s.memory s.holds };
 
-    ghost invariant = { λ s. IsKept N.config (record { bytes = s.memory.bytes.items; pages = s.memory.pages; marks = s.memory.marks.items; holds = s.holds }) };
+    ghost invariant = { λ s. IsKept N.config (contents_of s.memory s.holds) };
 }
 
 impl<N: Naming> MemSlot<N> {
@@ -52,7 +53,7 @@ impl<N: Naming> MemSlot<N> {
     ///
     /// `NoMemory` where memory is refused.
     pub fn open(alloc: Global, store: &ModuleStore<N>) -> Result<MemSlot<N>, NoMemory>
-        ensures { IfOk result (IsCold N.config.pages Memory) }
+        ensures { IfOk result (IsCold N.config.pages contents.Memory) }
     {
         let pages = store.config().numbers().pages;
         let memory = Memory::zeroed(alloc, pages)?;
@@ -65,44 +66,74 @@ impl<N: Naming> MemSlot<N> {
     /// Makes it the module's fresh memory. Where it belongs to that module already, the marked blocks alone are written. Takes
     /// no memory.
     pub fn prepare(&mut self, store: &ModuleStore<N>, module: &ModuleRef<N>)
-        ensures prepared { self.new ≡ prepared N.config.pages «module».now Memory self.old }
+        ensures prepared { self.new ≡ prepared N.config.pages «module».now contents.Memory self.old }
         ensures fresh { IsFreshMemory N.config.pages self.new «module».now }
         ensures shown { shown_memory true self.new ≡ (fresh_store «module».now.tree).memory }
         ensures ready { IsReady (room_for «module».now.tree.memories N.config.pages) self.new }
     {
-        self.prepare_uncounted::<Brand>(store, module, Blank::new(1));
+        // A module of the store has no larger memory than the configuration allows.
+        let _valid = store.valid(module);
+        self.make_fresh(store, module);
     }
 
-    /// Makes it the fresh memory of its own module, if it has one. Takes no memory.
+    fn make_fresh(&mut self, store: &ModuleStore<N>, module: &ModuleRef<N>)
+        ensures prepared { self.new ≡ prepared N.config.pages «module».now contents.Memory self.old }
+        ensures fresh { IsFreshMemory N.config.pages self.new «module».now }
+    {
+        if let Some(own) = &self.holds {
+            if store.same(own, module) {
+                self.restore(store);
+                return;
+            }
+        }
+        self.write(store, module);
+    }
+
+    // Writes the module's memory over what is there.
+    fn write(&mut self, store: &ModuleStore<N>, module: &ModuleRef<N>)
+        ensures fresh { IsFreshMemory N.config.pages self.new «module».now }
+        ensures marks { self.new.marks ≡ map (λ marked. false) self.old.marks }
+    {
+        write_memory(&mut self.memory, store, module);
+        self.holds = Some(module.again());
+    }
+
+    /// Makes it the fresh memory of its own module, if it has one: the marked blocks alone are written. Takes no memory.
     pub fn restore(&mut self, store: &ModuleStore<N>)
-        ensures { self.new ≡ restored N.config.pages Memory self.old }
+        ensures restored { self.new ≡ restored N.config.pages contents.Memory self.old }
+        ensures fresh { IfSome self.old.holds (IsFreshMemory N.config.pages self.new) }
     {
         self.restore_uncounted::<Brand>(store, Blank::new(1));
     }
 
-    /// [`MemSlot::restore`], with one step for each block that is written: as many as are marked.
+    fn restore_uncounted<L: Ledger>(&mut self, store: &ModuleStore<N>, blank: Blank)
+        requires name { (blank.name ≡ L.name) × (blank.parts ≡ L.parts) × (0 < blank.parts) }
+        ensures restored { self.new ≡ restored N.config.pages contents.Memory self.old }
+        ensures fresh { IfSome self.old.holds (IsFreshMemory N.config.pages self.new) }
+    {
+        if self.holds.is_none() {
+            return;
+        }
+        let mut steps = Steps::<L>::new(blank);
+        self.restore_counted(store, &mut steps);
+    }
+
+    /// [`MemSlot::restore`] of a memory that has a module, with one step for each block that is written: as many as are marked.
     pub fn restore_counted<L: Ledger>(&mut self, store: &ModuleStore<N>, steps: &mut Steps<L>)
         requires { is_some self.old.holds ≡ true }
-        ensures restored { self.new ≡ restored N.config.pages Memory self.old }
+        ensures restored { self.new ≡ restored N.config.pages contents.Memory self.old }
+        ensures fresh { IfSome self.old.holds (IsFreshMemory N.config.pages self.new) }
         ensures steps { steps.new ≡ steps.old + dirty_blocks self.old }
     {
-        let Some(own) = &self.holds else {
-            unreachable!();
-        };
-        let image = store.image(own);
-        let pages = least_pages(store.valid(own));
-        restore_marked(
-            &mut self.memory.bytes,
-            &mut self.memory.marks,
-            image.memory.as_slice(),
-            steps,
-        );
-        self.memory.pages = pages;
+        match &self.holds {
+            Some(own) => restore_memory(&mut self.memory, store, own, steps),
+            None => unreachable!(),
+        }
     }
 
     /// Makes it cold. Takes no memory.
     pub fn clear(&mut self)
-        ensures { IsCold N.config.pages Memory self.new }
+        ensures { IsCold N.config.pages contents.Memory self.new }
     {
         write_all(&mut self.memory.bytes, &mut self.memory.marks, &[]);
         self.memory.pages = 0;
@@ -162,56 +193,5 @@ impl<N: Naming> MemSlot<N> {
             globals,
             stacks,
         )
-    }
-
-    fn restore_uncounted<L: Ledger>(&mut self, store: &ModuleStore<N>, blank: Blank)
-        requires name { (blank.name ≡ L.name) × (blank.parts ≡ L.parts) × (0 < blank.parts) }
-        ensures { self.new ≡ restored N.config.pages Memory self.old }
-    {
-        if self.holds.is_none() {
-            return;
-        }
-        let mut steps = Steps::<L>::new(blank);
-        self.restore_counted(store, &mut steps);
-    }
-
-    fn prepare_uncounted<L: Ledger>(
-        &mut self,
-        store: &ModuleStore<N>,
-        module: &ModuleRef<N>,
-        blank: Blank,
-    )
-        requires name { (blank.name ≡ L.name) × (blank.parts ≡ L.parts) × (0 < blank.parts) }
-        ensures prepared { self.new ≡ prepared N.config.pages «module».now Memory self.old }
-        ensures fresh { IsFreshMemory N.config.pages self.new «module».now }
-    {
-        let image = store.image(module);
-        let pages = least_pages(store.valid(module));
-        let mut steps = Steps::<L>::new(blank);
-        match &self.holds {
-            Some(own) if store.same(own, module) => restore_marked(
-                &mut self.memory.bytes,
-                &mut self.memory.marks,
-                image.memory.as_slice(),
-                &mut steps,
-            ),
-            _ => write_all(
-                &mut self.memory.bytes,
-                &mut self.memory.marks,
-                image.memory.as_slice(),
-            ),
-        }
-        self.memory.pages = pages;
-        self.holds = Some(module.again());
-    }
-}
-
-// The pages that the module's memory begins with; 0 where it has none.
-fn least_pages(valid: &Valid) -> u32
-    ensures { result ≡ minimum_of (module_tree valid.now).memories }
-{
-    match valid.module().memories.as_slice().first() {
-        Some(limits) => limits.min,
-        None => 0,
     }
 }

@@ -1,7 +1,7 @@
 -- The store that the slots of a call show.
 use Rattle.std.proofs.Common.{◌≡◌, ℕ, suc, ◌+◌, ◌*◌, ◌<◌, List, [], ◌∷◌, Option, Some, Bool, true, false, length, map, take, nat_lt, refl, sym, ap, ◌∙◌, subst, arith}
 use Rattle.std.proofs.lemmas.Bool.{lt-ltb}
-use Rattle.std.proofs.lemmas.List.{length-map}
+use Rattle.std.proofs.lemmas.List.{length-map, nil_from_length}
 use Rattle.wasm_types.specs.declared.limits.LoadLimits.{LoadLimits}
 use Rattle.wasm_types.specs.declared.types.Limits.{Limits}
 use Rattle.wasm_types.specs.declared.outcome.Val.{Val}
@@ -19,10 +19,6 @@ has_some (x ∷ xs) some = lt-ltb 0 (length (x ∷ xs)) (omega arith)
 
 pub has_none : {A : Type 0} (xs : List A) → xs ≡ [] → nat_lt 0 (length xs) ≡ false
 has_none {A = A} xs none = ap (λ (ys : List A). nat_lt 0 (length ys)) none
-
-nothing : {A : Type 0} (xs : List A) → length xs ≡ 0 → xs ≡ []
-nothing [] none = refl
-nothing (x ∷ xs) none = absurd (omega arith)
 
 abbrev store : List ℕ → List (Option ℕ) → List Val → Store
 store memory table globals = record { memory = memory; table = table; globals = globals }
@@ -49,10 +45,10 @@ module _ (m : Module) (globals : List Val) (memory : MemoryContents) (table : Ta
 pub no_bytes : (m : ModuleTree) → m.memories ≡ [] → length (fresh_store m).memory ≡ memory_size m → (fresh_store m).memory ≡ []
 no_bytes m none size =
     let zero : minimum_of m.memories ≡ 0 = ap minimum_of none in
-    nothing (fresh_store m).memory (size ∙ ap (λ (n : ℕ). n * page_size) zero)
+    nil_from_length (fresh_store m).memory (size ∙ ap (λ (n : ℕ). n * page_size) zero)
 
 pub no_entries : (m : ModuleTree) → m.tables ≡ [] → length (fresh_store m).table ≡ table_size m → (fresh_store m).table ≡ []
-no_entries m none size = nothing (fresh_store m).table (size ∙ ap minimum_of none)
+no_entries m none size = nil_from_length (fresh_store m).table (size ∙ ap minimum_of none)
 
 pub fresh_is : (m : ModuleTree) (globals : List Val) (memory : MemoryContents) (table : TableContents) → shown_memory (needs Memory m) memory ≡ (fresh_store m).memory
     → shown_table (needs Table m) table ≡ (fresh_store m).table → take (length m.globals) globals ≡ (fresh_store m).globals → shown m (slots globals memory table) ≡ fresh_store m

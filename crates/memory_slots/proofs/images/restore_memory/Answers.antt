@@ -1,0 +1,56 @@
+use Rattle.std.proofs.Common.{◌≡◌, ◌∙◌, Bool, false, List, length, drop, refl, ap, arith}
+use Rattle.std.specs.Prelude.{Some, slice_index_or}
+use Rattle.std.proofs.lemmas.List.{take_at}
+use Rattle.wasm_types.specs.Tree.{ModuleTree}
+use Rattle.wasm_spec.specs.Store.{minimum_of}
+use Rattle.pool_limits.specs.Limits.{load_limits}
+use Rattle.pool_worlds.proofs.Images.{clean_is}
+use Rattle.loaded_modules.proofs.WithinLemmas.{loaded-within}
+use Rattle.memory_slots.specs.Kept.{contents_of}
+use Rattle.memory_slots.proofs.ImageLemmas.{image_kept, image_written}
+use Rattle.memory_slots.proofs.KeptLemmas.{fresh_kept}
+use Rattle.memory_slots.proofs.images.restore_memory.Goals as goal
+
+pub restore_marked-requires-clause-outside : goal.restore_marked-requires-clause-outside
+restore_marked-requires-clause-outside g c =
+    let is = c.valid.ensures.loaded in
+    rw (c.deref_mut.ensures.value, c.deref_mut-2.ensures.value, c.as_slice.ensures)
+    (image_kept (load_limits g.N.Naming.config) c.args.own.now.tree c.image-image.result.now (loaded-within is.bytes _ _ is.loads) c.image-image.ensures c.args.memory.now.bytes.items c.args.memory.now.marks.items c.requires.outside)
+
+pub returns-clause-fresh : goal.returns-clause-fresh
+returns-clause-fresh g c =
+    let config = g.N.Naming.config in
+    let m = c.args.own.now in
+    let is = c.valid.ensures.loaded in
+    let bytes = c.restore_marked.new.bytes in
+    let marks = c.restore_marked.new.marks in
+    let all : length bytes ≡ c.args.memory.now.bytes.len = omega arith in
+    let blocks : length marks ≡ c.args.memory.now.marks.len = omega arith in
+    let room = c.restore_marked.ensures.room.0 ∙ ap length c.deref_mut.ensures.value ∙ c.requires.room in
+    record {
+      holds = refl;
+      size = c.least_pages-pages.ensures ∙ ap (λ (t : ModuleTree). minimum_of t.memories) c.valid.ensures.tree;
+      bytes = take_at bytes (drop (length bytes) c.args.memory.now.bytes.items) c.args.memory.now.bytes.len all
+          ∙ image_written (load_limits config) m.tree c.image-image.result.now (loaded-within is.bytes _ _ is.loads) c.image-image.ensures bytes room (rw c.as_slice.ensures at c.restore_marked.ensures.bytes);
+      clean = λ k. ap (λ (l : List Bool). slice_index_or l k false) (take_at marks (drop (length marks) c.args.memory.now.marks.items) c.args.memory.now.marks.len blocks) ∙ c.restore_marked.ensures.marks k;
+    }
+
+pub returns-clause-marks : goal.returns-clause-marks
+returns-clause-marks g c =
+    let marks = c.restore_marked.new.marks in
+    let blocks : length marks ≡ c.args.memory.now.marks.len = omega arith in
+    take_at marks (drop (length marks) c.args.memory.now.marks.items) c.args.memory.now.marks.len blocks
+    ∙ clean_is c.args.memory.now.marks.items marks (c.restore_marked.ensures.room.1 ∙ ap length c.deref_mut-2.ensures.value) c.restore_marked.ensures.marks
+
+pub returns-clause-kept : goal.returns-clause-kept
+returns-clause-kept g c =
+    let is = c.valid.ensures.loaded in
+    let bytes = c.restore_marked.new.bytes in
+    let marks = c.restore_marked.new.marks in
+    let all : length bytes ≡ c.args.memory.now.bytes.len = omega arith in
+    let blocks : length marks ≡ c.args.memory.now.marks.len = omega arith in
+    fresh_kept g.N.Naming.config c.args.own.now (contents_of c.args.memory.now (Some c.args.own.now)) _ c.requires (returns-clause-fresh g c)
+    (record {
+      bytes = ap length (take_at bytes (drop (length bytes) c.args.memory.now.bytes.items) c.args.memory.now.bytes.len all) ∙ c.restore_marked.ensures.room.0 ∙ ap length c.deref_mut.ensures.value;
+      marks = ap length (take_at marks (drop (length marks) c.args.memory.now.marks.items) c.args.memory.now.marks.len blocks) ∙ c.restore_marked.ensures.room.1 ∙ ap length c.deref_mut-2.ensures.value;
+    }) (loaded-within is.bytes _ _ is.loads).pages

@@ -1,0 +1,21 @@
+use Rattle.std.proofs.Common.{◌≡◌, ◌∙◌, Bool, false, List, [], length, drop, refl, ap, arith}
+use Rattle.std.specs.Prelude.{slice_index_or}
+use Rattle.std.proofs.lemmas.List.{take_at}
+use Rattle.pool_worlds.proofs.Images.{from_bytes}
+use Rattle.memory_slots.proofs.slot.MemSlot.clear.Goals as goal
+
+pub returns : goal.returns
+returns g c =
+    let config = g.N.Naming.config in
+    let bytes = c.write_all.new.bytes in
+    let marks = c.write_all.new.marks in
+    let old = c.self.inside.memory in
+    let all : length bytes ≡ old.bytes.len = omega arith in
+    let blocks : length marks ≡ old.marks.len = omega arith in
+    let room = c.write_all.ensures.room.0 ∙ ap length c.deref_mut.ensures.value ∙ c.self.invariant.room in
+    record {
+      holds = refl;
+      size = refl;
+      bytes = take_at bytes (drop (length bytes) old.bytes.items) old.bytes.len all ∙ from_bytes config.pages [] bytes room (omega arith) c.write_all.ensures.bytes;
+      clean = λ k. ap (λ (l : List Bool). slice_index_or l k false) (take_at marks (drop (length marks) old.marks.items) old.marks.len blocks) ∙ c.write_all.ensures.marks k;
+    }

@@ -1,0 +1,69 @@
+//! Memories that are made those of a module of the store.
+ghost use Rattle.std.specs.Prelude.{◌≡◌, ◌+◌, false, Some, Option, map};
+ghost use Rattle.wasm_types.specs.Tree.{module_tree};
+ghost use Rattle.wasm_spec.specs.Store.{minimum_of};
+ghost use Rattle.linear_memory.specs.Marks.{count_marks};
+ghost use Rattle.pool_worlds.specs.Contents.{Named, IsFreshMemory};
+ghost use Rattle.memory_slots.specs.Kept.{IsKept, contents_of};
+
+use crate::blocks::{restore_marked, write_all};
+use crate::steps::Steps;
+use linear_memory::Memory;
+use module_store::{ModuleRef, ModuleStore, Naming};
+use std::sync::ledger::Ledger;
+use wasm_validate::Valid;
+
+// The pages that the module's memory begins with; 0 where it has none.
+fn least_pages(valid: &Valid) -> u32
+    ensures { result ≡ minimum_of (module_tree valid.now).memories }
+{
+    match valid.module().memories.as_slice().first() {
+        Some(limits) => limits.min,
+        None => 0,
+    }
+}
+
+// Writes the marked blocks of a memory that belongs to the module over from its image, in one step each.
+pub(crate) fn restore_memory<N: Naming, L: Ledger>(
+    memory: &mut Memory,
+    store: &ModuleStore<N>,
+    own: &ModuleRef<N>,
+    steps: &mut Steps<L>,
+)
+    requires { IsKept N.config (contents_of memory.old (Some own.now)) }
+    ensures fresh { IsFreshMemory N.config.pages (contents_of memory.new (Some own.now)) own.now }
+    ensures kept { IsKept N.config (contents_of memory.new (Some own.now)) }
+    ensures marks { memory.new.marks.items ≡ map (λ marked. false) memory.old.marks.items }
+    ensures steps { steps.new ≡ steps.old + count_marks memory.old }
+{
+    let image = store.image(own);
+    let pages = least_pages(store.valid(own));
+    restore_marked(
+        &mut memory.bytes,
+        &mut memory.marks,
+        image.memory.as_slice(),
+        steps,
+    );
+    memory.pages = pages;
+}
+
+// Writes all of a memory over from the module's image.
+pub(crate) fn write_memory<N: Naming>(
+    memory: &mut Memory,
+    store: &ModuleStore<N>,
+    module: &ModuleRef<N>,
+)
+    requires { (holds : Option Named) × IsKept N.config (contents_of memory.old holds) }
+    ensures fresh { IsFreshMemory N.config.pages (contents_of memory.new (Some «module».now)) «module».now }
+    ensures kept { IsKept N.config (contents_of memory.new (Some «module».now)) }
+    ensures marks { memory.new.marks.items ≡ map (λ marked. false) memory.old.marks.items }
+{
+    let image = store.image(module);
+    let pages = least_pages(store.valid(module));
+    write_all(
+        &mut memory.bytes,
+        &mut memory.marks,
+        image.memory.as_slice(),
+    );
+    memory.pages = pages;
+}
