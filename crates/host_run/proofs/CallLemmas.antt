@@ -2,11 +2,10 @@
 use Rattle.std.proofs.Common.{◌≡◌, ◌⊎◌, inl, inr, ℕ, zero, suc, ◌+◌, ◌<◌, ◌≤◌, List, [], ◌∷◌, ◌++◌, Some, Ok, Err, length, get_or, drop, refl, sym, ap, ◌∙◌, subst, arith, append_assoc, append-nil, drop-cons, cond}
 use Rattle.std.proofs.lemmas.List.Sums.{sum_by-cons}
 use Rattle.std.specs.Prelude.{slice_get}
-use Rattle.wasm_types.specs.Tree.{module_tree}
 use Rattle.wasm_types.specs.declared.outcome.Val.{Val}
 use Rattle.pool_host.specs.declared.lane.LaneAnswer.{LaneAnswer}
-use Rattle.pool_host.specs.declared.loading.Loaded.{Loaded}
-use Rattle.pool_host.specs.CallWords.{IsAnswer, KeepsLimits, Lane}
+use Rattle.pool_worlds.specs.Contents.{Named}
+use Rattle.pool_host.specs.CallWords.{IsAnswer}
 use Rattle.request_text.specs.declared.request.Directive.{Directive}
 use Rattle.request_text.specs.declared.request.Directive.TheVariants.{Module, Call}
 use Rattle.request_text.specs.declared.request.TheConstants.{MOST_CALLS}
@@ -15,32 +14,21 @@ use Rattle.request_text.specs.declared.report.CallLine.{CallLine}
 use Rattle.request_text.specs.declared.report.CallLine.TheVariants as call_line
 use Rattle.request_text.specs.Text.{IsPlacedFrom, call_count, is_call, modules_of}
 use Rattle.host_run.specs.Answers.{AreAnswers}
-use Rattle.host_run.specs.Report.{Limits, IsCallLine, IsLaneOf, answer_line}
-use Rattle.host_run.specs.Entries.{AreEntries, IsEntry}
-use Rattle.host_run.specs.declared.modules.Entry.{Entry}
-use Rattle.host_run.specs.declared.modules.Entry.TheVariants.{Accepted, Refused}
+use Rattle.host_run.specs.Report.{Limits, IsCallLine, answer_line, run_limits}
+use Rattle.host_run.specs.Entries.{AreEntries, Entry, IsEntry}
 use Rattle.host_run.proofs.EntryLemmas.{entry_there, length-entries}
 
 module _ (limits : Limits) (bytes : List ℕ) (e : Entry) where
-  pub accepted_call : (l : Loaded) (export : List ℕ) (fuel : ℕ) (args : List Val) (lane : Lane) (a : LaneAnswer) (line : CallLine) → e ≡ Accepted l → IsEntry limits bytes e
-      → IsLaneOf limits lane → IsAnswer (module_tree l.decoded) lane.limits export args fuel a → line ≡ answer_line a → IsCallLine limits bytes export fuel args line
-  accepted_call l export fuel args lane a line is h on answer shows =
-      let k : IsEntry limits bytes (Accepted l) = rw is at h in
-      record { loaded = Ok (module_tree l.decoded); loads = k.0; shows = (a, rw on.run at answer, shows) }
+  pub accepted_call : (named : Named) (export : List ℕ) (fuel : ℕ) (args : List Val) (a : LaneAnswer) (line : CallLine) → e ≡ Ok named → IsEntry limits bytes e
+      → IsAnswer named.tree (run_limits limits) export args fuel a → line ≡ answer_line a → IsCallLine limits bytes export fuel args line
+  accepted_call named export fuel args a line is h answer shows =
+      let k : IsEntry limits bytes (Ok named) = rw is at h in
+      record { loaded = Ok named.tree; loads = k; shows = (a, answer, shows) }
 
-  pub refused_call : (line : ModuleLine) (export : List ℕ) (fuel : ℕ) (args : List Val) → e ≡ Refused line → IsEntry limits bytes e → IsCallLine limits bytes export fuel args call_line.NoModule
+  pub refused_call : (line : ModuleLine) (export : List ℕ) (fuel : ℕ) (args : List Val) → e ≡ Err line → IsEntry limits bytes e → IsCallLine limits bytes export fuel args call_line.NoModule
   refused_call line export fuel args is h =
-      let k : IsEntry limits bytes (Refused line) = rw is at h in
+      let k : IsEntry limits bytes (Err line) = rw is at h in
       record { loaded = Err k.0; loads = k.1; shows = refl }
-
-  pub frame_fits : (l : Loaded) (lane : Lane) → e ≡ Accepted l → IsEntry limits bytes e → IsLaneOf limits lane → l.frame ≤ lane.frame
-  frame_fits l lane is h on =
-      let k : IsEntry limits bytes (Accepted l) = rw is at h in
-      let f : l.frame ≡ limits.frame = k.1 in
-      let g : lane.frame ≡ limits.frame = on.frame in omega arith
-
-pub lane_stays : (limits : Limits) (before after : Lane) → IsLaneOf limits before → KeepsLimits before after → IsLaneOf limits after
-lane_stays limits before after on keeps = record { run = keeps.limits ∙ on.run; frame = keeps.frame ∙ on.frame }
 
 -- the first of the directives that are left
 pub next_directive : (ds : List Directive) (i : ℕ) (d : Directive) → i < length ds → d ≡ get_or ds i d → drop i ds ≡ d ∷ drop (i + 1) ds

@@ -5,11 +5,11 @@ use Rattle.std.proofs.Common.{◌≡◌, ℕ, List, [], ◌∷◌, Bool, true, f
 use Rattle.std.specs.Prelude.{Result}
 use Rattle.wasm_types.specs.declared.outcome.Val.{Val}
 use Rattle.wasm_types.specs.Tree.{ModuleTree}
-use Rattle.wasm_spec.specs.Loading.{Refusal}
+use Rattle.wasm_spec.specs.Loading.{Loads, Refusal}
 use Rattle.wasm_spec.specs.Validity.{IsValid}
+use Rattle.loaded_modules.specs.Within.{IsWithin}
 use Rattle.pool_host.specs.declared.lane.LaneAnswer.{LaneAnswer}
 use Rattle.pool_host.specs.CallWords.{IsAnswer}
-use Rattle.pool_host.specs.LoadWords.{LoadsBuilt}
 use Rattle.request_text.specs.declared.request.Directive.{Directive}
 use Rattle.request_text.specs.declared.request.Directive.TheVariants.{Module, Call}
 use Rattle.request_text.specs.declared.report.CallLine.{CallLine}
@@ -23,12 +23,12 @@ use Rattle.command_line.specs.declared.options.Options.{Options}
 use Rattle.host_run.specs.Report.{AreLines, IsCallLine, IsLine, IsModuleLine, Limits, ShowsCall, answer_line, limits_of, load_limits, loading_line, next_number, run_limits}
 use Rattle.host_run.specs.Serving.{Answer, IsDue, IsFileAnswer}
 
--- the laws of the layers below: bytes load to one answer, a module that loads is valid, and a call of a valid module has one
+-- the laws of the layers below: bytes load to one answer, what loads is within its limits, and a call of a valid module has one answer
 abbrev pub LoadsOnce : Type 0
-LoadsOnce = (bytes : List ℕ) (limits : LoadLimits) (a b : Result ModuleTree Refusal) → LoadsBuilt bytes limits a → LoadsBuilt bytes limits b → a ≡ b
+LoadsOnce = (bytes : List ℕ) (limits : LoadLimits) (a b : Result ModuleTree Refusal) → Loads bytes limits a → Loads bytes limits b → a ≡ b
 
-abbrev pub LoadsValid : Type 0
-LoadsValid = (bytes : List ℕ) (limits : LoadLimits) (m : ModuleTree) → LoadsBuilt bytes limits (Ok m) → IsValid m
+abbrev pub LoadsWithin : Type 0
+LoadsWithin = (bytes : List ℕ) (limits : LoadLimits) (m : ModuleTree) → Loads bytes limits (Ok m) → IsWithin limits m
 
 abbrev pub AnswersOnce : Type 0
 AnswersOnce = (m : ModuleTree) (limits : RunLimits) (export : List ℕ) (args : List Val) (fuel : ℕ) (a b : LaneAnswer) → IsValid m
@@ -39,12 +39,12 @@ one_module_line one_load limits bytes a b h g =
     let same : h.loaded ≡ g.loaded = one_load bytes (load_limits limits) h.loaded g.loaded h.loads g.loads in
     h.shows ∙ ap loading_line same ∙ sym g.shows
 
-module _ (one_load : LoadsOnce) (valid : LoadsValid) (one_answer : AnswersOnce) where
+module _ (one_load : LoadsOnce) (within : LoadsWithin) (one_answer : AnswersOnce) where
   shown_once : (limits : Limits) (bytes export : List ℕ) (fuel : ℕ) (args : List Val) (loaded : Result ModuleTree Refusal) (a b : CallLine)
-      → LoadsBuilt bytes (load_limits limits) loaded → ShowsCall limits loaded export fuel args a → ShowsCall limits loaded export fuel args b → a ≡ b
+      → Loads bytes (load_limits limits) loaded → ShowsCall limits loaded export fuel args a → ShowsCall limits loaded export fuel args b → a ≡ b
   shown_once limits bytes export fuel args (Err why) a b loads h g = h ∙ sym g
   shown_once limits bytes export fuel args (Ok m) a b loads (p, answer, is) (q, answer', is') =
-      is ∙ ap answer_line (one_answer m (run_limits limits) export args fuel p q (valid bytes (load_limits limits) m loads) answer answer') ∙ sym is'
+      is ∙ ap answer_line (one_answer m (run_limits limits) export args fuel p q (within bytes (load_limits limits) m loads).valid answer answer') ∙ sym is'
 
   pub one_call_line : (limits : Limits) (bytes export : List ℕ) (fuel : ℕ) (args : List Val) (a b : CallLine)
       → IsCallLine limits bytes export fuel args a → IsCallLine limits bytes export fuel args b → a ≡ b

@@ -11,9 +11,8 @@ use Rattle.request_text.specs.declared.report.ReportLine.{ReportLine}
 use Rattle.request_text.specs.Text.{call_count, modules_of}
 use Rattle.host_run.specs.Answers.{AreAnswers}
 use Rattle.host_run.specs.Report.{AreLines, Limits}
-use Rattle.host_run.specs.Entries.{AreEntries, IsEntry, entry_line}
+use Rattle.host_run.specs.Entries.{AreEntries, Entry, IsEntry, entry_line}
 use Rattle.host_run.specs.Lines.{HasSource, ShowsNext, counts_after}
-use Rattle.host_run.specs.declared.modules.Entry.{Entry}
 use Rattle.host_run.specs.declared.report.Counts.{Counts}
 use Rattle.host_run.proofs.CallLemmas.{call_count-call, call_count-module}
 use Rattle.host_run.proofs.EntryLemmas.{entry_told}

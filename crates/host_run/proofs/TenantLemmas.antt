@@ -12,7 +12,7 @@ use Rattle.command_line.specs.Words.{options_of}
 use Rattle.host_run.specs.Report.{AreLines, IsCallLine, IsLine, Limits, limits_of, next_number}
 use Rattle.host_run.specs.Tenants.{CallsAt, HasReport, TellsAt}
 use Rattle.host_run.proofs.CallLemmas.{call_count-call, call_count-module}
-use Rattle.host_run.proofs.LineLemmas.{AnswersOnce, LoadsOnce, LoadsValid, one_call_line}
+use Rattle.host_run.proofs.LineLemmas.{AnswersOnce, LoadsOnce, LoadsWithin, one_call_line}
 
 next_count : (number : ℕ) (d : Directive) (ds : List Directive) → next_number number d + call_count ds ≡ number + call_count (d ∷ ds)
 next_count number (Module name bytes) ds = omega (arith, call_count-module name bytes ds)
@@ -38,14 +38,14 @@ module _ (limits : Limits) (modules : List (List ℕ)) (bytes export : List ℕ)
       let (how, told, is) = line_at ds at (next_number number d) place lines h.1 got there in
       (how, told, is ∙ ap (λ (n : ℕ). Some (report.Call n how)) (next_count number d (take at ds)))
 
-pub same_told : LoadsOnce → LoadsValid → AnswersOnce → (words words' : List (List ℕ)) (bytes bytes' : List ℕ) (requests requests' : List Directive) (lines lines' : List ReportLine)
+pub same_told : LoadsOnce → LoadsWithin → AnswersOnce → (words words' : List (List ℕ)) (bytes bytes' : List ℕ) (requests requests' : List Directive) (lines lines' : List ReportLine)
     (at at' : ℕ) (module_bytes export : List ℕ) (fuel : ℕ) (args : List Val) → limits_of (options_of words) ≡ limits_of (options_of words')
     → HasReport words bytes requests lines → HasReport words' bytes' requests' lines'
     → CallsAt requests at module_bytes export fuel args → CallsAt requests' at' module_bytes export fuel args
     → (how : CallLine) × TellsAt requests lines at how × TellsAt requests' lines' at' how
-same_told one_load valid one_answer words words' bytes bytes' requests requests' lines lines' at at' module_bytes export fuel args limits r r' c c' =
+same_told one_load within one_answer words words' bytes bytes' requests requests' lines lines' at at' module_bytes export fuel args limits r r' c c' =
     let (how, told, is) = line_at (limits_of (options_of words)) (modules_of requests) module_bytes export fuel args requests at 1 c.place lines r.report c.call c.module_bytes in
     let (how', told', is') = line_at (limits_of (options_of words')) (modules_of requests') module_bytes export fuel args requests' at' 1 c'.place lines' r'.report c'.call c'.module_bytes in
-    let same : how' ≡ how = one_call_line one_load valid one_answer (limits_of (options_of words')) module_bytes export fuel args how' how told'
+    let same : how' ≡ how = one_call_line one_load within one_answer (limits_of (options_of words')) module_bytes export fuel args how' how told'
     (subst (λ (l : Limits). IsCallLine l module_bytes export fuel args how) limits told) in
     (how, is, subst (λ (l : CallLine). TellsAt requests' lines' at' l) same is')

@@ -1,18 +1,19 @@
 -- What became of the module lines of a request file.
-use Rattle.std.specs.Prelude.{◌≡◌, ℕ, List, [], ◌∷◌, Ok, Err}
-use Rattle.wasm_types.specs.Tree.{module_tree}
-use Rattle.wasm_spec.specs.Loading.{Refusal}
-use Rattle.pool_host.specs.LoadWords.{LoadsBuilt}
+use Rattle.std.specs.Prelude.{◌≡◌, ℕ, List, [], ◌∷◌, Result, Ok, Err}
+use Rattle.wasm_spec.specs.Loading.{Loads, Refusal}
+use Rattle.pool_worlds.specs.Contents.{Named}
 use Rattle.host_run.specs.Report.{Limits, load_limits, loading_line}
 use Rattle.request_text.specs.declared.report.ModuleLine.{ModuleLine}
 use Rattle.request_text.specs.declared.report.ModuleLine.TheVariants as module_line
-use Rattle.host_run.specs.declared.modules.Entry.{Entry}
-use Rattle.host_run.specs.declared.modules.Entry.TheVariants.{Accepted, Refused}
+
+-- a module that may be called, or the line that tells why it is refused
+abbrev pub Entry : Type 0
+Entry = Result Named ModuleLine
 
 -- an entry for the module line of these bytes
 abbrev pub IsEntry : Limits → List ℕ → Entry → Type 0
-IsEntry limits bytes (Accepted l) = LoadsBuilt bytes (load_limits limits) (Ok (module_tree l.decoded)) × (l.frame ≡ limits.frame)
-IsEntry limits bytes (Refused line) = (why : Refusal) × LoadsBuilt bytes (load_limits limits) (Err why) × (line ≡ loading_line (Err why))
+IsEntry limits bytes (Ok named) = Loads bytes (load_limits limits) (Ok named.tree)
+IsEntry limits bytes (Err line) = (why : Refusal) × Loads bytes (load_limits limits) (Err why) × (line ≡ loading_line (Err why))
 
 -- one for each of these modules, in their order
 abbrev pub AreEntries : Limits → List (List ℕ) → List Entry → Type 0
@@ -22,5 +23,5 @@ AreEntries limits _ _ = ⊥
 
 -- the line that an entry shows
 abbrev pub entry_line : Entry → ModuleLine
-entry_line (Accepted l) = module_line.Accepted
-entry_line (Refused line) = line
+entry_line (Ok named) = module_line.Accepted
+entry_line (Err line) = line

@@ -6,8 +6,7 @@ use Rattle.request_text.specs.declared.report.CallLine.{CallLine}
 use Rattle.request_text.specs.declared.report.ReportLine.{ReportLine}
 use Rattle.request_text.specs.declared.report.ReportLine.TheVariants as report
 use Rattle.request_text.specs.declared.request.TheConstants.{MOST_CALLS}
-use Rattle.host_run.specs.Entries.{entry_line}
-use Rattle.host_run.specs.declared.modules.Entry.{Entry}
+use Rattle.host_run.specs.Entries.{Entry, entry_line}
 use Rattle.host_run.specs.declared.report.Counts.{Counts}
 
 -- there is an entry, or an answer, for this directive, after so many of each

@@ -5,11 +5,11 @@ use Rattle.std.specs.Prelude.{◌≡◌, ℕ, ◌+◌, List, [], ◌∷◌, Some
 use Rattle.wasm_types.specs.declared.outcome.Val.{Val}
 use Rattle.wasm_types.specs.Tree.{ModuleTree}
 use Rattle.wasm_spec.specs.Loading as loading
-use Rattle.wasm_spec.specs.Loading.{Refusal}
+use Rattle.wasm_spec.specs.Loading.{Loads, Refusal}
 use Rattle.pool_host.specs.declared.lane.LaneAnswer.{LaneAnswer}
 use Rattle.pool_host.specs.declared.lane.LaneAnswer.TheVariants as answer
-use Rattle.pool_host.specs.CallWords.{IsAnswer, Lane}
-use Rattle.pool_host.specs.LoadWords.{LoadsBuilt}
+use Rattle.pool_host.specs.CallWords.{IsAnswer}
+use Rattle.pool_limits.specs.declared.numbers.Numbers.{Numbers}
 use Rattle.request_text.specs.declared.request.Directive.{Directive}
 use Rattle.request_text.specs.declared.request.Directive.TheVariants.{Module, Call}
 use Rattle.request_text.specs.declared.report.ModuleLine.{ModuleLine}
@@ -37,10 +37,23 @@ load_limits l = record { pages = l.pages; elements = l.elements; frame = l.frame
 abbrev pub run_limits : Limits → RunLimits
 run_limits l = record { pages = l.pages; depth = l.depth }
 
--- a lane runs its calls under these limits
-pub record IsLaneOf (limits : Limits) (lane : Lane) : Type 0 where
-  pub run : lane.limits ≡ run_limits limits
-  pub frame : lane.frame ≡ limits.frame
+-- the numbers of the configuration that the options give, and the limits of a configuration
+abbrev pub numbers_of : Options → Numbers
+numbers_of o = record {
+  workers = o.workers;
+  instances = o.instances;
+  memories = o.memories;
+  tables = o.tables;
+  warm = o.warm;
+  batch = o.batch;
+  pages = o.pages;
+  elements = o.elements;
+  depth = o.depth;
+  frame = o.frame;
+}
+
+abbrev pub limits_in : Numbers → Limits
+limits_in n = record { pages = n.pages; elements = n.elements; depth = n.depth; frame = n.frame }
 
 -- ---- the line of a module
 
@@ -55,7 +68,7 @@ loading_line (Err (loading.Segment extent)) = module_line.Segment
 -- how the loading of these bytes goes
 pub record IsModuleLine (limits : Limits) (bytes : List ℕ) (line : ModuleLine) : Type 0 where
   pub loaded : Result ModuleTree Refusal
-  pub loads : LoadsBuilt bytes (load_limits limits) loaded
+  pub loads : Loads bytes (load_limits limits) loaded
   pub shows : line ≡ loading_line loaded
 
 -- ---- the line of a call
@@ -74,7 +87,7 @@ ShowsCall limits (Ok m) export fuel args line =
 -- how a call goes: this is fixed by the limits, the bytes of its module, its export, its fuel and its arguments
 pub record IsCallLine (limits : Limits) (bytes export : List ℕ) (fuel : ℕ) (args : List Val) (line : CallLine) : Type 0 where
   pub loaded : Result ModuleTree Refusal
-  pub loads : LoadsBuilt bytes (load_limits limits) loaded
+  pub loads : Loads bytes (load_limits limits) loaded
   pub shows : ShowsCall limits loaded export fuel args line
 
 -- ---- all lines

@@ -1,5 +1,6 @@
 //! What a request file is answered.
-ghost use Rattle.std.specs.Prelude.{◌≡◌, ◌⊎◌, ◌<◌, IfOk, IsSomeAnd};
+ghost use Rattle.std.specs.Prelude.{◌≡◌, ◌⊎◌, IfOk, IsSomeAnd};
+ghost use Rattle.command_line.specs.Options.{HasSharedSlots, IsInRange};
 ghost use Rattle.host_run.specs.Serving.{IsFileAnswer, refused, shown};
 ghost use Rattle.request_text.specs.Lines.{refusal_line};
 ghost use Rattle.request_text.specs.Text.{file_refusal_of};
@@ -11,22 +12,25 @@ use command_line::Options;
 use host_edge::Gate;
 use request_text::{ParseFault, parse, report_text, write_text_fault};
 use std::alloc::Global;
+use std::sync::Wait;
 use wasm_types::NoMemory;
 
 // What a request file of these bytes is answered, once its calls are made.
-pub(crate) fn answer<G: Gate>(
+pub(crate) fn answer<R: Wait, G: Gate>(
+    rt: &R,
     alloc: Global,
     options: &Options,
     bytes: &[u8],
     gate: &G,
 ) -> Result<Due, NoMemory>
-    requires { 0 < options.now.depth }
+    requires range { IsInRange options.now }
+    requires shared { HasSharedSlots options.now }
     ensures answer { IfOk result (λ due. IsFileAnswer options.now bytes.now (shown due)) }
     ensures status { IfOk result (λ due. (due.status ≡ 0) ⊎ (due.status ≡ 2)) }
 {
     match parse(alloc, bytes) {
         Ok(requests) => {
-            let lines = report(alloc, options, requests.as_slice(), gate)?;
+            let lines = report(rt, alloc, options, requests.as_slice(), gate)?;
             let text = report_text(alloc, &lines)?;
             Ok(Due {
                 status: Status::Reported.code(),

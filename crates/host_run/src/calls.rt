@@ -1,14 +1,13 @@
 //! The calls of a request file, made on the lane.
-ghost use Rattle.std.specs.Prelude.{◌≡◌, ◌≤◌, ◌<◌, ◌+◌, ◌^◌, ℕ, List, IfOk, Some, length, slice_get};
+ghost use Rattle.std.specs.Prelude.{◌≡◌, ◌≤◌, ◌<◌, ℕ, List, IfOk, Some, length, slice_get};
 ghost use Rattle.request_text.specs.Text.{IsPlacedFrom, call_count, modules_of};
-ghost use Rattle.pool_host.specs.CallWords.{KeepsLimits};
 ghost use Rattle.host_run.specs.Answers.{AreAnswers};
 ghost use Rattle.host_run.specs.Entries.{AreEntries, IsEntry};
-ghost use Rattle.host_run.specs.Report.{IsCallLine, IsLaneOf, Limits, answer_line, limits_of};
+ghost use Rattle.host_run.specs.Report.{IsCallLine, answer_line, limits_in};
 
 use crate::modules::Entry;
-use command_line::Options;
 use host_edge::Gate;
+use module_store::{ModuleStore, Naming};
 use pool_host::{LaneAnswer, LaneHost};
 use request_text::{CallLine, Directive, MOST_CALLS};
 use std::alloc::Global;
@@ -25,31 +24,30 @@ fn answer_line(answer: LaneAnswer) -> CallLine
 }
 
 // How a call of the entry's module goes. The gate is told of it by its number.
-fn call_line<G: Gate>(
-    entry: &Entry,
+fn call_line<N: Naming, G: Gate>(
+    store: &ModuleStore<N>,
+    entry: &Entry<N>,
     export: &[u8],
     args: &[Val],
     fuel: u32,
     number: u64,
-    lane: &mut LaneHost,
+    lane: &mut LaneHost<N>,
     gate: &G,
 ) -> CallLine
-    requires { (limits : Limits) × (bytes : List ℕ) × IsLaneOf limits lane.old × IsEntry limits bytes entry.now }
-    ensures line { (limits : Limits) (bytes : List ℕ) → IsLaneOf limits lane.old → IsEntry limits bytes entry.now
-        → IsCallLine limits bytes export.now fuel args.now result }
-    ensures lane { KeepsLimits lane.old lane.new }
+    ensures { (bytes : List ℕ) → IsEntry (limits_in N.config) bytes entry.now
+        → IsCallLine (limits_in N.config) bytes export.now fuel args.now result }
 {
     match entry {
-        Entry::Accepted(loaded) => {
-            let answer = lane.call(loaded, export, args, fuel as u64, number, gate);
+        Ok(module) => {
+            let answer = lane.call(store, module, export, args, fuel as u64, number, gate);
             answer_line(answer)
         }
-        Entry::Refused(_) => CallLine::NoModule,
+        Err(_) => CallLine::NoModule,
     }
 }
 
 // The entry of a module line, by its place among the module lines.
-fn entry_at(entries: &[Entry], place: u32) -> &Entry
+fn entry_at<N: Naming>(entries: &[Entry<N>], place: u32) -> &Entry<N>
     requires { place < length entries.now }
     ensures { slice_get entries.now place ≡ Some result.now }
 {
@@ -57,20 +55,19 @@ fn entry_at(entries: &[Entry], place: u32) -> &Entry
 }
 
 // How the calls go, made one after the other in file order.
-pub(crate) fn answers<G: Gate>(
+pub(crate) fn answers<N: Naming, G: Gate>(
     alloc: Global,
-    options: &Options,
+    store: &ModuleStore<N>,
     requests: &[Directive],
-    entries: &[Entry],
+    entries: &[Entry<N>],
     gate: &G,
 ) -> Result<Vec<CallLine>, NoMemory>
-    requires depth { 0 < options.now.depth }
     requires placed { IsPlacedFrom 0 requests.now }
     requires few { call_count requests.now ≤ MOST_CALLS }
-    requires entries { AreEntries (limits_of options.now) (modules_of requests.now) entries.now }
-    ensures { IfOk result (λ answers. AreAnswers (limits_of options.now) (modules_of requests.now) requests.now answers.items) }
+    requires entries { AreEntries (limits_in N.config) (modules_of requests.now) entries.now }
+    ensures { IfOk result (λ answers. AreAnswers (limits_in N.config) (modules_of requests.now) requests.now answers.items) }
 {
-    let mut lane = LaneHost::open(alloc, options.pages, options.depth, options.frame)?;
+    let mut lane = LaneHost::open(alloc, store)?;
     let mut answers = Vec::new(alloc);
     let mut number = 0u64;
     for directive in requests {
@@ -84,7 +81,7 @@ pub(crate) fn answers<G: Gate>(
             number += 1;
             let entry = entry_at(entries, *module);
             let (export, args) = (export.as_slice(), args.as_slice());
-            let line = call_line(entry, export, args, *fuel, number, &mut lane, gate);
+            let line = call_line(store, entry, export, args, *fuel, number, &mut lane, gate);
             answers.push(line).map_err(|_| NoMemory)?;
         }
     }

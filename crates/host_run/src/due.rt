@@ -13,6 +13,7 @@ use command_line::{Command, WordsFault, read_command};
 use host_edge::{Gate, Source};
 use request_text::MOST_BYTES;
 use std::alloc::Global;
+use std::sync::Wait;
 use wasm_types::NoMemory;
 
 // What is written where the words are refused.
@@ -26,7 +27,8 @@ pub(crate) struct Due {
 }
 
 // What is due for the words and all bytes of the source. Words that are refused leave the source unread.
-pub(crate) fn due_text<S: Source, G: Gate>(
+pub(crate) fn due_text<R: Wait, S: Source, G: Gate>(
+    rt: &R,
     alloc: Global,
     words: &[&str],
     source: &mut S,
@@ -51,7 +53,7 @@ pub(crate) fn due_text<S: Source, G: Gate>(
     match read_command(alloc, words) {
         Ok(Command::Run(options)) => {
             let bytes = read_input(alloc, source)?;
-            Ok(answer(alloc, &options, &bytes, gate)?)
+            Ok(answer(rt, alloc, &options, &bytes, gate)?)
         }
         Err(WordsFault::Refused) => Ok(refusal(alloc, REFUSED_WORDS)?),
         Err(WordsFault::NoMemory) => Err(InputFault::NoMemory),

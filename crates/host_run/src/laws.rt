@@ -10,7 +10,9 @@ ghost use Rattle.host_run.specs.Report.{IsCallLine, IsModuleLine, Limits, limits
 ghost use Rattle.host_run.specs.Tenants.{CallsAt, HasReport, TellsAt};
 ghost use Rattle.host_run.specs.Serving.{Answer, IsDue};
 
-use pool_host::laws::{a_call_has_one_answer, bytes_load_to_one_answer, loaded_modules_are_valid};
+use loaded_modules::laws::a_loaded_module_is_within_its_limits;
+use pool_host::laws::a_call_has_one_answer;
+use wasm_spec::laws::loading_has_at_most_one_answer;
 
 /// Two request files that were reported on under the same pages, elements, depth and frame, and in each a call of the same
 /// export of a module of the same bytes, on the same fuel and arguments: after the call's number its line tells the same in
@@ -23,8 +25,8 @@ pub fn same_line()
         → CallsAt requests at module_bytes export fuel args → CallsAt requests' at' module_bytes export fuel args
         → (how : CallLine) × TellsAt requests lines at how × TellsAt requests' lines' at' how }
 {
-    bytes_load_to_one_answer();
-    loaded_modules_are_valid();
+    loading_has_at_most_one_answer();
+    a_loaded_module_is_within_its_limits();
     a_call_has_one_answer();
 }
 
@@ -33,8 +35,8 @@ pub fn a_call_has_one_line()
     ensures { (limits : Limits) (bytes export : List ℕ) (fuel : ℕ) (args : List Val) (a b : CallLine)
         → IsCallLine limits bytes export fuel args a → IsCallLine limits bytes export fuel args b → a ≡ b }
 {
-    bytes_load_to_one_answer();
-    loaded_modules_are_valid();
+    loading_has_at_most_one_answer();
+    a_loaded_module_is_within_its_limits();
     a_call_has_one_answer();
 }
 
@@ -43,14 +45,14 @@ pub fn same_module_line()
     ensures { (limits : Limits) (bytes : List ℕ) (a b : ModuleLine)
         → IsModuleLine limits bytes a → IsModuleLine limits bytes b → a ≡ b }
 {
-    bytes_load_to_one_answer();
+    loading_has_at_most_one_answer();
 }
 
 /// At most one answer, a status and a text, is due for the words of a command line and the bytes of a source.
 pub fn one_answer_is_due()
     ensures { (words : List (List ℕ)) (bytes : List ℕ) (a b : Answer) → IsDue words bytes a → IsDue words bytes b → a ≡ b }
 {
-    bytes_load_to_one_answer();
-    loaded_modules_are_valid();
+    loading_has_at_most_one_answer();
+    a_loaded_module_is_within_its_limits();
     a_call_has_one_answer();
 }

@@ -3,6 +3,7 @@
 
 mod answer;
 mod calls;
+mod config;
 mod due;
 pub mod laws;
 mod modules;

@@ -1,65 +1,68 @@
 //! The modules of a request file.
-ghost use Rattle.std.specs.Prelude.{IfOk, ◌≡◌};
-ghost use Rattle.request_text.specs.Text.{modules_of};
+ghost use Rattle.std.specs.Prelude.{IfOk, ◌≡◌, ◌+◌, ◌<◌, ◌≤◌, length};
+ghost use Rattle.request_text.specs.Text.{module_names, modules_of};
+ghost use Rattle.module_store.specs.declared.desk.TheConstants.{MOST_MODULES};
 ghost use Rattle.host_run.specs.Entries.{AreEntries, IsEntry, entry_line};
-ghost use Rattle.host_run.specs.Report.{limits_of};
+ghost use Rattle.host_run.specs.Report.{limits_in};
 
-use command_line::Options;
-use pool_host::{LoadFault, LoadLimits, Loaded, load};
+use module_store::{Desk, LoadFault, ModuleRef, ModuleStore, Naming};
 use request_text::{Directive, ModuleLine};
 use std::alloc::Global;
+use std::sync::Wait;
 use wasm_types::NoMemory;
 
 // What became of a module line: a module that may be called, or the line that tells why it is refused.
-#[derive(Drop)]
-pub(crate) enum Entry {
-    Accepted(Loaded),
-    Refused(ModuleLine),
-}
+pub(crate) type Entry<N> = Result<ModuleRef<N>, ModuleLine>;
 
-impl Entry {
-    // The line that it shows.
-    pub(crate) fn line(&self) -> ModuleLine
-        ensures { result ≡ entry_line self.now }
-    {
-        match self {
-            Entry::Accepted(_) => ModuleLine::Accepted,
-            Entry::Refused(line) => *line,
-        }
+// The line that an entry shows.
+pub(crate) fn entry_line<N: Naming>(entry: &Entry<N>) -> ModuleLine
+    ensures { result ≡ entry_line entry.now }
+{
+    match entry {
+        Ok(_) => ModuleLine::Accepted,
+        Err(line) => *line,
     }
 }
 
 // The entry of a module line.
-fn register(alloc: Global, options: &Options, bytes: &[u8]) -> Result<Entry, NoMemory>
-    ensures { IfOk result (λ entry. IsEntry (limits_of options.now) bytes.now entry) }
+fn register<N: Naming, R: Wait>(
+    rt: &R,
+    alloc: Global,
+    store: &ModuleStore<N>,
+    desk: &mut Desk<N>,
+    bytes: &[u8],
+) -> Result<Entry<N>, NoMemory>
+    requires { desk.old < MOST_MODULES }
+    ensures entry { IfOk result (λ entry. IsEntry (limits_in N.config) bytes.now entry) }
+    ensures desk { desk.new ≤ desk.old + 1 }
 {
-    let limits = LoadLimits {
-        pages: options.pages,
-        elements: options.elements,
-        frame: options.frame,
-    };
-    match load(alloc, bytes, limits) {
-        Ok(loaded) => Ok(Entry::Accepted(loaded)),
-        Err(LoadFault::Malformed) => Ok(Entry::Refused(ModuleLine::Malformed)),
-        Err(LoadFault::Unsupported) => Ok(Entry::Refused(ModuleLine::Unsupported)),
-        Err(LoadFault::Invalid) => Ok(Entry::Refused(ModuleLine::Invalid)),
-        Err(LoadFault::OverLimit(_, _, _)) => Ok(Entry::Refused(ModuleLine::Limit)),
+    match store.register(rt, alloc, desk, bytes) {
+        Ok(module) => Ok(Ok(module)),
+        Err(LoadFault::TooMany) => unreachable!(),
+        Err(LoadFault::Malformed) => Ok(Err(ModuleLine::Malformed)),
+        Err(LoadFault::Unsupported) => Ok(Err(ModuleLine::Unsupported)),
+        Err(LoadFault::Invalid) => Ok(Err(ModuleLine::Invalid)),
+        Err(LoadFault::OverLimit(_)) => Ok(Err(ModuleLine::Limit)),
+        Err(LoadFault::Segment(_)) => Ok(Err(ModuleLine::Segment)),
         Err(LoadFault::NoMemory) => Err(NoMemory),
     }
 }
 
 // The entries of all module lines, in their order.
-pub(crate) fn register_all(
+pub(crate) fn register_all<N: Naming, R: Wait>(
+    rt: &R,
     alloc: Global,
-    options: &Options,
+    store: &ModuleStore<N>,
+    desk: &mut Desk<N>,
     requests: &[Directive],
-) -> Result<Vec<Entry>, NoMemory>
-    ensures { IfOk result (λ entries. AreEntries (limits_of options.now) (modules_of requests.now) entries.items) }
+) -> Result<Vec<Entry<N>>, NoMemory>
+    requires { desk.old + length (module_names requests.now) ≤ MOST_MODULES }
+    ensures { IfOk result (λ entries. AreEntries (limits_in N.config) (modules_of requests.now) entries.items) }
 {
     let mut entries = Vec::new(alloc);
     for directive in requests {
         if let Directive::Module { bytes, .. } = directive {
-            let entry = register(alloc, options, bytes.as_slice())?;
+            let entry = register(rt, alloc, store, desk, bytes.as_slice())?;
             entries.push(entry).map_err(|_| NoMemory)?;
         }
     }

@@ -1,15 +1,23 @@
 //! The report on what a request file asks for.
-ghost use Rattle.std.specs.Prelude.{◌≡◌, ◌≤◌, ◌<◌, IfOk};
-ghost use Rattle.request_text.specs.Text.{IsPlacedFrom, call_count};
+ghost use Rattle.std.specs.Prelude.{◌≡◌, ◌≤◌, IfOk, length};
+ghost use Rattle.command_line.specs.Options.{HasSharedSlots, IsInRange};
+ghost use Rattle.module_store.specs.Names.{Bears};
+ghost use Rattle.request_text.specs.Text.{IsPlacedFrom, call_count, module_names, modules_of};
+ghost use Rattle.host_run.specs.Answers.{AreAnswers};
+ghost use Rattle.host_run.specs.Entries.{AreEntries};
 ghost use Rattle.host_run.specs.Lines.{HasSource, ShowsNext, counts_after};
-ghost use Rattle.host_run.specs.Report.{IsReport};
+ghost use Rattle.host_run.specs.Report.{AreLines, IsReport, limits_in};
 
 use crate::calls::answers;
-use crate::modules::{Entry, register_all};
+use crate::config::config_of;
+use crate::modules::{Entry, entry_line, register_all};
 use command_line::Options;
 use host_edge::Gate;
-use request_text::{CallLine, Directive, MOST_CALLS, ReportLine};
+use module_store::{Naming, Opened};
+use request_text::{CallLine, Directive, MOST_CALLS, MOST_MODULES, ReportLine};
 use std::alloc::Global;
+use std::marker::Brand;
+use std::sync::Wait;
 use wasm_types::{Items, NoMemory};
 
 // How many module lines and calls have been reported on.
@@ -20,10 +28,10 @@ pub(crate) struct Counts {
 }
 
 // The line of one directive.
-fn next_line(
+fn next_line<N: Naming>(
     alloc: Global,
     directive: &Directive,
-    entries: &[Entry],
+    entries: &[Entry<N>],
     answers: &[CallLine],
     counts: &mut Counts,
 ) -> Result<ReportLine, NoMemory>
@@ -33,7 +41,7 @@ fn next_line(
 {
     match directive {
         Directive::Module { name, bytes: _ } => {
-            let line = entries[counts.modules].line();
+            let line = entry_line(&entries[counts.modules]);
             counts.modules += 1;
             let name = name.as_slice().to_vec(alloc).map_err(|_| NoMemory)?;
             let name = Items::new(name);
@@ -48,28 +56,66 @@ fn next_line(
     }
 }
 
-// The report: the modules are loaded first, then the calls are made, and then there is a line for each directive.
-pub(crate) fn report<G: Gate>(
+// A line for each directive, from the entries of its modules and the answers of its calls.
+fn lines<N: Naming>(
     alloc: Global,
-    options: &Options,
     requests: &[Directive],
-    gate: &G,
+    entries: &[Entry<N>],
+    answers: &[CallLine],
 ) -> Result<Vec<ReportLine>, NoMemory>
-    requires depth { 0 < options.now.depth }
-    requires placed { IsPlacedFrom 0 requests.now }
     requires few { call_count requests.now ≤ MOST_CALLS }
-    ensures { IfOk result (λ lines. IsReport options.now requests.now lines.items) }
+    requires entries { AreEntries (limits_in N.config) (modules_of requests.now) entries.now }
+    requires answers { AreAnswers (limits_in N.config) (modules_of requests.now) requests.now answers.now }
+    ensures { IfOk result (λ lines. AreLines (limits_in N.config) (modules_of requests.now) 1 requests.now lines.items) }
 {
-    let entries = register_all(alloc, options, requests)?;
-    let answers = answers(alloc, options, requests, &entries, gate)?;
     let mut counts = Counts {
         modules: 0,
         calls: 0,
     };
     let mut lines = Vec::new(alloc);
     for directive in requests {
-        let line = next_line(alloc, directive, &entries, &answers, &mut counts)?;
+        let line = next_line(alloc, directive, entries, answers, &mut counts)?;
         lines.push(line).map_err(|_| NoMemory)?;
     }
     Ok(lines)
+}
+
+// The report under the store's configuration: the modules are loaded first, then the calls are made, and then there is a
+// line for each directive.
+fn report_in<N: Naming, R: Wait, G: Gate>(
+    rt: &R,
+    alloc: Global,
+    opened: Opened,
+    requests: &[Directive],
+    gate: &G,
+) -> Result<Vec<ReportLine>, NoMemory>
+    requires name { Bears opened N.shelves N.config }
+    requires placed { IsPlacedFrom 0 requests.now }
+    requires few_modules { length (module_names requests.now) ≤ MOST_MODULES }
+    requires few_calls { call_count requests.now ≤ MOST_CALLS }
+    ensures { IfOk result (λ lines. AreLines (limits_in N.config) (modules_of requests.now) 1 requests.now lines.items) }
+{
+    let (store, mut desk) = opened.named::<N>();
+    let entries = register_all(rt, alloc, &store, &mut desk, requests)?;
+    let answers = answers(alloc, &store, requests, &entries, gate)?;
+    lines(alloc, requests, &entries, &answers)
+}
+
+// The report under the options that a command has.
+pub(crate) fn report<R: Wait, G: Gate>(
+    rt: &R,
+    alloc: Global,
+    options: &Options,
+    requests: &[Directive],
+    gate: &G,
+) -> Result<Vec<ReportLine>, NoMemory>
+    requires range { IsInRange options.now }
+    requires shared { HasSharedSlots options.now }
+    requires placed { IsPlacedFrom 0 requests.now }
+    requires few_modules { length (module_names requests.now) ≤ MOST_MODULES }
+    requires few_calls { call_count requests.now ≤ MOST_CALLS }
+    ensures { IfOk result (λ lines. IsReport options.now requests.now lines.items) }
+{
+    let opened = Opened::open(alloc, config_of(options))?;
+    report_in::<Brand, R, G>(rt, alloc, opened, requests, gate)
 }

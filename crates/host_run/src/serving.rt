@@ -25,7 +25,7 @@ use std::thread::Threads;
 /// The result is the program's exit status: 0 after a report, 2 after the reason of a refusal, 3 where the source
 /// failed, 4 where the sink failed, 5 for want of memory. `gate` is told of each call.
 pub fn serve<S: Source, K: Sink, G: Gate>(
-    _rt: &(impl Threads + Wait),
+    rt: &(impl Threads + Wait),
     alloc: Global,
     words: &[&str],
     source: &mut S,
@@ -73,7 +73,7 @@ pub fn serve<S: Source, K: Sink, G: Gate>(
         → (Rose (S.faults source.old) (S.faults source.new) → ⊥) → (Rose (K.faults sink.old) (K.faults sink.new) → ⊥)
         → (result ≡ 0) ⊎ (result ≡ 5)) }
 {
-    match due_text(alloc, words, source, gate) {
+    match due_text(rt, alloc, words, source, gate) {
         Ok(due) => match write_text(sink, &due.text) {
             Ok(()) => due.status,
             Err(Failed) => Status::SinkFailed.code(),

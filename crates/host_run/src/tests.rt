@@ -3,6 +3,7 @@ use crate::{refuse_words, serve};
 use host_edge::{Failed, Gate, MemSink, MemSource, OpenGate, Sink};
 use request_text::{MOST_CALLS, MOST_MODULES};
 use std::alloc::Global;
+use std::process::Abort;
 use std::sync::Wait;
 use std::sync::atomic::{AtomicU64, Ordering};
 use std::test::Fail;
@@ -48,7 +49,7 @@ module i 0061736d0100000001070160027f7f017f030201000707010361646400000a090107002
 module f 0061736d010000000105016000017d
 ";
 
-// A recursion, a division and a trap, and a module with a memory.
+// A recursion, a division and a trap, and a module that has a memory alone.
 const SHAPES: &[u8] =
     b"module rec 0061736d0100000001060160017f017f03020100070501016600000a14011200200045047f410005200041016b10000b0b
 module div 0061736d0100000001070160027e7e017e03020100070501016400000a09010700200020017f0b
@@ -72,6 +73,78 @@ call add add 1 i32:4294967296 i32:0
 const USED_TWICE: &[u8] =
     b"module add 0061736d0100000001070160027f7f017f030201000707010361646400000a09010700200020016a0b
 module add 0061736d0100000001070160027f7f017f030201000707010361646400000a09010700200020016a0b
+";
+
+// A counter in memory, a store at an address, and a load past the highest address.
+const MEMORY: &[u8] =
+    b"module bump 0061736d010000000105016000017f0302010005030100010708010462756d7000000a160114004100410028020041016a36020041002802000b
+module poke 0061736d0100000001060160027f7f0003020100050301000107080104706f6b6500000a0b010900200020013602000b
+module wrap 0061736d0100000001060160017f017f030201000503010001070501017700000a0d010b0020002802ffffffff0f0b
+call bump bump 100
+call poke poke 100 i32:0 i32:-1
+call bump bump 100
+call bump bump 8
+call bump bump 7
+call poke poke 100 i32:65532 i32:1
+call poke poke 100 i32:65533 i32:1
+call poke poke 100 i32:-1 i32:1
+call wrap w 100 i32:1
+";
+
+// A byte stored in a page that is grown, and looked for by the next call; growth by an argument.
+const GROWTH: &[u8] =
+    b"module grown 0061736d010000000108026000006000017f030302000105030100010710020564697274790000046c6f6f6b00010a26021500410140001a41ffff07417f3a000003400c000b0b0e00410140001a41ffff072d00000b
+module grow 0061736d0100000001060160017f017f0302010005030100010708010467726f7700000a08010600200040000b
+call grown dirty 50
+call grown look 5
+call grow grow 9 i32:31
+call grow grow 9 i32:32
+call grow grow 9 i32:0
+call grow grow 9 i32:-1
+";
+
+// A global that a call counts up, and one that the start function sets.
+const GLOBALS: &[u8] =
+    b"module count 0061736d010000000105016000017f030201000606017f0141290b070801046e65787400000a0d010b00230041016a240023000b
+module set 0061736d010000000108026000006000017f03030200010606017f0141000b0707010367657400010801000a0d020600410724000b040023000b
+call count next 9
+call count next 9
+call set get 3
+call set get 2
+call set get 1
+";
+
+// Start functions that trap and that never end.
+const STARTS: &[u8] =
+    b"module trap 0061736d0100000001040160000003020100070501017300000801000a05010300000b
+module spin 0061736d0100000001040160000003020100070501017300000801000a0901070003400c000b0b
+call trap s 10
+call trap s 0
+call spin s 1000
+call trap s 10 i32:1
+call trap t 10
+";
+
+// Calls through a table of three elements, and of 32-bit division and remainder.
+const TABLES: &[u8] =
+    b"module ind 0061736d01000000010d036000017f60017f017f600000030403000201040401700003070501016900020908010041000b0200010a1103040041070b02000b070020001100000b
+module div 0061736d0100000001070160027f7f017f030302000007090201640000017200010a11020700200020016d0b0700200020016f0b
+call ind i 9 i32:0
+call ind i 9 i32:1
+call ind i 9 i32:2
+call ind i 9 i32:3
+call ind i 9 i32:-1
+call div d 9 i32:-2147483648 i32:-1
+call div r 9 i32:-2147483648 i32:-1
+call div r 9 i32:-7 i32:2
+";
+
+// A segment past its memory, 33 pages, and 1,025 elements.
+const LIMITS: &[u8] = b"module over 0061736d0100000005030100010b0a010041ffff030b026162
+module wide 0061736d010000000503010021
+module long 0061736d0100000004050170008108
+call over x 1
+call wide x 1
 ";
 
 const RUNS: [Run; 18] = [
@@ -128,9 +201,9 @@ const RUNS: [Run; 18] = [
         source: (4096, &[]),
         sink: (4096, &[]),
         status: 0,
-        written: b"module rec ok\nmodule div ok\nmodule stop ok\nmodule mem refused unsupported\n\
+        written: b"module rec ok\nmodule div ok\nmodule stop ok\nmodule mem ok\n\
             1 ok i32:0\n2 fuel\n3 trap exhausted\n4 trap overflow\n5 trap divide\n6 ok i64:-3\n7 trap unreachable\n\
-            8 refused module\n",
+            8 refused export\n",
     },
     // no line
     Run {
@@ -242,21 +315,129 @@ const RUNS: [Run; 18] = [
     },
 ];
 
-#[test]
-fn runs_end_with_their_status_and_text(rt: HostRuntime) -> Result<(), Fail> {
-    let alloc = rt.alloc();
-    for (at, run) in RUNS.into_iter().enumerate() {
+const INSTANCES: [Run; 9] = [
+    // memories, each call's fresh
+    Run {
+        words: RUN,
+        bytes: MEMORY,
+        source: (4096, &[]),
+        sink: (4096, &[]),
+        status: 0,
+        written: b"module bump ok\nmodule poke ok\nmodule wrap ok\n1 ok i32:1\n2 ok\n3 ok i32:1\n4 ok i32:1\n5 fuel\n6 ok\n\
+            7 trap memory\n8 trap memory\n9 trap memory\n",
+    },
+    // memories that grow
+    Run {
+        words: RUN,
+        bytes: GROWTH,
+        source: (4096, &[]),
+        sink: (4096, &[]),
+        status: 0,
+        written: b"module grown ok\nmodule grow ok\n1 fuel\n2 ok i32:0\n3 ok i32:1\n4 ok i32:-1\n5 ok i32:1\n6 ok i32:-1\n",
+    },
+    // memories that may not grow
+    Run {
+        words: &["poolhost", "run", "--pages", "1"],
+        bytes: GROWTH,
+        source: (4096, &[]),
+        sink: (4096, &[]),
+        status: 0,
+        written: b"module grown ok\nmodule grow ok\n1 trap memory\n2 trap memory\n3 ok i32:-1\n4 ok i32:-1\n5 ok i32:1\n6 ok i32:-1\n",
+    },
+    // globals, and a start function on the same fuel
+    Run {
+        words: RUN,
+        bytes: GLOBALS,
+        source: (4096, &[]),
+        sink: (4096, &[]),
+        status: 0,
+        written: b"module count ok\nmodule set ok\n1 ok i32:42\n2 ok i32:42\n3 ok i32:7\n4 fuel\n5 fuel\n",
+    },
+    // start functions whose end is the call's
+    Run {
+        words: RUN,
+        bytes: STARTS,
+        source: (4096, &[]),
+        sink: (4096, &[]),
+        status: 0,
+        written: b"module trap ok\nmodule spin ok\n1 trap unreachable\n2 fuel\n3 fuel\n4 refused args\n5 refused export\n",
+    },
+    // tables
+    Run {
+        words: RUN,
+        bytes: TABLES,
+        source: (4096, &[]),
+        sink: (4096, &[]),
+        status: 0,
+        written: b"module ind ok\nmodule div ok\n1 ok i32:7\n2 trap signature\n3 trap uninit\n4 trap element\n5 trap element\n\
+            6 trap overflow\n7 ok i32:0\n8 ok i32:-1\n",
+    },
+    // what is past a memory or a limit
+    Run {
+        words: RUN,
+        bytes: LIMITS,
+        source: (4096, &[]),
+        sink: (4096, &[]),
+        status: 0,
+        written: b"module over refused segment\nmodule wide refused limit\nmodule long refused limit\n1 refused module\n2 refused module\n",
+    },
+    // limits that are enough
+    Run {
+        words: &["poolhost", "run", "--pages", "33", "--elements", "1025"],
+        bytes: LIMITS,
+        source: (4096, &[]),
+        sink: (4096, &[]),
+        status: 0,
+        written: b"module over refused segment\nmodule wide ok\nmodule long ok\n1 refused module\n2 refused export\n",
+    },
+    // a memory for one slot
+    Run {
+        words: &[
+            "poolhost",
+            "run",
+            "--instances",
+            "1",
+            "--memories",
+            "1",
+            "--tables",
+            "1",
+            "--warm",
+            "0",
+            "--batch",
+            "1",
+        ],
+        bytes: MEMORY,
+        source: (4096, &[]),
+        sink: (4096, &[]),
+        status: 0,
+        written: b"module bump ok\nmodule poke ok\nmodule wrap ok\n1 ok i32:1\n2 ok\n3 ok i32:1\n4 ok i32:1\n5 fuel\n6 ok\n\
+            7 trap memory\n8 trap memory\n9 trap memory\n",
+    },
+];
+
+fn check_runs<R: Abort + Threads + Wait>(rt: &R, alloc: Global, runs: &[Run]) -> Result<(), Fail> {
+    for (at, run) in runs.iter().enumerate() {
         let mut source = MemSource::new(
             run.bytes.to_vec(alloc)?,
             run.source.0.max(1),
             run.source.1.to_vec(alloc)?,
         );
         let mut sink = MemSink::new(alloc, run.sink.0.max(1), run.sink.1.to_vec(alloc)?);
-        let status = serve(&rt, alloc, run.words, &mut source, &mut sink, &OpenGate);
+        let status = serve(rt, alloc, run.words, &mut source, &mut sink, &OpenGate);
         assert_eq!(rt; status, run.status, "at run {at}");
         assert_eq!(rt; sink.bytes(), run.written, "at run {at}");
     }
     Ok(())
+}
+
+#[test]
+fn runs_end_with_their_status_and_text(rt: HostRuntime) -> Result<(), Fail> {
+    check_runs(&rt, rt.alloc(), &RUNS)
+}
+
+#[test]
+fn each_call_runs_on_a_fresh_instance(rt: HostRuntime) -> Result<(), Fail> {
+    check_runs(&rt, rt.alloc(), &INSTANCES)
 }
 
 // A sink that notes how many bytes each write was handed.

@@ -1,4 +1,5 @@
 pub mod AnswerLemmas
 pub mod ArgumentLemmas
 pub mod CallLemmas
-pub mod LoadLemmas
+pub mod InstanceLemmas
+pub mod StartLemmas

@@ -1,5 +1,5 @@
 -- What a call of a loaded module is answered.
-use Rattle.std.specs.Prelude.{◌≡◌, ◌≢◌, ◌<◌, ℕ, List, map, Some}
+use Rattle.std.specs.Prelude.{◌≡◌, ◌≢◌, ℕ, List, map, Some}
 use Rattle.wasm_types.specs.declared.types.FuncType.{FuncType}
 use Rattle.wasm_types.specs.declared.outcome.Outcome.{Outcome}
 use Rattle.wasm_types.specs.declared.outcome.Val.{Val}
@@ -8,9 +8,7 @@ use Rattle.wasm_spec.specs.Typing.{type_of, function_type}
 use Rattle.wasm_spec.specs.Validity.{Exports}
 use Rattle.wasm_types.specs.declared.limits.RunLimits.{RunLimits}
 use Rattle.wasm_spec.specs.Result.{CallResult, call_result}
-use Rattle.linear_memory.specs.Bytes.{IsMemory}
-use Rattle.linear_memory.specs.declared.memory.Memory.{Memory}
-use Rattle.wasm_machine.specs.Room.{Room}
+use Rattle.pool_limits.specs.declared.numbers.Numbers.{Numbers}
 use Rattle.pool_host.specs.declared.lane.LaneAnswer.{LaneAnswer}
 use Rattle.pool_host.specs.declared.lane.LaneAnswer.TheVariants.{Done, NoExport, BadArgs}
 
@@ -47,18 +45,6 @@ IsAnswer m limits export args fuel NoExport = LacksExport m export
 IsAnswer m limits export args fuel BadArgs = LacksTypes m export args
 IsAnswer m limits export args fuel (Done outcome) = EndsWith m limits export args fuel outcome
 
--- the limits of a lane, and how many entries a frame of its stacks has
-pub record Lane : Type 0 where
-  pub limits : RunLimits
-  pub frame : ℕ
-
--- the limits and the frame of a lane stay
-pub record KeepsLimits (before after : Lane) : Type 0 where
-  pub limits : after.limits ≡ before.limits
-  pub frame : after.frame ≡ before.frame
-
--- what a lane's calls run on: stacks for the deepest call, and an empty memory
-pub record IsReady (room : Room) (memory : Memory) (limits : RunLimits) : Type 0 where
-  pub depth : room.depth ≡ limits.depth
-  pub some : 0 < limits.depth
-  pub memory_is : IsMemory 0 memory
+-- the limits of the runs of a configuration
+abbrev pub run_limits : Numbers → RunLimits
+run_limits n = record { pages = n.pages; depth = n.depth }

@@ -1,3 +1,2 @@
 pub mod CallWords
-pub mod LoadFaults
-pub mod LoadWords
+pub mod InstanceWords

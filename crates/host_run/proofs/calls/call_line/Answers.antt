@@ -1,9 +1,10 @@
+use Rattle.host_run.specs.Report.{limits_in}
 use Rattle.host_run.proofs.CallLemmas.{accepted_call, refused_call}
 use Rattle.host_run.proofs.calls.call_line.Goals as goal
 
-pub returns-in-Accepted-clause-line : goal.returns-in-Accepted-clause-line
-returns-in-Accepted-clause-line g c = λ limits bytes on h.
-    accepted_call limits bytes _ _ _ _ _ _ _ _ c.in-Accepted.is h on c.call-answer.ensures.answer c.answer_line.ensures
+pub returns-in-Ok : goal.returns-in-Ok
+returns-in-Ok g c = λ bytes h.
+    accepted_call (limits_in g.N.Naming.config) bytes _ _ _ _ _ _ _ c.in-Ok.is h c.call-answer.ensures c.answer_line.ensures
 
-pub returns-in-Refused-clause-line : goal.returns-in-Refused-clause-line
-returns-in-Refused-clause-line g c = λ limits bytes on h. refused_call limits bytes _ _ _ _ _ c.in-Refused.is h
+pub returns-in-Err : goal.returns-in-Err
+returns-in-Err g c = λ bytes h. refused_call (limits_in g.N.Naming.config) bytes _ _ _ _ _ c.in-Err.is h

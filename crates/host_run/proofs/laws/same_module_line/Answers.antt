@@ -2,4 +2,4 @@ use Rattle.host_run.proofs.LineLemmas.{one_module_line}
 use Rattle.host_run.proofs.laws.same_module_line.Goals as goal
 
 pub returns : goal.returns
-returns c = one_module_line c.bytes_load_to_one_answer.ensures
+returns c = one_module_line c.loading_has_at_most_one_answer.ensures

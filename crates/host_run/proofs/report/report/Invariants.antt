@@ -1,8 +1,4 @@
-use Rattle.std.proofs.Common.{drop}
-use Rattle.host_run.specs.Report.{limits_of}
-use Rattle.host_run.proofs.ReportLemmas.{LinesLeft}
 use Rattle.host_run.proofs.report.report.Given as goal
 
-abbrev pub invariant-loop-directive : goal.invariant-loop-directive
-invariant-loop-directive g l =
-    LinesLeft (limits_of l.fn.options) l.fn.requests (drop l.directive-index l.fn.requests) l.entries.items l.answers.items l.counts l.lines.items
+abbrev pub ghosts-report_in : goal.ghosts-report_in
+ghosts-report_in g a = record { shelves = a.opened.modules; config = a.opened.config }

@@ -1,0 +1,15 @@
+use Rattle.std.proofs.Common.{◌≡◌, length, sym, subst}
+use Rattle.wasm_types.specs.Tree.{ModuleTree}
+use Rattle.wasm_spec.specs.Store.{fresh_store, memory_size}
+use Rattle.pool_limits.specs.Limits.{load_limits}
+use Rattle.pool_host.proofs.InstanceLemmas.{bare_memory}
+use Rattle.pool_host.proofs.preparing.prepare_memory.Goals as goal
+
+pub returns-then-is_empty-clause-shown : goal.returns-then-is_empty-clause-shown
+returns-then-is_empty-clause-shown g c =
+    let loaded = c.valid-loaded.ensures.loaded in
+    let limits = load_limits g.N.Naming.config in
+    let within = c.a_loaded_module_is_within_its_limits.ensures loaded.bytes limits c.args.module.now.tree loaded.loads in
+    let size = c.a_fresh_store_has_the_least_sizes.ensures.memory limits c.args.module.now.tree within in
+    bare_memory c.args.valid.now c.module.result.now c.module.ensures.same c.args.memory.now (c.is_empty.ensures.0 c.if-is_empty.true)
+    (subst (λ (m : ModuleTree). length (fresh_store m).memory ≡ memory_size m) (sym c.requires) size)
