@@ -1,0 +1,2 @@
+mod Causing
+mod UnheldNumbers

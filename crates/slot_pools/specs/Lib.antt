@@ -1,0 +1,5 @@
+pub mod Looks
+pub mod Wins
+pub mod Takes
+pub mod Gives
+pub mod Causes
