@@ -1,12 +1,18 @@
 -- A take that won nothing has its cause.
-use Rattle.std.proofs.Common.{◌≡◌, ℕ, ◌<◌, List, [], ◌∷◌, ◌++◌, refl, sym, ap, ◌∙◌, append_assoc}
+use Rattle.std.proofs.Common.{◌≡◌, ℕ, ◌%◌, true, List, [], ◌∷◌, ◌++◌, sym, ap, ◌∙◌, append_assoc}
+use Rattle.std.specs.Prelude.{slice_index_or}
+use Rattle.pool_core.specs.declared.words.State.{State}
+use Rattle.pool_core.specs.declared.words.StateWord.{StateWord}
+use Rattle.pool_core.specs.StateWords.{IsWordOf, bit}
+use Rattle.pool_core.specs.Laws.{LowestBitSaysHeld}
 use Rattle.slot_words.specs.declared.views.Operation.{Operation}
-use Rattle.slot_words.specs.declared.views.Operation.TheVariants.{AwaitLoad}
+use Rattle.slot_words.specs.declared.views.Operation.TheVariants.{Claim}
 use Rattle.slot_words.specs.Rows.{AreLost, IsLost}
+use Rattle.slot_words.specs.Rule.{HeldByAnother}
 use Rattle.slot_words.proofs.Parts.{number_at}
 use Rattle.slot_pools.specs.Wins.{all_numbers}
 use Rattle.slot_pools.specs.Takes.{IsFullBatchedTake, IsFullAffineTake, IsFullAnyTake}
-use Rattle.slot_pools.specs.Causes.{HasLostClaim, AllFoundHeld, FullAfterMark, FullAfterLook, FullAfterScan}
+use Rattle.slot_pools.specs.Causes.{AllFoundHeld, FullAfterMark, FullAfterLook, FullAfterScan, LostToAnother}
 
 -- after these first operations, a claim of each number was lost
 lost_after : (slots : ℕ) (first swept : List Operation) → AreLost (all_numbers slots) swept → AllFoundHeld slots (first ++ swept)
@@ -46,3 +52,10 @@ any_cause slots done full = let scan = full.1 in let loss = scan.is_second in re
   is_first = (full.0, scan.is_first);
   is_second = λ n h. rw loss.done_is (lost_after slots loss.first loss.second loss.is_second n h);
 }
+
+lost_is_held : (n r read : ℕ) → Claim n r ∷ [] ≡ Claim n read ∷ [] → (w : StateWord) → LowestBitSaysHeld → IsWordOf read w → w.held ≡ true → r % 2 ≡ 1
+lost_is_held n r read same w says is_word held = let e : r ≡ read = cc in ap (λ (k : ℕ). k % 2) (e ∙ is_word.packed_is) ∙ says w ∙ ap bit held
+
+pub lost_to_another : {V : Type 0} (fits : State → ℕ → V → Type 0) (room : V → List ℕ) → HeldByAnother fits room → LowestBitSaysHeld → LostToAnother fits room
+lost_to_another fits room another says bounds s shows n i within lost idle =
+    another bounds s shows n i within (lost_is_held n (slice_index_or s.words n 0) lost.read lost.done_is lost.word says lost.is_word lost.held) idle

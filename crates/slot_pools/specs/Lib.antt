@@ -3,3 +3,4 @@ pub mod Wins
 pub mod Takes
 pub mod Gives
 pub mod Causes
+pub mod LastClaims
