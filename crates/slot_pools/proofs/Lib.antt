@@ -1,4 +1,5 @@
 mod Causing
 mod Filling
 mod LastClaiming
+mod Preferring
 mod UnheldNumbers

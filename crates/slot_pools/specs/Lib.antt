@@ -1,3 +1,4 @@
+pub mod Affinity
 pub mod Looks
 pub mod Wins
 pub mod Takes

@@ -1,6 +1,8 @@
 //! What holds of the definitions alone. Each function does nothing of its own: its contract is the law.
 ghost use Rattle.std.specs.Prelude.{ℕ, List};
 ghost use Rattle.slot_words.specs.declared.views.Operation.{Operation};
+ghost use Rattle.slot_pools.specs.Affinity.{OwnComeFirst};
+ghost use Rattle.slot_pools.specs.Looks.{IsLook};
 ghost use Rattle.slot_pools.specs.Takes.{IsBatchedTake, IsFullBatchedTake, IsAffineTake, IsFullAffineTake, IsAnyTake, IsFullAnyTake};
 ghost use Rattle.slot_pools.specs.Causes.{FullAfterMark, FullAfterLook, FullAfterScan, LostToAnother};
 ghost use Rattle.slot_pools.specs.LastClaims.{EndsWithClaim};
@@ -29,4 +31,9 @@ pub fn the_last_claim_names_the_slot()
     ensures batched { (limit slots tag n read : ℕ) (done : List Operation) → IsBatchedTake limit slots tag n read done → EndsWithClaim n read done }
     ensures affine { (limit slots tag n read : ℕ) (done : List Operation) → IsAffineTake limit slots tag n read done → EndsWithClaim n read done }
     ensures any { (slots n read : ℕ) (done : List Operation) → IsAnyTake slots n read done → EndsWithClaim n read done }
+{}
+
+/// The slots that a take's scan saw free and warm for its module come first in its order.
+pub fn own_warm_slots_come_first()
+    ensures { (limit slots tag : ℕ) (order : List ℕ) (done : List Operation) → (look : IsLook limit slots tag order done) → OwnComeFirst tag look.seen order }
 {}
