@@ -1,5 +1,3 @@
 mod Causing
 mod Filling
 mod LastClaiming
-mod Preferring
-mod UnheldNumbers

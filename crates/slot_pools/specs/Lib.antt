@@ -1,4 +1,3 @@
-pub mod Affinity
 pub mod Looks
 pub mod Wins
 pub mod Takes

@@ -1,4 +1,4 @@
--- Which slots a take prefers.
+-- Which slots an order prefers.
 use Rattle.std.specs.Prelude.{◌≡◌, ℕ, ◌<◌, false, List, length, slice_index_or}
 use Rattle.pool_core.specs.declared.words.State.TheVariants.{Warm}
 use Rattle.pool_core.specs.declared.words.StateWord.{StateWord}

@@ -11,7 +11,7 @@ use Rattle.pool_core.specs.declared.words.StateWord.{StateWord}
 use Rattle.pool_core.specs.declared.limits.TheConstants.{STAMP_LIMIT}
 use Rattle.pool_core.specs.StateWords.{bit}
 use Rattle.affinity_index.specs.Orders.{IsOrder, seen_rank, rank_of, free_rank}
-use Rattle.slot_pools.specs.Affinity.{IsOwnWarm, OwnComeFirst, word_seen_at}
+use Rattle.affinity_index.specs.Preference.{IsOwnWarm, OwnComeFirst, word_seen_at}
 
 -- slots of this rank or a later one are not the module's own
 not_less : (full : Bool) → (STAMP_LIMIT ≤ cond full (2 * STAMP_LIMIT) STAMP_LIMIT) × (STAMP_LIMIT ≤ cond full STAMP_LIMIT (2 * STAMP_LIMIT))
