@@ -1,5 +1,5 @@
 -- What an expression builder stands for after each of its steps.
-use Rattle.std.proofs.Common.{◌≡◌, ℕ, ◌+◌, ◌-◌, List, [], ◌∷◌, ◌++◌, length, get_or, reverse, true, false, refl, sym, ap, ◌∙◌, subst, arith, append_assoc}
+use Rattle.std.proofs.Common.{◌≡◌, ℕ, ◌-◌, List, [], ◌∷◌, ◌++◌, length, get_or, reverse, true, false, refl, sym, ap, ◌∙◌, subst, arith, append_assoc}
 use Rattle.std.specs.Prelude.{Option}
 use Rattle.std.proofs.lemmas.List.{reverse-append, length_push, append-nil}
 use Rattle.std.proofs.Math.Seq.{get_or-append_seam}
@@ -7,6 +7,7 @@ use Rattle.wasm_types.specs.declared.types.ValType.{ValType}
 use Rattle.wasm_types.specs.declared.instr.Op.{Op}
 use Rattle.wasm_types.specs.declared.instr.Op.TheVariants as op
 use Rattle.wasm_types.specs.Tree.{Code, End, Plain, Block, Loop, If, Call, CallIndirect, code_of, codes_from, codes}
+use Rattle.wasm_types.proofs.SequenceLemmas.{codes_from-push, length-codes_from}
 use Rattle.wasm_decode.specs.declared.expr_builder.FrameKind.{FrameKind}
 use Rattle.wasm_decode.specs.declared.expr_builder.FrameKind.TheVariants as kind
 use Rattle.wasm_decode.specs.declared.expr_builder.Frame.{Frame}
@@ -32,16 +33,6 @@ prepend-leaf all (op.Plain i) c h = refl
 prepend-leaf all (op.Call x) c h = refl
 prepend-leaf all (op.CallIndirect x) c h = refl
 prepend-leaf all _ c h = absurd h
-
--- one sequence more
-trees-more : (earlier : List Code) (sequences : List (List Op)) (ops : List Op)
-    → codes_from earlier (sequences ++ ops ∷ []) ≡ codes_from earlier sequences ++ code_of (codes_from earlier sequences) ops ∷ []
-trees-more earlier [] ops = refl
-trees-more earlier (s ∷ sequences) ops = trees-more (earlier ++ code_of earlier s ∷ []) sequences ops
-
-trees-long : (earlier : List Code) (sequences : List (List Op)) → length (codes_from earlier sequences) ≡ length earlier + length sequences
-trees-long earlier [] = omega arith
-trees-long earlier (s ∷ sequences) = omega (arith, trees-long (earlier ++ code_of earlier s ∷ []) sequences, length_push earlier (code_of earlier s))
 
 -- a frame stays one whichever sequence ends next
 frame-grows : (earlier : List Code) (x : Code) (ops : List Op) (t : Option ValType) (q : FrameKind) (p : Enclosing) → IsFrame earlier ops t q p → IsFrame (earlier ++ x ∷ []) ops t q p
@@ -74,12 +65,12 @@ number-tree : (sequences : List (List Op)) (frames : List Frame) (ops : List Op)
 number-tree sequences frames ops s h =
     let earlier = codes_from [] sequences in
     let e = h.inner [] End in
-    trees-more [] sequences ops ∙ ap (λ (x : Code). earlier ++ x ∷ []) (prepend_all-end earlier ops ∙ (rw append-nil at e))
+    codes_from-push [] sequences ops ∙ ap (λ (x : Code). earlier ++ x ∷ []) (prepend_all-end earlier ops ∙ (rw append-nil at e))
 
 -- it stands at its number, whatever sequences follow
 at-number : (sequences : List (List Op)) (more : List Code) (x : Code) (k : ℕ) → k ≡ length sequences → get_or (codes_from [] sequences ++ x ∷ more) k End ≡ x
 at-number sequences more x k e =
-    let long : length (codes_from [] sequences) ≡ k = omega (arith, e, trees-long [] sequences) in
+    let long : length (codes_from [] sequences) ≡ k = omega (arith, e, length-codes_from [] sequences) in
     rw (← long) (get_or-append_seam (codes_from [] sequences) x more End)
 
 last-first : (frames : List Frame) (o : Frame) → reverse (frames ++ o ∷ []) ≡ o ∷ reverse frames
