@@ -1,7 +1,12 @@
-//! Tickets of instances: what a call needs beside its memory and its table.
+//! Tickets of instances: what a call needs beside its memory and its table. Threads share pools of them.
 #![tactic(auto)]
 
 pub mod laws;
+mod pool;
+#[cfg(test)]
+mod tests;
 mod ticket;
 
+pub use pool::TicketPool;
+pub use slot_pools::Full;
 pub use ticket::Ticket;

@@ -1,6 +1,11 @@
-//! Tables that lie in slots: each is written when its slot goes to another module.
+//! Tables that lie in slots: each is written when its slot goes to another module. Threads share pools of them.
 #![tactic(auto)]
 
+mod pool;
 mod slot;
+#[cfg(test)]
+mod tests;
 
+pub use pool::TablePool;
 pub use slot::TableSlot;
+pub use slot_pools::Full;
