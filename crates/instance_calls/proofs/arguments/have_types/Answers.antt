@@ -1,6 +1,6 @@
 use Rattle.std.proofs.Common.{rules}
-use Rattle.pool_host.proofs.ArgumentLemmas.{one_more}
-use Rattle.pool_host.proofs.arguments.have_types.Goals as goal
+use Rattle.instance_calls.proofs.ArgumentLemmas.{one_more}
+use Rattle.instance_calls.proofs.arguments.have_types.Goals as goal
 
 pub loop-index-preserved : goal.loop-index-preserved
 loop-index-preserved c =

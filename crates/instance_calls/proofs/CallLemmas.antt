@@ -2,7 +2,6 @@
 use Rattle.std.proofs.Common.{◌≡◌, ℕ, ◌<◌, [], List, Option, Some, None, map, get_or, refl, sym, ap, ◌∙◌, subst}
 use Rattle.std.specs.Prelude.{IsSome, slice_get}
 use Rattle.std.proofs.lemmas.Option.{get_or_from_slice_get, slice_get_within}
-use Rattle.wasm_types.specs.declared.limits.RunLimits.{RunLimits}
 use Rattle.wasm_types.specs.declared.types.FuncType.{FuncType}
 use Rattle.wasm_types.specs.declared.types.ValType.{ValType}
 use Rattle.wasm_types.specs.declared.outcome.Outcome.{Outcome}
@@ -12,9 +11,14 @@ use Rattle.wasm_types.specs.declared.module.Module.{Module}
 use Rattle.wasm_types.specs.Tree.{FunctionTree, ModuleTree, module_tree}
 use Rattle.wasm_spec.specs.Typing.{IsTypedFunction, function_type, type_of}
 use Rattle.wasm_spec.specs.Validity.{Exports, IsDefined, IsValid}
-use Rattle.wasm_spec.specs.Result.{CallResult, call_result}
+use Rattle.wasm_spec.specs.Store.{Store, fresh_store}
+use Rattle.wasm_spec.specs.Result.{result_from}
 use Rattle.wasm_machine.specs.Calls.{IsCall}
-use Rattle.pool_host.specs.CallWords.{EndsWith, LacksTypes}
+use Rattle.pool_limits.specs.declared.numbers.Numbers.{Numbers}
+use Rattle.pool_worlds.specs.Contents.{Contents, Kind, shown}
+use Rattle.instance_calls.specs.CallWords.{EndsWith, LacksTypes, MayCall, run_limits}
+use Rattle.instance_calls.specs.Runs.{RanOn}
+use Rattle.instance_calls.proofs.RunLemmas.{gives}
 
 -- a function with its type
 pub record HasFunction (m : ModuleTree) (x : ℕ) : Type 0 where
@@ -47,14 +51,27 @@ is_call v x args h fit = record { function = h.function; type = h.type; there = 
 pub lacks_types : (m : ModuleTree) (export : List ℕ) (x : ℕ) (args : List Val) (h : HasFunction m x) → Exports m.exports export x → (map type_of args ≡ h.type.params → ⊥) → LacksTypes m export args
 lacks_types m export x args h exported differ = record { function = x; type = h.type; exported = record { exported = exported; typed = function_type_is m x h }; differ = differ }
 
-pub ends_with : (m : ModuleTree) (limits : RunLimits) (export : List ℕ) (x : ℕ) (args : List Val) (fuel : ℕ) (outcome : Outcome) (r : CallResult) (h : HasFunction m x)
-    → Exports m.exports export x → map type_of args ≡ h.type.params → call_result m limits x args fuel ≡ Some r → outcome ≡ r.outcome → EndsWith m limits export args fuel outcome
-ends_with m limits export x args fuel outcome r h exported fit ends shows = record {
+pub may_call : (m : ModuleTree) (export : List ℕ) (x : ℕ) (args : List Val) (h : HasFunction m x) → Exports m.exports export x → map type_of args ≡ h.type.params → MayCall m export x args
+may_call m export x args h exported fit = record { type = h.type; exported = record { exported = exported; typed = function_type_is m x h }; fit = fit }
+
+-- what may be called is a call of the machine's
+pub called : (v : Module) (export : List ℕ) (x : ℕ) (args : List Val) → IsValid (module_tree v) → MayCall (module_tree v) export x args → IsCall v x args
+called v export x args valid may =
+    let h : HasFunction (module_tree v) x = exported_function (module_tree v) export x valid may.exported.exported in
+    let both : Some may.type ≡ Some h.type = sym may.exported.typed ∙ function_type_is (module_tree v) x h in
+    let same : may.type ≡ h.type = cc in
+    is_call v x args h (may.fit ∙ ap (λ (t : FuncType). t.params) same)
+
+-- what ran on a fresh instance ends as the call does
+pub ended : (config : Numbers) (m : ModuleTree) (export : List ℕ) (x : ℕ) (args : List Val) (fuel : ℕ) (old new : (k : Kind) → Contents k) (outcome : Outcome)
+    → MayCall m export x args → shown m old ≡ fresh_store m → RanOn config m x args fuel old new outcome → EndsWith m (run_limits config) export args fuel outcome
+ended config m export x args fuel old new outcome may fresh ran = record {
   function = x;
-  type = h.type;
-  exported = record { exported = exported; typed = function_type_is m x h };
-  fit = fit;
-  result = r;
-  ends = ends;
-  shows = shows;
+  type = may.type;
+  exported = may.exported;
+  fit = may.fit;
+  result = ran.result;
+  ends = ap (λ (s : Store). result_from m (run_limits config) x args s fuel) (sym fresh)
+      ∙ gives config.pages m (run_limits config) x args (shown m old) fuel old new ran.marks ran.result m.start ran.runs;
+  shows = ran.ends;
 }

@@ -1,18 +1,21 @@
 //! Runs of a function on the parts of an instance.
-ghost use Rattle.std.specs.Prelude.{◌≡◌, ◌<◌, Some, []};
+ghost use Rattle.std.specs.Prelude.{◌≡◌, ◌<◌, [], Option};
 ghost use Rattle.wasm_types.specs.Tree.{module_tree};
 ghost use Rattle.wasm_spec.specs.Instances.{room_for};
 ghost use Rattle.wasm_spec.specs.Result.{function_result};
 ghost use Rattle.wasm_machine.specs.Calls.{FitsFrame, IsCall, IsDone};
 ghost use Rattle.wasm_machine.specs.TypedConfiguration.{IsTypedStore};
-ghost use Rattle.pool_worlds.specs.Contents.{Table, needs, shown_table};
-ghost use Rattle.memory_slots.specs.Lent.{IsReady, store_in};
-ghost use Rattle.pool_host.specs.CallWords.{run_limits};
-ghost use Rattle.pool_host.specs.InstanceWords.{bare_store};
+ghost use Rattle.pool_worlds.specs.Contents.{MemoryContents, Named};
+ghost use Rattle.pool_worlds.specs.Runs.{Leaves};
+ghost use Rattle.memory_slots.specs.Lent.{IsReady, parts, store_in};
+ghost use Rattle.instance_calls.specs.CallWords.{run_limits};
+ghost use Rattle.instance_calls.specs.Instances.{bare_store};
+ghost use Rattle.instance_calls.specs.Parts.{table_in};
 
 use instance_slots::Ticket;
 use memory_slots::MemSlot;
 use module_store::{ModuleStore, Naming};
+use slot_words::Lease;
 use table_slots::TableSlot;
 use wasm_machine::{RunEnd, run};
 use wasm_types::{RunLimits, Val};
@@ -20,7 +23,8 @@ use wasm_validate::Valid;
 
 // The limits of the configuration's runs.
 pub(crate) fn limits_of<N: Naming>(store: &ModuleStore<N>) -> RunLimits
-    ensures { result ≡ run_limits N.config }
+    ensures is { result ≡ run_limits N.config }
+    ensures depth { 0 < N.config.depth }
 {
     let numbers = store.config().numbers();
     RunLimits {
@@ -29,14 +33,14 @@ pub(crate) fn limits_of<N: Naming>(store: &ModuleStore<N>) -> RunLimits
     }
 }
 
-// The entries of the table, or none where the module has no table.
-pub(crate) fn table_for<'a, N: Naming>(table: &'a TableSlot<N>, valid: &Valid) -> &'a [Option<u32>]
-    ensures { result.now ≡ shown_table (needs Table (module_tree valid.now)) table.now }
+// The entries of the table, or none where there is no table.
+pub(crate) fn entries_of<N: Naming>(table: &Option<Lease<TableSlot<N>>>) -> &[Option<u32>]
+    ensures { result.now ≡ (table_in table.now).entries }
 {
-    if valid.module().tables.is_empty() {
-        return &[];
+    match table {
+        Some(table) => table.value.entries(),
+        None => &[],
     }
-    table.entries()
 }
 
 // Runs a function of a module that has a memory.
@@ -56,8 +60,11 @@ pub(crate) fn run_with_memory<N: Naming>(
     requires ready { IsReady (room_for valid.now.memories N.config.pages) memory.old }
     requires store { IsTypedStore valid.now (store_in valid.now memory.old table.now ticket.old) }
     requires frame { FitsFrame valid.now N.config.frame }
-    ensures result { function_result (module_tree valid.now) limits function args.now (store_in valid.now memory.old table.now ticket.old) fuel
-        ≡ Some (record { outcome = result.outcome; store = store_in valid.now memory.new table.now ticket.new; fuel = result.left }) }
+    ensures leaves { (owner : Option Named) → Leaves N.config.pages (module_tree valid.now)
+        (function_result (module_tree valid.now) limits function args.now (store_in valid.now memory.old table.now ticket.old)) fuel
+        (parts memory.old owner table.now ticket.old) (parts memory.new owner table.now ticket.new) memory.new.marks
+        (record { outcome = result.outcome; store = store_in valid.now memory.new table.now ticket.new; fuel = result.left }) }
+    ensures holds { memory.new.holds ≡ memory.old.holds }
     ensures ready { IsReady (room_for valid.now.memories N.config.pages) memory.new }
     ensures store { IsDone result.outcome → IsTypedStore valid.now (store_in valid.now memory.new table.now ticket.new) }
 {
@@ -89,8 +96,10 @@ pub(crate) fn run_without_memory<N: Naming>(
     requires none { valid.now.memories ≡ [] }
     requires store { IsTypedStore valid.now (bare_store valid.now table.now ticket.old) }
     requires frame { FitsFrame valid.now N.config.frame }
-    ensures result { function_result (module_tree valid.now) limits function args.now (bare_store valid.now table.now ticket.old) fuel
-        ≡ Some (record { outcome = result.outcome; store = bare_store valid.now table.now ticket.new; fuel = result.left }) }
+    ensures leaves { (x : MemoryContents) (owner : Option Named) → Leaves N.config.pages (module_tree valid.now)
+        (function_result (module_tree valid.now) limits function args.now (bare_store valid.now table.now ticket.old)) fuel
+        (parts x owner table.now ticket.old) (parts x owner table.now ticket.new) x.marks
+        (record { outcome = result.outcome; store = bare_store valid.now table.now ticket.new; fuel = result.left }) }
     ensures store { IsDone result.outcome → IsTypedStore valid.now (bare_store valid.now table.now ticket.new) }
 {
     run(
