@@ -1,5 +1,1 @@
 pub mod AnswerLemmas
-pub mod ArgumentLemmas
-pub mod CallLemmas
-pub mod InstanceLemmas
-pub mod StartLemmas

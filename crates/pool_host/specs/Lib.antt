@@ -1,2 +1,7 @@
 pub mod CallWords
-pub mod InstanceWords
+pub mod Closing
+pub mod Hosts
+pub mod Leases
+pub mod Taking
+pub mod Trails
+pub mod Visits
