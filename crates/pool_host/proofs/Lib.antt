@@ -1,1 +1,4 @@
 pub mod AnswerLemmas
+pub mod ClosingLemmas
+pub mod SlotLemmas
+pub mod VisitLemmas

@@ -6,6 +6,7 @@ use Rattle.slot_words.specs.declared.views.Operation.{Operation}
 use Rattle.slot_words.specs.Closing.{ClosesAs, CountsLeft}
 use Rattle.slot_words.specs.Owned.{limit_of, passes_of, slots_of}
 use Rattle.slot_words.specs.Passes.{Pass, operations, share_of}
+use Rattle.module_store.specs.declared.naming.Naming.{Ghosts}
 use Rattle.instance_slots.specs.Pools as tickets
 use Rattle.memory_slots.specs.Pools as memories
 use Rattle.table_slots.specs.Pools as tables
@@ -26,23 +27,24 @@ pub record IsJoined {V : Type 0} (p other q : Pass V) : Type 0 where
   pub share : share_of q ≡ share_of p + 1
   pub done : operations q ≡ operations p ++ operations other
 
-module _ {N : Type 0} where
+module _ {N : Type 0} {G : Ghosts N} where
   -- what passes did, the last one's operations first
-  abbrev pub ticket_operations : List (HostPass N) → List Operation
+  abbrev pub ticket_operations : List (HostPass N G) → List Operation
   ticket_operations passes = flat_map (λ p. operations p.passes.ticket) (reverse passes)
 
-  abbrev pub memory_operations : List (HostPass N) → List Operation
+  abbrev pub memory_operations : List (HostPass N G) → List Operation
   memory_operations passes = flat_map (λ p. operations p.passes.memory) (reverse passes)
 
-  abbrev pub table_operations : List (HostPass N) → List Operation
+  abbrev pub table_operations : List (HostPass N G) → List Operation
   table_operations passes = flat_map (λ p. operations p.passes.table) (reverse passes)
 
   -- what a host's pools leave that is closed with these passes
-  pub record ArePoolCounts (host : Host N) (passes : List (HostPass N)) (counts : PoolCounts) : Type 0 where
+  pub record ArePoolCounts (host : Host N) (passes : List (HostPass N G)) (counts : PoolCounts) : Type 0 where
     pub instance : AreCounts (tickets.words_of host.tickets) (length passes) (ticket_operations passes) counts.instance
     pub memory : AreCounts (memories.words_of host.memories) (length passes) (memory_operations passes) counts.memory
     pub table : AreCounts (tables.words_of host.tables) (length passes) (table_operations passes) counts.table
 
+module _ {N : Type 0} where
   -- each of the passes stands for so many
   pub record HaveShares (share : ℕ) (p : Passes N) : Type 0 where
     pub ticket : share_of p.ticket ≡ share

@@ -5,6 +5,7 @@ use Rattle.pool_limits.specs.declared.numbers.Numbers.{Numbers}
 use Rattle.pool_limits.specs.declared.share.Share.{Share}
 use Rattle.slot_words.specs.Owned.{limit_of, passes_of, slots_of}
 use Rattle.slot_words.specs.Passes.{IsIdle, IsSamePass}
+use Rattle.module_store.specs.declared.naming.Naming.{Ghosts}
 use Rattle.instance_slots.specs.Pools as tickets
 use Rattle.memory_slots.specs.Pools as memories
 use Rattle.table_slots.specs.Pools as tables
@@ -37,33 +38,35 @@ module _ {N : Type 0} where
     pub memory : IsSamePass p.memory q.memory
     pub table : IsSamePass p.table q.table
 
-  -- the pass is one of this host's
-  abbrev pub IsHostPass : Host N → HostPass N → Type 0
-  IsHostPass host pass = ArePassesOf host pass.passes
-
-  -- it stays that pass of that host
-  abbrev pub IsSameHostPass : HostPass N → HostPass N → Type 0
-  IsSameHostPass p q = AreSamePasses p.passes q.passes
-
   -- one as it is handed out: with no operation yet
   pub record AreNewPassesOf (host : Host N) (p : Passes N) : Type 0 where
     pub ticket : tickets.IsNewTicketPass host.tickets p.ticket
     pub memory : memories.IsNewMemoryPass host.memories p.memory
     pub table : tables.IsNewTablePass host.tables p.table
 
-  abbrev pub IsNewHostPass : Host N → HostPass N → Type 0
-  IsNewHostPass host pass = AreNewPassesOf host pass.passes
-
   -- so many passes of each of its pools were handed out
   pub record HandedOut (host : Host N) (passes : ℕ) : Type 0 where
-    pub tickets : passes_of (tickets.words_of host.tickets) ≡ passes
-    pub memories : passes_of (memories.words_of host.memories) ≡ passes
-    pub tables : passes_of (tables.words_of host.tables) ≡ passes
+    pub of_tickets : passes_of (tickets.words_of host.tickets) ≡ passes
+    pub of_memories : passes_of (memories.words_of host.memories) ≡ passes
+    pub of_tables : passes_of (tables.words_of host.tables) ≡ passes
 
   -- it has as many slots as its share says, of which at most the configured number are warm while no call has them
   pub record HasShare (config : Numbers) (share : Share) (host : Host N) : Type 0 where
-    pub tickets : slots_of (tickets.words_of host.tickets) ≡ share.instances
-    pub memories : slots_of (memories.words_of host.memories) ≡ share.memories
-    pub tables : slots_of (tables.words_of host.tables) ≡ share.tables
+    pub of_tickets : slots_of (tickets.words_of host.tickets) ≡ share.instances
+    pub of_memories : slots_of (memories.words_of host.memories) ≡ share.memories
+    pub of_tables : slots_of (tables.words_of host.tables) ≡ share.tables
     pub warm_memories : limit_of (memories.words_of host.memories) ≡ config.warm
     pub warm_tables : limit_of (tables.words_of host.tables) ≡ config.warm
+
+module _ {N : Type 0} {G : Ghosts N} where
+  -- the pass is one of this host's
+  abbrev pub IsHostPass : Host N → HostPass N G → Type 0
+  IsHostPass host pass = ArePassesOf host pass.passes
+
+  -- it stays that pass of that host
+  abbrev pub IsSameHostPass : HostPass N G → HostPass N G → Type 0
+  IsSameHostPass p q = AreSamePasses p.passes q.passes
+
+  -- and as it is handed out
+  abbrev pub IsNewHostPass : Host N → HostPass N G → Type 0
+  IsNewHostPass host pass = AreNewPassesOf host pass.passes

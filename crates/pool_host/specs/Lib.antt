@@ -1,6 +1,7 @@
 pub mod CallWords
 pub mod Closing
 pub mod Hosts
+pub mod Idle
 pub mod Leases
 pub mod Taking
 pub mod Trails

@@ -1,5 +1,4 @@
 //! What a host answers.
-use instance_calls::Refusal;
 use wasm_types::Outcome;
 
 /// A kind of slot.
@@ -21,13 +20,4 @@ pub enum Answer {
     BadArgs,
     /// Other calls had every slot of this kind.
     Full(Kind),
-}
-
-impl From<Refusal> for Answer {
-    fn from(refusal: Refusal) -> Answer {
-        match refusal {
-            Refusal::NoExport => Answer::NoExport,
-            Refusal::BadArgs => Answer::BadArgs,
-        }
-    }
 }

@@ -11,7 +11,7 @@ use crate::dealing::deal;
 use crate::passes::{HostPass, Passes};
 use crate::slots::{give_slots, take_slots};
 use host_edge::Gate;
-use instance_calls::find_function;
+use instance_calls::{Refusal, find_function};
 use instance_slots::TicketPool;
 use memory_slots::MemoryPool;
 use module_store::{ModuleRef, ModuleStore, Naming};
@@ -86,7 +86,8 @@ impl<N: Naming> Host<N> {
     {
         let function = match find_function(store, module, export, args) {
             Ok(function) => function,
-            Err(refusal) => return Answer::from(refusal),
+            Err(Refusal::NoExport) => return Answer::NoExport,
+            Err(Refusal::BadArgs) => return Answer::BadArgs,
         };
         match take_slots(self, passes, store, module) {
             Ok(mut instance) => {

@@ -16,3 +16,6 @@ pub use closing::PoolCounts;
 pub use host::{Host, MOST_PASSES};
 pub use lane::{LaneAnswer, LaneHost};
 pub use passes::HostPass;
+
+#[cfg(test)]
+mod tests;

@@ -1,6 +1,7 @@
 //! A caller's passes.
 ghost use Rattle.std.specs.Prelude.{◌≡◌};
-ghost use Rattle.slot_words.specs.Passes.{IsIdle, share_of};
+ghost use Rattle.slot_words.specs.Passes.{share_of};
+ghost use Rattle.pool_host.specs.Idle.{Rests};
 
 use instance_slots::Ticket;
 use memory_slots::MemSlot;
@@ -20,9 +21,9 @@ pub(crate) struct Passes<N: Naming> {
 #[derive(Drop)]
 pub struct HostPass<N: Naming> {
     pub(crate) passes: Passes<N>,
-    ghost idle_ticket: { IsIdle passes.ticket },
-    ghost idle_memory: { IsIdle passes.memory },
-    ghost idle_table: { IsIdle passes.table },
+    ghost rests_ticket: { Rests passes.ticket },
+    ghost rests_memory: { Rests passes.memory },
+    ghost rests_table: { Rests passes.table },
     ghost one_ticket: { share_of passes.ticket ≡ 1 },
     ghost one_memory: { share_of passes.memory ≡ 1 },
     ghost one_table: { share_of passes.table ≡ 1 },
