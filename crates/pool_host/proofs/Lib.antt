@@ -1,4 +1,5 @@
 pub mod AnswerLemmas
 pub mod ClosingLemmas
+pub mod IdleLemmas
 pub mod SlotLemmas
 pub mod VisitLemmas

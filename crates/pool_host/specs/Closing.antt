@@ -28,15 +28,24 @@ pub record IsJoined {V : Type 0} (p other q : Pass V) : Type 0 where
   pub done : operations q ≡ operations p ++ operations other
 
 module _ {N : Type 0} {G : Ghosts N} where
-  -- what passes did, the last one's operations first
+  -- what a pass did, and what passes did, the last one's operations first
+  abbrev pub ticket_done : HostPass N G → List Operation
+  ticket_done pass = operations pass.passes.ticket
+
   abbrev pub ticket_operations : List (HostPass N G) → List Operation
-  ticket_operations passes = flat_map (λ p. operations p.passes.ticket) (reverse passes)
+  ticket_operations passes = flat_map ticket_done (reverse passes)
+
+  abbrev pub memory_done : HostPass N G → List Operation
+  memory_done pass = operations pass.passes.memory
 
   abbrev pub memory_operations : List (HostPass N G) → List Operation
-  memory_operations passes = flat_map (λ p. operations p.passes.memory) (reverse passes)
+  memory_operations passes = flat_map memory_done (reverse passes)
+
+  abbrev pub table_done : HostPass N G → List Operation
+  table_done pass = operations pass.passes.table
 
   abbrev pub table_operations : List (HostPass N G) → List Operation
-  table_operations passes = flat_map (λ p. operations p.passes.table) (reverse passes)
+  table_operations passes = flat_map table_done (reverse passes)
 
   -- what a host's pools leave that is closed with these passes
   pub record ArePoolCounts (host : Host N) (passes : List (HostPass N G)) (counts : PoolCounts) : Type 0 where
