@@ -13,7 +13,7 @@ use Rattle.host_report.specs.Answers.{AreAnswers}
 use Rattle.host_report.specs.Report.{AreLines, Limits}
 use Rattle.host_report.specs.Entries.{AreEntries, Entry, IsEntry, entry_line}
 use Rattle.host_report.specs.Lines.{HasSource, ShowsNext, counts_after}
-use Rattle.host_report.specs.declared.report.Counts.{Counts}
+use Rattle.host_report.specs.declared.reporting.Counts.{Counts}
 use Rattle.host_report.proofs.CallLemmas.{call_count-call, call_count-module}
 use Rattle.host_report.proofs.EntryLemmas.{entry_told}
 

@@ -7,7 +7,7 @@ use Rattle.request_text.specs.declared.report.ReportLine.{ReportLine}
 use Rattle.request_text.specs.declared.report.ReportLine.TheVariants as report
 use Rattle.request_text.specs.declared.request.TheConstants.{MOST_CALLS}
 use Rattle.host_report.specs.Entries.{Entry, entry_line}
-use Rattle.host_report.specs.declared.report.Counts.{Counts}
+use Rattle.host_report.specs.declared.reporting.Counts.{Counts}
 
 -- there is an entry, or an answer, for this directive, after so many of each
 abbrev pub HasSource : Counts → List Entry → List CallLine → Directive → Type 0

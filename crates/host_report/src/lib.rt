@@ -5,6 +5,6 @@ mod calls;
 mod config;
 pub mod laws;
 mod modules;
-mod report;
+mod reporting;
 
-pub use report::report;
+pub use reporting::report;

@@ -3,7 +3,7 @@ use Rattle.std.proofs.lemmas.List.{drop_all}
 use Rattle.host_report.specs.Report.{limits_in}
 use Rattle.host_report.proofs.CallLemmas.{next_directive}
 use Rattle.host_report.proofs.ReportLemmas.{lines_end, next_told}
-use Rattle.host_report.proofs.report.lines.Goals as goal
+use Rattle.host_report.proofs.reporting.lines.Goals as goal
 
 pub loop-directive-preserved : goal.loop-directive-preserved
 loop-directive-preserved g c =

@@ -1,7 +1,7 @@
 use Rattle.std.proofs.Common.{drop}
 use Rattle.host_report.specs.Report.{limits_in}
 use Rattle.host_report.proofs.ReportLemmas.{LinesLeft}
-use Rattle.host_report.proofs.report.lines.Given as goal
+use Rattle.host_report.proofs.reporting.lines.Given as goal
 
 abbrev pub invariant-loop-directive : goal.invariant-loop-directive
 invariant-loop-directive g l =
