@@ -1,0 +1,3 @@
+pub mod AccountLists
+pub mod BalanceMoves
+pub mod Partings

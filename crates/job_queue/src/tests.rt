@@ -1,0 +1,1 @@
+//! The board's rows, and the queue between threads.
