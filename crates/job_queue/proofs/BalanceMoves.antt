@@ -86,9 +86,9 @@ module _ {M : Type 0} where
     };
   }
 
-  pub puts : (n port : ℕ) (a : Account M) (x : ℕ × M) → 0 < a.share → a.puts ≡ true → x.0 ≤ a.terms.count → Pushes Kept n port a x (λ b. b ≡ with_put a x)
+  pub puts : (n port : ℕ) (a : Account M) (x : ℕ × M) → 0 < a.share → a.puts ≡ true → x.0 ≤ a.terms.count → Pushes Kept n port a x (λ b. b ≡ with_put a (x ∷ []))
   puts n port a x live may small items accounts room kept at =
-      let b : Account M = with_put a x in
+      let b : Account M = with_put a (x ∷ []) in
       let k = kept.balance in
       let mine : Fits kept.terms (kept.gone ++ items) a = k.each port a at in
       let longer : (kept.gone ++ items) ++ x ∷ [] ≡ kept.gone ++ (items ++ x ∷ []) = append_assoc kept.gone items (x ∷ []) in
@@ -117,7 +117,7 @@ module _ {M : Type 0} where
 
   pub takes : (port : ℕ) (a : Account M) → 0 < a.share → Pops Kept port a (IsGiven a)
   takes port a live x items accounts kept at =
-      let b : Account M = with_given a x in
+      let b : Account M = with_given a (x ∷ []) in
       let k = kept.balance in
       let gone : List (ℕ × M) = kept.gone ++ x ∷ [] in
       let mine : Fits kept.terms (kept.gone ++ x ∷ items) a = k.each port a at in

@@ -25,13 +25,13 @@ module _ {M : Type 0} where
   abbrev pub parted : Account M → Account M
   parted a = record a { share = a.share - 1 }
 
-  -- it put one pair more
-  abbrev pub with_put : Account M → ℕ × M → Account M
-  with_put a x = record a { put = a.put ++ x ∷ [] }
+  -- it put these pairs more
+  abbrev pub with_put : Account M → List (ℕ × M) → Account M
+  with_put a pairs = record a { put = a.put ++ pairs }
 
-  -- it was given one pair more
-  abbrev pub with_given : Account M → ℕ × M → Account M
-  with_given a x = record a { given = a.given ++ x ∷ [] }
+  -- it was given these pairs more
+  abbrev pub with_given : Account M → List (ℕ × M) → Account M
+  with_given a pairs = record a { given = a.given ++ pairs }
 
   -- two passes as one
   abbrev pub joined : Account M → Account M → Account M
@@ -39,7 +39,7 @@ module _ {M : Type 0} where
 
   pub record IsGiven (a : Account M) (x : ℕ × M) (b : Account M) : Type 0 where
     pub number_is : x.0 ≤ a.terms.count
-    pub account_is : b ≡ with_given a x
+    pub account_is : b ≡ with_given a (x ∷ [])
 
   -- where the pass stands for all, what it put is what it was given and what the queue holds
   abbrev pub IsSettledBy : Account M → List (ℕ × M) → Type 0

@@ -1,5 +1,5 @@
 //! The queue that hands numbers and items to workers.
-ghost use Rattle.std.specs.Prelude.{◌≡◌, ◌+◌, ◌-◌, ◌<◌, ◌≤◌, true, false, All, length, IfOk, IfSome, IfNone};
+ghost use Rattle.std.specs.Prelude.{◌≡◌, ◌+◌, ◌-◌, ◌<◌, ◌≤◌, ◌∷◌, [], true, false, All, length, IfOk, IfSome, IfNone};
 ghost use Rattle.std.specs.List.Sorted.{IsPermutation};
 ghost use Rattle.crossbeam_queue.specs.Passes.{IsPassOf, IsSamePass, view};
 ghost use Rattle.job_queue.specs.Accounts.{first_terms, joined, new_account, parted, told, with_given, with_put};
@@ -96,7 +96,7 @@ impl<M: Drop> Jobs<M> {
         requires room { length (put_by pass.old) < capacity_of self.now }
         requires number { number ≤ count_of self.now }
         ensures own { IsJobPass self.now pass.new }
-        ensures put { account_of pass.new ≡ with_put (account_of pass.old) (number, item) }
+        ensures put { account_of pass.new ≡ with_put (account_of pass.old) ((number, item) ∷ []) }
     {
         let refused = self.queue.push_as::<Puts, R>(rt, pass, (number, item));
         prove!(refused.is_ok());
@@ -108,7 +108,7 @@ impl<M: Drop> Jobs<M> {
         requires { IsJobPass self.now pass.old }
         ensures own { IsJobPass self.now pass.new }
         ensures number { IfSome result (λ x. x.0 ≤ count_of self.now) }
-        ensures given { IfSome result (λ x. account_of pass.new ≡ with_given (account_of pass.old) x) }
+        ensures given { IfSome result (λ x. account_of pass.new ≡ with_given (account_of pass.old) (x ∷ [])) }
         ensures none { IfNone result (account_of pass.new ≡ account_of pass.old) }
         ensures all { IfNone result (StandsForAll self.now pass.old → IsPermutation (put_by pass.old) (given_to pass.old)) }
     {

@@ -66,10 +66,10 @@ impl<M> Join<Account<M>> for Shares {
 pub(crate) struct Puts;
 
 impl<M> Outcome<(u32, M), Account<M>> for Puts {
-    ghost use Rattle.std.specs.Prelude.{◌≡◌};
+    ghost use Rattle.std.specs.Prelude.{◌≡◌, ◌∷◌, []};
     ghost use Rattle.job_queue.specs.Accounts.{with_put};
 
-    ghost then = { λ a x b. b ≡ with_put a x };
+    ghost then = { λ a x b. b ≡ with_put a (x ∷ []) };
 }
 
 impl<M> Lesson<(u32, M), Account<M>> for Puts {
