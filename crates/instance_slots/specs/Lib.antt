@@ -1,1 +1,4 @@
+pub mod Fits
+pub mod Handed
+pub mod Pools
 pub mod Tickets

@@ -1,7 +1,10 @@
-//! Tickets of instances: what a call needs beside its memory and its table.
+//! Tickets of instances: what a call needs beside its memory and its table. Threads share pools of them.
 #![tactic(auto)]
 
 pub mod laws;
+mod pool;
 mod ticket;
 
+pub use pool::TicketPool;
+pub use slot_pools::Full;
 pub use ticket::Ticket;

@@ -2,10 +2,12 @@
 ghost use Rattle.std.specs.Prelude.{◌≡◌, ◌≤◌, ◌++◌, IfOk, length, drop, take};
 ghost use Rattle.wasm_spec.specs.Store.{fresh_store};
 ghost use Rattle.pool_worlds.specs.Contents as contents;
-ghost use Rattle.pool_worlds.specs.Contents.{prepared};
+ghost use Rattle.pool_worlds.specs.Contents.{prepared, Matches};
+ghost use Rattle.instance_slots.specs.Fits.{room, own_tag, fits-own_tag};
 
 use module_store::{ModuleRef, ModuleStore, Naming};
 use pool_limits::MOST_GLOBALS;
+use slot_words::Pooled;
 use std::alloc::Global;
 use std::marker::{Model, PhantomData};
 use wasm_machine::{Memory, Stacks};
@@ -82,4 +84,30 @@ impl<N: Naming> Ticket<N> {
         let first = store.image(module).globals.as_slice();
         put(&mut self.globals, first);
     }
+}
+
+impl<N: Naming> Pooled for Ticket<N> {
+    type Images = ModuleStore<N>;
+
+    ghost room = { room };
+
+    ghost own_tag = { own_tag };
+
+    ghost fits = { λ s tag x. Matches N.config.pages contents.Ticket s tag x };
+
+    // It is cold whatever it holds, since a call writes all that it reads.
+    fn clear(&mut self) {}
+
+    // No ticket is ever warm or awaiting, so this and `tag` have clauses of their own that any call can meet.
+    fn restore(&mut self, _images: &ModuleStore<N>)
+        ensures { self.new ≡ self.old }
+    {}
+
+    fn tag(&self) -> u32
+        ensures { result ≡ 0 }
+    {
+        0
+    }
+
+    ghost fits_own_tag = { fits-own_tag N.config.pages };
 }

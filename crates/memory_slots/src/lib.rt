@@ -1,11 +1,15 @@
-//! Linear memories that lie in slots: each is made ready for a module by writing over what was written to.
+//! Linear memories that lie in slots: each is made ready for a module by writing over what was written to. Threads share pools of
+//! them.
 #![tactic(auto)]
 
 mod blocks;
 mod images;
+mod pool;
 mod slot;
 mod steps;
 
 pub use linear_memory::Memory;
+pub use pool::MemoryPool;
 pub use slot::MemSlot;
+pub use slot_pools::Full;
 pub use steps::Steps;

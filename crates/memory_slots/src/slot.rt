@@ -1,5 +1,6 @@
 //! Memories in slots, and the modules that they belong to.
 ghost use Rattle.std.specs.Prelude.{◌≡◌, ◌+◌, ◌-◌, ◌*◌, ◌<◌, ◌≤◌, true, false, Some, None, Option, is_some, length, map, IfOk, IfSome};
+ghost use Rattle.pool_core.specs.declared.words.State.TheVariants.{Awaiting};
 ghost use Rattle.wasm_types.specs.Tree.{module_tree};
 ghost use Rattle.wasm_spec.specs.Instances.{room_for};
 ghost use Rattle.wasm_spec.specs.Store.{fresh_store};
@@ -8,8 +9,9 @@ ghost use Rattle.wasm_machine.specs.Calls.{IsCall, FitsFrame, IsDone};
 ghost use Rattle.wasm_machine.specs.Lent.{others};
 ghost use Rattle.wasm_machine.specs.TypedConfiguration.{IsTypedStore};
 ghost use Rattle.pool_worlds.specs.Contents as contents;
-ghost use Rattle.pool_worlds.specs.Contents.{Named, prepared, restored, shown_memory, IsCold, IsFreshMemory};
+ghost use Rattle.pool_worlds.specs.Contents.{Named, prepared, restored, shown_memory, IsCold, IsFreshMemory, Matches};
 ghost use Rattle.pool_worlds.specs.Runs.{Leaves};
+ghost use Rattle.memory_slots.specs.Fits.{room, own_tag, fits-own_tag};
 ghost use Rattle.memory_slots.specs.Lent.{IsReady, dirty_blocks, parts, store_in};
 
 use crate::blocks::write_all;
@@ -17,6 +19,7 @@ use crate::images::{restore_memory, write_memory};
 use crate::steps::Steps;
 use linear_memory::Memory;
 use module_store::{ModuleRef, ModuleStore, Naming};
+use slot_words::Pooled;
 use std::alloc::Global;
 use std::marker::{Brand, Model};
 use std::sync::ledger::{Blank, Ledger};
@@ -194,4 +197,40 @@ impl<N: Naming> MemSlot<N> {
             stacks,
         )
     }
+
+    // Outside its marked blocks a memory that belongs to a module is that module's. This does nothing: its contract is what the
+    // type keeps.
+    pub(crate) fn is_used(&self)
+        requires { is_some self.now.holds ≡ true }
+        ensures { Matches N.config.pages contents.Memory Awaiting (own_tag self.now) self.now }
+    {
+        let _ = &self.memory;
+    }
+}
+
+impl<N: Naming> Pooled for MemSlot<N> {
+    type Images = ModuleStore<N>;
+
+    ghost room = { room };
+
+    ghost own_tag = { own_tag };
+
+    ghost fits = { λ s tag x. Matches N.config.pages contents.Memory s tag x };
+
+    fn clear(&mut self) {
+        self.clear();
+    }
+
+    fn restore(&mut self, images: &ModuleStore<N>) {
+        self.restore(images);
+    }
+
+    fn tag(&self) -> u32 {
+        match &self.holds {
+            Some(own) => own.tag(),
+            None => 0,
+        }
+    }
+
+    ghost fits_own_tag = { fits-own_tag N.config.pages };
 }

@@ -1,1 +1,4 @@
+pub mod Fits
+pub mod Handed
 pub mod Kept
+pub mod Pools

@@ -1,8 +1,11 @@
 //! Tables in slots, and the modules that they belong to.
-ghost use Rattle.std.specs.Prelude.{◌≡◌, ◌≤◌, ◌++◌, IfOk, length, drop};
-ghost use Rattle.pool_worlds.specs.Contents.{Table, prepared, restored, IsCold, IsTableOf};
+ghost use Rattle.std.specs.Prelude.{◌≡◌, ◌≤◌, ◌++◌, true, is_some, IfOk, length, drop};
+ghost use Rattle.pool_core.specs.declared.words.State.TheVariants.{Warm};
+ghost use Rattle.pool_worlds.specs.Contents.{Table, prepared, restored, IsCold, IsTableOf, Matches};
+ghost use Rattle.table_slots.specs.Fits.{room, own_tag, fits-own_tag};
 
 use module_store::{ModuleRef, ModuleStore, Naming};
+use slot_words::Pooled;
 use std::alloc::Global;
 use std::marker::Model;
 use wasm_types::NoMemory;
@@ -102,4 +105,39 @@ impl<N: Naming> TableSlot<N> {
     {
         &self.entries[..self.count]
     }
+
+    // A table that belongs to a module is that module's. This does nothing: its contract is what the type keeps.
+    pub(crate) fn is_its_modules(&self)
+        requires { is_some self.now.holds ≡ true }
+        ensures { Matches N.config.pages Table Warm (own_tag self.now) self.now }
+    {
+        let _ = &self.holds;
+    }
+}
+
+impl<N: Naming> Pooled for TableSlot<N> {
+    type Images = ModuleStore<N>;
+
+    ghost room = { room };
+
+    ghost own_tag = { own_tag };
+
+    ghost fits = { λ s tag x. Matches N.config.pages Table s tag x };
+
+    fn clear(&mut self) {
+        self.clear();
+    }
+
+    fn restore(&mut self, images: &ModuleStore<N>) {
+        self.restore(images);
+    }
+
+    fn tag(&self) -> u32 {
+        match &self.holds {
+            Some(own) => own.tag(),
+            None => 0,
+        }
+    }
+
+    ghost fits_own_tag = { fits-own_tag N.config.pages };
 }

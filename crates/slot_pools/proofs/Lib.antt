@@ -1,0 +1,4 @@
+mod Causing
+mod Filling
+mod LastClaiming
+mod UnheldNumbers

@@ -1,0 +1,10 @@
+use Rattle.slot_words.specs.Owned.{slots_of, limit_of}
+use Rattle.slot_pools.specs.Looks.{IsLook}
+use Rattle.slot_pools.specs.Wins.{IsDirectLoss}
+use Rattle.slot_pools.proofs.Filling.{full_grew}
+use Rattle.slot_pools.proofs.taking.take_affine.Goals as goal
+
+pub returns-in_err-lease-clause-full : goal.returns-in_err-lease-clause-full
+returns-in_err-lease-clause-full g c =
+    let words = c.args.words.now in let lost = c.in_err-lease.ensures.held in
+    full_grew (IsLook (limit_of words) (slots_of words) c.args.tag) (IsDirectLoss (slots_of words)) c.look-order.result _ _ _ c.from_residual.result c.look-order.ensures.trail lost.0 lost.1

@@ -1,0 +1,6 @@
+pub mod Looks
+pub mod Wins
+pub mod Takes
+pub mod Gives
+pub mod Causes
+pub mod LastClaims

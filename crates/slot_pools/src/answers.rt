@@ -1,0 +1,14 @@
+//! What a take answers that won nothing.
+use slot_words::AllHeld;
+use thiserror::Error;
+
+/// Each slot of the pool is held.
+#[derive(Debug, Drop, Error)]
+#[error("each slot is held")]
+pub struct Full;
+
+impl From<AllHeld> for Full {
+    fn from(_held: AllHeld) -> Full {
+        Full
+    }
+}

@@ -1,0 +1,94 @@
+//! A slot is taken.
+ghost use Rattle.std.specs.Prelude.{◌<◌, IfOk, OnErr};
+ghost use Rattle.slot_words.specs.Leases.{lease_number, lease_word};
+ghost use Rattle.slot_words.specs.Parts.{Grew};
+ghost use Rattle.slot_words.specs.Passes.{IsIdle, IsSamePass, share_of, trail};
+ghost use Rattle.slot_words.specs.Owned.{IsPassOf, slots_of, limit_of, passes_of};
+ghost use Rattle.slot_words.specs.Rows.{HasTaken};
+ghost use Rattle.slot_pools.specs.Takes.{IsBatchedTake, IsFullBatchedTake, IsAffineTake, IsFullAffineTake, IsAnyTake, IsFullAnyTake};
+
+use crate::answers::Full;
+use crate::looking::{look, scan_unheld};
+use crate::winning::{win, win_after_flush};
+use slot_words::{Lease, Pass, Pooled, Words};
+
+/// Takes a slot for the module of this tag, out of a pool in which slots may await their decommit: along the order, and else, after a flush, whichever is won first.
+///
+/// # Errors
+///
+/// [`Full`] exactly where no claim was won, but for those of its flush. A pass that stands for all never meets it.
+pub fn take_batched<V: Pooled>(
+    words: &Words<V>,
+    pass: &mut Pass<V>,
+    images: &V::Images,
+    tag: u32,
+) -> Result<Lease<V>, Full>
+    requires own { IsPassOf V.room words.now pass.old }
+    requires idle { IsIdle pass.old }
+    ensures same { IsSamePass pass.old pass.new }
+
+    // a claim was won, of the slot that the lease names
+    ensures taken { IfOk result (HasTaken V.fits V.room words.now pass.new) }
+    ensures trail { IfOk result (λ l. Grew (IsBatchedTake (limit_of words.now) (slots_of words.now) tag (lease_number l) (lease_word l)) (trail pass.old) (trail pass.new)) }
+
+    // none was won, and other passes held the slots
+    ensures full { OnErr result (IsIdle pass.new × Grew (IsFullBatchedTake (limit_of words.now) (slots_of words.now) tag) (trail pass.old) (trail pass.new)) }
+    ensures another { OnErr result (share_of pass.old < passes_of words.now) }
+{
+    let order = look(words, pass, tag);
+    let lease = win_after_flush(words, pass, images, &order)?;
+    words.settle(pass, &lease);
+    Ok(lease)
+}
+
+/// Takes a slot for the module of this tag, out of a pool in which no slot awaits: along the order, and else whichever is won first.
+///
+/// # Errors
+///
+/// [`Full`] exactly where no claim was won. A pass that stands for all never meets it.
+pub fn take_affine<V: Pooled>(
+    words: &Words<V>,
+    pass: &mut Pass<V>,
+    tag: u32,
+) -> Result<Lease<V>, Full>
+    requires own { IsPassOf V.room words.now pass.old }
+    requires idle { IsIdle pass.old }
+    ensures same { IsSamePass pass.old pass.new }
+
+    // a claim was won, of the slot that the lease names
+    ensures taken { IfOk result (HasTaken V.fits V.room words.now pass.new) }
+    ensures trail { IfOk result (λ l. Grew (IsAffineTake (limit_of words.now) (slots_of words.now) tag (lease_number l) (lease_word l)) (trail pass.old) (trail pass.new)) }
+
+    // none was won, and other passes held the slots
+    ensures full { OnErr result (IsIdle pass.new × Grew (IsFullAffineTake (limit_of words.now) (slots_of words.now) tag) (trail pass.old) (trail pass.new)) }
+    ensures another { OnErr result (share_of pass.old < passes_of words.now) }
+{
+    let order = look(words, pass, tag);
+    let lease = win(words, pass, &order)?;
+    words.settle(pass, &lease);
+    Ok(lease)
+}
+
+/// Takes a slot, whatever it last served: those that were seen not held first, by rising number, and else whichever is won first.
+///
+/// # Errors
+///
+/// [`Full`] exactly where no claim was won. A pass that stands for all never meets it.
+pub fn take_any<V: Pooled>(words: &Words<V>, pass: &mut Pass<V>) -> Result<Lease<V>, Full>
+    requires own { IsPassOf V.room words.now pass.old }
+    requires idle { IsIdle pass.old }
+    ensures same { IsSamePass pass.old pass.new }
+
+    // a claim was won, of the slot that the lease names
+    ensures taken { IfOk result (HasTaken V.fits V.room words.now pass.new) }
+    ensures trail { IfOk result (λ l. Grew (IsAnyTake (slots_of words.now) (lease_number l) (lease_word l)) (trail pass.old) (trail pass.new)) }
+
+    // none was won, and other passes held the slots
+    ensures full { OnErr result (IsIdle pass.new × Grew (IsFullAnyTake (slots_of words.now)) (trail pass.old) (trail pass.new)) }
+    ensures another { OnErr result (share_of pass.old < passes_of words.now) }
+{
+    let unheld = scan_unheld(words, pass);
+    let lease = win(words, pass, &unheld)?;
+    words.settle(pass, &lease);
+    Ok(lease)
+}
