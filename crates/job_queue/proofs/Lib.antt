@@ -1,0 +1,4 @@
+pub mod AccountLists
+pub mod BalanceMoves
+pub mod Partings
+pub mod Puttings

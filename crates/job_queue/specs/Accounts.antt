@@ -1,0 +1,46 @@
+-- What a pass put and was given, and what each step makes of it.
+use Rattle.std.specs.Prelude.{◌≡◌, ℕ, ◌+◌, ◌-◌, ◌≤◌, Bool, false, ◌||◌, List, [], ◌∷◌, ◌++◌}
+use Rattle.std.specs.List.Sorted.{IsPermutation}
+use Rattle.job_queue.specs.declared.accounts.Account.{Account}
+use Rattle.job_queue.specs.declared.accounts.Terms.{Terms}
+
+-- before a queue is told what it was opened with
+abbrev pub first_terms : Terms
+first_terms = record { count = 0; passes = 1 }
+
+module _ {M : Type 0} where
+  -- a pass as it is handed out: it stands for itself, and put and was given nothing
+  abbrev pub new_account : Terms → Bool → Account M
+  new_account terms puts = record { share = 1; puts = puts; terms = terms; put = []; given = [] }
+
+  -- a pass that was joined into another
+  abbrev pub spent_account : Terms → Account M
+  spent_account terms = record { share = 0; puts = false; terms = terms; put = []; given = [] }
+
+  -- the only pass, told what the queue was opened with
+  abbrev pub told : Terms → Account M → Account M
+  told terms a = record a { share = terms.passes; terms = terms }
+
+  -- what is left when a pass was parted from it
+  abbrev pub parted : Account M → Account M
+  parted a = record a { share = a.share - 1 }
+
+  -- it put these pairs more
+  abbrev pub with_put : Account M → List (ℕ × M) → Account M
+  with_put a pairs = record a { put = a.put ++ pairs }
+
+  -- it was given these pairs more
+  abbrev pub with_given : Account M → List (ℕ × M) → Account M
+  with_given a pairs = record a { given = a.given ++ pairs }
+
+  -- two passes as one
+  abbrev pub joined : Account M → Account M → Account M
+  joined a b = record a { share = a.share + b.share; puts = a.puts || b.puts; put = a.put ++ b.put; given = a.given ++ b.given }
+
+  pub record IsGiven (a : Account M) (x : ℕ × M) (b : Account M) : Type 0 where
+    pub number_is : x.0 ≤ a.terms.count
+    pub account_is : b ≡ with_given a (x ∷ [])
+
+  -- where the pass stands for all, what it put is what it was given and what the queue holds
+  abbrev pub IsSettledBy : Account M → List (ℕ × M) → Type 0
+  IsSettledBy a items = a.share ≡ a.terms.passes → IsPermutation a.put (a.given ++ items)

@@ -1,0 +1,4 @@
+pub mod Accounts
+pub mod Balance
+pub mod Passes
+pub mod Boards

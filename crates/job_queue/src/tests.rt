@@ -1,0 +1,156 @@
+//! The rows of the board, and the queue between threads.
+ghost use Rattle.std.specs.Prelude.{◌≡◌, ◌+◌, ◌<◌, true, false, All, IfOk};
+ghost use Rattle.job_queue.specs.Passes.{IsJobPass, IsNewPassOf, capacity_of, count_of};
+
+use crate::{Board, JobPass, Jobs, Stray};
+use request_text::CallLine;
+use std::alloc::{AllocError, Global};
+use std::sync::Wait;
+use std::test::Fail;
+use std::thread;
+use std::thread::Threads;
+use wasm_types::{NoMemory, Outcome};
+
+#[test]
+fn each_line_is_collected_once(rt: HostRuntime) -> Result<(), Fail> {
+    let mut board = Board::open(rt.alloc(), 1)?;
+    assert_eq!(rt; board.lines(), [None].as_slice());
+    let fuel = CallLine::Done(Outcome::Fuel);
+    let rows = [
+        (0, fuel, Err(Stray::Stranger(0))),
+        (1, fuel, Ok(())),
+        (1, CallLine::NoModule, Err(Stray::Double(1))),
+        (2, CallLine::NoModule, Err(Stray::Stranger(2))),
+    ];
+    for (number, line, answer) in rows {
+        assert_eq!(rt; board.collect(number, line), answer, "call {number}");
+    }
+    assert_eq!(rt; board.lines(), [Some(fuel)].as_slice());
+    Ok(())
+}
+
+/// What one worker was given.
+#[derive(Drop)]
+struct Given {
+    pass: JobPass<u64>,
+    pairs: Result<Vec<(u32, u64)>, AllocError>,
+}
+
+// Puts as many numbers as there are calls, each `each` times, with its place as the item, and a 0 for each worker.
+fn put_calls<R: Wait>(
+    rt: &R,
+    jobs: &Jobs<u64>,
+    mut putter: JobPass<u64>,
+    count: u32,
+    each: u32,
+    workers: u32,
+) -> JobPass<u64>
+    requires own { IsNewPassOf true jobs.now putter }
+    requires count { count_of jobs.now ≡ count }
+    requires room { capacity_of jobs.now ≡ count + workers }
+    requires each { 0 < each }
+    ensures { IsJobPass jobs.now result }
+{
+    for place in 0..count {
+        jobs.put(rt, &mut putter, place / each + 1, u64::from(place));
+    }
+    for _ in 0..workers {
+        jobs.put(rt, &mut putter, 0, 0);
+    }
+    putter
+}
+
+// Takes until a 0 comes.
+fn take_calls<R: Wait>(rt: &R, alloc: Global, jobs: &Jobs<u64>, mut pass: JobPass<u64>) -> Given
+    requires { IsJobPass jobs.now pass }
+    ensures { IsJobPass jobs.now result.pass }
+{
+    let mut pairs = Vec::new(alloc);
+    for _ in rt.forever() {
+        match jobs.next(rt, &mut pass) {
+            None => thread::yield_now(),
+            Some((0, _)) => return given_with(pass, Ok(pairs)),
+            Some(pair) => {
+                if let Err(error) = pairs.push(pair) {
+                    return given_with(pass, Err(error.into()));
+                }
+            }
+        }
+    }
+    unreachable!()
+}
+
+fn given_with(pass: JobPass<u64>, pairs: Result<Vec<(u32, u64)>, AllocError>) -> Given
+    ensures { result.pass ≡ pass }
+{
+    Given { pass, pairs }
+}
+
+// One thread puts while the workers take. Each pair that was given, and whether a pair was left.
+fn handed_out<R: Threads + Wait + Sync>(
+    rt: &R,
+    alloc: Global,
+    count: u32,
+    each: u32,
+    workers: u32,
+) -> Result<(Vec<(u32, u64)>, bool), NoMemory>
+    requires workers { 0 < workers }
+    requires each { 0 < each }
+{
+    let (jobs, putter, takers) = Jobs::open(alloc, count, workers)?;
+    let jobs = &jobs;
+    let (mut all, taken) = thread::join(
+        rt,
+        move || -> JobPass<u64>
+            requires { IsNewPassOf true jobs.now putter × (count_of jobs.now ≡ count) × (capacity_of jobs.now ≡ count + workers) × (0 < each) }
+            ensures { IsJobPass jobs.entry.now result }
+        { put_calls(rt, jobs, putter, count, each, workers) },
+        move || -> Result<Vec<Given>, AllocError>
+            requires { All (IsNewPassOf false jobs.now) takers.items }
+            ensures { IfOk result (λ taken. All (λ t. IsJobPass jobs.entry.now t.pass) taken.items) }
+        { take_all(rt, alloc, jobs, takers) },
+    );
+    let mut taken = taken.map_err(|_| NoMemory)?;
+    let mut pairs = Vec::new(alloc);
+    while let Some(Given { pass, pairs: some }) = taken.pop() {
+        jobs.join_pass(&mut all, pass);
+        for pair in &some.map_err(|_| NoMemory)? {
+            pairs.push(*pair).map_err(|_| NoMemory)?;
+        }
+    }
+    Ok((pairs, jobs.next(rt, &mut all).is_some()))
+}
+
+fn take_all<R: Threads + Wait + Sync>(
+    rt: &R,
+    alloc: Global,
+    jobs: &Jobs<u64>,
+    takers: Vec<JobPass<u64>>,
+) -> Result<Vec<Given>, AllocError>
+    requires { All (IsNewPassOf false jobs.now) takers.items }
+    ensures { IfOk result (λ taken. All (λ t. IsJobPass jobs.now t.pass) taken.items) }
+{
+    thread::map_vec(
+        rt,
+        takers,
+        &|pass| -> Given
+            requires { IsNewPassOf false jobs.now pass }
+            ensures { IsJobPass jobs.entry.now result.pass }
+        { take_calls(rt, alloc, jobs, pass) },
+    )
+}
+
+#[test]
+fn each_number_is_given_as_often_as_it_was_put(rt: HostRuntime) -> Result<(), Fail> {
+    for (count, each, workers) in [(100, 1, 1), (100, 1, 3), (100, 1, 16), (4, 2, 1), (4, 2, 3)] {
+        let (mut pairs, left) = handed_out(&rt, rt.alloc(), count, each, workers)?;
+        pairs.sort_by_key(|pair| pair.1)?;
+        let mut wanted = Vec::new(rt.alloc());
+        for place in 0..count {
+            wanted.push((place / each + 1, u64::from(place)))?;
+        }
+        assert_eq!(rt; pairs, wanted, "{workers} workers");
+        assert!(rt; !left);
+    }
+    Ok(())
+}
