@@ -121,6 +121,7 @@ impl<N: Naming> Host<N> {
         gate: &G,
     ) -> Answer
         requires { IsHostPass self.now pass.old }
+        ensures own { IsHostPass self.now pass.new }
         ensures same { IsSameHostPass pass.old pass.new }
         ensures answer { IsHostAnswer «module».now.tree (run_limits N.config) export.now args.now fuel result }
 
