@@ -10,7 +10,8 @@ use Rattle.wasm_types.specs.declared.module.ExportDesc.TheVariants as desc
 use Rattle.wasm_types.specs.Tree.{ModuleTree}
 use Rattle.wasm_types.specs.declared.limits.RunLimits.{RunLimits}
 use Rattle.wasm_spec.specs.Validity.{Exports, IsValid}
-use Rattle.pool_host.specs.CallWords.{IsAnswer, IsExported}
+use Rattle.instance_calls.specs.CallWords.{IsExported}
+use Rattle.pool_host.specs.CallWords.{IsAnswer}
 use Rattle.pool_host.specs.declared.lane.LaneAnswer.{LaneAnswer}
 use Rattle.pool_host.specs.declared.lane.LaneAnswer.TheVariants.{Done, NoExport, BadArgs}
 

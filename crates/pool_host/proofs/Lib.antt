@@ -1,5 +1,5 @@
 pub mod AnswerLemmas
-pub mod ArgumentLemmas
-pub mod CallLemmas
-pub mod InstanceLemmas
-pub mod StartLemmas
+pub mod ClosingLemmas
+pub mod IdleLemmas
+pub mod SlotLemmas
+pub mod VisitLemmas

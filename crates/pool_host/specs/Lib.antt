@@ -1,2 +1,8 @@
 pub mod CallWords
-pub mod InstanceWords
+pub mod Closing
+pub mod Hosts
+pub mod Idle
+pub mod Leases
+pub mod Taking
+pub mod Trails
+pub mod Visits

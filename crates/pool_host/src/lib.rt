@@ -1,10 +1,21 @@
-//! Makes calls, each on a fresh instance.
+//! Makes calls, each on a fresh instance in slots of pools: a host's, which threads share, or a lane's, which has one caller.
 #![tactic(auto)]
 
-mod arguments;
+mod answers;
+mod closing;
+mod dealing;
+mod host;
+mod kinds;
 mod lane;
 pub mod laws;
-mod preparing;
-mod running;
+mod passes;
+mod slots;
 
+pub use answers::{Answer, Kind};
+pub use closing::PoolCounts;
+pub use host::{Host, MOST_PASSES};
 pub use lane::{LaneAnswer, LaneHost};
+pub use passes::HostPass;
+
+#[cfg(test)]
+mod tests;

@@ -1,0 +1,18 @@
+use Rattle.std.proofs.Common.{◌≡◌, ◌+◌, false, length}
+use Rattle.std.specs.List.{All}
+use Rattle.job_queue.specs.Passes.{IsNewPassOf}
+use Rattle.pool_host.specs.Hosts.{IsHostPass}
+use Rattle.call_workers.specs.Crews.{IsNewWorker}
+use Rattle.call_workers.proofs.crew.workers.Given as goal
+
+abbrev pub invariant-loop-pass : goal.invariant-loop-pass
+invariant-loop-pass g l = record {
+  passes : All (IsHostPass l.host) l.passes.items;
+  owns : All (IsNewPassOf false l.jobs) l.owns.items;
+  many : length l.passes.items ≡ length l.owns.items;
+  count : length l.workers.items + length l.owns.items ≡ length l.initial.owns.items;
+  workers : All (IsNewWorker l.host l.jobs) l.workers.items;
+}
+
+abbrev pub decreases-loop-pass : goal.decreases-loop-pass
+decreases-loop-pass g l = length l.passes.items

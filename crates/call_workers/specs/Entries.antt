@@ -1,0 +1,56 @@
+-- What workers make of the pairs that a queue gives them.
+use Rattle.std.specs.Prelude.{◌≡◌, ℕ, ◌+◌, ◌-◌, ◌==◌, not, List, [], ◌∷◌, filter, slice_get, Option, Some, None}
+use Rattle.pool_limits.specs.declared.numbers.Numbers.{Numbers}
+use Rattle.pool_worlds.specs.Contents.{Named}
+use Rattle.pool_host.specs.declared.answers.Answer.{Answer}
+use Rattle.pool_host.specs.declared.host.Host.{Host}
+use Rattle.pool_host.specs.declared.host.HostPass.{HostPass}
+use Rattle.pool_host.specs.CallWords.{run_limits}
+use Rattle.pool_host.specs.Hosts.{AddsTrails, IsHostAnswer}
+use Rattle.call_workers.specs.declared.calls.Due.{Due}
+use Rattle.call_workers.specs.declared.calls.Worked.{Worked}
+
+-- a number, and the module of its call, if that was not refused; the number 0 stands for no call
+abbrev pub Pair : Type 0
+Pair = ℕ × Option Named
+
+-- the pairs of calls
+abbrev pub called : List Pair → List Pair
+called pairs = filter (λ pair. not (pair.0 == 0)) pairs
+
+-- the calls are numbered from 1, in order
+abbrev pub AreNumbered : List Due → Type 0
+AreNumbered calls = (at : ℕ) (due : Due) → slice_get calls at ≡ Some due → due.number ≡ at + 1
+
+-- how a call of the module is answered by a host; without a module it is not made
+abbrev pub IsAnswered : Numbers → Due → Option Named → Option Answer → Type 0
+IsAnswered config due None answer = answer ≡ None
+IsAnswered config due (Some m) None = ⊥
+IsAnswered config due (Some m) (Some answer) = IsHostAnswer m.tree (run_limits config) due.export due.args due.fuel answer
+
+-- the entry for a pair: its number, and how the call of this number is answered
+pub record IsEntry (config : Numbers) (calls : List Due) (pair : Pair) (worked : Worked) : Type 0 where
+  pub number_is : worked.number ≡ pair.0
+  pub due : Due
+  pub due_is : slice_get calls (pair.0 - 1) ≡ Some due
+  pub answered : IsAnswered config due pair.1 worked.answer
+
+module _ {N : Type 0} (config : Numbers) (host : Host N) where
+  -- the pass was that of a call of the module, which was answered so; without a module it is as it was
+  abbrev pub MadeCall : Option Named → Option Answer → (before after : HostPass N) → Type 0
+  MadeCall None answer before after = after ≡ before
+  MadeCall (Some m) None before after = ⊥
+  MadeCall (Some m) (Some answer) before after = AddsTrails config host m answer before.passes after.passes
+
+  -- a pass made this entry for a pair
+  pub record MadeEntry (calls : List Due) (pair : Pair) (worked : Worked) (before after : HostPass N) : Type 0 where
+    pub entry : IsEntry config calls pair worked
+    pub call : MadeCall pair.1 worked.answer before after
+
+  -- a pass made these entries for these pairs, one after the other, and nothing else
+  abbrev pub MadeEntries : List Due → List Pair → List Worked → (before after : HostPass N) → Type 0
+  MadeEntries calls [] [] before after = after ≡ before
+  MadeEntries calls [] (worked ∷ entries) before after = ⊥
+  MadeEntries calls (pair ∷ pairs) [] before after = ⊥
+  MadeEntries calls (pair ∷ pairs) (worked ∷ entries) before after = (between : HostPass N)
+      × MadeEntry calls pair worked before between × MadeEntries calls pairs entries between after

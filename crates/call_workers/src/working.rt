@@ -1,0 +1,61 @@
+//! The work of one worker.
+ghost use Rattle.std.specs.Prelude.{◌≤◌, IfOk, OnErr, length};
+ghost use Rattle.job_queue.specs.Passes.{IsJobPass, account_of, count_of};
+ghost use Rattle.pool_host.specs.Hosts.{IsHostPass};
+ghost use Rattle.call_workers.specs.Entries.{AreNumbered};
+ghost use Rattle.call_workers.specs.Taken.{DidWork, WasGiven};
+
+use crate::calls::{Due, Item, Worked, make};
+use host_edge::Gate;
+use job_queue::{JobPass, Jobs};
+use module_store::{ModuleStore, Naming};
+use pool_host::{Host, HostPass};
+use std::alloc::Global;
+use std::sync::Wait;
+use std::thread;
+use wasm_types::NoMemory;
+
+/// Makes the calls that the queue gives it, on the host, until it is given a 0; where the queue is empty it asks again. There is
+/// an entry for each call, in the order in which they were given. `calls` has the call of each number of the queue, at the place
+/// before its number. `gate` is told of each call.
+///
+/// # Errors
+///
+/// `NoMemory` where memory is refused. The calls that it was given by then are spent.
+pub fn work<N: Naming, R: Wait, G: Gate>(
+    rt: &R,
+    alloc: Global,
+    host: &Host<N>,
+    pass: &mut HostPass<N>,
+    store: &ModuleStore<N>,
+    jobs: &Jobs<Item<N>>,
+    own: &mut JobPass<Item<N>>,
+    calls: &[Due],
+    gate: &G,
+) -> Result<Vec<Worked>, NoMemory>
+    requires pass { IsHostPass host.now pass.old }
+    requires own { IsJobPass jobs.now own.old }
+    requires numbered { AreNumbered calls.now }
+    requires enough { count_of jobs.now ≤ length calls.now }
+    ensures pass { IsHostPass host.now pass.new }
+    ensures own { IsJobPass jobs.now own.new }
+    ensures made { IfOk result (λ made. DidWork N.config host.now calls.now (account_of own.old) (account_of own.new) pass.old pass.new made.items) }
+    ensures spent { OnErr result (WasGiven (account_of own.old) (account_of own.new)) }
+{
+    let mut made = Vec::new(alloc);
+    for _ in rt.forever() {
+        if made.reserve(1).is_err() {
+            return Err(NoMemory);
+        }
+        match jobs.next(rt, own) {
+            None => thread::yield_now(),
+            Some((number, item)) => {
+                if number == 0 {
+                    return Ok(made);
+                }
+                made.push_reserved(make(host, pass, store, number, item, calls, gate));
+            }
+        }
+    }
+    unreachable!()
+}

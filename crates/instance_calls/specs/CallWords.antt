@@ -1,0 +1,55 @@
+-- Which calls of a module may be made, and how they end.
+use Rattle.std.specs.Prelude.{◌≡◌, ◌≢◌, ℕ, List, map, Some}
+use Rattle.wasm_types.specs.declared.types.FuncType.{FuncType}
+use Rattle.wasm_types.specs.declared.outcome.Outcome.{Outcome}
+use Rattle.wasm_types.specs.declared.outcome.Val.{Val}
+use Rattle.wasm_types.specs.declared.limits.RunLimits.{RunLimits}
+use Rattle.wasm_types.specs.Tree.{ModuleTree}
+use Rattle.wasm_spec.specs.Typing.{type_of, function_type}
+use Rattle.wasm_spec.specs.Validity.{Exports}
+use Rattle.wasm_spec.specs.Result.{CallResult, call_result}
+use Rattle.pool_limits.specs.declared.numbers.Numbers.{Numbers}
+use Rattle.instance_calls.specs.declared.finding.Refusal.{Refusal}
+use Rattle.instance_calls.specs.declared.finding.Refusal.TheVariants.{NoExport, BadArgs}
+
+-- the export is a function of this type
+pub record IsExported (m : ModuleTree) (export : List ℕ) (function : ℕ) (type : FuncType) : Type 0 where
+  pub exported : Exports m.exports export function
+  pub typed : function_type m function ≡ Some type
+
+-- no function is exported under this name
+abbrev pub LacksExport : ModuleTree → List ℕ → Type 0
+LacksExport m export = (x : ℕ) → ¬ (Exports m.exports export x)
+
+-- a function is exported under this name, and the arguments aren't of its parameters' types
+pub record LacksTypes (m : ModuleTree) (export : List ℕ) (args : List Val) : Type 0 where
+  pub function : ℕ
+  pub type : FuncType
+  pub exported : IsExported m export function type
+  pub differ : map type_of args ≢ type.params
+
+-- this function is exported under this name, and the arguments are of its parameters' types
+pub record MayCall (m : ModuleTree) (export : List ℕ) (function : ℕ) (args : List Val) : Type 0 where
+  pub type : FuncType
+  pub exported : IsExported m export function type
+  pub fit : map type_of args ≡ type.params
+
+-- a function is exported under this name, the arguments are of its parameters' types, and its call on a fresh instance ends
+-- with this outcome
+pub record EndsWith (m : ModuleTree) (limits : RunLimits) (export : List ℕ) (args : List Val) (fuel : ℕ) (outcome : Outcome) : Type 0 where
+  pub function : ℕ
+  pub type : FuncType
+  pub exported : IsExported m export function type
+  pub fit : map type_of args ≡ type.params
+  pub result : CallResult
+  pub ends : call_result m limits function args fuel ≡ Some result
+  pub shows : outcome ≡ result.outcome
+
+-- why a call can't be made
+abbrev pub IsRefusal : ModuleTree → (export : List ℕ) → (args : List Val) → Refusal → Type 0
+IsRefusal m export args NoExport = LacksExport m export
+IsRefusal m export args BadArgs = LacksTypes m export args
+
+-- the limits of the runs of a configuration
+abbrev pub run_limits : Numbers → RunLimits
+run_limits n = record { pages = n.pages; depth = n.depth }

@@ -1,0 +1,60 @@
+-- What a call of a module runs on.
+use Rattle.std.specs.Prelude.{◌≡◌, ◌≢◌, ◌<◌, ℕ, List, [], Option, is_some, length, take}
+use Rattle.wasm_types.specs.declared.outcome.Val.{Val}
+use Rattle.wasm_types.specs.declared.module.Module.{Module}
+use Rattle.wasm_types.specs.Tree.{ModuleTree, module_tree}
+use Rattle.wasm_spec.specs.Instances.{room_for}
+use Rattle.wasm_spec.specs.Store.{Store, fresh_store}
+use Rattle.wasm_machine.specs.Calls.{FitsFrame}
+use Rattle.wasm_machine.specs.Lent.{own}
+use Rattle.wasm_machine.specs.TypedConfiguration.{IsTypedStore}
+use Rattle.slot_words.specs.declared.leases.Lease.{Lease}
+use Rattle.pool_limits.specs.declared.numbers.Numbers.{Numbers}
+use Rattle.pool_worlds.specs.Contents.{Contents, Kind, Memory, MemoryContents, Table, TableContents, needs, shown, shown_memory, shown_table}
+use Rattle.memory_slots.specs.Lent.{IsReady, parts}
+use Rattle.instance_calls.specs.declared.instance.Instance.{Instance}
+use Rattle.instance_calls.specs.Parts.{memory_in, memory_slot, table_in, table_slot, ticket_slot}
+
+-- the store of a module without a memory in this table and these globals
+abbrev pub bare_store : Module → List (Option ℕ) → List Val → Store
+bare_store m table globals = record { memory = []; table = table; globals = own m globals }
+
+-- the memory of an instance of the module as it begins, if the module has one
+pub record IsFreshMemory (config : Numbers) (m : ModuleTree) (memory : Option (Lease MemoryContents)) : Type 0 where
+  pub had : is_some memory ≡ needs Memory m
+  pub shown : shown_memory (needs Memory m) (memory_in memory) ≡ (fresh_store m).memory
+  pub ready : m.memories ≢ [] → IsReady (room_for m.memories config.pages) (memory_in memory)
+
+-- and its table
+pub record IsFreshTable (m : ModuleTree) (table : Option (Lease TableContents)) : Type 0 where
+  pub had : is_some table ≡ needs Table m
+  pub shown : shown_table (needs Table m) (table_in table) ≡ (fresh_store m).table
+
+-- a function of the module may run on these contents, under the limits of the configuration
+pub record MayRun (config : Numbers) (m : Module) (x : (k : Kind) → Contents k) : Type 0 where
+  pub depth : 0 < config.depth
+  pub memory : m.memories ≢ [] → IsReady (room_for m.memories config.pages) (x Memory)
+  pub store : IsTypedStore m (shown (module_tree m) x)
+  pub frame : FitsFrame m config.frame
+
+module _ {N : Type 0} where
+  -- the contents of an instance's slots
+  abbrev pub instance_contents : Instance N → (k : Kind) → Contents k
+  instance_contents x = parts (memory_in x.memory) (table_in x.table).holds (table_in x.table).entries x.ticket.value
+
+  -- it has a slot of each kind that the module needs, and no other
+  pub record HasParts (m : ModuleTree) (x : Instance N) : Type 0 where
+    pub memory : is_some x.memory ≡ needs Memory m
+    pub table : is_some x.table ≡ needs Table m
+
+  -- it is one of the module as it begins
+  pub record IsFreshInstance (config : Numbers) (m : ModuleTree) (x : Instance N) : Type 0 where
+    pub globals : take (length m.globals) x.ticket.value ≡ (fresh_store m).globals
+    pub memory : IsFreshMemory config m x.memory
+    pub table : IsFreshTable m x.table
+
+  -- it has the slots that it had, and their contents belong to whom they did
+  pub record KeepsSlots (x y : Instance N) : Type 0 where
+    pub ticket : ticket_slot y.ticket ≡ ticket_slot x.ticket
+    pub memory : memory_slot y.memory ≡ memory_slot x.memory
+    pub table : y.table ≡ x.table

@@ -1,0 +1,4 @@
+pub mod CallWords
+pub mod Instances
+pub mod Parts
+pub mod Runs

@@ -1,0 +1,12 @@
+//! Calls of loaded modules, each on an instance whose slots are taken.
+#![tactic(auto)]
+
+mod arguments;
+mod finding;
+mod instance;
+mod needs;
+mod running;
+
+pub use finding::{Refusal, find_function};
+pub use instance::Instance;
+pub use needs::{needs_memory, needs_table};

@@ -1,0 +1,72 @@
+-- A host and its passes.
+use Rattle.std.specs.Prelude.{◌≡◌, ℕ, ◌≤◌}
+use Rattle.pool_core.specs.declared.limits.TheConstants.{MOST_SLOTS}
+use Rattle.pool_limits.specs.declared.numbers.Numbers.{Numbers}
+use Rattle.pool_limits.specs.declared.share.Share.{Share}
+use Rattle.slot_words.specs.Owned.{limit_of, passes_of, slots_of}
+use Rattle.slot_words.specs.Passes.{IsIdle, IsSamePass}
+use Rattle.module_store.specs.declared.naming.Naming.{Ghosts}
+use Rattle.instance_slots.specs.Pools as tickets
+use Rattle.memory_slots.specs.Pools as memories
+use Rattle.table_slots.specs.Pools as tables
+use Rattle.pool_host.specs.declared.host.Host.{Host}
+use Rattle.pool_host.specs.declared.passes.HostPass.{HostPass}
+use Rattle.pool_host.specs.declared.passes.Passes.{Passes}
+
+-- each of these numbers can be that of a pool's slots
+pub record IsShare (share : Share) : Type 0 where
+  pub instances : (1 ≤ share.instances) × (share.instances ≤ MOST_SLOTS)
+  pub memories : (1 ≤ share.memories) × (share.memories ≤ MOST_SLOTS)
+  pub tables : (1 ≤ share.tables) × (share.tables ≤ MOST_SLOTS)
+
+module _ {N : Type 0} where
+  -- these are passes of the host's pools
+  pub record ArePassesOf (host : Host N) (p : Passes N) : Type 0 where
+    pub ticket : tickets.IsTicketPass host.tickets p.ticket
+    pub memory : memories.IsMemoryPass host.memories p.memory
+    pub table : tables.IsTablePass host.tables p.table
+
+  -- none of them holds a slot
+  pub record AreIdle (p : Passes N) : Type 0 where
+    pub ticket : IsIdle p.ticket
+    pub memory : IsIdle p.memory
+    pub table : IsIdle p.table
+
+  -- they stay those seats, and join no others
+  pub record AreSamePasses (p q : Passes N) : Type 0 where
+    pub ticket : IsSamePass p.ticket q.ticket
+    pub memory : IsSamePass p.memory q.memory
+    pub table : IsSamePass p.table q.table
+
+  -- one as it is handed out: with no operation yet
+  pub record AreNewPassesOf (host : Host N) (p : Passes N) : Type 0 where
+    pub ticket : tickets.IsNewTicketPass host.tickets p.ticket
+    pub memory : memories.IsNewMemoryPass host.memories p.memory
+    pub table : tables.IsNewTablePass host.tables p.table
+
+  -- so many passes of each of its pools were handed out
+  pub record HandedOut (host : Host N) (passes : ℕ) : Type 0 where
+    pub of_tickets : passes_of (tickets.words_of host.tickets) ≡ passes
+    pub of_memories : passes_of (memories.words_of host.memories) ≡ passes
+    pub of_tables : passes_of (tables.words_of host.tables) ≡ passes
+
+  -- it has as many slots as its share says, of which at most the configured number are warm while no call has them
+  pub record HasShare (config : Numbers) (share : Share) (host : Host N) : Type 0 where
+    pub of_tickets : slots_of (tickets.words_of host.tickets) ≡ share.instances
+    pub of_memories : slots_of (memories.words_of host.memories) ≡ share.memories
+    pub of_tables : slots_of (tables.words_of host.tables) ≡ share.tables
+    pub warm_memories : limit_of (memories.words_of host.memories) ≡ config.warm
+    pub warm_tables : limit_of (tables.words_of host.tables) ≡ config.warm
+
+module _ {N : Type 0} {G : Ghosts N} where
+  -- the pass is one of this host's
+  abbrev pub IsHostPass : Host N → HostPass N G → Type 0
+  IsHostPass host pass = ArePassesOf host pass.passes
+
+  -- it stays that pass of that host
+  abbrev pub IsSameHostPass : HostPass N G → HostPass N G → Type 0
+  IsSameHostPass p q = AreSamePasses p.passes q.passes
+
+  -- and as it is handed out
+  abbrev pub IsNewHostPass : Host N → HostPass N G → Type 0
+  IsNewHostPass host pass = AreNewPassesOf host pass.passes

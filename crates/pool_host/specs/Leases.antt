@@ -1,0 +1,38 @@
+-- A slot that a module may not need, between its take and its give.
+use Rattle.std.specs.Prelude.{◌≡◌, ℕ, ◌<◌, false, Option, Some, None, List, []}
+use Rattle.slot_words.specs.declared.views.Operation.{Operation}
+use Rattle.slot_words.specs.declared.leases.Lease.{Lease}
+use Rattle.slot_words.specs.Leases.{lease_word}
+use Rattle.slot_words.specs.Passes.{Holds, IsIdle, Pass}
+use Rattle.pool_worlds.specs.Contents.{MemoryContents, Named, TableContents}
+use Rattle.memory_slots.specs.Handed as memory
+use Rattle.table_slots.specs.Handed as table
+use Rattle.instance_calls.specs.Parts.{Slot}
+
+-- the pass has this slot of so many; without a slot it holds nothing
+abbrev pub HasSlot : {V : Type 0} → ℕ → Pass V → Option Slot → Type 0
+HasSlot slots pass None = IsIdle pass
+HasSlot slots pass (Some s) = Holds pass s.number false false false × (s.number < slots)
+
+-- the slot's contents belong to the module
+abbrev pub BelongsTo : Named → Option Slot → Type 0
+BelongsTo m None = Unit {0}
+BelongsTo m (Some s) = s.owner ≡ Some m
+
+-- what the take of the slot adds, and what its give adds; without a slot nothing
+abbrev pub Took : (ℕ → ℕ → List Operation → Type 0) → Option Slot → List Operation → Type 0
+Took IsTake None done = done ≡ []
+Took IsTake (Some s) done = IsTake s.number s.word done
+
+abbrev pub Gave : (ℕ → List Operation → Type 0) → Option Slot → List Operation → Type 0
+Gave IsGive None done = done ≡ []
+Gave IsGive (Some s) done = IsGive s.number done
+
+-- a lease's value is what its take handed out
+abbrev pub IsHandedMemory : ℕ → Named → Option (Lease MemoryContents) → Type 0
+IsHandedMemory pages m None = Unit {0}
+IsHandedMemory pages m (Some l) = memory.IsHandedOut pages m (lease_word l) l.value
+
+abbrev pub IsHandedTable : ℕ → Named → Option (Lease TableContents) → Type 0
+IsHandedTable pages m None = Unit {0}
+IsHandedTable pages m (Some l) = table.IsHandedOut pages m (lease_word l) l.value

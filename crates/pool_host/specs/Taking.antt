@@ -1,0 +1,45 @@
+-- The slots of an instance, between their takes and their gives.
+use Rattle.std.specs.Prelude.{Some}
+use Rattle.slot_words.specs.Leases.{lease_word}
+use Rattle.slot_words.specs.Owned.{slots_of}
+use Rattle.slot_words.specs.Parts.{Grew}
+use Rattle.slot_words.specs.Passes.{trail}
+use Rattle.pool_limits.specs.declared.numbers.Numbers.{Numbers}
+use Rattle.pool_worlds.specs.Contents.{Named}
+use Rattle.instance_slots.specs.Handed as ticket
+use Rattle.instance_slots.specs.Pools as tickets
+use Rattle.memory_slots.specs.Pools as memories
+use Rattle.table_slots.specs.Pools as tables
+use Rattle.instance_calls.specs.declared.instance.Instance.{Instance}
+use Rattle.instance_calls.specs.Parts.{memory_slot, table_slot, ticket_slot}
+use Rattle.pool_host.specs.declared.host.Host.{Host}
+use Rattle.pool_host.specs.declared.passes.Passes.{Passes}
+use Rattle.pool_host.specs.Leases.{BelongsTo, Gave, HasSlot, IsHandedMemory, IsHandedTable, Took}
+use Rattle.pool_host.specs.Trails.{IsMemoryGive, IsMemoryTake, IsTableGive, IsTableTake, IsTicketGive, IsTicketTake}
+
+module _ {N : Type 0} where
+  -- the passes have the slots of an instance, whose contents belong to the module
+  pub record HaveSlots (host : Host N) (m : Named) (p : Passes N) (x : Instance N) : Type 0 where
+    pub ticket : HasSlot (slots_of (tickets.words_of host.tickets)) p.ticket (Some (ticket_slot x.ticket))
+    pub memory : HasSlot (slots_of (memories.words_of host.memories)) p.memory (memory_slot x.memory)
+    pub table : HasSlot (slots_of (tables.words_of host.tables)) p.table (table_slot x.table)
+    pub memory_belongs : BelongsTo m (memory_slot x.memory)
+    pub table_belongs : BelongsTo m (table_slot x.table)
+
+  -- what its slots hold is what their takes handed out
+  pub record IsHandedInstance (config : Numbers) (m : Named) (x : Instance N) : Type 0 where
+    pub ticket : ticket.IsHandedOut config.pages m (lease_word x.ticket) x.ticket.value
+    pub memory : IsHandedMemory config.pages m x.memory
+    pub table : IsHandedTable config.pages m x.table
+
+  -- the trails grew by the takes of its slots
+  pub record TookSlots (config : Numbers) (host : Host N) (m : Named) (before after : Passes N) (x : Instance N) : Type 0 where
+    pub ticket : Grew (Took (IsTicketTake config host m) (Some (ticket_slot x.ticket))) (trail before.ticket) (trail after.ticket)
+    pub memory : Grew (Took (IsMemoryTake config host m) (memory_slot x.memory)) (trail before.memory) (trail after.memory)
+    pub table : Grew (Took (IsTableTake config host m) (table_slot x.table)) (trail before.table) (trail after.table)
+
+  -- and by their gives
+  pub record GaveSlots (config : Numbers) (host : Host N) (m : Named) (before after : Passes N) (x : Instance N) : Type 0 where
+    pub ticket : Grew (Gave (IsTicketGive config host m) (Some (ticket_slot x.ticket))) (trail before.ticket) (trail after.ticket)
+    pub memory : Grew (Gave (IsMemoryGive config host m) (memory_slot x.memory)) (trail before.memory) (trail after.memory)
+    pub table : Grew (Gave (IsTableGive config host m) (table_slot x.table)) (trail before.table) (trail after.table)

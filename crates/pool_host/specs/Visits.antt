@@ -1,0 +1,34 @@
+-- What a call does at the pool of one kind.
+use Rattle.std.specs.Prelude.{◌≡◌, ℕ, ◌<◌, Bool, true, List, []}
+use Rattle.slot_words.specs.declared.views.Operation.{Operation}
+use Rattle.slot_words.specs.Parts.{Grew, Then}
+use Rattle.slot_words.specs.Passes.{Pass, share_of, trail}
+
+-- It asks for nothing; or for a slot, which it takes and gives back; or for a slot, and finds each held.
+pub data Visit : Type 0 where
+  None : Visit
+  Served : Visit
+  TurnedAway : Visit
+
+-- a take that won this slot, where this was read, and the give of it
+abbrev pub IsServed : (IsTake : ℕ → ℕ → List Operation → Type 0) → (IsGive : ℕ → List Operation → Type 0) → (number read : ℕ) → List Operation → Type 0
+IsServed IsTake IsGive number read done = Then (IsTake number read) (IsGive number) done
+
+-- what it adds to the trail there
+abbrev pub Adds : (IsTake : ℕ → ℕ → List Operation → Type 0) → (IsGive : ℕ → List Operation → Type 0) → (IsFullTake : List Operation → Type 0) → Visit → List Operation → Type 0
+Adds IsTake IsGive IsFullTake None done = done ≡ []
+Adds IsTake IsGive IsFullTake Served done = (number : ℕ) × (read : ℕ) × IsServed IsTake IsGive number read done
+Adds IsTake IsGive IsFullTake TurnedAway done = IsFullTake done
+
+-- Why it was turned away: its module needs a slot of the kind, its take won nothing, and the pass does not stand for all of the pool's.
+pub record IsTurnedAway {V : Type 0} (needed : Bool) (IsFullTake : List Operation → Type 0) (passes : ℕ) (before after : Pass V) : Type 0 where
+  pub needed_is : needed ≡ true
+  pub full : Grew IsFullTake (trail before) (trail after)
+  pub others : share_of before < passes
+
+-- The slot that it was served with: a take won it, which handed these contents out, and a give brought it back.
+pub record IsServedWith {X V : Type 0} (IsTake : ℕ → ℕ → List Operation → Type 0) (IsGive : ℕ → List Operation → Type 0) (IsHandedOut : ℕ → X → Type 0) (handed : X) (before after : Pass V) : Type 0 where
+  pub number : ℕ
+  pub read : ℕ
+  pub visit : Grew (IsServed IsTake IsGive number read) (trail before) (trail after)
+  pub handed_is : IsHandedOut read handed

@@ -1,0 +1,23 @@
+//! What a host answers.
+use wasm_types::Outcome;
+
+/// A kind of slot.
+#[derive(Clone, Copy, Debug, PartialEq, Eq)]
+pub enum Kind {
+    Instance,
+    Memory,
+    Table,
+}
+
+/// How a call on a host went.
+#[derive(Clone, Copy, Debug, PartialEq, Eq)]
+pub enum Answer {
+    /// It was made, and ended so.
+    Done(Outcome),
+    /// No function is exported under its name.
+    NoExport,
+    /// The arguments aren't of the function's types.
+    BadArgs,
+    /// Other calls had every slot of this kind.
+    Full(Kind),
+}

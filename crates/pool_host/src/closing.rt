@@ -1,0 +1,82 @@
+//! How a host is closed.
+ghost use Rattle.std.specs.Prelude.{◌≡◌, ◌+◌, ◌≤◌, ◌++◌, length};
+ghost use Rattle.std.specs.List.{All};
+ghost use Rattle.slot_words.specs.Passes.{operations, share_of};
+ghost use Rattle.pool_host.specs.Closing.{ArePoolCounts, HaveJoined, HaveShares, memory_operations, table_operations, ticket_operations};
+ghost use Rattle.pool_host.specs.Hosts.{AreIdle, ArePassesOf, IsHostPass};
+
+use crate::host::Host;
+use crate::passes::{HostPass, Passes};
+use module_store::Naming;
+use slot_words::KindCounts;
+
+/// How many slots of each kind there are in each state.
+#[derive(Clone, Copy, Debug, PartialEq, Eq)]
+pub struct PoolCounts {
+    pub instance: KindCounts,
+    pub memory: KindCounts,
+    pub table: KindCounts,
+}
+
+impl<N: Naming> Host<N> {
+    /// Ends all passes and counts the slots as they stand. With all passes in the list, none is held.
+    pub fn close(self, passes: Vec<HostPass<N>>) -> PoolCounts
+        requires some { 1 ≤ length passes.items }
+        requires own { All (IsHostPass self) passes.items }
+        ensures { ArePoolCounts self passes.items result }
+    {
+        let Passes {
+            ticket,
+            memory,
+            table,
+        } = join_all(&self, passes);
+        let Host {
+            tickets,
+            memories,
+            tables,
+        } = self;
+        PoolCounts {
+            instance: tickets.close(ticket),
+            memory: memories.close(memory),
+            table: tables.close(table),
+        }
+    }
+}
+
+// Joins the passes into the last one.
+fn join_all<N: Naming>(host: &Host<N>, mut passes: Vec<HostPass<N>>) -> Passes<N>
+    requires some { 1 ≤ length passes.items }
+    requires own { All (IsHostPass host.now) passes.items }
+    ensures own { ArePassesOf host.now result }
+    ensures idle { AreIdle result }
+    ensures shares { HaveShares (length passes.items) result }
+    ensures ticket { operations result.ticket ≡ ticket_operations passes.items }
+    ensures memory { operations result.memory ≡ memory_operations passes.items }
+    ensures table { operations result.table ≡ table_operations passes.items }
+{
+    let HostPass { passes: mut joined } = passes.pop().unwrap();
+    while let Some(other) = passes.pop() {
+        join(host, &mut joined, other);
+    }
+    joined
+}
+
+// Joins a pass into others.
+fn join<N: Naming>(host: &Host<N>, joined: &mut Passes<N>, other: HostPass<N>)
+    requires own { ArePassesOf host.now joined.old }
+    requires idle { AreIdle joined.old }
+    requires other { IsHostPass host.now other }
+    ensures own { ArePassesOf host.now joined.new }
+    ensures idle { AreIdle joined.new }
+    ensures joined { HaveJoined joined.old other.passes joined.new }
+{
+    let HostPass { passes } = other;
+    let Passes {
+        ticket,
+        memory,
+        table,
+    } = passes;
+    host.tickets.join_pass(&mut joined.ticket, ticket);
+    host.memories.join_pass(&mut joined.memory, memory);
+    host.tables.join_pass(&mut joined.table, table);
+}

@@ -1,0 +1,43 @@
+//! Passes of each kind are put together.
+ghost use Rattle.std.specs.Prelude.{◌≡◌, IfOk, length};
+ghost use Rattle.std.specs.List.{All};
+ghost use Rattle.instance_slots.specs.Pools.{IsNewTicketPass};
+ghost use Rattle.memory_slots.specs.Pools.{IsNewMemoryPass};
+ghost use Rattle.table_slots.specs.Pools.{IsNewTablePass};
+ghost use Rattle.pool_host.specs.Hosts.{IsNewHostPass};
+
+use crate::host::Host;
+use crate::passes::{HostPass, Passes};
+use instance_slots::Ticket;
+use memory_slots::MemSlot;
+use module_store::Naming;
+use slot_words::Pass;
+use std::alloc::Global;
+use table_slots::TableSlot;
+use wasm_types::NoMemory;
+
+// Puts the passes of each kind together. There are as many of each.
+pub(crate) fn deal<N: Naming>(
+    alloc: Global,
+    host: &Host<N>,
+    mut tickets: Vec<Pass<Ticket<N>>>,
+    mut memories: Vec<Pass<MemSlot<N>>>,
+    mut tables: Vec<Pass<TableSlot<N>>>,
+) -> Result<Vec<HostPass<N>>, NoMemory>
+    requires tickets { All (IsNewTicketPass host.now.tickets) tickets.items }
+    requires memories { (length memories.items ≡ length tickets.items) × All (IsNewMemoryPass host.now.memories) memories.items }
+    requires tables { (length tables.items ≡ length tickets.items) × All (IsNewTablePass host.now.tables) tables.items }
+    ensures count { IfOk result (λ all. length all.items ≡ length tickets.items) }
+    ensures passes { IfOk result (λ all. All (IsNewHostPass host.now) all.items) }
+{
+    let mut all = Vec::with_capacity(alloc, tickets.len()).map_err(|_| NoMemory)?;
+    for _ in 0..tickets.len() {
+        let passes = Passes {
+            ticket: tickets.pop().unwrap(),
+            memory: memories.pop().unwrap(),
+            table: tables.pop().unwrap(),
+        };
+        all.push_reserved(HostPass { passes });
+    }
+    Ok(all)
+}

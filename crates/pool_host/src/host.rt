@@ -1,0 +1,148 @@
+//! Calls over pools that threads share.
+ghost use Rattle.std.specs.Prelude.{◌≡◌, ◌≤◌, IfOk, length};
+ghost use Rattle.std.specs.List.{All};
+ghost use Rattle.instance_calls.specs.CallWords.{run_limits};
+ghost use Rattle.pool_host.specs.CallWords.{IfDone, IfFull, IsHostAnswer};
+ghost use Rattle.pool_host.specs.Hosts.{AreIdle, ArePassesOf, AreSamePasses, HandedOut, HasShare, IsHostPass, IsNewHostPass, IsSameHostPass, IsShare};
+ghost use Rattle.pool_host.specs.Trails.{AddsTrails, HasCause, RanOnSlots};
+
+use crate::answers::Answer;
+use crate::dealing::deal;
+use crate::passes::{HostPass, Passes};
+use crate::slots::{give_slots, take_slots};
+use host_edge::Gate;
+use instance_calls::{Refusal, find_function};
+use instance_slots::TicketPool;
+use memory_slots::MemoryPool;
+use module_store::{ModuleRef, ModuleStore, Naming};
+use pool_limits::Share;
+use std::alloc::Global;
+use table_slots::TablePool;
+use wasm_types::{NoMemory, Val};
+
+/// The most passes of a host.
+pub const MOST_PASSES: u32 = 16;
+
+/// Pools of tickets, memories and tables, on which callers make calls at the same time, each with a pass of its own.
+#[derive(Drop)]
+pub struct Host<N: Naming> {
+    pub(crate) tickets: TicketPool<N>,
+    pub(crate) memories: MemoryPool<N>,
+    pub(crate) tables: TablePool<N>,
+}
+
+impl<N: Naming> Host<N> {
+    /// A host with so many slots of each kind, and as many passes as are asked for. There are no others.
+    ///
+    /// # Errors
+    ///
+    /// `NoMemory` where memory is refused.
+    pub fn open(
+        alloc: Global,
+        store: &ModuleStore<N>,
+        share: Share,
+        passes: u32,
+    ) -> Result<(Host<N>, Vec<HostPass<N>>), NoMemory>
+        requires share { IsShare share }
+        requires passes { (1 ≤ passes) × (passes ≤ MOST_PASSES) }
+        ensures share { IfOk result (λ o. HasShare N.config share o.0) }
+        ensures out { IfOk result (λ o. HandedOut o.0 passes) }
+        ensures count { IfOk result (λ o. length o.1.items ≡ passes) }
+        ensures passes { IfOk result (λ o. All (IsNewHostPass o.0) o.1.items) }
+        ensures own { IfOk result (λ o. All (IsHostPass o.0) o.1.items) }
+    {
+        let warm = store.config().numbers().warm;
+        let (tickets, of_tickets) = TicketPool::open(alloc, store, share.instances, warm, passes)?;
+        let (memories, of_memories) = MemoryPool::open(alloc, store, share.memories, warm, passes)?;
+        let (tables, of_tables) = TablePool::open(alloc, store, share.tables, warm, passes)?;
+        let host = Host {
+            tickets,
+            memories,
+            tables,
+        };
+        let all = deal(alloc, &host, of_tickets, of_memories, of_tables)?;
+        Ok((host, all))
+    }
+
+    // Makes the call. The gate is told when the function may begin.
+    fn answer<G: Gate>(
+        &self,
+        passes: &mut Passes<N>,
+        store: &ModuleStore<N>,
+        module: &ModuleRef<N>,
+        export: &[u8],
+        args: &[Val],
+        fuel: u64,
+        number: u64,
+        gate: &G,
+    ) -> Answer
+        requires own { ArePassesOf self.now passes.old }
+        requires idle { AreIdle passes.old }
+        ensures same { AreSamePasses passes.old passes.new }
+        ensures idle { AreIdle passes.new }
+        ensures answer { IsHostAnswer «module».now.tree (run_limits N.config) export.now args.now fuel result }
+        ensures trails { AddsTrails N.config self.now «module».now result passes.old passes.new }
+        ensures full { IfFull result (HasCause N.config self.now «module».now passes.old passes.new) }
+        ensures ran { IfDone result (RanOnSlots N.config self.now «module».now export.now args.now fuel passes.old passes.new) }
+    {
+        let function = match find_function(store, module, export, args) {
+            Ok(function) => function,
+            Err(Refusal::NoExport) => return Answer::NoExport,
+            Err(Refusal::BadArgs) => return Answer::BadArgs,
+        };
+        match take_slots(self, passes, store, module) {
+            Ok(mut instance) => {
+                gate.entered(number);
+                let outcome = instance.run(store, module, function, args, fuel);
+                give_slots(self, passes, store, instance);
+                Answer::Done(outcome)
+            }
+            Err(kind) => Answer::Full(kind),
+        }
+    }
+
+    /// Calls a module's export on a fresh instance, whose start function runs first, on so much fuel in all: one for each
+    /// plain instruction. Its memory has at most the configured pages, and its calls are at most the configured depth deep.
+    /// It takes no memory of the program's.
+    ///
+    /// The call takes a ticket, then a memory and a table where the module has them, and gives all back. The first kind of which
+    /// other calls have every slot is its answer. Whatever they do, it is otherwise answered as if it were alone.
+    ///
+    /// The gate is told of the call by its number: when all is taken and nothing has run, and after every answer.
+    pub fn call<G: Gate>(
+        &self,
+        pass: &mut HostPass<N>,
+        store: &ModuleStore<N>,
+        module: &ModuleRef<N>,
+        export: &[u8],
+        args: &[Val],
+        fuel: u64,
+        number: u64,
+        gate: &G,
+    ) -> Answer
+        requires { IsHostPass self.now pass.old }
+        ensures own { IsHostPass self.now pass.new }
+        ensures same { IsSameHostPass pass.old pass.new }
+        ensures answer { IsHostAnswer «module».now.tree (run_limits N.config) export.now args.now fuel result }
+
+        // to each pass of the kinds that it asked: one take and its give, or a take that won nothing
+        ensures trails { AddsTrails N.config self.now «module».now result pass.old.passes pass.new.passes }
+        ensures full { IfFull result (HasCause N.config self.now «module».now pass.old.passes pass.new.passes) }
+
+        // what the takes handed out, and what the run of the call made of it
+        ensures ran { IfDone result (RanOnSlots N.config self.now «module».now export.now args.now fuel pass.old.passes pass.new.passes) }
+    {
+        let answer = self.answer(
+            &mut pass.passes,
+            store,
+            module,
+            export,
+            args,
+            fuel,
+            number,
+            gate,
+        );
+        gate.answered(number);
+        answer
+    }
+}

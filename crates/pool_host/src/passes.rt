@@ -1,0 +1,30 @@
+//! A caller's passes.
+ghost use Rattle.std.specs.Prelude.{◌≡◌};
+ghost use Rattle.slot_words.specs.Passes.{share_of};
+ghost use Rattle.pool_host.specs.Idle.{Rests};
+
+use instance_slots::Ticket;
+use memory_slots::MemSlot;
+use module_store::Naming;
+use slot_words::Pass;
+use table_slots::TableSlot;
+
+// One pass of each kind.
+#[derive(Drop)]
+pub(crate) struct Passes<N: Naming> {
+    pub ticket: Pass<Ticket<N>>,
+    pub memory: Pass<MemSlot<N>>,
+    pub table: Pass<TableSlot<N>>,
+}
+
+/// The leave to make calls on one host, one at a time. Between two calls it holds nothing.
+#[derive(Drop)]
+pub struct HostPass<N: Naming> {
+    pub(crate) passes: Passes<N>,
+    ghost rests_ticket: { Rests passes.ticket },
+    ghost rests_memory: { Rests passes.memory },
+    ghost rests_table: { Rests passes.table },
+    ghost one_ticket: { share_of passes.ticket ≡ 1 },
+    ghost one_memory: { share_of passes.memory ≡ 1 },
+    ghost one_table: { share_of passes.table ≡ 1 },
+}
