@@ -48,11 +48,15 @@ fn restore_block<L: Ledger>(
     steps.tick();
 }
 
-// Whether a block is marked.
+// Whether a block is marked. No mark ends the loop early, so that it looks at many in one step.
 fn has_marked(marks: &[bool]) -> bool
     ensures { IsTrue result ↔ (0 < count_by (λ marked. marked) marks.now) }
 {
-    marks.iter().filter(|marked| **marked).count() > 0
+    let mut any = false;
+    for marked in marks {
+        any |= *marked;
+    }
+    any
 }
 
 // Writes those of the blocks from `first` up to `end` that are marked over from the image, in one step each, and takes their marks
