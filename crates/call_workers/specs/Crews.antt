@@ -8,7 +8,7 @@ use Rattle.job_queue.specs.Passes.{IsJobPass, IsNewPassOf, JobPass, account_of, 
 use Rattle.pool_limits.specs.declared.numbers.Numbers.{Numbers}
 use Rattle.pool_worlds.specs.Contents.{Named}
 use Rattle.pool_host.specs.declared.host.Host.{Host}
-use Rattle.pool_host.specs.declared.host.HostPass.{HostPass}
+use Rattle.pool_host.specs.declared.passes.HostPass.{HostPass}
 use Rattle.pool_host.specs.Hosts.{IsHostPass}
 use Rattle.call_workers.specs.declared.calls.Due.{Due}
 use Rattle.call_workers.specs.declared.calls.Worked.{Worked}

@@ -4,9 +4,10 @@ use Rattle.pool_limits.specs.declared.numbers.Numbers.{Numbers}
 use Rattle.pool_worlds.specs.Contents.{Named}
 use Rattle.pool_host.specs.declared.answers.Answer.{Answer}
 use Rattle.pool_host.specs.declared.host.Host.{Host}
-use Rattle.pool_host.specs.declared.host.HostPass.{HostPass}
-use Rattle.pool_host.specs.CallWords.{run_limits}
-use Rattle.pool_host.specs.Hosts.{AddsTrails, IsHostAnswer}
+use Rattle.pool_host.specs.declared.passes.HostPass.{HostPass}
+use Rattle.instance_calls.specs.CallWords.{run_limits}
+use Rattle.pool_host.specs.CallWords.{IsHostAnswer}
+use Rattle.pool_host.specs.Trails.{AddsTrails}
 use Rattle.call_workers.specs.declared.calls.Due.{Due}
 use Rattle.call_workers.specs.declared.calls.Worked.{Worked}
 
