@@ -49,6 +49,7 @@ impl<N: Naming> Host<N> {
         ensures out { IfOk result (λ o. HandedOut o.0 passes) }
         ensures count { IfOk result (λ o. length o.1.items ≡ passes) }
         ensures passes { IfOk result (λ o. All (IsNewHostPass o.0) o.1.items) }
+        ensures own { IfOk result (λ o. All (IsHostPass o.0) o.1.items) }
     {
         let warm = store.config().numbers().warm;
         let (tickets, of_tickets) = TicketPool::open(alloc, store, share.instances, warm, passes)?;
@@ -120,6 +121,7 @@ impl<N: Naming> Host<N> {
         gate: &G,
     ) -> Answer
         requires { IsHostPass self.now pass.old }
+        ensures own { IsHostPass self.now pass.new }
         ensures same { IsSameHostPass pass.old pass.new }
         ensures answer { IsHostAnswer «module».now.tree (run_limits N.config) export.now args.now fuel result }
 

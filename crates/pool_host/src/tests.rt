@@ -144,8 +144,38 @@ impl Gate for HoldingGate {
     }
 }
 
-// What call 1 and call 2 are answered, where the one is held until the other was answered, and what the second is answered then.
-fn held<N: Naming + Send + Sync, R: Abort + Threads + Wait + Sync>(
+// Makes call 1 and call 2, on two threads where they can be had.
+fn both<N: Naming + Send + Sync, R: Threads>(
+    rt: &R,
+    host: &Host<N>,
+    one: HostPass<N>,
+    two: HostPass<N>,
+    store: &ModuleStore<N>,
+    module: &ModuleRef<N>,
+    gate: &HoldingGate,
+) -> ((Answer, HostPass<N>), (Answer, HostPass<N>))
+    requires { IsHostPass host.now one × IsHostPass host.now two }
+    ensures { IsHostPass host.now result.0.1 × IsHostPass host.now result.1.1 }
+{
+    thread::join(
+        rt,
+        || -> (Answer, HostPass<N>)
+            requires { IsHostPass host.now one }
+            ensures { IsHostPass host.entry.now result.1 }
+        { bump(host, one, store, module, 1, gate) },
+        || -> (Answer, HostPass<N>)
+            requires { IsHostPass host.now two }
+            ensures { IsHostPass host.entry.now result.1 }
+        {
+            wait_for(&gate.entered);
+            bump(host, two, store, module, 2, gate)
+        },
+    )
+}
+
+// What call 1 and call 2 are answered, where the one is held until the other was answered, and what the second is answered then;
+// and how many slots of each kind are held in the end.
+fn held<N: Naming + Send + Sync, R: Abort + Threads + Wait>(
     rt: &R,
     alloc: Global,
     opened: Opened,
@@ -161,20 +191,7 @@ fn held<N: Naming + Send + Sync, R: Abort + Threads + Wait + Sync>(
         entered: AtomicBool::new(false),
         answered: AtomicBool::new(false),
     };
-    let ((first, one), (second, two)) = thread::join(
-        rt,
-        || -> (Answer, HostPass<N>)
-            requires { IsHostPass host.now one }
-            ensures { IsHostPass host.entry.now result.1 }
-        { bump(&host, one, &store, &module, 1, &gate) },
-        || -> (Answer, HostPass<N>)
-            requires { IsHostPass host.now two }
-            ensures { IsHostPass host.entry.now result.1 }
-        {
-            wait_for(&gate.entered);
-            bump(&host, two, &store, &module, 2, &gate)
-        },
-    );
+    let ((first, one), (second, two)) = both(rt, &host, one, two, &store, &module, &gate);
     let (again, two) = bump(&host, two, &store, &module, 2, &gate);
     let mut passes = Vec::new(alloc);
     passes.push(one).expect(rt, "room");
@@ -200,6 +217,24 @@ fn a_call_is_full_while_another_has_the_memory(rt: HostRuntime) -> Result<(), Fa
     Ok(())
 }
 
+// Opens a host of three memories, and gives its one pass.
+fn one_caller<N: Naming, R: Abort>(
+    rt: &R,
+    alloc: Global,
+    store: &ModuleStore<N>,
+) -> (Host<N>, HostPass<N>)
+    ensures { IsHostPass result.0 result.1 }
+{
+    let share = Share {
+        instances: 1,
+        memories: 3,
+        tables: 1,
+    };
+    let (host, mut passes) = Host::open(alloc, store, share, 1).expect(rt, "opened");
+    let pass = passes.pop().unwrap();
+    (host, pass)
+}
+
 // The states of three memories after calls of these modules, each of which counts in its memory.
 fn memories_after<N: Naming, R: Abort + Wait>(
     rt: &R,
@@ -215,19 +250,14 @@ fn memories_after<N: Naming, R: Abort + Wait>(
         register(rt, alloc, &store, &mut desk, BUMP.as_slice()),
         register(rt, alloc, &store, &mut desk, BUMP.as_slice()),
     ];
-    let share = Share {
-        instances: 1,
-        memories: 3,
-        tables: 1,
-    };
-    let (host, mut passes) = Host::open(alloc, &store, share, 1).expect(rt, "opened");
-    let mut pass = passes.pop().unwrap();
+    let (host, mut pass) = one_caller(rt, alloc, &store);
     for call in calls {
         let module = &modules[call % 3];
         let (answer, back) = bump(&host, pass, &store, module, 1, &OpenGate);
         assert_eq!(rt; answer, Answer::Done(ONE));
         pass = back;
     }
+    let mut passes = Vec::new(alloc);
     passes.push(pass).expect(rt, "room");
     host.close(passes).memory
 }
