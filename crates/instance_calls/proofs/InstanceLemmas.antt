@@ -1,5 +1,5 @@
 -- The store that the slots of an instance show.
-use Rattle.std.proofs.Common.{◌≡◌, ◌≢◌, ℕ, suc, ◌+◌, ◌-◌, ◌*◌, ◌<◌, ◌≤◌, List, [], ◌∷◌, ◌++◌, Option, Some, None, Bool, true, false, length, map, take, drop, nat_lt, refl, sym, ap, ◌∙◌, subst, arith}
+use Rattle.std.proofs.Common.{◌≡◌, ◌≢◌, ℕ, ◌*◌, ◌≤◌, List, [], ◌∷◌, ◌++◌, Option, Some, None, Bool, true, false, length, take, drop, nat_lt, refl, sym, ap, ◌∙◌, subst, arith}
 use Rattle.std.specs.Prelude.{is_some, not}
 use Rattle.std.proofs.Math.Seq.{take-append_seam}
 use Rattle.std.proofs.lemmas.Bool.{lt-ltb}
@@ -10,7 +10,6 @@ use Rattle.wasm_types.specs.declared.outcome.Val.{Val}
 use Rattle.wasm_types.specs.declared.module.Module.{Module}
 use Rattle.wasm_types.specs.Tree.{ModuleTree, global_tree, module_tree}
 use Rattle.wasm_spec.specs.Store.{Store, fresh_store, memory_size, minimum_of, page_size, table_size}
-use Rattle.wasm_spec.specs.Instances.{room_for}
 use Rattle.wasm_spec.specs.Result.{CallResult}
 use Rattle.wasm_spec.specs.Typing.{type_of}
 use Rattle.linear_memory.specs.declared.memory.Memory.{Memory as LinearMemory}
@@ -21,7 +20,7 @@ use Rattle.pool_limits.specs.declared.numbers.Numbers.{Numbers}
 use Rattle.pool_worlds.specs.Contents as contents
 use Rattle.pool_worlds.specs.Contents.{Contents, Kind, Memory, MemoryContents, Named, Table, TableContents, Ticket, needs, shown, shown_memory, shown_table, turned}
 use Rattle.pool_worlds.specs.Runs.{Leaves, RunsFunction}
-use Rattle.memory_slots.specs.Lent.{IsReady, parts, store_in}
+use Rattle.memory_slots.specs.Lent.{parts, store_in}
 use Rattle.memory_slots.proofs.LentLemmas.{globals_left, globals_there}
 use Rattle.instance_calls.specs.Instances.{IsFreshMemory, IsFreshTable, bare_store}
 use Rattle.instance_calls.specs.Parts.{memory_in, table_in}

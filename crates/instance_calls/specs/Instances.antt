@@ -13,7 +13,7 @@ use Rattle.pool_limits.specs.declared.numbers.Numbers.{Numbers}
 use Rattle.pool_worlds.specs.Contents.{Contents, Kind, Memory, MemoryContents, Table, TableContents, needs, shown, shown_memory, shown_table}
 use Rattle.memory_slots.specs.Lent.{IsReady, parts}
 use Rattle.instance_calls.specs.declared.instance.Instance.{Instance}
-use Rattle.instance_calls.specs.Parts.{memory_in, memory_slot, table_in, table_slot, ticket_slot}
+use Rattle.instance_calls.specs.Parts.{memory_in, memory_slot, table_in, ticket_slot}
 
 -- the store of a module without a memory in this table and these globals
 abbrev pub bare_store : Module → List (Option ℕ) → List Val → Store

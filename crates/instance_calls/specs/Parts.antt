@@ -1,5 +1,5 @@
 -- The slots of an instance, and what lies in them.
-use Rattle.std.specs.Prelude.{◌≡◌, ℕ, List, [], Option, Some, None}
+use Rattle.std.specs.Prelude.{ℕ, List, [], Option, Some, None}
 use Rattle.wasm_types.specs.declared.outcome.Val.{Val}
 use Rattle.slot_words.specs.declared.leases.Lease.{Lease}
 use Rattle.slot_words.specs.Leases.{lease_number, lease_word}

@@ -1,4 +1,4 @@
-use Rattle.std.proofs.Common.{◌≡◌, [], true, subst}
+use Rattle.std.proofs.Common.{◌≡◌, [], subst}
 use Rattle.wasm_types.specs.declared.module.Module.{Module}
 use Rattle.wasm_types.specs.Tree.{ModuleTree}
 use Rattle.pool_limits.specs.Limits.{load_limits}

@@ -1,5 +1,4 @@
 use Rattle.std.proofs.Common.{◌≡◌, ◌∙◌, ◌++◌, List, length, take, drop, rules, subst}
-use Rattle.std.specs.Prelude.{Option}
 use Rattle.wasm_types.specs.Tree.{module_tree}
 use Rattle.wasm_types.specs.declared.outcome.Val.{Val}
 use Rattle.wasm_spec.specs.Result.{function_result}

@@ -1,4 +1,4 @@
-use Rattle.std.proofs.Common.{◌≡◌, ◌∙◌, ◌<◌, sym, subst}
+use Rattle.std.proofs.Common.{sym, subst}
 use Rattle.wasm_types.specs.Tree.{ModuleTree, module_tree}
 use Rattle.wasm_machine.specs.TypedConfiguration.{IsTypedStore}
 use Rattle.loaded_modules.specs.Within.{IsWithin}

@@ -1,7 +1,6 @@
-use Rattle.std.proofs.Common.{◌≡◌, Option, Some, None, sym, ap, ◌∙◌, subst}
+use Rattle.std.proofs.Common.{sym, ap, ◌∙◌}
 use Rattle.wasm_types.specs.Tree.{module_tree}
 use Rattle.wasm_types.specs.declared.module.Module.{Module}
-use Rattle.wasm_types.specs.declared.limits.RunLimits.{RunLimits}
 use Rattle.instance_calls.proofs.RunLemmas.{ran_alone, ran_start, ran_both}
 use Rattle.instance_calls.proofs.instance.Instance.run_call.Goals as goal
 
