@@ -1,7 +1,4 @@
-pub mod CallLemmas
+pub mod AnswerLemmas
 pub mod DueLemmas
-pub mod EntryLemmas
-pub mod LineLemmas
-pub mod ReportLemmas
 pub mod StreamLemmas
 pub mod TenantLemmas

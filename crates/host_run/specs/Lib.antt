@@ -1,7 +1,4 @@
-pub mod Answers
-pub mod Entries
-pub mod Lines
-pub mod Report
+pub mod Configured
 pub mod Serving
 pub mod Status
 pub mod Streams

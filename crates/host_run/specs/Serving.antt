@@ -4,7 +4,8 @@ use Rattle.std.specs.Borrow.{Bor}
 use Rattle.std.specs.declared.option.Option.{Option}
 use Rattle.std.specs.Io.KnownBytes.{Appends}
 use Rattle.host_run.specs.Streams.{AppendsPart}
-use Rattle.host_run.specs.Report.{IsReport}
+use Rattle.host_run.specs.Configured.{numbers_of}
+use Rattle.host_report.specs.Report.{IsReport}
 use Rattle.request_text.specs.declared.request.Directive.{Directive}
 use Rattle.request_text.specs.declared.report.ReportLine.{ReportLine}
 use Rattle.request_text.specs.Lines.{refusal_line, report_text}
@@ -33,7 +34,7 @@ refused_words = refused (codes "refused words\n")
 pub record IsReported (options : Options) (requests : List Directive) (answer : Answer) : Type 0 where
   pub status : answer.status ≡ 0
   pub lines : List ReportLine
-  pub report : IsReport options requests lines
+  pub report : IsReport (numbers_of options) requests lines
   pub text : answer.text ≡ report_text lines
 
 -- what a request file is answered: the report on what it asks for, or the line that tells why it is refused

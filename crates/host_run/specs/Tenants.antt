@@ -8,12 +8,13 @@ use Rattle.request_text.specs.declared.report.ReportLine.{ReportLine}
 use Rattle.request_text.specs.declared.report.ReportLine.TheVariants as report
 use Rattle.request_text.specs.Text.{call_count, modules_of, requests_of}
 use Rattle.command_line.specs.Words.{options_of}
-use Rattle.host_run.specs.Report.{IsReport}
+use Rattle.host_run.specs.Configured.{numbers_of}
+use Rattle.host_report.specs.Report.{IsReport}
 
 -- a request file of these bytes asks for this, and this is the report on it under the options that the words give
 pub record HasReport (words : List (List ℕ)) (bytes : List ℕ) (requests : List Directive) (lines : List ReportLine) : Type 0 where
   pub asked : requests_of bytes ≡ Ok requests
-  pub report : IsReport (options_of words) requests lines
+  pub report : IsReport (numbers_of (options_of words)) requests lines
 
 -- the directive at this place is a call whose name stands for a module of these bytes
 pub record CallsAt (requests : List Directive) (at : ℕ) (bytes export : List ℕ) (fuel : ℕ) (args : List Val) : Type 0 where

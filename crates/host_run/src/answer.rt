@@ -5,11 +5,12 @@ ghost use Rattle.host_run.specs.Serving.{IsFileAnswer, refused, shown};
 ghost use Rattle.request_text.specs.Lines.{refusal_line};
 ghost use Rattle.request_text.specs.Text.{file_refusal_of};
 
+use crate::config::numbers_of;
 use crate::due::{Due, refusal};
-use crate::report::report;
 use crate::status::Status;
 use command_line::Options;
 use host_edge::Gate;
+use host_report::report;
 use request_text::{ParseFault, parse, report_text, write_text_fault};
 use std::alloc::Global;
 use std::sync::Wait;
@@ -30,7 +31,8 @@ pub(crate) fn answer<R: Wait, G: Gate>(
 {
     match parse(alloc, bytes) {
         Ok(requests) => {
-            let lines = report(rt, alloc, options, requests.as_slice(), gate)?;
+            let numbers = numbers_of(options);
+            let lines = report(rt, alloc, numbers, requests.as_slice(), gate)?;
             let text = report_text(alloc, &lines)?;
             Ok(Due {
                 status: Status::Reported.code(),

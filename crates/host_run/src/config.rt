@@ -1,20 +1,20 @@
-//! The configuration that the options give.
+//! The numbers that the options configure.
 ghost use Rattle.std.specs.Prelude.{◌≡◌};
 ghost use Rattle.command_line.specs.Options.{HasSharedSlots, IsInRange};
-ghost use Rattle.host_run.specs.Report.{numbers_of};
+ghost use Rattle.pool_limits.specs.Ranges.{AreInRange};
+ghost use Rattle.host_run.specs.Configured.{numbers_of};
 
 use command_line::Options;
-use pool_limits::laws::numbers_are_in_range_or_one_is_bad;
-use pool_limits::{Numbers, PoolConfig};
+use pool_limits::Numbers;
 
-// The configuration of options that a command has.
-pub(crate) fn config_of(options: &Options) -> PoolConfig
+// The numbers of options that a command has.
+pub(crate) fn numbers_of(options: &Options) -> Numbers
     requires range { IsInRange options.now }
     requires shared { HasSharedSlots options.now }
-    ensures { result ≡ numbers_of options.now }
+    ensures numbers { result ≡ numbers_of options.now }
+    ensures in_range { AreInRange result }
 {
-    numbers_are_in_range_or_one_is_bad();
-    let numbers = Numbers {
+    Numbers {
         workers: options.workers,
         instances: options.instances,
         memories: options.memories,
@@ -25,9 +25,5 @@ pub(crate) fn config_of(options: &Options) -> PoolConfig
         elements: options.elements,
         depth: options.depth,
         frame: options.frame,
-    };
-    match PoolConfig::new(numbers) {
-        Ok(config) => config,
-        Err(_) => unreachable!(),
     }
 }

@@ -2,17 +2,14 @@
 ghost use Rattle.std.specs.Prelude.{◌≡◌, ℕ, List};
 ghost use Rattle.wasm_types.specs.declared.outcome.Val.{Val};
 ghost use Rattle.request_text.specs.declared.report.CallLine.{CallLine};
-ghost use Rattle.request_text.specs.declared.report.ModuleLine.{ModuleLine};
 ghost use Rattle.request_text.specs.declared.report.ReportLine.{ReportLine};
 ghost use Rattle.request_text.specs.declared.request.Directive.{Directive};
 ghost use Rattle.command_line.specs.Words.{options_of};
-ghost use Rattle.host_run.specs.Report.{IsCallLine, IsModuleLine, Limits, limits_of};
+ghost use Rattle.host_run.specs.Configured.{limits_of};
 ghost use Rattle.host_run.specs.Tenants.{CallsAt, HasReport, TellsAt};
 ghost use Rattle.host_run.specs.Serving.{Answer, IsDue};
 
-use loaded_modules::laws::a_loaded_module_is_within_its_limits;
-use pool_host::laws::a_call_has_one_answer;
-use wasm_spec::laws::loading_has_at_most_one_answer;
+use host_report::laws::{a_call_has_one_line, at_most_one_report, each_call_has_its_line};
 
 /// Two request files that were reported on under the same pages, elements, depth and frame, and in each a call of the same
 /// export of a module of the same bytes, on the same fuel and arguments: after the call's number its line tells the same in
@@ -25,34 +22,13 @@ pub fn same_line()
         → CallsAt requests at module_bytes export fuel args → CallsAt requests' at' module_bytes export fuel args
         → (how : CallLine) × TellsAt requests lines at how × TellsAt requests' lines' at' how }
 {
-    loading_has_at_most_one_answer();
-    a_loaded_module_is_within_its_limits();
-    a_call_has_one_answer();
-}
-
-/// The line of a call is decided by the limits, the bytes of its module, its export, its fuel and its arguments.
-pub fn a_call_has_one_line()
-    ensures { (limits : Limits) (bytes export : List ℕ) (fuel : ℕ) (args : List Val) (a b : CallLine)
-        → IsCallLine limits bytes export fuel args a → IsCallLine limits bytes export fuel args b → a ≡ b }
-{
-    loading_has_at_most_one_answer();
-    a_loaded_module_is_within_its_limits();
-    a_call_has_one_answer();
-}
-
-/// The line of a module is decided by the limits and its bytes.
-pub fn same_module_line()
-    ensures { (limits : Limits) (bytes : List ℕ) (a b : ModuleLine)
-        → IsModuleLine limits bytes a → IsModuleLine limits bytes b → a ≡ b }
-{
-    loading_has_at_most_one_answer();
+    each_call_has_its_line();
+    a_call_has_one_line();
 }
 
 /// At most one answer, a status and a text, is due for the words of a command line and the bytes of a source.
 pub fn one_answer_is_due()
     ensures { (words : List (List ℕ)) (bytes : List ℕ) (a b : Answer) → IsDue words bytes a → IsDue words bytes b → a ≡ b }
 {
-    loading_has_at_most_one_answer();
-    a_loaded_module_is_within_its_limits();
-    a_call_has_one_answer();
+    at_most_one_report();
 }

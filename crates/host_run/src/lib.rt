@@ -2,12 +2,9 @@
 #![tactic(auto)]
 
 mod answer;
-mod calls;
 mod config;
 mod due;
 pub mod laws;
-mod modules;
-mod report;
 mod serving;
 mod status;
 mod streams;

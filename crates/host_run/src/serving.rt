@@ -4,7 +4,8 @@ ghost use Rattle.std.specs.Io.KnownBytes.{Appends, Consumes, IsAtEnd};
 ghost use Rattle.host_edge.specs.Streams.{Rose};
 ghost use Rattle.host_run.specs.Serving.{Delivers, IsDue, IsStatus, refused_words, texts_of};
 ghost use Rattle.host_run.specs.Streams.{TakesAtMost};
-ghost use Rattle.host_run.specs.Report.{IsReport};
+ghost use Rattle.host_run.specs.Configured.{numbers_of};
+ghost use Rattle.host_report.specs.Report.{IsReport};
 ghost use Rattle.request_text.specs.declared.report.ReportLine.{ReportLine};
 ghost use Rattle.request_text.specs.Lines.{refusal_line, report_text};
 ghost use Rattle.request_text.specs.Text.{requests_of};
@@ -36,7 +37,7 @@ pub fn serve<S: Source, K: Sink, G: Gate>(
 
     // 0, after the report on all that the source had left
     ensures report { result ≡ 0 → IfSome (S.left source.old) (λ bytes. IsOkAnd (requests_of bytes) (λ requests.
-        (lines : List ReportLine) × IsReport (options_of (texts_of words.now)) requests lines
+        (lines : List ReportLine) × IsReport (numbers_of (options_of (texts_of words.now))) requests lines
         × Appends (K.written sink.old) (K.written sink.new) (report_text lines))) }
     ensures end { result ≡ 0 → IsAtEnd (S.left source.new) }
 

@@ -1,0 +1,68 @@
+-- The entries of the module lines.
+use Rattle.std.proofs.Common.{◌≡◌, ℕ, zero, suc, ◌+◌, ◌<◌, ◌≤◌, List, [], ◌∷◌, ◌++◌, Some, Ok, Err, length, refl, ap, arith, append_assoc, append-nil}
+use Rattle.std.proofs.lemmas.Option.{slice_get_within}
+use Rattle.std.specs.Prelude.{slice_get}
+use Rattle.wasm_types.specs.declared.limits.LoadLimits.{LoadLimits}
+use Rattle.wasm_spec.specs.Loading as loading
+use Rattle.pool_limits.specs.Limits.{demand_of}
+use Rattle.pool_limits.specs.declared.over.Over.{Over}
+use Rattle.initial_image.specs.Segments.{extent_of}
+use Rattle.initial_image.specs.declared.segments.Misfit.{Misfit}
+use Rattle.module_store.specs.Faults.{IsRefusal}
+use Rattle.module_store.specs.declared.fault.LoadFault.{LoadFault}
+use Rattle.module_store.specs.declared.fault.LoadFault.TheVariants as fault
+use Rattle.request_text.specs.declared.request.Directive.{Directive}
+use Rattle.request_text.specs.declared.request.Directive.TheVariants.{Module, Call}
+use Rattle.request_text.specs.declared.report.ModuleLine.TheVariants as module_line
+use Rattle.request_text.specs.Text.{module_names, modules_of}
+use Rattle.module_store.specs.declared.desk.TheConstants.{MOST_MODULES}
+use Rattle.host_report.specs.Report.{Limits, IsModuleLine, load_limits}
+use Rattle.host_report.specs.Entries.{AreEntries, Entry, IsEntry, entry_line}
+
+pub entry_told : (limits : Limits) (bytes : List ℕ) (e : Entry) → IsEntry limits bytes e → IsModuleLine limits bytes (entry_line e)
+entry_told limits bytes (Ok named) h = record { loaded = Ok named.tree; loads = h; shows = refl }
+entry_told limits bytes (Err line) h = record { loaded = Err h.0; loads = h.1; shows = h.2 }
+
+module _ (limits : Limits) (bytes : List ℕ) (why : LoadFault) where
+  pub over_limit_entry : (over : Over) → why ≡ fault.OverLimit over → IsRefusal bytes (load_limits limits) why → IsEntry limits bytes (Err module_line.Limit)
+  over_limit_entry over is h =
+      let k : IsRefusal bytes (load_limits limits) (fault.OverLimit over) = rw is at h in
+      (loading.OverLimit (demand_of over), k, refl)
+
+  pub segment_entry : (misfit : Misfit) → why ≡ fault.Segment misfit → IsRefusal bytes (load_limits limits) why → IsEntry limits bytes (Err module_line.Segment)
+  segment_entry misfit is h =
+      let k : IsRefusal bytes (load_limits limits) (fault.Segment misfit) = rw is at h in
+      (loading.Segment (extent_of misfit), k, refl)
+
+-- ---- entries in a list
+
+pub length-entries : (limits : Limits) (modules : List (List ℕ)) (entries : List Entry) → AreEntries limits modules entries → length entries ≡ length modules
+length-entries limits [] [] h = refl
+length-entries limits [] (e ∷ entries) h = absurd h
+length-entries limits (b ∷ modules) [] h = absurd h
+length-entries limits (b ∷ modules) (e ∷ entries) h = ap suc (length-entries limits modules entries h.1)
+
+pub entry_at : (limits : Limits) (modules : List (List ℕ)) (entries : List Entry) (i : ℕ) (bytes : List ℕ) (e : Entry) → AreEntries limits modules entries
+    → slice_get modules i ≡ Some bytes → slice_get entries i ≡ Some e → IsEntry limits bytes e
+entry_at limits [] entries i bytes e h got is = cc
+entry_at limits (b ∷ modules) [] i bytes e h got is = absurd h
+entry_at limits (b ∷ modules) (f ∷ entries) zero bytes e h got is =
+    let same : b ≡ bytes = cc in
+    let this : f ≡ e = cc in
+    rw (← this, ← same) h.0
+entry_at limits (b ∷ modules) (f ∷ entries) (suc i) bytes e h got is = entry_at limits modules entries i bytes e h.1 got is
+
+pub entry_there : (limits : Limits) (modules : List (List ℕ)) (entries : List Entry) (i : ℕ) (bytes : List ℕ) → AreEntries limits modules entries
+    → slice_get modules i ≡ Some bytes → i < length entries
+entry_there limits modules entries i bytes h got = omega (arith, length-entries limits modules entries h, slice_get_within modules i bytes got)
+
+-- So many modules are registered, and those that are left have room; whatever are their entries complete those so far.
+pub record EntriesSoFar (limits : Limits) (whole rest : List Directive) (registered : ℕ) (entries : List Entry) : Type 0 where
+  pub few : registered + length (module_names rest) ≤ MOST_MODULES
+  pub completes : (more : List Entry) → AreEntries limits (modules_of rest) more → AreEntries limits (modules_of whole) (entries ++ more)
+
+pub all_entries : (limits : Limits) (whole rest : List Directive) (registered : ℕ) (entries : List Entry) → rest ≡ [] → EntriesSoFar limits whole rest registered entries
+    → AreEntries limits (modules_of whole) entries
+all_entries limits whole rest registered entries none h =
+    let k : EntriesSoFar limits whole [] registered entries = rw none at h in
+    rw append-nil at (k.completes [] tt)

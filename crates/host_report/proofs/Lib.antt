@@ -1,0 +1,4 @@
+pub mod CallLemmas
+pub mod EntryLemmas
+pub mod LineLemmas
+pub mod ReportLemmas

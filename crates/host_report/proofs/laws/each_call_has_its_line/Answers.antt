@@ -1,0 +1,8 @@
+use Rattle.request_text.specs.Text.{modules_of}
+use Rattle.host_report.specs.Report.{limits_in}
+use Rattle.host_report.proofs.LineLemmas.{line_at}
+use Rattle.host_report.proofs.laws.each_call_has_its_line.Goals as goal
+
+pub returns : goal.returns
+returns c = λ numbers requests lines at place bytes export fuel args told call there.
+    line_at (limits_in numbers) (modules_of requests) bytes export fuel args requests at 1 place lines told call there

@@ -1,0 +1,18 @@
+use Rattle.std.proofs.Common.{◌≡◌, [], ◌∷◌, ◌++◌, rules}
+use Rattle.std.proofs.lemmas.List.{drop_all}
+use Rattle.host_report.specs.Report.{limits_in}
+use Rattle.host_report.proofs.CallLemmas.{next_directive}
+use Rattle.host_report.proofs.ReportLemmas.{lines_end, next_told}
+use Rattle.host_report.proofs.reporting.lines.Goals as goal
+
+pub loop-directive-preserved : goal.loop-directive-preserved
+loop-directive-preserved g c =
+    let pushed : c.push.new.self.items ≡ c.loop-directive.lines.items ++ c.in_ok-line.line ∷ [] = search rules in
+    let first = next_directive _ _ _ c.loop-directive-test.true c.directive-item.is in
+    next_told (limits_in g.N.Naming.config) c.args.requests.now _ _ _ _ _ _ _ first c.loop-directive.invariant c.in_ok-line.line _ _
+    (search rules) c.in_ok-line.ensures.counts pushed
+
+pub returns : goal.returns
+returns g c =
+    lines_end (limits_in g.N.Naming.config) c.args.requests.now _ _ _ _ _
+    (drop_all c.loop-directive.directive-index c.args.requests.now c.loop-directive-test.false) c.loop-directive.invariant

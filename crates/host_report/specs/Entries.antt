@@ -1,0 +1,27 @@
+-- What became of the module lines of a request file.
+use Rattle.std.specs.Prelude.{◌≡◌, ℕ, List, [], ◌∷◌, Result, Ok, Err}
+use Rattle.wasm_spec.specs.Loading.{Loads, Refusal}
+use Rattle.pool_worlds.specs.Contents.{Named}
+use Rattle.host_report.specs.Report.{Limits, load_limits, loading_line}
+use Rattle.request_text.specs.declared.report.ModuleLine.{ModuleLine}
+use Rattle.request_text.specs.declared.report.ModuleLine.TheVariants as module_line
+
+-- a module that may be called, or the line that tells why it is refused
+abbrev pub Entry : Type 0
+Entry = Result Named ModuleLine
+
+-- an entry for the module line of these bytes
+abbrev pub IsEntry : Limits → List ℕ → Entry → Type 0
+IsEntry limits bytes (Ok named) = Loads bytes (load_limits limits) (Ok named.tree)
+IsEntry limits bytes (Err line) = (why : Refusal) × Loads bytes (load_limits limits) (Err why) × (line ≡ loading_line (Err why))
+
+-- one for each of these modules, in their order
+abbrev pub AreEntries : Limits → List (List ℕ) → List Entry → Type 0
+AreEntries limits [] [] = Unit {0}
+AreEntries limits (bytes ∷ modules) (entry ∷ entries) = IsEntry limits bytes entry × AreEntries limits modules entries
+AreEntries limits _ _ = ⊥
+
+-- the line that an entry shows
+abbrev pub entry_line : Entry → ModuleLine
+entry_line (Ok named) = module_line.Accepted
+entry_line (Err line) = line

@@ -1,0 +1,103 @@
+-- The report on a request file: one line for each directive, in file order.
+use Rattle.wasm_types.specs.declared.limits.RunLimits.{RunLimits}
+use Rattle.wasm_types.specs.declared.limits.LoadLimits.{LoadLimits}
+use Rattle.std.specs.Prelude.{◌≡◌, ℕ, ◌+◌, List, [], ◌∷◌, Some, Result, Ok, Err, slice_get}
+use Rattle.wasm_types.specs.declared.outcome.Val.{Val}
+use Rattle.wasm_types.specs.Tree.{ModuleTree}
+use Rattle.wasm_spec.specs.Loading as loading
+use Rattle.wasm_spec.specs.Loading.{Loads, Refusal}
+use Rattle.pool_host.specs.declared.lane.LaneAnswer.{LaneAnswer}
+use Rattle.pool_host.specs.declared.lane.LaneAnswer.TheVariants as answer
+use Rattle.pool_host.specs.CallWords.{IsAnswer}
+use Rattle.pool_limits.specs.declared.numbers.Numbers.{Numbers}
+use Rattle.request_text.specs.declared.request.Directive.{Directive}
+use Rattle.request_text.specs.declared.request.Directive.TheVariants.{Module, Call}
+use Rattle.request_text.specs.declared.report.ModuleLine.{ModuleLine}
+use Rattle.request_text.specs.declared.report.ModuleLine.TheVariants as module_line
+use Rattle.request_text.specs.declared.report.CallLine.{CallLine}
+use Rattle.request_text.specs.declared.report.CallLine.TheVariants as call_line
+use Rattle.request_text.specs.declared.report.ReportLine.{ReportLine}
+use Rattle.request_text.specs.declared.report.ReportLine.TheVariants as report
+use Rattle.request_text.specs.Text.{modules_of}
+
+-- what bounds a module and a call: nothing else of a configuration does
+pub record Limits : Type 0 where
+  pub pages : ℕ
+  pub elements : ℕ
+  pub depth : ℕ
+  pub frame : ℕ
+
+abbrev pub limits_in : Numbers → Limits
+limits_in n = record { pages = n.pages; elements = n.elements; depth = n.depth; frame = n.frame }
+
+abbrev pub load_limits : Limits → LoadLimits
+load_limits l = record { pages = l.pages; elements = l.elements; frame = l.frame }
+
+abbrev pub run_limits : Limits → RunLimits
+run_limits l = record { pages = l.pages; depth = l.depth }
+
+-- ---- the line of a module
+
+abbrev pub loading_line : Result ModuleTree Refusal → ModuleLine
+loading_line (Ok m) = module_line.Accepted
+loading_line (Err loading.Malformed) = module_line.Malformed
+loading_line (Err loading.Unsupported) = module_line.Unsupported
+loading_line (Err loading.Invalid) = module_line.Invalid
+loading_line (Err (loading.OverLimit demand)) = module_line.Limit
+loading_line (Err (loading.Segment extent)) = module_line.Segment
+
+-- how the loading of these bytes goes
+pub record IsModuleLine (limits : Limits) (bytes : List ℕ) (line : ModuleLine) : Type 0 where
+  pub loaded : Result ModuleTree Refusal
+  pub loads : Loads bytes (load_limits limits) loaded
+  pub shows : line ≡ loading_line loaded
+
+-- ---- the line of a call
+
+abbrev pub answer_line : LaneAnswer → CallLine
+answer_line (answer.Done outcome) = call_line.Done outcome
+answer_line answer.NoExport = call_line.NoExport
+answer_line answer.BadArgs = call_line.BadArgs
+
+-- how a call goes whose module was loaded so
+abbrev pub ShowsCall : Limits → Result ModuleTree Refusal → (export : List ℕ) → (fuel : ℕ) → (args : List Val) → CallLine → Type 0
+ShowsCall limits (Err refusal) export fuel args line = line ≡ call_line.NoModule
+ShowsCall limits (Ok m) export fuel args line =
+    (a : LaneAnswer) × IsAnswer m (run_limits limits) export args fuel a × (line ≡ answer_line a)
+
+-- how a call goes: this is fixed by the limits, the bytes of its module, its export, its fuel and its arguments
+pub record IsCallLine (limits : Limits) (bytes export : List ℕ) (fuel : ℕ) (args : List Val) (line : CallLine) : Type 0 where
+  pub loaded : Result ModuleTree Refusal
+  pub loads : Loads bytes (load_limits limits) loaded
+  pub shows : ShowsCall limits loaded export fuel args line
+
+-- ---- all lines
+
+-- how the call of the module at this place among the module lines goes
+pub record GoesAs (limits : Limits) (modules : List (List ℕ)) (place : ℕ) (export : List ℕ) (fuel : ℕ) (args : List Val) (how : CallLine) : Type 0 where
+  pub bytes : List ℕ
+  pub there : slice_get modules place ≡ Some bytes
+  pub goes : IsCallLine limits bytes export fuel args how
+
+-- the line of a directive, which has this number if it is a call
+abbrev pub IsLine : Limits → (modules : List (List ℕ)) → (number : ℕ) → Directive → ReportLine → Type 0
+IsLine limits modules number (Module name bytes) line =
+    (how : ModuleLine) × IsModuleLine limits bytes how × (line ≡ report.Module name how)
+IsLine limits modules number (Call place export fuel args) line =
+    (how : CallLine) × GoesAs limits modules place export fuel args how × (line ≡ report.Call number how)
+
+-- the number of the first call after a directive
+abbrev pub next_number : ℕ → Directive → ℕ
+next_number number (Module name bytes) = number
+next_number number (Call place export fuel args) = number + 1
+
+-- the lines of these directives, one of each, the first call among which has this number
+abbrev pub AreLines : Limits → (modules : List (List ℕ)) → (number : ℕ) → List Directive → List ReportLine → Type 0
+AreLines limits modules number [] lines = lines ≡ []
+AreLines limits modules number (directive ∷ requests) [] = ⊥
+AreLines limits modules number (directive ∷ requests) (line ∷ lines) =
+    IsLine limits modules number directive line × AreLines limits modules (next_number number directive) requests lines
+
+-- the report on a request file that asks for this; calls are numbered from 1
+abbrev pub IsReport : Numbers → List Directive → List ReportLine → Type 0
+IsReport numbers requests lines = AreLines (limits_in numbers) (modules_of requests) 1 requests lines

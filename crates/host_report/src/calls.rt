@@ -1,0 +1,89 @@
+//! The calls of a request file, made on the lane.
+ghost use Rattle.std.specs.Prelude.{◌≡◌, ◌≤◌, ◌<◌, ℕ, List, IfOk, Some, length, slice_get};
+ghost use Rattle.request_text.specs.Text.{IsPlacedFrom, call_count, modules_of};
+ghost use Rattle.host_report.specs.Answers.{AreAnswers};
+ghost use Rattle.host_report.specs.Entries.{AreEntries, IsEntry};
+ghost use Rattle.host_report.specs.Report.{IsCallLine, answer_line, limits_in};
+
+use crate::modules::Entry;
+use host_edge::Gate;
+use module_store::{ModuleStore, Naming};
+use pool_host::{LaneAnswer, LaneHost};
+use request_text::{CallLine, Directive, MOST_CALLS};
+use std::alloc::Global;
+use wasm_types::{NoMemory, Val};
+
+fn answer_line(answer: LaneAnswer) -> CallLine
+    ensures { result ≡ answer_line answer }
+{
+    match answer {
+        LaneAnswer::Done(outcome) => CallLine::Done(outcome),
+        LaneAnswer::NoExport => CallLine::NoExport,
+        LaneAnswer::BadArgs => CallLine::BadArgs,
+    }
+}
+
+// How a call of the entry's module goes. The gate is told of it by its number.
+fn call_line<N: Naming, G: Gate>(
+    store: &ModuleStore<N>,
+    entry: &Entry<N>,
+    export: &[u8],
+    args: &[Val],
+    fuel: u32,
+    number: u64,
+    lane: &mut LaneHost<N>,
+    gate: &G,
+) -> CallLine
+    ensures { (bytes : List ℕ) → IsEntry (limits_in N.config) bytes entry.now
+        → IsCallLine (limits_in N.config) bytes export.now fuel args.now result }
+{
+    match entry {
+        Ok(module) => {
+            let answer = lane.call(store, module, export, args, fuel as u64, number, gate);
+            answer_line(answer)
+        }
+        Err(_) => CallLine::NoModule,
+    }
+}
+
+// The entry of a module line, by its place among the module lines.
+fn entry_at<N: Naming>(entries: &[Entry<N>], place: u32) -> &Entry<N>
+    requires { place < length entries.now }
+    ensures { slice_get entries.now place ≡ Some result.now }
+{
+    &entries[place as usize]
+}
+
+// How the calls go, made one after the other in file order.
+pub(crate) fn answers<N: Naming, G: Gate>(
+    alloc: Global,
+    store: &ModuleStore<N>,
+    requests: &[Directive],
+    entries: &[Entry<N>],
+    gate: &G,
+) -> Result<Vec<CallLine>, NoMemory>
+    requires placed { IsPlacedFrom 0 requests.now }
+    requires few { call_count requests.now ≤ MOST_CALLS }
+    requires entries { AreEntries (limits_in N.config) (modules_of requests.now) entries.now }
+    ensures { IfOk result (λ answers. AreAnswers (limits_in N.config) (modules_of requests.now) requests.now answers.items) }
+{
+    let mut lane = LaneHost::open(alloc, store)?;
+    let mut answers = Vec::new(alloc);
+    let mut number = 0u64;
+    for directive in requests {
+        if let Directive::Call {
+            module,
+            export,
+            fuel,
+            args,
+        } = directive
+        {
+            number += 1;
+            let entry = entry_at(entries, *module);
+            let (export, args) = (export.as_slice(), args.as_slice());
+            let line = call_line(store, entry, export, args, *fuel, number, &mut lane, gate);
+            answers.push(line).map_err(|_| NoMemory)?;
+        }
+    }
+    Ok(answers)
+}

@@ -1,0 +1,10 @@
+//! The report on what a request file asks for: its modules are loaded, its calls are made, and each directive gets a line.
+#![tactic(auto)]
+
+mod calls;
+mod config;
+pub mod laws;
+mod modules;
+mod reporting;
+
+pub use reporting::report;

@@ -1,0 +1,124 @@
+//! The report on what a request file asks for.
+ghost use Rattle.std.specs.Prelude.{◌≡◌, ◌≤◌, IfOk, length};
+ghost use Rattle.pool_limits.specs.Ranges.{AreInRange};
+ghost use Rattle.module_store.specs.Names.{Bears};
+ghost use Rattle.request_text.specs.Text.{IsPlacedFrom, call_count, module_names, modules_of};
+ghost use Rattle.host_report.specs.Answers.{AreAnswers};
+ghost use Rattle.host_report.specs.Entries.{AreEntries};
+ghost use Rattle.host_report.specs.Lines.{HasSource, ShowsNext, counts_after};
+ghost use Rattle.host_report.specs.Report.{AreLines, IsReport, limits_in};
+
+use crate::calls::answers;
+use crate::config::config_of;
+use crate::modules::{Entry, entry_line, register_all};
+use host_edge::Gate;
+use module_store::{Naming, Opened};
+use pool_limits::Numbers;
+use request_text::{CallLine, Directive, MOST_CALLS, MOST_MODULES, ReportLine};
+use std::alloc::Global;
+use std::marker::Brand;
+use std::sync::Wait;
+use wasm_types::{Items, NoMemory};
+
+// How many module lines and calls have been reported on.
+#[derive(Drop)]
+pub(crate) struct Counts {
+    modules: usize,
+    calls: u32,
+}
+
+// The line of one directive.
+fn next_line<N: Naming>(
+    alloc: Global,
+    directive: &Directive,
+    entries: &[Entry<N>],
+    answers: &[CallLine],
+    counts: &mut Counts,
+) -> Result<ReportLine, NoMemory>
+    requires { HasSource counts.old entries.now answers.now directive.now }
+    ensures line { IfOk result (ShowsNext counts.old entries.now answers.now directive.now) }
+    ensures counts { IfOk result (λ _. counts.new ≡ counts_after counts.old directive.now) }
+{
+    match directive {
+        Directive::Module { name, bytes: _ } => {
+            let line = entry_line(&entries[counts.modules]);
+            counts.modules += 1;
+            let name = name.as_slice().to_vec(alloc).map_err(|_| NoMemory)?;
+            let name = Items::new(name);
+            Ok(ReportLine::Module { name, line })
+        }
+        Directive::Call { .. } => {
+            let line = answers[counts.calls as usize];
+            counts.calls += 1;
+            let number = counts.calls;
+            Ok(ReportLine::Call { number, line })
+        }
+    }
+}
+
+// A line for each directive, from the entries of its modules and the answers of its calls.
+fn lines<N: Naming>(
+    alloc: Global,
+    requests: &[Directive],
+    entries: &[Entry<N>],
+    answers: &[CallLine],
+) -> Result<Vec<ReportLine>, NoMemory>
+    requires few { call_count requests.now ≤ MOST_CALLS }
+    requires entries { AreEntries (limits_in N.config) (modules_of requests.now) entries.now }
+    requires answers { AreAnswers (limits_in N.config) (modules_of requests.now) requests.now answers.now }
+    ensures { IfOk result (λ lines. AreLines (limits_in N.config) (modules_of requests.now) 1 requests.now lines.items) }
+{
+    let mut counts = Counts {
+        modules: 0,
+        calls: 0,
+    };
+    let mut lines = Vec::new(alloc);
+    for directive in requests {
+        let line = next_line(alloc, directive, entries, answers, &mut counts)?;
+        lines.push(line).map_err(|_| NoMemory)?;
+    }
+    Ok(lines)
+}
+
+// The report under the store's configuration: the modules are loaded first, then the calls are made, and then there is a
+// line for each directive.
+fn report_in<N: Naming, R: Wait, G: Gate>(
+    rt: &R,
+    alloc: Global,
+    opened: Opened,
+    requests: &[Directive],
+    gate: &G,
+) -> Result<Vec<ReportLine>, NoMemory>
+    requires name { Bears opened N.shelves N.config }
+    requires placed { IsPlacedFrom 0 requests.now }
+    requires few_modules { length (module_names requests.now) ≤ MOST_MODULES }
+    requires few_calls { call_count requests.now ≤ MOST_CALLS }
+    ensures { IfOk result (λ lines. AreLines (limits_in N.config) (modules_of requests.now) 1 requests.now lines.items) }
+{
+    let (store, mut desk) = opened.named::<N>();
+    let entries = register_all(rt, alloc, &store, &mut desk, requests)?;
+    let answers = answers(alloc, &store, requests, &entries, gate)?;
+    lines(alloc, requests, &entries, &answers)
+}
+
+/// The report on what a request file asks for, under the numbers of a configuration. `gate` is told of each call.
+///
+/// # Errors
+///
+/// Memory was refused.
+pub fn report<R: Wait, G: Gate>(
+    rt: &R,
+    alloc: Global,
+    numbers: Numbers,
+    requests: &[Directive],
+    gate: &G,
+) -> Result<Vec<ReportLine>, NoMemory>
+    requires range { AreInRange numbers }
+    requires placed { IsPlacedFrom 0 requests.now }
+    requires few_modules { length (module_names requests.now) ≤ MOST_MODULES }
+    requires few_calls { call_count requests.now ≤ MOST_CALLS }
+    ensures { IfOk result (λ lines. IsReport numbers requests.now lines.items) }
+{
+    let opened = Opened::open(alloc, config_of(numbers))?;
+    report_in::<Brand, R, G>(rt, alloc, opened, requests, gate)
+}

@@ -1,5 +1,0 @@
-use Rattle.host_run.proofs.LineLemmas.{one_module_line}
-use Rattle.host_run.proofs.laws.same_module_line.Goals as goal
-
-pub returns : goal.returns
-returns c = one_module_line c.loading_has_at_most_one_answer.ensures

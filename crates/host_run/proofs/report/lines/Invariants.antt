@@ -1,8 +1,0 @@
-use Rattle.std.proofs.Common.{drop}
-use Rattle.host_run.specs.Report.{limits_in}
-use Rattle.host_run.proofs.ReportLemmas.{LinesLeft}
-use Rattle.host_run.proofs.report.lines.Given as goal
-
-abbrev pub invariant-loop-directive : goal.invariant-loop-directive
-invariant-loop-directive g l =
-    LinesLeft (limits_in g.N.Naming.config) l.fn.requests (drop l.directive-index l.fn.requests) l.entries l.answers l.counts l.lines.items
