@@ -1,4 +1,5 @@
 pub mod AnswerLemmas
+pub mod CommandLemmas
 pub mod DueLemmas
 pub mod StreamLemmas
 pub mod TenantLemmas
