@@ -416,7 +416,8 @@ const INSTANCES: [Run; 9] = [
 ];
 
 // Three modules and a call that loops until its fuel is used up.
-const LOAD: &[u8] = b"module add 0061736d0100000001070160027f7f017f030201000707010361646400000a09010700200020016a0b
+const LOAD: &[u8] =
+    b"module add 0061736d0100000001070160027f7f017f030201000707010361646400000a09010700200020016a0b
 module bump 0061736d010000000105016000017f0302010005030100010708010462756d7000000a160114004100410028020041016a36020041002802000b
 module g 0061736d010000000108026000006000017f030302000105030100010710020564697274790000046c6f6f6b00010a26021500410140001a41ffff07417f3a000003400c000b0b0e00410140001a41ffff072d00000b
 call g dirty 43
@@ -569,11 +570,17 @@ fn a_run_on_a_load_has_its_summary(rt: HostRuntime) -> Result<(), Fail> {
     for (words, want) in rows {
         let mut nothing = MemSource::new(Vec::new(alloc), 1, Vec::new(alloc));
         let mut load = MemSink::new(alloc, 4096, Vec::new(alloc));
-        assert_eq!(rt; serve(&rt, alloc, &words, &mut nothing, &mut load, &OpenGate), 0);
+        assert_eq!(rt;
+            serve(&rt, alloc, &words, &mut nothing, &mut load, &OpenGate),
+            0
+        );
         let mut source = MemSource::new(load.bytes().to_vec(alloc)?, 4096, Vec::new(alloc));
         let mut sink = MemSink::new(alloc, 4096, Vec::new(alloc));
         let words = ["poolhost", "run", "--summary"];
-        assert_eq!(rt; serve(&rt, alloc, &words, &mut source, &mut sink, &OpenGate), 0);
+        assert_eq!(rt;
+            serve(&rt, alloc, &words, &mut source, &mut sink, &OpenGate),
+            0
+        );
         assert_eq!(rt; sink.bytes(), want.as_bytes());
     }
     Ok(())
