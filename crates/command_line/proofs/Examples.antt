@@ -1,86 +1,110 @@
 -- The meaning of words that are written out.
-use Rattle.std.proofs.Common.{◌≡◌, true, false, List, [], ◌∷◌, refl, codes}
+use Rattle.std.proofs.Common.{◌≡◌, true, false, List, [], ◌∷◌, Some, None, refl, codes}
+use Rattle.pool_limits.specs.declared.numbers.Numbers.{Numbers}
 use Rattle.clap.specs.Words.{Text}
 use Rattle.clap.proofs.OnLiterals.{clap_on_literals}
-use Rattle.command_line.specs.Words.{has_matches, is_accepted, options_of}
-use Rattle.command_line.specs.declared.options.Options.{Options}
+use Rattle.command_line.specs.Words.{command_of, entered_by}
+use Rattle.command_line.specs.declared.words.Command.TheVariants.{Make, Run}
 
 abbrev run : List Text → List Text
 run words = codes "poolhost" ∷ codes "run" ∷ words
 
-abbrev defaults : Options
+abbrev make : List Text → List Text
+make words = codes "poolhost" ∷ codes "make" ∷ words
+
+abbrev defaults : Numbers
 defaults = record { workers = 1; instances = 4; memories = 4; tables = 4; warm = 2; batch = 4; pages = 32; elements = 1024; depth = 128; frame = 1024 }
 
-no_option : options_of (run []) ≡ defaults
-unfolding clap_on_literals options_of
+no_option : command_of (run []) ≡ Some (Run defaults false)
+unfolding clap_on_literals command_of entered_by
 no_option = refl
 
-no_option_taken : is_accepted (run []) ≡ true
-unfolding clap_on_literals has_matches options_of
-no_option_taken = refl
-
-two_by_equals : options_of (run (codes "--elements=0" ∷ codes "--frame=4096" ∷ [])) ≡ record defaults { elements = 0; frame = 4096 }
-unfolding clap_on_literals options_of
+two_by_equals : command_of (run (codes "--elements=0" ∷ codes "--frame=4096" ∷ [])) ≡ Some (Run (record defaults { elements = 0; frame = 4096 }) false)
+unfolding clap_on_literals command_of entered_by
 two_by_equals = refl
 
-two_by_equals_taken : is_accepted (run (codes "--elements=0" ∷ codes "--frame=4096" ∷ [])) ≡ true
-unfolding clap_on_literals has_matches options_of
-two_by_equals_taken = refl
-
-too_many_workers : is_accepted (run (codes "--workers" ∷ codes "17" ∷ [])) ≡ false
-unfolding clap_on_literals has_matches options_of
+too_many_workers : command_of (run (codes "--workers" ∷ codes "17" ∷ [])) ≡ None
+unfolding clap_on_literals command_of entered_by
 too_many_workers = refl
 
-no_memory_to_share : is_accepted (run (codes "--workers" ∷ codes "2" ∷ codes "--memories" ∷ codes "1" ∷ [])) ≡ false
-unfolding clap_on_literals has_matches options_of
+no_memory_to_share : command_of (run (codes "--workers" ∷ codes "2" ∷ codes "--memories" ∷ codes "1" ∷ [])) ≡ None
+unfolding clap_on_literals command_of entered_by
 no_memory_to_share = refl
 
-no_subcommand : is_accepted (codes "poolhost" ∷ []) ≡ false
-unfolding clap_on_literals has_matches options_of
+two_memories_to_share : command_of (run (codes "--workers" ∷ codes "2" ∷ codes "--memories" ∷ codes "2" ∷ [])) ≡ Some (Run (record defaults { workers = 2; memories = 2 }) false)
+unfolding clap_on_literals command_of entered_by
+two_memories_to_share = refl
+
+no_subcommand : command_of (codes "poolhost" ∷ []) ≡ None
+unfolding clap_on_literals command_of entered_by
 no_subcommand = refl
 
-no_word : is_accepted [] ≡ false
-unfolding clap_on_literals has_matches options_of
+no_word : command_of ([]) ≡ None
+unfolding clap_on_literals command_of entered_by
 no_word = refl
 
-repeated : is_accepted (run (codes "--warm" ∷ codes "2" ∷ codes "--warm" ∷ codes "2" ∷ [])) ≡ false
-unfolding clap_on_literals has_matches options_of
+repeated : command_of (run (codes "--warm" ∷ codes "2" ∷ codes "--warm" ∷ codes "2" ∷ [])) ≡ None
+unfolding clap_on_literals command_of entered_by
 repeated = refl
 
-help : is_accepted (run (codes "--help" ∷ [])) ≡ false
-unfolding clap_on_literals has_matches options_of
+help : command_of (run (codes "--help" ∷ [])) ≡ None
+unfolding clap_on_literals command_of entered_by
 help = refl
 
-version : is_accepted (codes "poolhost" ∷ codes "--version" ∷ []) ≡ false
-unfolding clap_on_literals has_matches options_of
+version : command_of (codes "poolhost" ∷ codes "--version" ∷ []) ≡ None
+unfolding clap_on_literals command_of entered_by
 version = refl
 
-summary : is_accepted (run (codes "--summary" ∷ [])) ≡ false
-unfolding clap_on_literals has_matches options_of
+summary : command_of (run (codes "--summary" ∷ codes "--depth" ∷ codes "1" ∷ [])) ≡ Some (Run (record defaults { depth = 1 }) true)
+unfolding clap_on_literals command_of entered_by
 summary = refl
 
-make : is_accepted (codes "poolhost" ∷ codes "make" ∷ codes "0" ∷ codes "1" ∷ []) ≡ false
-unfolding clap_on_literals has_matches options_of
-make = refl
+summary_with_a_value : command_of (run (codes "--summary=true" ∷ [])) ≡ None
+unfolding clap_on_literals command_of entered_by
+summary_with_a_value = refl
 
-hyphens_at_the_end : is_accepted (run (codes "--" ∷ [])) ≡ true
-unfolding clap_on_literals has_matches options_of
+hyphens_at_the_end : command_of (run (codes "--" ∷ [])) ≡ Some (Run defaults false)
+unfolding clap_on_literals command_of entered_by
 hyphens_at_the_end = refl
 
 -- a sign and leading zeros are taken
-plus : options_of (run (codes "--warm" ∷ codes "+3" ∷ codes "--batch" ∷ codes "007" ∷ [])) ≡ record defaults { warm = 3; batch = 7 }
-unfolding clap_on_literals options_of
-plus = refl
-
-plus_taken : is_accepted (run (codes "--warm" ∷ codes "+3" ∷ codes "--batch" ∷ codes "007" ∷ [])) ≡ true
-unfolding clap_on_literals has_matches options_of
-plus_taken = refl
+signs_and_zeros : command_of (run (codes "--warm" ∷ codes "+3" ∷ codes "--batch" ∷ codes "007" ∷ [])) ≡ Some (Run (record defaults { warm = 3; batch = 7 }) false)
+unfolding clap_on_literals command_of entered_by
+signs_and_zeros = refl
 
 -- a minus sign only before a zero that an equals sign joins to its option
-minus : is_accepted (run (codes "--warm" ∷ codes "-0" ∷ [])) ≡ false
-unfolding clap_on_literals has_matches options_of
+minus : command_of (run (codes "--warm" ∷ codes "-0" ∷ [])) ≡ None
+unfolding clap_on_literals command_of entered_by
 minus = refl
 
-minus_by_equals : is_accepted (run (codes "--warm=-0" ∷ [])) ≡ true
-unfolding clap_on_literals has_matches options_of
+minus_by_equals : command_of (run (codes "--warm=-0" ∷ [])) ≡ Some (Run (record defaults { warm = 0 }) false)
+unfolding clap_on_literals command_of entered_by
 minus_by_equals = refl
+
+least_load : command_of (make (codes "0" ∷ codes "1" ∷ [])) ≡ Some (Make 0 1)
+unfolding clap_on_literals command_of entered_by
+least_load = refl
+
+greatest_load : command_of (make (codes "18446744073709551615" ∷ codes "100000" ∷ [])) ≡ Some (Make 18446744073709551615 100000)
+unfolding clap_on_literals command_of entered_by
+greatest_load = refl
+
+seed_past_64_bits : command_of (make (codes "18446744073709551616" ∷ codes "1" ∷ [])) ≡ None
+unfolding clap_on_literals command_of entered_by
+seed_past_64_bits = refl
+
+no_call : command_of (make (codes "1" ∷ codes "0" ∷ [])) ≡ None
+unfolding clap_on_literals command_of entered_by
+no_call = refl
+
+too_many_calls : command_of (make (codes "1" ∷ codes "100001" ∷ [])) ≡ None
+unfolding clap_on_literals command_of entered_by
+too_many_calls = refl
+
+seed_alone : command_of (make (codes "1" ∷ [])) ≡ None
+unfolding clap_on_literals command_of entered_by
+seed_alone = refl
+
+seed_below_zero : command_of (make (codes "-1" ∷ codes "1" ∷ [])) ≡ None
+unfolding clap_on_literals command_of entered_by
+seed_below_zero = refl

@@ -3,6 +3,6 @@ pub mod LevelWalk
 pub mod LevelValues
 pub mod SubcommandFacts
 pub mod NumberTexts
-pub mod RunLevel
+pub mod CommandLevels
 pub mod ParsedWords
 pub mod Examples

@@ -1,10 +1,12 @@
 -- The numbers of the texts that a parser of numbers takes.
-use Rattle.std.proofs.Common.{◌≡◌, ◌∙◌, ◌<◌, ◌≤◌, ◌^◌, ◌==◌, ℕ, Bool, true, false, List, [], ◌∷◌, Option, Some, None, Result, Ok, Err, cond, refl, ap, arith, drop}
+use Rattle.std.proofs.Common.{◌≡◌, ◌∙◌, ◌<◌, ◌≤◌, ◌^◌, ◌==◌, ℕ, Bool, true, false, List, [], ◌∷◌, Option, Some, None, Result, Ok, Err, cond, refl, ap, arith, drop, codes, inl, inr, sym, ◌||◌}
 use Rattle.std.proofs.lemmas.Bool.{ne_eqb}
+use Rattle.std.proofs.lemmas.Slice.Eq.{bytes_eq-Decides}
 use Rattle.std.proofs.lemmas.Int.{ints}
 use Rattle.std.proofs.lemmas.Str.Parse.{digit_from_value}
 use Rattle.std.specs.Prelude.{pos, unwrap_or}
 use Rattle.std.specs.Option.{option_map_or}
+use Rattle.std.specs.Str.{bytes_eq}
 use Rattle.std.specs.Str.Parse.{IsNumeral, ParsesUnsigned, digits_value, starts_with_minus, without_leading_plus}
 use Rattle.clap.specs.Lexer.{without_minus}
 use Rattle.clap.specs.Matches.{ReadsOne}
@@ -15,7 +17,7 @@ use Rattle.clap.specs.declared.builder.value_parser.ValueParser.TheVariants as v
 use Rattle.clap.specs.declared.parser.matches.Found.{Found}
 use Rattle.clap.proofs.ValueTestLemmas.{accepts-Accepts}
 use Rattle.clap.proofs.WalkLemmas.{one_text-rows}
-use Rattle.command_line.specs.Matches.{IsNumberIn, number_in, number_of}
+use Rattle.command_line.specs.Matches.{IsFlag, IsNumberIn, is_set, number_in, number_of}
 
 without_minus-cond : (t : List ℕ) → without_minus t ≡ cond (starts_with_minus t) (drop 1 t) t
 without_minus-cond [] = refl
@@ -70,18 +72,36 @@ pub number_within : (least most : ℕ) (o : Option Text) → IsNumberIn least mo
 number_within least most None h = absurd h
 number_within least most (Some t) h = (h.1, h.2)
 
--- what `get_one::<u32>` gives
-pub reads_number : {E : Type 0} (G : Text → Result ℕ E → Type 0) (f : Found) (id : Text) (r : Option ℕ)
-    → ((u : Text) (x : Result ℕ E) → G u x → ParsesUnsigned 32 10 u x)
-    → ((t : Text) → one_text f id ≡ Some t → ReadsOne G t r) → IsNumberIn 0 4294967295 (one_of id (rows_of f)) → r ≡ Some (number_in id (rows_of f))
-reads_number {E} G f id r only reads has = go (one_of id (rows_of f)) refl has
+-- what `get_one` gives of an unsigned type of so many bits
+pub reads_number : {E : Type 0} (bits most : ℕ) (G : Text → Result ℕ E → Type 0) (f : Found) (id : Text) (r : Option ℕ) → most < 2 ^ bits
+    → ((u : Text) (x : Result ℕ E) → G u x → ParsesUnsigned bits 10 u x)
+    → ((t : Text) → one_text f id ≡ Some t → ReadsOne G t r) → IsNumberIn 0 most (one_of id (rows_of f)) → r ≡ Some (number_in id (rows_of f))
+reads_number {E} bits most G f id r fits only reads has = go (one_of id (rows_of f)) refl has
   where
-    by : (t : Text) (o : Option ℕ) → ReadsOne G t o → IsNumberIn 0 4294967295 (Some t) → o ≡ Some (number_of t)
+    by : (t : Text) (o : Option ℕ) → ReadsOne G t o → IsNumberIn 0 most (Some t) → o ≡ Some (number_of t)
     by t (Some v) h n = ap Some (only t (Ok v) h).1
     by t None h n =
-        let small : number_of t < 2 ^ 32 = omega arith in
+        let small : number_of t < 2 ^ bits = omega arith in
         absurd (only t (Err h.0) h.1 (n.0, small))
 
-    go : (o : Option Text) → one_of id (rows_of f) ≡ o → IsNumberIn 0 4294967295 o → r ≡ Some (option_map_or number_of o 0)
+    go : (o : Option Text) → one_of id (rows_of f) ≡ o → IsNumberIn 0 most o → r ≡ Some (option_map_or number_of o 0)
     go None e h = absurd h
     go (Some t) e h = by t r (reads t (one_text-rows f id ∙ e)) h
+
+-- what `get_flag` gives
+pub reads_flag : (f : Found) (id : Text) (r : Bool) → (one_text f id ≡ Some (codes "true") → r ≡ true) → (one_text f id ≡ Some (codes "false") → r ≡ false)
+    → IsFlag (one_of id (rows_of f)) → r ≡ is_set id (rows_of f)
+reads_flag f id r if_true if_false has = go (one_of id (rows_of f)) refl has
+  where
+    go : (o : Option Text) → one_of id (rows_of f) ≡ o → IsFlag o → r ≡ option_map_or (λ text. bytes_eq text (codes "true")) o false
+    go None e h = absurd h
+    go (Some t) e (inl is) = if_true (one_text-rows f id ∙ e ∙ ap Some is) ∙ ap (λ (u : Text). bytes_eq u (codes "true")) (sym is)
+    go (Some t) e (inr is) = if_false (one_text-rows f id ∙ e ∙ ap Some is) ∙ ap (λ (u : Text). bytes_eq u (codes "true")) (sym is)
+
+-- a text that a flag's parser takes
+pub flag_text : (t : Text) → accepts false vp.Bool t ≡ true → IsFlag (Some t)
+flag_text t taken = go (bytes_eq t (codes "true")) refl (accepts-Accepts false vp.Bool t taken)
+  where
+    go : (b : Bool) → bytes_eq t (codes "true") ≡ b → (b || bytes_eq t (codes "false")) ≡ true → IsFlag (Some t)
+    go true is e = inl ((bytes_eq-Decides t (codes "true")).0 is)
+    go false is e = inr ((bytes_eq-Decides t (codes "false")).0 e)

@@ -1,8 +1,9 @@
 -- The command `poolhost`, as clap's parse reads it.
-use Rattle.std.specs.Prelude.{ℕ, pos, true, Some, List, [], ◌∷◌, codes}
+use Rattle.std.specs.Prelude.{ℕ, pos, true, Some, List, [], ◌∷◌, ◌++◌, codes}
 use Rattle.clap.specs.Words.{App, Rule, Text, new_app, new_rule, with_subcommand}
 use Rattle.clap.specs.Simple.{on_top}
-use Rattle.clap.specs.declared.builder.action.ArgAction.TheVariants.{Set}
+use Rattle.clap.specs.declared.builder.action.ArgAction.TheVariants.{Set, SetTrue}
+use Rattle.clap.specs.declared.builder.value_parser.ValueParser.{ValueParser}
 use Rattle.clap.specs.declared.builder.value_parser.ValueParser.TheVariants as vp
 
 -- `--NAME NUMBER`: a whole number from `least` to `most`; left out, it is the number of `default`
@@ -27,15 +28,36 @@ run_options = number_option (codes "workers") 1 16 (codes "1")
     ∷ number_option (codes "frame") 1 4096 (codes "1024")
     ∷ []
 
--- `run`, with its options and no help
+-- `--NAME`
+abbrev pub flag : (name : Text) → Rule
+flag name = record (new_rule name) { long = Some name; action = Some SetTrue }
+
+-- `run`, with its options, its flag and no help
 abbrev pub run_command : App
 run_command =
-    on_top (λ s. record s { rules = run_options; disable_help_flag = true }) (new_app (codes "run"))
+    on_top (λ s. record s { rules = run_options ++ flag (codes "summary") ∷ []; disable_help_flag = true }) (new_app (codes "run"))
 
--- `poolhost`, which wants a subcommand; the one that it has is `run`
+-- a number that must be given, in its place among the words
+abbrev pub number_argument : (name : Text) → ValueParser → Rule
+number_argument name parser = record (new_rule name) { action = Some Set; parser = Some parser; required = true }
+
+abbrev pub seed_argument : Rule
+seed_argument = number_argument (codes "seed") (vp.Unsigned 0 18446744073709551615)
+
+abbrev pub count_argument : Rule
+count_argument = number_argument (codes "count") (vp.Signed (pos 1) (pos 100000))
+
+-- `make SEED COUNT`, with no help
+abbrev pub make_command : App
+make_command = on_top (λ s. record s {
+  rules = seed_argument ∷ count_argument ∷ [];
+  disable_help_flag = true;
+}) (new_app (codes "make"))
+
+-- `poolhost`, which wants a subcommand: it has `run` and `make`
 abbrev pub poolhost_command : App
-poolhost_command = with_subcommand (on_top (λ s. record s {
+poolhost_command = with_subcommand (with_subcommand (on_top (λ s. record s {
   disable_help_flag = true;
   disable_help_subcommand = true;
   subcommand_required = true;
-}) (new_app (codes "poolhost"))) run_command.top
+}) (new_app (codes "poolhost"))) run_command.top) make_command.top

@@ -1,4 +1,3 @@
 pub mod Command
 pub mod Matches
-pub mod Options
 pub mod Words

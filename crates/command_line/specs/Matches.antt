@@ -1,9 +1,10 @@
--- What the matches of `run` hold, by the id of an option.
-use Rattle.std.specs.Prelude.{◌≤◌, ℕ, List, Option, Some, None, codes}
+-- What the matches of a subcommand hold, by the id of an option, a flag or an argument.
+use Rattle.std.specs.Prelude.{◌≡◌, ◌≤◌, ◌⊎◌, ℕ, Bool, false, List, Option, Some, None, codes}
 use Rattle.std.specs.Option.{option_map_or}
+use Rattle.std.specs.Str.{bytes_eq}
 use Rattle.std.specs.Str.Parse.{IsNumeral, digits_value, without_leading_plus}
 use Rattle.clap.specs.Words.{Row, Text, one_of}
-use Rattle.command_line.specs.declared.options.Options.{Options}
+use Rattle.pool_limits.specs.declared.numbers.Numbers.{Numbers}
 
 -- the whole number that a text writes in decimal digits, maybe after a plus sign
 abbrev pub number_of : Text → ℕ
@@ -13,9 +14,9 @@ number_of text = digits_value 10 (without_leading_plus text)
 abbrev pub number_in : Text → List Row → ℕ
 number_in id rows = option_map_or number_of (one_of id rows) 0
 
--- the options
-abbrev pub options_in : List Row → Options
-options_in rows = record {
+-- the numbers of a configuration
+abbrev pub numbers_in : List Row → Numbers
+numbers_in rows = record {
   workers = number_in (codes "workers") rows;
   instances = number_in (codes "instances") rows;
   memories = number_in (codes "memories") rows;
@@ -28,13 +29,22 @@ options_in rows = record {
   frame = number_in (codes "frame") rows;
 }
 
+-- whether a flag is set
+abbrev pub is_set : Text → List Row → Bool
+is_set id rows = option_map_or (λ text. bytes_eq text (codes "true")) (one_of id rows) false
+
 -- there is a text, and it writes a number from `least` to `most`
 abbrev pub IsNumberIn : (least most : ℕ) → Option Text → Type 0
 IsNumberIn least most None = ⊥
 IsNumberIn least most (Some text) =
     IsNumeral 10 (without_leading_plus text) × (least ≤ number_of text) × (number_of text ≤ most)
 
--- each option has a number of its range
+-- there is a text, and it says whether a flag is set
+abbrev pub IsFlag : Option Text → Type 0
+IsFlag None = ⊥
+IsFlag (Some text) = (text ≡ codes "true") ⊎ (text ≡ codes "false")
+
+-- each option of `run` has a number of its range
 pub record HasNumbers (rows : List Row) : Type 0 where
   pub workers : IsNumberIn 1 16 (one_of (codes "workers") rows)
   pub instances : IsNumberIn 1 64 (one_of (codes "instances") rows)
@@ -46,3 +56,17 @@ pub record HasNumbers (rows : List Row) : Type 0 where
   pub elements : IsNumberIn 0 65536 (one_of (codes "elements") rows)
   pub depth : IsNumberIn 1 1000 (one_of (codes "depth") rows)
   pub frame : IsNumberIn 1 4096 (one_of (codes "frame") rows)
+
+-- and its flag is set or not
+pub record HasRun (rows : List Row) : Type 0 where
+  pub numbers : HasNumbers rows
+  pub summary : IsFlag (one_of (codes "summary") rows)
+
+-- each argument of `make` has a number of its range
+pub record HasMake (rows : List Row) : Type 0 where
+  pub seed : IsNumberIn 0 18446744073709551615 (one_of (codes "seed") rows)
+  pub count : IsNumberIn 1 100000 (one_of (codes "count") rows)
+
+-- of the subcommand of this name
+abbrev pub IsComplete : Text × List Row → Type 0
+IsComplete entered = ((entered.0 ≡ codes "run") × HasRun entered.1) ⊎ ((entered.0 ≡ codes "make") × HasMake entered.1)

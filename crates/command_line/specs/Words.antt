@@ -1,34 +1,40 @@
 -- What the words of a command line mean; the first is the program's name.
-use Rattle.std.specs.Prelude.{ℕ, ◌==◌, ◌&&◌, Bool, not, List, [], length}
-use Rattle.std.specs.Option.{option_map_or}
-use Rattle.clap.specs.Words.{fault_of, subcommand_of}
+use Rattle.std.specs.Prelude.{◌≤◌, ℕ, ◌==◌, Bool, true, List, Option, Some, None, length, codes, if◌then◌else◌, is_none, is_some, option_and_then}
+use Rattle.std.specs.Str.{bytes_eq}
+use Rattle.clap.specs.Words.{Row, Text, fault_of, subcommand_of}
+use Rattle.pool_limits.specs.Ranges.{AreInRange, bad_number}
 use Rattle.command_line.specs.Command.{poolhost_command}
-use Rattle.command_line.specs.Matches.{options_in}
-use Rattle.command_line.specs.Options.{HasSharedSlots, IsInRange, lacks_shared_slots}
-use Rattle.command_line.specs.declared.options.Options.{Options}
+use Rattle.command_line.specs.Matches.{is_set, number_in, numbers_in}
 use Rattle.command_line.specs.declared.words.Command.{Command}
-use Rattle.command_line.specs.declared.words.Command.TheVariants.{Run}
+use Rattle.command_line.specs.declared.words.Command.TheVariants.{Make, Run}
 
--- clap finds no fault in the words
-unfoldable pub has_matches : List (List ℕ) → Bool
-has_matches words = length (fault_of poolhost_command words) == 0
+-- the name of the subcommand that the words enter, and its matches; none where clap finds a fault in the words
+unfoldable pub entered_by : List Text → Option (Text × List Row)
+entered_by words = if length (fault_of poolhost_command words) == 0 then subcommand_of poolhost_command words else None
 
--- the options that the words give to the subcommand
-unfoldable pub options_of : List (List ℕ) → Options
-options_of words = options_in (option_map_or (λ p. p.1) (subcommand_of poolhost_command words) [])
+-- what this subcommand, which is `make` or `run`, asks for by its matches
+abbrev pub command_in : Text × List Row → Command
+command_in entered = if bytes_eq entered.0 (codes "make")
+    then Make (number_in (codes "seed") entered.1) (number_in (codes "count") entered.1)
+    else Run (numbers_in entered.1) (is_set (codes "summary") entered.1)
+
+-- the numbers of a run are those of a configuration: several workers have slots to share
+abbrev pub is_allowed : Command → Bool
+is_allowed (Run numbers summary) = is_none (bad_number numbers)
+is_allowed (Make seed count) = true
+
+abbrev pub if_allowed : Command → Option Command
+if_allowed command = if is_allowed command then Some command else None
+
+-- the command that the words give, if clap finds no fault in them and it is allowed
+unfoldable pub command_of : List Text → Option Command
+command_of words = option_and_then (λ entered. if_allowed (command_in entered)) (entered_by words)
 
 -- the words are taken, if memory lasts
-abbrev pub is_accepted : List (List ℕ) → Bool
-is_accepted words = has_matches words && not (lacks_shared_slots (options_of words))
-
--- the command that accepted words give
-abbrev pub command_of : List (List ℕ) → Command
-command_of words = Run (options_of words)
+abbrev pub is_accepted : List Text → Bool
+is_accepted words = is_some (command_of words)
 
 -- each number of a command lies in its range
 abbrev pub IsWithin : Command → Type 0
-IsWithin (Run options) = IsInRange options
-
--- a command with several workers has slots that they share
-abbrev pub SharesSlots : Command → Type 0
-SharesSlots (Run options) = HasSharedSlots options
+IsWithin (Run numbers summary) = AreInRange numbers
+IsWithin (Make seed count) = (seed ≤ 18446744073709551615) × (1 ≤ count) × (count ≤ 100000)

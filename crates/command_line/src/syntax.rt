@@ -3,7 +3,7 @@ ghost use Rattle.std.specs.Prelude.{◌≡◌, IfOk, false, pos};
 ghost use Rattle.clap.specs.Words.{app_of, with_rule};
 ghost use Rattle.clap.specs.declared.builder.command.Command.TheViews.{out-Command as fields_of};
 ghost use Rattle.clap.specs.declared.builder.value_parser.ValueParser.TheVariants as vp;
-ghost use Rattle.command_line.specs.Command.{number_option, poolhost_command, run_command};
+ghost use Rattle.command_line.specs.Command.{flag, make_command, number_argument, number_option, poolhost_command, run_command};
 
 use clap::builder::ValueParser;
 use clap::{Arg, ArgAction, Command};
@@ -39,7 +39,40 @@ fn with_number<'a>(
     command.arg(option)
 }
 
-// `run`, with its options.
+// The command with a flag.
+fn with_flag<'a>(
+    alloc: Global,
+    command: Command<'a>,
+    name: &'a str,
+) -> Result<Command<'a>, AllocError>
+    requires { (fields_of command).has_globals ≡ false }
+    ensures app { IfOk result (λ r. app_of r ≡ with_rule (app_of command.entry) (flag name.entry.now)) }
+    ensures local { IfOk result (λ r. (fields_of r).has_globals ≡ false) }
+{
+    let option = Arg::new(alloc, name).long(name).action(ArgAction::SetTrue);
+    command.arg(option)
+}
+
+// The command with one more number, which must be given in its place among the words.
+fn with_argument<'a>(
+    alloc: Global,
+    command: Command<'a>,
+    name: &'a str,
+    parser: ValueParser<'a>,
+) -> Result<Command<'a>, AllocError>
+    requires { (fields_of command).has_globals ≡ false }
+    ensures app { IfOk result (λ r. app_of r
+        ≡ with_rule (app_of command.entry) (number_argument name.entry.now parser.entry)) }
+    ensures local { IfOk result (λ r. (fields_of r).has_globals ≡ false) }
+{
+    let argument = Arg::new(alloc, name)
+        .required(true)
+        .action(ArgAction::Set)
+        .value_parser(parser);
+    command.arg(argument)
+}
+
+// `run`, with its options and its flag.
 fn run_command<'a>(alloc: Global) -> Result<Command<'a>, AllocError>
     ensures app { IfOk result (λ r. app_of r ≡ run_command) }
     ensures local { IfOk result (λ r. (fields_of r).has_globals ≡ false) }
@@ -55,19 +88,31 @@ fn run_command<'a>(alloc: Global) -> Result<Command<'a>, AllocError>
     let elements = with_number(alloc, pages, "elements", 0, 65536, "1024")?;
     let depth = with_number(alloc, elements, "depth", 1, 1000, "128")?;
     let frame = with_number(alloc, depth, "frame", 1, 4096, "1024")?;
-    Ok(frame)
+    let summary = with_flag(alloc, frame, "summary")?;
+    Ok(summary)
 }
 
-// `poolhost`, with its subcommand.
+// `make`, with its arguments.
+fn make_command<'a>(alloc: Global) -> Result<Command<'a>, AllocError>
+    ensures app { IfOk result (λ r. app_of r ≡ make_command) }
+    ensures local { IfOk result (λ r. (fields_of r).has_globals ≡ false) }
+{
+    let empty = Command::new(alloc, "make").disable_help_flag(true);
+    let seed = with_argument(alloc, empty, "seed", ValueParser::unsigned(0, u64::MAX))?;
+    with_argument(alloc, seed, "count", number_from_to(1, 100_000))
+}
+
+// `poolhost`, with its subcommands.
 pub(crate) fn poolhost_command<'a>(alloc: Global) -> Result<Command<'a>, AllocError>
     ensures app { IfOk result (λ r. app_of r ≡ poolhost_command) }
     ensures local { IfOk result (λ r. (fields_of r).has_globals ≡ false) }
 {
     let run = run_command(alloc)?;
+    let make = make_command(alloc)?;
     let empty = Command::new(alloc, "poolhost")
         .disable_help_flag(true)
         .disable_help_subcommand(true)
         .subcommand_required(true);
-    let command = empty.subcommand(run)?;
+    let command = empty.subcommand(run)?.subcommand(make)?;
     Ok(command)
 }

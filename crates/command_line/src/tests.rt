@@ -1,59 +1,79 @@
 //! Words that are taken, and words that are refused.
 use crate::{Command, WordsFault, read_command};
+use pool_limits::Numbers;
 use std::test::Fail;
 
-const REFUSED: Result<[u32; 10], WordsFault> = Err(WordsFault::Refused);
+const REFUSED: Result<Command, WordsFault> = Err(WordsFault::Refused);
 
-// In the order of the struct: workers, instances, memories, tables, warm, batch, pages, elements,
-// depth, frame.
-fn numbers(command: Command) -> [u32; 10] {
-    let Command::Run(o) = command;
-    [
-        o.workers,
-        o.instances,
-        o.memories,
-        o.tables,
-        o.warm,
-        o.batch,
-        o.pages,
-        o.elements,
-        o.depth,
-        o.frame,
-    ]
+// A run with these numbers, in the order of the struct: workers, instances, memories, tables, warm, batch, pages,
+// elements, depth, frame.
+fn run(numbers: [u32; 10], summary: bool) -> Result<Command, WordsFault> {
+    let [
+        workers,
+        instances,
+        memories,
+        tables,
+        warm,
+        batch,
+        pages,
+        elements,
+        depth,
+        frame,
+    ] = numbers;
+    let numbers = Numbers {
+        workers,
+        instances,
+        memories,
+        tables,
+        warm,
+        batch,
+        pages,
+        elements,
+        depth,
+        frame,
+    };
+    Ok(Command::Run { numbers, summary })
+}
+
+fn make(seed: u64, count: u32) -> Result<Command, WordsFault> {
+    Ok(Command::Make { seed, count })
 }
 
 #[test]
 fn reads_or_refuses_each_command_line(rt: HostRuntime) -> Result<(), Fail> {
     let rows = [
-        ("run", Ok([1, 4, 4, 4, 2, 4, 32, 1024, 128, 1024])),
+        ("run", run([1, 4, 4, 4, 2, 4, 32, 1024, 128, 1024], false)),
         (
             "run --workers=2",
-            Ok([2, 4, 4, 4, 2, 4, 32, 1024, 128, 1024]),
+            run([2, 4, 4, 4, 2, 4, 32, 1024, 128, 1024], false),
         ),
         (
             "run --tables 1",
-            Ok([1, 4, 4, 1, 2, 4, 32, 1024, 128, 1024]),
+            run([1, 4, 4, 1, 2, 4, 32, 1024, 128, 1024], false),
         ),
         (
             "run --workers 16 --memories 2",
-            Ok([16, 4, 2, 4, 2, 4, 32, 1024, 128, 1024]),
+            run([16, 4, 2, 4, 2, 4, 32, 1024, 128, 1024], false),
         ),
         (
             "run --instances 64 --pages 256",
-            Ok([1, 64, 4, 4, 2, 4, 256, 1024, 128, 1024]),
+            run([1, 64, 4, 4, 2, 4, 256, 1024, 128, 1024], false),
         ),
         (
             "run --warm 0 --batch 64",
-            Ok([1, 4, 4, 4, 0, 64, 32, 1024, 128, 1024]),
+            run([1, 4, 4, 4, 0, 64, 32, 1024, 128, 1024], false),
         ),
         (
             "run --elements 65536 --depth 1000",
-            Ok([1, 4, 4, 4, 2, 4, 32, 65536, 1000, 1024]),
+            run([1, 4, 4, 4, 2, 4, 32, 65536, 1000, 1024], false),
         ),
-        ("run --frame 5", Ok([1, 4, 4, 4, 2, 4, 32, 1024, 128, 5])),
+        (
+            "run --frame 5",
+            run([1, 4, 4, 4, 2, 4, 32, 1024, 128, 5], false),
+        ),
         (
             "run --warm +3 --batch 007",
-            Ok([1, 4, 4, 4, 3, 7, 32, 1024, 128, 1024]),
+            run([1, 4, 4, 4, 3, 7, 32, 1024, 128, 1024], false),
         ),
         ("run --workers 2 --instances 1", REFUSED),
         ("run --workers 2 --memories 1", REFUSED),
@@ -65,13 +85,33 @@ fn reads_or_refuses_each_command_line(rt: HostRuntime) -> Result<(), Fail> {
         ("run --warm two", REFUSED),
         ("run --warm 2 --warm 2", REFUSED),
         ("run --warm", REFUSED),
-        ("run --summary", REFUSED),
+        (
+            "run --summary",
+            run([1, 4, 4, 4, 2, 4, 32, 1024, 128, 1024], true),
+        ),
+        (
+            "run --warm 0 --summary --batch 1",
+            run([1, 4, 4, 4, 0, 1, 32, 1024, 128, 1024], true),
+        ),
+        ("run --summary --summary", REFUSED),
+        ("run --summary=true", REFUSED),
+        ("make 0 1", make(0, 1)),
+        ("make 18446744073709551615 100000", make(u64::MAX, 100_000)),
+        ("make +7 007", make(7, 7)),
+        ("make", REFUSED),
+        ("make 1", REFUSED),
+        ("make -1 1", REFUSED),
+        ("make 1 0", REFUSED),
+        ("make 1 100001", REFUSED),
+        ("make 18446744073709551616 1", REFUSED),
+        ("make 1 1 1", REFUSED),
+        ("make 1 1 --summary", REFUSED),
+        ("make one 1", REFUSED),
         ("run now", REFUSED),
         ("run --help", REFUSED),
         ("--help", REFUSED),
         ("--version", REFUSED),
         ("help", REFUSED),
-        ("make 0 1", REFUSED),
         ("", REFUSED),
     ];
     for (line, want) in rows {
@@ -80,11 +120,7 @@ fn reads_or_refuses_each_command_line(rt: HostRuntime) -> Result<(), Fail> {
         for word in line.split_whitespace() {
             words.push(word)?;
         }
-        assert_eq!(rt;
-            read_command(rt.alloc(), &words).map(numbers),
-            want,
-            "at {line}"
-        );
+        assert_eq!(rt; read_command(rt.alloc(), &words), want, "at {line}");
     }
     Ok(())
 }

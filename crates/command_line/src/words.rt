@@ -1,19 +1,37 @@
 //! The words of a command line, read as a command.
-ghost use Rattle.std.specs.Prelude.{◌≡◌, ◌↔◌, true, false, IfOk, IsErrOf, map};
-ghost use Rattle.command_line.specs.Options.{HasSharedSlots, IsInRange};
-ghost use Rattle.command_line.specs.Words.{IsWithin, SharesSlots, command_of, is_accepted, options_of};
+ghost use Rattle.std.specs.Prelude.{◌≡◌, ◌↔◌, Some, None, IfOk, IsErrOf, IsSomeAnd, map, option_map, true};
+ghost use Rattle.clap.specs.Words.{subcommand_rows_of};
+ghost use Rattle.command_line.specs.Matches.{IsComplete};
+ghost use Rattle.command_line.specs.Words.{IsWithin, command_in, command_of, is_allowed};
 
-use crate::options::{Options, options_at};
+use crate::numbers::{flag_at, long_number_at, number_at, numbers_at};
 use crate::syntax::poolhost_command;
+use clap::ArgMatches;
 use clap::error::ErrorKind;
+use pool_limits::laws::numbers_are_in_range_or_one_is_bad;
+use pool_limits::{Numbers, PoolConfig};
 use std::alloc::{AllocError, Global};
 use thiserror::Error;
 
 /// What the words of a command line ask for.
 #[derive(Clone, Copy, Debug, PartialEq, Eq)]
 pub enum Command {
-    /// `run`: answer a request file under these options.
-    Run(Options),
+    /// `run`: answer a request file under a configuration of these numbers, by a report or by its summary.
+    Run { numbers: Numbers, summary: bool },
+    /// `make`: write a request file of so many calls, from 1 to 100,000, that are drawn from a seed.
+    Make { seed: u64, count: u32 },
+}
+
+impl Command {
+    // Whether the numbers of a run are those of a configuration.
+    fn is_allowed(&self) -> bool
+        ensures { result ≡ is_allowed self.now }
+    {
+        match self {
+            Command::Run { numbers, .. } => PoolConfig::new(*numbers).is_ok(),
+            Command::Make { .. } => true,
+        }
+    }
 }
 
 /// Why words give no command.
@@ -42,41 +60,43 @@ impl From<AllocError> for WordsFault {
 ///
 /// # Errors
 ///
-/// `Refused` comes only for words that are not accepted, and `NoMemory` for want of memory alone.
+/// `Refused` comes only for words that give no command, and `NoMemory` for want of memory alone.
 pub fn read_command(alloc: Global, words: &[&str]) -> Result<Command, WordsFault>
-    ensures taken { IfOk result (λ _. is_accepted (map (λ w. w.now) words.now) ≡ true) }
-    ensures command { IfOk result (λ c. c ≡ command_of (map (λ w. w.now) words.now)) }
+    ensures command { IfOk result (λ c. command_of (map (λ w. w.now) words.now) ≡ Some c) }
     ensures within { IfOk result IsWithin }
-    ensures shared { IfOk result SharesSlots }
-    ensures refused { IsErrOf result WordsFault.Refused
-        → is_accepted (map (λ w. w.now) words.now) ≡ false }
+    ensures refused { IsErrOf result WordsFault.Refused → command_of (map (λ w. w.now) words.now) ≡ None }
 {
-    let options = read_options(alloc, words)?;
-    Ok(Command::Run(options))
-}
-
-// The options that words of `run` give.
-fn read_options(alloc: Global, words: &[&str]) -> Result<Options, WordsFault>
-    ensures taken { IfOk result (λ _. is_accepted (map (λ w. w.now) words.now) ≡ true) }
-    ensures options { IfOk result (λ o. o ≡ options_of (map (λ w. w.now) words.now)) }
-    ensures within { IfOk result (λ o. IsInRange o) }
-    ensures shared { IfOk result (λ o. HasSharedSlots o) }
-    ensures refused { IsErrOf result WordsFault.Refused
-        → is_accepted (map (λ w. w.now) words.now) ≡ false }
-{
-    let command = poolhost_command(alloc)?;
-    let matches = match command.try_get_matches_from(words) {
+    let syntax = poolhost_command(alloc)?;
+    let matches = match syntax.try_get_matches_from(words) {
         Ok(matches) => matches,
         Err(error) => return Err(fault_of_kind(error.kind())),
     };
+    let command = command_at(&matches);
+    if command.is_allowed() {
+        Ok(command)
+    } else {
+        Err(WordsFault::Refused)
+    }
+}
+
+// What the matches of a command line ask for.
+fn command_at(matches: &ArgMatches<'_>) -> Command
+    requires { IsSomeAnd (subcommand_rows_of matches.now) IsComplete }
+    ensures command { option_map command_in (subcommand_rows_of matches.now) ≡ Some result }
+    ensures within { is_allowed result ≡ true → IsWithin result }
+{
+    numbers_are_in_range_or_one_is_bad();
+    if let Some(make) = matches.subcommand_matches("make") {
+        let seed = long_number_at(make, "seed");
+        let count = number_at(make, "count");
+        return Command::Make { seed, count };
+    }
     let Some(run) = matches.subcommand_matches("run") else {
         unreachable!()
     };
-    let options = options_at(run);
-    if options.lacks_shared_slots() {
-        return Err(WordsFault::Refused);
-    }
-    Ok(options)
+    let numbers = numbers_at(run);
+    let summary = flag_at(run, "summary");
+    Command::Run { numbers, summary }
 }
 
 // Whether a parse failed for want of memory, or by its words.

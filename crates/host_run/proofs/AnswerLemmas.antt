@@ -1,16 +1,15 @@
 -- At most one answer is due.
-use Rattle.std.proofs.Common.{◌≡◌, ℕ, List, Bool, true, false, Ok, Err, refl, sym, ap, ◌∙◌}
+use Rattle.std.proofs.Common.{◌≡◌, ℕ, List, Bool, Option, Some, None, Ok, Err, refl, sym, ap, ◌∙◌}
 use Rattle.std.specs.Prelude.{Result}
 use Rattle.pool_limits.specs.declared.numbers.Numbers.{Numbers}
 use Rattle.request_text.specs.declared.request.Directive.{Directive}
 use Rattle.request_text.specs.declared.report.ReportLine.{ReportLine}
-use Rattle.request_text.specs.Lines.{report_text}
 use Rattle.request_text.specs.Text.{FileRefusal, requests_of}
-use Rattle.command_line.specs.Words.{is_accepted, options_of}
-use Rattle.command_line.specs.declared.options.Options.{Options}
+use Rattle.command_line.specs.Words.{command_of}
+use Rattle.command_line.specs.declared.words.Command.{Command}
+use Rattle.command_line.specs.declared.words.Command.TheVariants.{Make, Run}
 use Rattle.host_report.specs.Report.{IsReport}
-use Rattle.host_run.specs.Configured.{numbers_of}
-use Rattle.host_run.specs.Serving.{Answer, IsDue, IsFileAnswer}
+use Rattle.host_run.specs.Serving.{Answer, IsDue, IsFileAnswer, lines_text}
 
 -- what a file asks for has at most one report
 abbrev pub ReportsOnce : Type 0
@@ -20,22 +19,23 @@ module _ (one_report : ReportsOnce) where
   abbrev answer_of : ℕ → List ℕ → Answer
   answer_of status text = record { status = status; text = text }
 
-  answered_once : (options : Options) (requests : Result (List Directive) FileRefusal) (bytes : List ℕ) (a b : Answer) → requests_of bytes ≡ requests
-      → IsFileAnswer options bytes a → IsFileAnswer options bytes b → a ≡ b
-  answered_once options (Ok requests) bytes a b is h g =
+  answered_once : (numbers : Numbers) (summary : Bool) (requests : Result (List Directive) FileRefusal) (bytes : List ℕ) (a b : Answer) → requests_of bytes ≡ requests
+      → IsFileAnswer numbers summary bytes a → IsFileAnswer numbers summary bytes b → a ≡ b
+  answered_once numbers summary (Ok requests) bytes a b is h g =
       let first = rw is at h in
       let second = rw is at g in
-      let lines = one_report (numbers_of options) requests first.lines second.lines first.report second.report in
+      let lines = one_report numbers requests first.lines second.lines first.report second.report in
       ap (λ (s : ℕ). answer_of s a.text) (first.status ∙ sym second.status)
-      ∙ ap (λ (t : List ℕ). answer_of b.status t) (first.text ∙ ap (λ (ls : List ReportLine). report_text ls) lines ∙ sym second.text)
-  answered_once options (Err why) bytes a b is h g =
+      ∙ ap (λ (t : List ℕ). answer_of b.status t) (first.text ∙ ap (λ (ls : List ReportLine). lines_text summary ls) lines ∙ sym second.text)
+  answered_once numbers summary (Err why) bytes a b is h g =
       let first = rw is at h in
       let second = rw is at g in
       first ∙ sym second
 
-  due_once : (accepted : Bool) (words : List (List ℕ)) (bytes : List ℕ) (a b : Answer) → is_accepted words ≡ accepted → IsDue words bytes a → IsDue words bytes b → a ≡ b
-  due_once true words bytes a b is h g = answered_once (options_of words) (requests_of bytes) bytes a b refl (rw is at h) (rw is at g)
-  due_once false words bytes a b is h g = let first = rw is at h in let second = rw is at g in first ∙ sym second
+  due_once : (given : Option Command) (words : List (List ℕ)) (bytes : List ℕ) (a b : Answer) → command_of words ≡ given → IsDue words bytes a → IsDue words bytes b → a ≡ b
+  due_once None words bytes a b is h g = let first = rw is at h in let second = rw is at g in first ∙ sym second
+  due_once (Some (Run numbers summary)) words bytes a b is h g = answered_once numbers summary (requests_of bytes) bytes a b refl (rw is at h) (rw is at g)
+  due_once (Some (Make seed count)) words bytes a b is h g = let first = rw is at h in let second = rw is at g in first ∙ sym second
 
   pub one_due : (words : List (List ℕ)) (bytes : List ℕ) (a b : Answer) → IsDue words bytes a → IsDue words bytes b → a ≡ b
-  one_due words bytes a b h g = due_once (is_accepted words) words bytes a b refl h g
+  one_due words bytes a b h g = due_once (command_of words) words bytes a b refl h g

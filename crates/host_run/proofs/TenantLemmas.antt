@@ -8,9 +8,7 @@ use Rattle.request_text.specs.declared.request.Directive.TheVariants.{Call}
 use Rattle.request_text.specs.declared.report.CallLine.{CallLine}
 use Rattle.request_text.specs.declared.report.ReportLine.{ReportLine}
 use Rattle.request_text.specs.Text.{modules_of}
-use Rattle.command_line.specs.Words.{options_of}
 use Rattle.host_report.specs.Report.{IsCallLine, IsReport, Limits, limits_in}
-use Rattle.host_run.specs.Configured.{limits_of, numbers_of}
 use Rattle.host_run.specs.Tenants.{CallsAt, HasReport, TellsAt}
 
 -- a call has its line in a report, and one line only
@@ -23,14 +21,14 @@ abbrev pub CallsOnce : Type 0
 CallsOnce = (limits : Limits) (bytes export : List ℕ) (fuel : ℕ) (args : List Val) (a b : CallLine)
     → IsCallLine limits bytes export fuel args a → IsCallLine limits bytes export fuel args b → a ≡ b
 
-pub same_told : CallsTold → CallsOnce → (words words' : List (List ℕ)) (bytes bytes' : List ℕ) (requests requests' : List Directive) (lines lines' : List ReportLine)
-    (at at' : ℕ) (module_bytes export : List ℕ) (fuel : ℕ) (args : List Val) → limits_of (options_of words) ≡ limits_of (options_of words')
-    → HasReport words bytes requests lines → HasReport words' bytes' requests' lines'
+pub same_told : CallsTold → CallsOnce → (words words' : List (List ℕ)) (numbers numbers' : Numbers) (bytes bytes' : List ℕ) (requests requests' : List Directive) (lines lines' : List ReportLine)
+    (at at' : ℕ) (module_bytes export : List ℕ) (fuel : ℕ) (args : List Val) → limits_in numbers ≡ limits_in numbers'
+    → HasReport words numbers bytes requests lines → HasReport words' numbers' bytes' requests' lines'
     → CallsAt requests at module_bytes export fuel args → CallsAt requests' at' module_bytes export fuel args
     → (how : CallLine) × TellsAt requests lines at how × TellsAt requests' lines' at' how
-same_told call_told one_call words words' bytes bytes' requests requests' lines lines' at at' module_bytes export fuel args limits r r' c c' =
-    let (how, told, is) = call_told (numbers_of (options_of words)) requests lines at c.place module_bytes export fuel args r.report c.call c.module_bytes in
-    let (how', told', is') = call_told (numbers_of (options_of words')) requests' lines' at' c'.place module_bytes export fuel args r'.report c'.call c'.module_bytes in
-    let same : how' ≡ how = one_call (limits_of (options_of words')) module_bytes export fuel args how' how told'
+same_told call_told one_call words words' numbers numbers' bytes bytes' requests requests' lines lines' at at' module_bytes export fuel args limits r r' c c' =
+    let (how, told, is) = call_told numbers requests lines at c.place module_bytes export fuel args r.report c.call c.module_bytes in
+    let (how', told', is') = call_told numbers' requests' lines' at' c'.place module_bytes export fuel args r'.report c'.call c'.module_bytes in
+    let same : how' ≡ how = one_call (limits_in numbers') module_bytes export fuel args how' how told'
     (subst (λ (l : Limits). IsCallLine l module_bytes export fuel args how) limits told) in
     (how, is, subst (λ (l : CallLine). TellsAt requests' lines' at' l) same is')

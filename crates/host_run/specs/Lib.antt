@@ -1,4 +1,3 @@
-pub mod Configured
 pub mod Serving
 pub mod Status
 pub mod Streams

@@ -1,18 +1,22 @@
 -- What a run of the program owes.
-use Rattle.std.specs.Prelude.{◌≡◌, ◌⊎◌, ℕ, List, codes, map, MatchBool, MatchResult}
+use Rattle.std.specs.Prelude.{◌≡◌, ◌⊎◌, ℕ, Bool, true, false, List, codes, map, if◌then◌else◌, MatchOption, MatchResult}
 use Rattle.std.specs.Borrow.{Bor}
+use Rattle.std.specs.Option.{option_map_or}
 use Rattle.std.specs.declared.option.Option.{Option}
 use Rattle.std.specs.Io.KnownBytes.{Appends}
 use Rattle.host_run.specs.Streams.{AppendsPart}
-use Rattle.host_run.specs.Configured.{numbers_of}
 use Rattle.host_report.specs.Report.{IsReport}
 use Rattle.request_text.specs.declared.request.Directive.{Directive}
 use Rattle.request_text.specs.declared.report.ReportLine.{ReportLine}
 use Rattle.request_text.specs.Lines.{refusal_line, report_text}
 use Rattle.request_text.specs.Text.{requests_of}
-use Rattle.command_line.specs.Words.{is_accepted, options_of}
+use Rattle.request_text.specs.Summary.{summary_text}
+use Rattle.load_maker.specs.Load.{made_file}
+use Rattle.pool_limits.specs.declared.numbers.Numbers.{Numbers}
+use Rattle.command_line.specs.Words.{command_of}
+use Rattle.command_line.specs.declared.words.Command.{Command}
+use Rattle.command_line.specs.declared.words.Command.TheVariants.{Make, Run}
 use Rattle.host_run.specs.declared.due.Due.{Due}
-use Rattle.command_line.specs.declared.options.Options.{Options}
 
 -- the texts of the words of a command line
 abbrev pub texts_of : List (Bor (List ℕ)) → List (List ℕ)
@@ -30,23 +34,44 @@ refused line = record { status = 2; text = line }
 abbrev pub refused_words : Answer
 refused_words = refused (codes "refused words\n")
 
--- the answer is the text of a report, with status 0
-pub record IsReported (options : Options) (requests : List Directive) (answer : Answer) : Type 0 where
+-- what a run writes on the lines of a report: their text, or their summary
+abbrev pub lines_text : (summary : Bool) → List ReportLine → List ℕ
+lines_text summary lines = if summary then summary_text lines else report_text lines
+
+-- the answer is what a run writes on a report, with status 0
+pub record IsReported (numbers : Numbers) (summary : Bool) (requests : List Directive) (answer : Answer) : Type 0 where
   pub status : answer.status ≡ 0
   pub lines : List ReportLine
-  pub report : IsReport (numbers_of options) requests lines
-  pub text : answer.text ≡ report_text lines
+  pub report : IsReport numbers requests lines
+  pub text : answer.text ≡ lines_text summary lines
 
 -- what a request file is answered: the report on what it asks for, or the line that tells why it is refused
-abbrev pub IsFileAnswer : Options → List ℕ → Answer → Type 0
-IsFileAnswer options bytes answer = MatchResult (requests_of bytes)
-    (λ requests. IsReported options requests answer)
+abbrev pub IsFileAnswer : Numbers → (summary : Bool) → List ℕ → Answer → Type 0
+IsFileAnswer numbers summary bytes answer = MatchResult (requests_of bytes)
+    (λ requests. IsReported numbers summary requests answer)
     (λ refusal. answer ≡ refused (refusal_line refusal))
+
+-- a load is written with status 0
+abbrev pub load_of : (seed count : ℕ) → Answer
+load_of seed count = record { status = 0; text = made_file seed count }
+
+-- what is due for a command and all bytes of the source
+abbrev pub IsCommandAnswer : Command → List ℕ → Answer → Type 0
+IsCommandAnswer (Run numbers summary) bytes answer = IsFileAnswer numbers summary bytes answer
+IsCommandAnswer (Make seed count) bytes answer = answer ≡ load_of seed count
 
 -- what is due for the words of the command line and all bytes of the source
 abbrev pub IsDue : List (List ℕ) → List ℕ → Answer → Type 0
 IsDue words bytes answer =
-    MatchBool (is_accepted words) (IsFileAnswer (options_of words) bytes answer) (answer ≡ refused_words)
+    MatchOption (command_of words) (answer ≡ refused_words) (λ command. IsCommandAnswer command bytes answer)
+
+abbrev pub is_run : Command → Bool
+is_run (Run numbers summary) = true
+is_run (Make seed count) = false
+
+-- the words are those of a run: no others have the source read
+abbrev pub reads : List (List ℕ) → Bool
+reads words = option_map_or is_run (command_of words) false
 
 abbrev pub shown : Due → Answer
 shown due = record { status = due.status; text = due.text.items }

@@ -1,5 +1,5 @@
 -- Request files that have a call in common, and differ in anything else.
-use Rattle.std.specs.Prelude.{◌≡◌, ℕ, ◌+◌, List, Ok, Some, slice_get, take}
+use Rattle.std.specs.Prelude.{◌≡◌, ℕ, ◌+◌, false, List, Ok, Some, slice_get, take}
 use Rattle.wasm_types.specs.declared.outcome.Val.{Val}
 use Rattle.request_text.specs.declared.request.Directive.{Directive}
 use Rattle.request_text.specs.declared.request.Directive.TheVariants.{Call}
@@ -7,14 +7,17 @@ use Rattle.request_text.specs.declared.report.CallLine.{CallLine}
 use Rattle.request_text.specs.declared.report.ReportLine.{ReportLine}
 use Rattle.request_text.specs.declared.report.ReportLine.TheVariants as report
 use Rattle.request_text.specs.Text.{call_count, modules_of, requests_of}
-use Rattle.command_line.specs.Words.{options_of}
-use Rattle.host_run.specs.Configured.{numbers_of}
+use Rattle.pool_limits.specs.declared.numbers.Numbers.{Numbers}
+use Rattle.command_line.specs.Words.{command_of}
+use Rattle.command_line.specs.declared.words.Command.TheVariants.{Run}
 use Rattle.host_report.specs.Report.{IsReport}
 
--- a request file of these bytes asks for this, and this is the report on it under the options that the words give
-pub record HasReport (words : List (List ℕ)) (bytes : List ℕ) (requests : List Directive) (lines : List ReportLine) : Type 0 where
+-- the words ask for a report under a configuration of these numbers, a request file of these bytes asks for this, and this
+-- is the report on it
+pub record HasReport (words : List (List ℕ)) (numbers : Numbers) (bytes : List ℕ) (requests : List Directive) (lines : List ReportLine) : Type 0 where
+  pub command : command_of words ≡ Some (Run numbers false)
   pub asked : requests_of bytes ≡ Ok requests
-  pub report : IsReport (numbers_of (options_of words)) requests lines
+  pub report : IsReport numbers requests lines
 
 -- the directive at this place is a call whose name stands for a module of these bytes
 pub record CallsAt (requests : List Directive) (at : ℕ) (bytes export : List ℕ) (fuel : ℕ) (args : List Val) : Type 0 where

@@ -1,39 +1,50 @@
 //! What a request file is answered.
 ghost use Rattle.std.specs.Prelude.{◌≡◌, ◌⊎◌, IfOk, IsSomeAnd};
-ghost use Rattle.command_line.specs.Options.{HasSharedSlots, IsInRange};
-ghost use Rattle.host_run.specs.Serving.{IsFileAnswer, refused, shown};
+ghost use Rattle.pool_limits.specs.Ranges.{AreInRange};
+ghost use Rattle.host_run.specs.Serving.{IsFileAnswer, lines_text, refused, shown};
 ghost use Rattle.request_text.specs.Lines.{refusal_line};
 ghost use Rattle.request_text.specs.Text.{file_refusal_of};
 
-use crate::config::numbers_of;
 use crate::due::{Due, refusal};
 use crate::status::Status;
-use command_line::Options;
 use host_edge::Gate;
 use host_report::report;
-use request_text::{ParseFault, parse, report_text, write_text_fault};
+use pool_limits::Numbers;
+use request_text::{ParseFault, ReportLine, parse, report_text, write_summary, write_text_fault};
 use std::alloc::Global;
 use std::sync::Wait;
 use wasm_types::NoMemory;
+
+// What a run writes on the lines of a report.
+fn lines_text(alloc: Global, lines: &[ReportLine], summary: bool) -> Result<Vec<u8>, NoMemory>
+    ensures { IfOk result (λ text. text.items ≡ lines_text summary lines.now) }
+{
+    if summary {
+        let mut text = Vec::new(alloc);
+        write_summary(alloc, &mut text, lines)?;
+        Ok(text)
+    } else {
+        report_text(alloc, lines)
+    }
+}
 
 // What a request file of these bytes is answered, once its calls are made.
 pub(crate) fn answer<R: Wait, G: Gate>(
     rt: &R,
     alloc: Global,
-    options: &Options,
+    numbers: Numbers,
+    summary: bool,
     bytes: &[u8],
     gate: &G,
 ) -> Result<Due, NoMemory>
-    requires range { IsInRange options.now }
-    requires shared { HasSharedSlots options.now }
-    ensures answer { IfOk result (λ due. IsFileAnswer options.now bytes.now (shown due)) }
+    requires { AreInRange numbers }
+    ensures answer { IfOk result (λ due. IsFileAnswer numbers summary bytes.now (shown due)) }
     ensures status { IfOk result (λ due. (due.status ≡ 0) ⊎ (due.status ≡ 2)) }
 {
     match parse(alloc, bytes) {
         Ok(requests) => {
-            let numbers = numbers_of(options);
             let lines = report(rt, alloc, numbers, requests.as_slice(), gate)?;
-            let text = report_text(alloc, &lines)?;
+            let text = lines_text(alloc, &lines, summary)?;
             Ok(Due {
                 status: Status::Reported.code(),
                 text,

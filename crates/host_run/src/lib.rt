@@ -2,7 +2,6 @@
 #![tactic(auto)]
 
 mod answer;
-mod config;
 mod due;
 pub mod laws;
 mod serving;

@@ -1,15 +1,16 @@
 //! The host as one call.
-ghost use Rattle.std.specs.Prelude.{◌≡◌, ◌⊎◌, ◌+◌, ◌≤◌, ℕ, List, IfSome, IsErrAnd, IsOk, IsOkAnd, false, length, true};
+ghost use Rattle.std.specs.Prelude.{◌≡◌, ◌⊎◌, ◌+◌, ◌≤◌, ℕ, Bool, List, Some, None, IfSome, IsErrAnd, IsOk, IsOkAnd, false, length, true};
 ghost use Rattle.std.specs.Io.KnownBytes.{Appends, Consumes, IsAtEnd};
 ghost use Rattle.host_edge.specs.Streams.{Rose};
-ghost use Rattle.host_run.specs.Serving.{Delivers, IsDue, IsStatus, refused_words, texts_of};
+ghost use Rattle.host_run.specs.Serving.{Delivers, IsDue, IsStatus, lines_text, load_of, reads, refused_words, texts_of};
 ghost use Rattle.host_run.specs.Streams.{TakesAtMost};
-ghost use Rattle.host_run.specs.Configured.{numbers_of};
 ghost use Rattle.host_report.specs.Report.{IsReport};
 ghost use Rattle.request_text.specs.declared.report.ReportLine.{ReportLine};
-ghost use Rattle.request_text.specs.Lines.{refusal_line, report_text};
+ghost use Rattle.request_text.specs.Lines.{refusal_line};
 ghost use Rattle.request_text.specs.Text.{requests_of};
-ghost use Rattle.command_line.specs.Words.{is_accepted, options_of};
+ghost use Rattle.pool_limits.specs.declared.numbers.Numbers.{Numbers};
+ghost use Rattle.command_line.specs.Words.{command_of, is_accepted};
+ghost use Rattle.command_line.specs.declared.words.Command.TheVariants.{Make, Run};
 
 use crate::due::{REFUSED_WORDS, due_text};
 use crate::status::Status;
@@ -20,11 +21,12 @@ use std::alloc::Global;
 use std::sync::Wait;
 use std::thread::Threads;
 
-/// Runs the host on the words of a command line, of which the first is the program's name: reads the source, makes
-/// the calls that it asks for, and writes the due text to the sink. Nothing is written before all calls are answered.
+/// Runs the host on the words of a command line, of which the first is the program's name. `run` reads the source, makes
+/// the calls that it asks for, and writes the report on them, or its summary; `make` writes a request file and reads
+/// nothing. The whole text stands before the first write.
 ///
-/// The result is the program's exit status: 0 after a report, 2 after the reason of a refusal, 3 where the source
-/// failed, 4 where the sink failed, 5 for want of memory. `gate` is told of each call.
+/// The result is the program's exit status: 0 where what was asked for was written, 2 after the reason of a refusal, 3
+/// where the source failed, 4 where the sink failed, 5 for want of memory. `gate` is told of each call.
 pub fn serve<S: Source, K: Sink, G: Gate>(
     rt: &(impl Threads + Wait),
     alloc: Global,
@@ -35,20 +37,23 @@ pub fn serve<S: Source, K: Sink, G: Gate>(
 ) -> u8
     ensures status { IsStatus result }
 
-    // 0, after the report on all that the source had left
-    ensures report { result ≡ 0 → IfSome (S.left source.old) (λ bytes. IsOkAnd (requests_of bytes) (λ requests.
-        (lines : List ReportLine) × IsReport (numbers_of (options_of (texts_of words.now))) requests lines
-        × Appends (K.written sink.old) (K.written sink.new) (report_text lines))) }
-    ensures end { result ≡ 0 → IsAtEnd (S.left source.new) }
+    // 0, after the report on all that the source had left, or its summary, or after a load
+    ensures report { (numbers : Numbers) (summary : Bool) → command_of (texts_of words.now) ≡ Some (Run numbers summary)
+        → result ≡ 0 → IfSome (S.left source.old) (λ bytes. IsOkAnd (requests_of bytes) (λ requests.
+        (lines : List ReportLine) × IsReport numbers requests lines
+        × Appends (K.written sink.old) (K.written sink.new) (lines_text summary lines))) }
+    ensures end { reads (texts_of words.now) ≡ true → result ≡ 0 → IsAtEnd (S.left source.new) }
+    ensures load { (seed count : ℕ) → command_of (texts_of words.now) ≡ Some (Make seed count)
+        → Delivers (λ due. due ≡ load_of seed count) (K.written sink.old) (K.written sink.new) result }
 
     // 2, after the line that refuses the words, or the file that was read
-    ensures refused_words { is_accepted (texts_of words.now) ≡ false
+    ensures refused_words { command_of (texts_of words.now) ≡ None
         → Delivers (λ due. due ≡ refused_words) (K.written sink.old) (K.written sink.new) result }
-    ensures unread { is_accepted (texts_of words.now) ≡ false → source.new ≡ source.old }
-    ensures refused_file { is_accepted (texts_of words.now) ≡ true → result ≡ 2
+    ensures unread { reads (texts_of words.now) ≡ false → source.new ≡ source.old }
+    ensures refused_file { reads (texts_of words.now) ≡ true → result ≡ 2
         → IfSome (S.left source.old) (λ bytes. IsErrAnd (requests_of bytes) (λ why.
         Appends (K.written sink.old) (K.written sink.new) (refusal_line why))) }
-    ensures all_read { is_accepted (texts_of words.now) ≡ true → (result ≡ 0) ⊎ ((result ≡ 2) ⊎ (result ≡ 4))
+    ensures all_read { reads (texts_of words.now) ≡ true → (result ≡ 0) ⊎ ((result ≡ 2) ⊎ (result ≡ 4))
         → IfSome (S.left source.old) (λ bytes. length bytes ≤ MOST_BYTES → IsAtEnd (S.left source.new)) }
 
     // 3 and 4, for a fault alone, and 5
@@ -67,12 +72,15 @@ pub fn serve<S: Source, K: Sink, G: Gate>(
         × Consumes (S.left source.old) (S.left source.new) bytes
         × Delivers (IsDue (texts_of words.now) bytes) (K.written sink.old) (K.written sink.new) result }
 
-    ensures accepted { (result ≡ 0) ⊎ (result ≡ 3) → is_accepted (texts_of words.now) ≡ true }
+    ensures accepted { result ≡ 0 → is_accepted (texts_of words.now) ≡ true }
+    ensures read { result ≡ 3 → reads (texts_of words.now) ≡ true }
     ensures at_most { TakesAtMost (S.left source.old) (S.left source.new) (MOST_BYTES + 1) }
-    ensures complete { is_accepted (texts_of words.now) ≡ true
+    ensures complete { reads (texts_of words.now) ≡ true
         → IfSome (S.left source.old) (λ bytes. IsOk (requests_of bytes)
         → (Rose (S.faults source.old) (S.faults source.new) → ⊥) → (Rose (K.faults sink.old) (K.faults sink.new) → ⊥)
         → (result ≡ 0) ⊎ (result ≡ 5)) }
+    ensures complete_load { (seed count : ℕ) → command_of (texts_of words.now) ≡ Some (Make seed count)
+        → (Rose (K.faults sink.old) (K.faults sink.new) → ⊥) → (result ≡ 0) ⊎ (result ≡ 5) }
 {
     match due_text(rt, alloc, words, source, gate) {
         Ok(due) => match write_text(sink, &due.text) {

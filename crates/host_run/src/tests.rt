@@ -415,6 +415,89 @@ const INSTANCES: [Run; 9] = [
     },
 ];
 
+// Three modules and a call that loops until its fuel is used up.
+const LOAD: &[u8] =
+    b"module add 0061736d0100000001070160027f7f017f030201000707010361646400000a09010700200020016a0b
+module bump 0061736d010000000105016000017f0302010005030100010708010462756d7000000a160114004100410028020041016a36020041002802000b
+module g 0061736d010000000108026000006000017f030302000105030100010710020564697274790000046c6f6f6b00010a26021500410140001a41ffff07417f3a000003400c000b0b0e00410140001a41ffff072d00000b
+call g dirty 43
+";
+
+const LOADS: [Run; 8] = [
+    // a load, with the source unread
+    Run {
+        words: &["poolhost", "make", "1", "1"],
+        bytes: b"abc",
+        source: (16, &[1]),
+        sink: (4096, &[]),
+        status: 0,
+        written: LOAD,
+    },
+    // a load in part
+    Run {
+        words: &["poolhost", "make", "1", "1"],
+        bytes: b"",
+        source: (4096, &[]),
+        sink: (5, &[2]),
+        status: 4,
+        written: b"modul",
+    },
+    // a run on it
+    Run {
+        words: RUN,
+        bytes: LOAD,
+        source: (4096, &[]),
+        sink: (4096, &[]),
+        status: 0,
+        written: b"module add ok\nmodule bump ok\nmodule g ok\n1 fuel\n",
+    },
+    // its summary
+    Run {
+        words: &["poolhost", "run", "--summary"],
+        bytes: LOAD,
+        source: (4096, &[]),
+        sink: (7, &[]),
+        status: 0,
+        written: b"modules ok 3\nmodules refused 0\ncalls ok 0\ncalls trap 0\ncalls fuel 1\ncalls refused 0\n",
+    },
+    // the summary of several ends
+    Run {
+        words: &["poolhost", "run", "--summary"],
+        bytes: SHAPES,
+        source: (4096, &[]),
+        sink: (4096, &[]),
+        status: 0,
+        written: b"modules ok 4\nmodules refused 0\ncalls ok 2\ncalls trap 4\ncalls fuel 1\ncalls refused 1\n",
+    },
+    // and of refused modules
+    Run {
+        words: &["poolhost", "run", "--summary"],
+        bytes: MODULES,
+        source: (4096, &[]),
+        sink: (4096, &[]),
+        status: 0,
+        written: b"modules ok 2\nmodules refused 4\ncalls ok 0\ncalls trap 0\ncalls fuel 0\ncalls refused 2\n",
+    },
+    // no line
+    Run {
+        words: &["poolhost", "run", "--summary"],
+        bytes: b"",
+        source: (4096, &[]),
+        sink: (4096, &[]),
+        status: 0,
+        written: b"modules ok 0\nmodules refused 0\ncalls ok 0\ncalls trap 0\ncalls fuel 0\ncalls refused 0\n",
+    },
+    // a file that is refused
+    Run {
+        words: &["poolhost", "run", "--summary"],
+        bytes: b"call a f 1",
+        source: (4096, &[]),
+        sink: (4096, &[]),
+        status: 2,
+        written: b"line 1: unknown module\n",
+    },
+];
+
 fn check_runs<R: Abort + Threads + Wait>(rt: &R, alloc: Global, runs: &[Run]) -> Result<(), Fail> {
     for (at, run) in runs.iter().enumerate() {
         let mut source = MemSource::new(
@@ -438,6 +521,69 @@ fn runs_end_with_their_status_and_text(rt: HostRuntime) -> Result<(), Fail> {
 #[test]
 fn each_call_runs_on_a_fresh_instance(rt: HostRuntime) -> Result<(), Fail> {
     check_runs(&rt, rt.alloc(), &INSTANCES)
+}
+
+#[test]
+fn loads_and_summaries_are_written(rt: HostRuntime) -> Result<(), Fail> {
+    check_runs(&rt, rt.alloc(), &LOADS)
+}
+
+#[test]
+fn words_of_make_are_refused(rt: HostRuntime) -> Result<(), Fail> {
+    let alloc = rt.alloc();
+    let rows = [
+        "poolhost make",
+        "poolhost make 1",
+        "poolhost make -1 1",
+        "poolhost make 1 0",
+        "poolhost make 1 100001",
+        "poolhost make 18446744073709551616 1",
+    ];
+    for line in rows {
+        let mut words = Vec::new(alloc);
+        for word in line.split_whitespace() {
+            words.push(word)?;
+        }
+        let mut source = MemSource::new(Vec::new(alloc), 1, vec![in alloc; 1]?);
+        let mut sink = MemSink::new(alloc, 4096, Vec::new(alloc));
+        let status = serve(&rt, alloc, &words, &mut source, &mut sink, &OpenGate);
+        assert_eq!(rt; status, 2, "at {line}");
+        assert_eq!(rt; sink.bytes(), b"refused words\n".as_slice(), "at {line}");
+    }
+    Ok(())
+}
+
+// What `poolhost make` writes, and the summary of a run on it.
+#[test]
+fn a_run_on_a_load_has_its_summary(rt: HostRuntime) -> Result<(), Fail> {
+    let alloc = rt.alloc();
+    let rows = [
+        (
+            ["poolhost", "make", "0", "1"],
+            "modules ok 3\nmodules refused 0\ncalls ok 1\ncalls trap 0\ncalls fuel 0\ncalls refused 0\n",
+        ),
+        (
+            ["poolhost", "make", "7", "7"],
+            "modules ok 3\nmodules refused 0\ncalls ok 6\ncalls trap 0\ncalls fuel 1\ncalls refused 0\n",
+        ),
+    ];
+    for (words, want) in rows {
+        let mut nothing = MemSource::new(Vec::new(alloc), 1, Vec::new(alloc));
+        let mut load = MemSink::new(alloc, 4096, Vec::new(alloc));
+        assert_eq!(rt;
+            serve(&rt, alloc, &words, &mut nothing, &mut load, &OpenGate),
+            0
+        );
+        let mut source = MemSource::new(load.bytes().to_vec(alloc)?, 4096, Vec::new(alloc));
+        let mut sink = MemSink::new(alloc, 4096, Vec::new(alloc));
+        let words = ["poolhost", "run", "--summary"];
+        assert_eq!(rt;
+            serve(&rt, alloc, &words, &mut source, &mut sink, &OpenGate),
+            0
+        );
+        assert_eq!(rt; sink.bytes(), want.as_bytes());
+    }
+    Ok(())
 }
 
 // A sink that notes how many bytes each write was handed.

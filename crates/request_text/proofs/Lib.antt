@@ -2,3 +2,4 @@ pub mod LineLemmas
 pub mod NumberLemmas
 pub mod ReadingLemmas
 pub mod WordLemmas
+pub mod SummaryLemmas

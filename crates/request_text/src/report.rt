@@ -153,7 +153,7 @@ fn text_fault_line(alloc: Global, line: u32, reason: Reason) -> Result<Vec<u8>, 
 }
 
 // Appends a text that was made before, if it was.
-fn append(out: &mut Vec<u8>, text: Result<Vec<u8>, AllocError>) -> Result<(), NoMemory>
+pub(crate) fn append(out: &mut Vec<u8>, text: Result<Vec<u8>, AllocError>) -> Result<(), NoMemory>
     ensures text { OnOk result (IsOkAnd text (λ t. out.new.items ≡ out.old.items ++ t.items)) }
     ensures memory { OnErr result (out.new.items ≡ out.old.items) }
 {

@@ -1,11 +1,11 @@
 //! Texts and what is read from them, and lines of the report.
 use crate::{
     CallLine, Directive, MOST_BYTES, MOST_CALLS, MOST_MODULES, ModuleLine, ParseFault, Reason,
-    Requests, parse, write_call, write_module, write_text_fault,
+    ReportLine, Requests, parse, write_call, write_module, write_summary, write_text_fault,
 };
 use std::alloc::{AllocError, Global};
 use std::test::Fail;
-use wasm_types::{Outcome, TrapKind, Val};
+use wasm_types::{Items, Outcome, TrapKind, Val};
 
 // Pushes a directive as one line: a module's name and bytes, or a call's place, export, fuel and arguments.
 fn push_directive(text: &mut String, directive: &Directive) -> Result<(), AllocError> {
@@ -192,6 +192,44 @@ fn lines_are_appended(rt: HostRuntime) -> Result<(), Fail> {
         "module e ok\nmodule e refused malformed\nmodule e refused unsupported\nmodule e refused invalid\n\
         module e refused limit\nmodule e refused segment\n1 ok\n2 ok i32:5\n3 ok i32:-2147483648\n4 ok i64:-1\n\
         5 trap uninit\n6 fuel\n7 refused module\n8 refused export\n9 refused args\nline 2: bad argument\n";
+    assert_eq!(rt; out.as_slice(), want.as_bytes());
+    Ok(())
+}
+
+#[test]
+fn a_summary_counts_lines(rt: HostRuntime) -> Result<(), Fail> {
+    let alloc = rt.alloc();
+    let mut lines = Vec::new(alloc);
+    let modules = [
+        ModuleLine::Accepted,
+        ModuleLine::Malformed,
+        ModuleLine::Accepted,
+        ModuleLine::Segment,
+        ModuleLine::Limit,
+    ];
+    for line in modules {
+        let name = Items::new(Vec::from_slice(alloc, b"calls")?);
+        lines.push(ReportLine::Module { name, line })?;
+    }
+    let calls = [
+        CallLine::Done(Outcome::Done(None)),
+        CallLine::Done(Outcome::Done(Some(Val::I32(5)))),
+        CallLine::Done(Outcome::Trap(TrapKind::Uninit)),
+        CallLine::Done(Outcome::Fuel),
+        CallLine::Done(Outcome::Fuel),
+        CallLine::Done(Outcome::Fuel),
+        CallLine::NoModule,
+        CallLine::NoExport,
+        CallLine::BadArgs,
+        CallLine::BadArgs,
+    ];
+    for line in calls {
+        lines.push(ReportLine::Call { number: 1, line })?;
+    }
+    let mut out = Vec::from_slice(alloc, b"before\n")?;
+    write_summary(alloc, &mut out, &lines)?;
+    let want =
+        "before\nmodules ok 2\nmodules refused 3\ncalls ok 2\ncalls trap 1\ncalls fuel 3\ncalls refused 4\n";
     assert_eq!(rt; out.as_slice(), want.as_bytes());
     Ok(())
 }
