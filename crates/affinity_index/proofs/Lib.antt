@@ -1,2 +1,4 @@
 mod Sorting
+mod Preferring
 mod UnheldLists
+mod UnheldNumbers

@@ -1,3 +1,4 @@
 pub mod Orders
+pub mod Preference
 pub mod Rankings
 pub mod Unheld

@@ -1,6 +1,7 @@
 //! In which order the slots that a scan saw are claimed.
 #![tactic(auto)]
 
+pub mod laws;
 mod orders;
 mod ranking;
 mod ranks;

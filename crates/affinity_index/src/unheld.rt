@@ -1,5 +1,6 @@
 //! The slots that nobody held.
 ghost use Rattle.std.specs.Prelude.{◌≡◌, ◌+◌, ◌%◌, ◌<◌, ◌≤◌, ◌==◌, ◌++◌, ◌∷◌, [], cond, length};
+ghost use Rattle.std.specs.List.{All};
 ghost use Rattle.affinity_index.specs.Unheld.{unheld};
 
 use crate::orders::Order;
@@ -21,7 +22,8 @@ fn add_unheld(numbers: &mut ArrayVec<u32, MOST_SLOTS>, word: u64, n: u32)
 #[tactic(auto, using(crate::proofs::UnheldLists::unheld_more))]
 pub fn unheld_numbers(seen: &[u64]) -> Order
     requires { length seen.now ≤ MOST_SLOTS }
-    ensures { result ≡ unheld seen.now }
+    ensures is { result ≡ unheld seen.now }
+    ensures numbers { All (λ n. n < length seen.now) result }
 {
     let mut numbers = ArrayVec::new();
     for n in 0..seen.len() {

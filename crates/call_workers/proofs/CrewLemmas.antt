@@ -9,7 +9,7 @@ use Rattle.job_queue.specs.Passes.{IsJobPass, JobPass, account_of, given_to}
 use Rattle.pool_limits.specs.declared.numbers.Numbers.{Numbers}
 use Rattle.pool_worlds.specs.Contents.{Named}
 use Rattle.pool_host.specs.declared.host.Host.{Host}
-use Rattle.pool_host.specs.declared.host.HostPass.{HostPass}
+use Rattle.pool_host.specs.declared.passes.Passes.{Passes}
 use Rattle.call_workers.specs.declared.calls.Due.{Due}
 use Rattle.call_workers.specs.declared.calls.Worked.{Worked}
 use Rattle.call_workers.specs.Crews.{HasJoined}
@@ -33,7 +33,7 @@ module _ (config : Numbers) (jobs : Jobs (Option Named)) (calls : List Due) wher
   }
 
   -- one worker's pass more, which did its work
-  pub joined_more : {N : Type 0} (host : Host N) (before own after : Own) (n k : ℕ) (entries made all : List Worked) (terms : Terms) (a : Given) (began ended : HostPass N)
+  pub joined_more : {N : Type 0} (host : Host N) (before own after : Own) (n k : ℕ) (entries made all : List Worked) (terms : Terms) (a : Given) (began ended : Passes N)
       → HasJoined config jobs calls before own n entries → DidWork config host calls (new_account terms false) a began ended made → IsJobPass jobs after
       → account_of after ≡ joined (account_of own) a → n + 1 ≡ k → all ≡ entries ++ made → HasJoined config jobs calls before after k all
   joined_more host before own after n k entries made all terms a began ended h d is both next put_behind =

@@ -6,7 +6,7 @@ use Rattle.std.proofs.lemmas.List.Elements.{All-head, All-tail, filter-append}
 use Rattle.pool_limits.specs.declared.numbers.Numbers.{Numbers}
 use Rattle.pool_worlds.specs.Contents.{Named}
 use Rattle.pool_host.specs.declared.host.Host.{Host}
-use Rattle.pool_host.specs.declared.host.HostPass.{HostPass}
+use Rattle.pool_host.specs.declared.passes.Passes.{Passes}
 use Rattle.call_workers.specs.declared.calls.Due.{Due}
 use Rattle.call_workers.specs.declared.calls.Worked.{Worked}
 use Rattle.call_workers.specs.Entries.{IsEntry, MadeEntries, MadeEntry, Pair, called}
@@ -46,15 +46,15 @@ module _ (config : Numbers) (calls : List Due) where
   no_entry_for_zero given entries pair none made = rw (called-append given (pair ∷ []), called_zero pair none, append-nil) made
 
   module _ {N : Type 0} (host : Host N) where
-    pub made_more : (pairs : List Pair) (entries : List Worked) (pair : Pair) (worked : Worked) (before between after : HostPass N)
+    pub made_more : (pairs : List Pair) (entries : List Worked) (pair : Pair) (worked : Worked) (before between after : Passes N)
         → MadeEntries config host calls pairs entries before between → MadeEntry config host calls pair worked between after
         → MadeEntries config host calls (pairs ++ pair ∷ []) (entries ++ worked ∷ []) before after
-    made_more [] [] pair worked before between after h e = (after, subst (λ (p : HostPass N). MadeEntry config host calls pair worked p after) h e, refl)
+    made_more [] [] pair worked before between after h e = (after, subst (λ (p : Passes N). MadeEntry config host calls pair worked p after) h e, refl)
     made_more [] (w ∷ entries) pair worked before between after h e = absurd h
     made_more (p ∷ pairs) [] pair worked before between after h e = absurd h
     made_more (p ∷ pairs) (w ∷ entries) pair worked before between after (middle, first, rest) e = (middle, first, made_more pairs entries pair worked middle between after rest e)
 
-    pub entries_made : (pairs : List Pair) (entries : List Worked) (before after : HostPass N) → MadeEntries config host calls pairs entries before after
+    pub entries_made : (pairs : List Pair) (entries : List Worked) (before after : Passes N) → MadeEntries config host calls pairs entries before after
         → AllZip (IsEntry config calls) pairs entries
     entries_made [] [] before after h = tt
     entries_made [] (w ∷ entries) before after h = absurd h

@@ -7,7 +7,7 @@ use Rattle.job_queue.specs.Accounts.{with_given}
 use Rattle.pool_limits.specs.declared.numbers.Numbers.{Numbers}
 use Rattle.pool_worlds.specs.Contents.{Named}
 use Rattle.pool_host.specs.declared.host.Host.{Host}
-use Rattle.pool_host.specs.declared.host.HostPass.{HostPass}
+use Rattle.pool_host.specs.declared.passes.Passes.{Passes}
 use Rattle.call_workers.specs.declared.calls.Due.{Due}
 use Rattle.call_workers.specs.declared.calls.Worked.{Worked}
 use Rattle.call_workers.specs.Entries.{MadeEntries, MadeEntry, Pair}
@@ -24,18 +24,18 @@ pub given_then : (a b c : Given) (pairs : List Pair) (pair : Pair) → b ≡ wit
 given_then a b c pairs pair e f = f ∙ (ap (λ (x : Given). with_given x (pair ∷ [])) e ∙ ap (λ (ps : List Pair). record a { given = ps }) (append_assoc a.given pairs (pair ∷ [])))
 
 -- a worker that was given no 0 yet
-pub record IsWorking {N : Type 0} (config : Numbers) (host : Host N) (calls : List Due) (before after : Given) (pass_before pass_after : HostPass N) (entries : List Worked) : Type 0 where
+pub record IsWorking {N : Type 0} (config : Numbers) (host : Host N) (calls : List Due) (before after : Given) (pass_before pass_after : Passes N) (entries : List Worked) : Type 0 where
   pub taken : List Pair
   pub counted : All (λ (pair : Pair). 0 < pair.0) taken
   pub account_is : after ≡ with_given before taken
   pub made : MadeEntries config host calls taken entries pass_before pass_after
 
 module _ {N : Type 0} (config : Numbers) (host : Host N) (calls : List Due) where
-  pub begins : (a : Given) (pass : HostPass N) → IsWorking config host calls a a pass pass []
+  pub begins : (a : Given) (pass : Passes N) → IsWorking config host calls a a pass pass []
   begins a pass = record { taken = []; counted = All-nil (λ (pair : Pair). 0 < pair.0); account_is = given_none a; made = refl }
 
-  module _ (a b : Given) (p q : HostPass N) (entries : List Worked) (h : IsWorking config host calls a b p q entries) where
-    pub goes_on : (c : Given) (r : HostPass N) (pair : Pair) (worked : Worked) → 0 < pair.0 → c ≡ with_given b (pair ∷ []) → MadeEntry config host calls pair worked q r
+  module _ (a b : Given) (p q : Passes N) (entries : List Worked) (h : IsWorking config host calls a b p q entries) where
+    pub goes_on : (c : Given) (r : Passes N) (pair : Pair) (worked : Worked) → 0 < pair.0 → c ≡ with_given b (pair ∷ []) → MadeEntry config host calls pair worked q r
         → IsWorking config host calls a c p r (entries ++ worked ∷ [])
     goes_on c r pair worked counted given made = record {
       taken = h.taken ++ pair ∷ [];

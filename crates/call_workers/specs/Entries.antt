@@ -4,9 +4,10 @@ use Rattle.pool_limits.specs.declared.numbers.Numbers.{Numbers}
 use Rattle.pool_worlds.specs.Contents.{Named}
 use Rattle.pool_host.specs.declared.answers.Answer.{Answer}
 use Rattle.pool_host.specs.declared.host.Host.{Host}
-use Rattle.pool_host.specs.declared.host.HostPass.{HostPass}
-use Rattle.pool_host.specs.CallWords.{run_limits}
-use Rattle.pool_host.specs.Hosts.{AddsTrails, IsHostAnswer}
+use Rattle.pool_host.specs.declared.passes.Passes.{Passes}
+use Rattle.instance_calls.specs.CallWords.{run_limits}
+use Rattle.pool_host.specs.CallWords.{IsHostAnswer}
+use Rattle.pool_host.specs.Trails.{AddsTrails}
 use Rattle.call_workers.specs.declared.calls.Due.{Due}
 use Rattle.call_workers.specs.declared.calls.Worked.{Worked}
 
@@ -37,20 +38,20 @@ pub record IsEntry (config : Numbers) (calls : List Due) (pair : Pair) (worked :
 
 module _ {N : Type 0} (config : Numbers) (host : Host N) where
   -- the pass was that of a call of the module, which was answered so; without a module it is as it was
-  abbrev pub MadeCall : Option Named → Option Answer → (before after : HostPass N) → Type 0
+  abbrev pub MadeCall : Option Named → Option Answer → (before after : Passes N) → Type 0
   MadeCall None answer before after = after ≡ before
   MadeCall (Some m) None before after = ⊥
-  MadeCall (Some m) (Some answer) before after = AddsTrails config host m answer before.passes after.passes
+  MadeCall (Some m) (Some answer) before after = AddsTrails config host m answer before after
 
   -- a pass made this entry for a pair
-  pub record MadeEntry (calls : List Due) (pair : Pair) (worked : Worked) (before after : HostPass N) : Type 0 where
+  pub record MadeEntry (calls : List Due) (pair : Pair) (worked : Worked) (before after : Passes N) : Type 0 where
     pub entry : IsEntry config calls pair worked
     pub call : MadeCall pair.1 worked.answer before after
 
   -- a pass made these entries for these pairs, one after the other, and nothing else
-  abbrev pub MadeEntries : List Due → List Pair → List Worked → (before after : HostPass N) → Type 0
+  abbrev pub MadeEntries : List Due → List Pair → List Worked → (before after : Passes N) → Type 0
   MadeEntries calls [] [] before after = after ≡ before
   MadeEntries calls [] (worked ∷ entries) before after = ⊥
   MadeEntries calls (pair ∷ pairs) [] before after = ⊥
-  MadeEntries calls (pair ∷ pairs) (worked ∷ entries) before after = (between : HostPass N)
+  MadeEntries calls (pair ∷ pairs) (worked ∷ entries) before after = (between : Passes N)
       × MadeEntry calls pair worked before between × MadeEntries calls pairs entries between after

@@ -1,6 +1,6 @@
 //! Calls that are due, and what a worker made of one.
 ghost use Rattle.std.specs.Prelude.{◌≡◌, ◌-◌, ◌<◌, ◌≤◌, Some, length, slice_get};
-ghost use Rattle.pool_host.specs.Hosts.{IsHostPass, IsSameHostPass};
+ghost use Rattle.pool_host.specs.Hosts.{IsHostPass};
 ghost use Rattle.call_workers.specs.Entries.{AreNumbered, IsAnswered, MadeCall, MadeEntry};
 
 use host_edge::Gate;
@@ -53,7 +53,7 @@ fn answer<N: Naming, G: Gate>(
     requires { IsHostPass host.now pass.old }
     ensures own { IsHostPass host.now pass.new }
     ensures answered { IsAnswered N.config due.now item.now result }
-    ensures call { MadeCall N.config host.now item.now result pass.old pass.new }
+    ensures call { MadeCall N.config host.now item.now result pass.old.passes pass.new.passes }
 {
     match item {
         Some(called) => Some(host.call(
@@ -85,7 +85,7 @@ pub(crate) fn make<N: Naming, G: Gate>(
     requires counted { 0 < number }
     requires enough { number ≤ length calls.now }
     ensures own { IsHostPass host.now pass.new }
-    ensures made { MadeEntry N.config host.now calls.now (number, item) result pass.old pass.new }
+    ensures made { MadeEntry N.config host.now calls.now (number, item) result pass.old.passes pass.new.passes }
 {
     let due = due_at(calls, number);
     let answer = answer(host, pass, store, &item, due, gate);

@@ -53,7 +53,8 @@ pub fn workers<N: Naming>(
     let mut workers = Vec::new(alloc);
     while let Some(pass) = passes.pop() {
         let own = owns.pop().unwrap();
-        workers.push(Worker { pass, own }).map_err(|_| NoMemory)?;
+        workers.reserve(1).map_err(|_| NoMemory)?;
+        workers.push_reserved(Worker { pass, own });
     }
     Ok(workers)
 }

@@ -39,7 +39,7 @@ pub fn work<N: Naming, R: Wait, G: Gate>(
     requires enough { count_of jobs.now ≤ length calls.now }
     ensures pass { IsHostPass host.now pass.new }
     ensures own { IsJobPass jobs.now own.new }
-    ensures made { IfOk result (λ made. DidWork N.config host.now calls.now (account_of own.old) (account_of own.new) pass.old pass.new made.items) }
+    ensures made { IfOk result (λ made. DidWork N.config host.now calls.now (account_of own.old) (account_of own.new) pass.old.passes pass.new.passes made.items) }
     ensures spent { OnErr result (WasGiven (account_of own.old) (account_of own.new)) }
 {
     let mut made = Vec::new(alloc);

@@ -1,11 +1,12 @@
 -- A memory that is kept up to the last data segment's end.
-use Rattle.std.proofs.Common.{◌≡◌, ℕ, zero, suc, ◌+◌, ◌-◌, ◌<◌, ◌≤◌, List, [], ◌∷◌, ◌++◌, length, take, drop, get_or, refl, sym, ap, ◌∙◌, arith, append_assoc, length-append, length-drop}
+use Rattle.std.proofs.Common.{◌≡◌, ℕ, zero, suc, ◌+◌, ◌-◌, ◌<◌, ◌≤◌, List, [], ◌∷◌, ◌++◌, length, take, drop, get_or, refl, sym, ap, ◌∙◌, arith, append_assoc}
 use Rattle.std.specs.Prelude.{All, fold, map, max, replicate}
 use Rattle.std.proofs.Math.Nat.{le-max_left, le-max_right}
-use Rattle.std.proofs.lemmas.List.{take-append-le, drop-append-le, length-take-le, length-map, length-replicate, replicate-append-replicate, get_or-map}
+use Rattle.std.proofs.lemmas.List.{take-append-le, drop-append-le, length-map, length-replicate, replicate-append-replicate, get_or-map}
 use Rattle.wasm_types.specs.declared.module.DataSegment.{DataSegment}
 use Rattle.wasm_types.specs.Tree.{DataTree, ModuleTree, data_tree}
 use Rattle.wasm_spec.specs.Store.{written, write_data, offset_of, memory_size, fresh_store}
+use Rattle.wasm_spec.proofs.StoreSizes.{length-written}
 use Rattle.initial_image.specs.Segments.{end_of_data, ends_of_data, greatest}
 
 -- ---- the greatest of some numbers
@@ -43,9 +44,6 @@ written-append bytes after items at le =
     ∙ ap (λ (l : List ℕ). take at bytes ++ l) (sym (append_assoc items (drop (at + length items) bytes) after))
     ∙ sym (append_assoc (take at bytes) (items ++ drop (at + length items) bytes) after)
 
-length-written : (bytes items : List ℕ) (at : ℕ) → at + length items ≤ length bytes → length (written bytes at items) ≡ length bytes
-length-written bytes items at le = simp (length-append, length-drop) (omega (arith, length-take-le at bytes (omega arith)))
-
 module _ (m : ModuleTree) where
   -- all of these segments end within so many bytes
   abbrev Within : ℕ → List DataTree → Type 0
@@ -61,12 +59,12 @@ module _ (m : ModuleTree) where
   fold-append (s ∷ ss) n bytes after long within =
       let fits : offset_of m s.offset + length s.bytes ≤ length bytes = omega (arith, within.0) in
       ap (λ (l : List ℕ). fold (write_data m) l ss) (written-append bytes after s.bytes (offset_of m s.offset) fits)
-      ∙ fold-append ss n (written bytes (offset_of m s.offset) s.bytes) after (length-written bytes s.bytes (offset_of m s.offset) fits ∙ long) within.1
+      ∙ fold-append ss n (written bytes (offset_of m s.offset) s.bytes) after (length-written bytes (offset_of m s.offset) s.bytes fits ∙ long) within.1
 
   length-fold : (ss : List DataTree) (n : ℕ) (bytes : List ℕ) → length bytes ≡ n → Within n ss → length (fold (write_data m) bytes ss) ≡ n
   length-fold [] n bytes long within = long
   length-fold (s ∷ ss) n bytes long within =
-      length-fold ss n (written bytes (offset_of m s.offset) s.bytes) (length-written bytes s.bytes (offset_of m s.offset) (omega (arith, within.0)) ∙ long) within.1
+      length-fold ss n (written bytes (offset_of m s.offset) s.bytes) (length-written bytes (offset_of m s.offset) s.bytes (omega (arith, within.0)) ∙ long) within.1
 
   module _ (n : ℕ) (bytes : List ℕ) (all : All (λ end. end ≤ n) (ends_of_data m)) (are : bytes ≡ fold (write_data m) (replicate n 0) m.data_segments) where
     pub kept : length bytes ≡ n

@@ -7,6 +7,7 @@ use Rattle.wasm_types.specs.declared.outcome.Outcome.{Outcome}
 use Rattle.wasm_types.specs.declared.outcome.Val.{Val}
 use Rattle.wasm_types.specs.declared.module.Export.{Export}
 use Rattle.wasm_types.specs.declared.module.Module.{Module}
+use Rattle.wasm_types.proofs.Found.{some_found}
 use Rattle.wasm_types.specs.Tree.{FunctionTree, ModuleTree, module_tree}
 use Rattle.wasm_spec.specs.Typing.{IsTypedFunction, function_type, type_of}
 use Rattle.wasm_spec.specs.Validity.{Exports, IsDefined, IsValid}
@@ -26,18 +27,14 @@ pub record HasFunction (m : ModuleTree) (x : ℕ) : Type 0 where
   pub there : slice_get m.functions x ≡ Some function
   pub typed : slice_get m.types function.type_index ≡ Some type
 
-some_there : {A : Type 0} (o : Option A) → IsSome o → (x : A) × (o ≡ Some x)
-some_there None h = cc
-some_there (Some x) h = (x, refl)
-
 pub exported_function : (m : ModuleTree) (export : List ℕ) (x : ℕ) → IsValid m → Exports m.exports export x → HasFunction m x
 exported_function m export x valid exports =
     let e = exports.export in
     let defined : IsDefined m e.desc = subst (λ (e : Export). IsDefined m e.desc) (get_or_from_slice_get m.exports exports.place e e exports.there)
     (valid.exports exports.place e (slice_get_within m.exports exports.place e exports.there)) in
-    let (f, there) = some_there (slice_get m.functions x) (subst (IsDefined m) exports.function defined) in
+    let (f, there) = some_found (slice_get m.functions x) (subst (IsDefined m) exports.function defined) in
     let typed : IsTypedFunction m f = subst (IsTypedFunction m) (get_or_from_slice_get m.functions x f f there) (valid.functions x f (slice_get_within m.functions x f there)) in
-    let (t, type) = some_there (slice_get m.types f.type_index) typed.0 in
+    let (t, type) = some_found (slice_get m.types f.type_index) typed.0 in
     record { function = f; type = t; there = there; typed = type }
 
 pub function_type_is : (m : ModuleTree) (x : ℕ) (h : HasFunction m x) → function_type m x ≡ Some h.type

@@ -21,6 +21,7 @@ use Rattle.pool_worlds.specs.Contents as contents
 use Rattle.pool_worlds.specs.Contents.{Contents, Kind, Memory, MemoryContents, Named, Table, TableContents, Ticket, needs, shown, shown_memory, shown_table, turned}
 use Rattle.pool_worlds.specs.Runs.{Leaves, RunsFunction}
 use Rattle.memory_slots.specs.Lent.{parts, store_in}
+use Rattle.memory_slots.proofs.LentLemmas.{globals_left, globals_there}
 use Rattle.instance_calls.specs.Instances.{IsFreshMemory, IsFreshTable, bare_store}
 use Rattle.instance_calls.specs.Parts.{memory_in, table_in}
 
@@ -126,18 +127,6 @@ no_shown n bytes none = nil_from_length (take n bytes) (let long = length-take n
 
 pub bare_is : (m : Module) (memory : LinearMemory) (table : List (Option ℕ)) (globals : List Val) → length memory.bytes.items ≡ 0 → lent_store m memory table globals ≡ bare_store m table globals
 bare_is m memory table globals none = same_store _ _ _ _ _ _ (no_shown (memory.pages * page_size) memory.bytes.items none) refl refl
-
-globals_left : (n : ℕ) (old new : List Val) → n ≤ length old → length new ≡ length old → drop n new ≡ drop n old → new ≡ take n new ++ drop (length (take n new)) old
-globals_left n old new le long rest =
-    sym (take-append-drop n new)
-    ∙ ap (λ (l : List Val). take n new ++ l) (rest ∙ ap (λ (k : ℕ). drop k old) (sym (length-take-le n new (omega arith))))
-
-globals_there : (m : Module) (s : Store) (globals : List Val) → s.globals ≡ own m globals → IsTypedStore m s → length m.globals ≤ length globals
-globals_there m s globals is typed =
-    let n : ℕ = length m.globals in
-    let all : length (take n globals) ≡ n =
-    ap length (sym is) ∙ sym (length-map s.globals type_of) ∙ ap length typed.globals ∙ length-map (module_tree m).globals _ ∙ length-map m.globals global_tree in
-    let least = length-take n globals in omega arith
 
 module _ (pages : ℕ) (m : Module) (x : MemoryContents) (owner : Option Named) (table : List (Option ℕ)) (old new : List Val) (none : m.memories ≡ []) where
   unneeded : needs Memory (module_tree m) ≡ true → ⊥

@@ -3,6 +3,8 @@
 
 pub mod laws;
 mod pool;
+#[cfg(test)]
+mod tests;
 mod ticket;
 
 pub use pool::TicketPool;

@@ -71,7 +71,7 @@ impl<N: Naming> TicketPool<N> {
     }
 
     /// Takes a ticket and writes the module's globals: the first that it wins of those that nobody had, by rising number, or else
-    /// any. Takes no memory.
+    /// any. It allocates nothing.
     ///
     /// # Errors
     ///
@@ -103,7 +103,7 @@ impl<N: Naming> TicketPool<N> {
         Ok(lease)
     }
 
-    /// Gives a ticket back, cold. Takes no memory.
+    /// Gives a ticket back, cold. It allocates nothing.
     pub fn give(&self, pass: &mut Pass<Ticket<N>>, lease: Lease<Ticket<N>>, _store: &ModuleStore<N>)
         requires own { IsTicketPass self.now pass.old }
         requires number { lease_number lease < slots_of (words_of self.now) }
@@ -115,7 +115,7 @@ impl<N: Naming> TicketPool<N> {
         give_cold(&self.words, pass, lease);
     }
 
-    /// Joins another pass of this pool into this one, which then stands for both. Takes no memory.
+    /// Joins another pass of this pool into this one, which then stands for both. It allocates nothing.
     pub fn join_pass(&self, pass: &mut Pass<Ticket<N>>, other: Pass<Ticket<N>>)
         requires own { IsTicketPass self.now pass.old }
         requires idle { IsIdle pass.old }

@@ -1,5 +1,5 @@
 -- A putter that has put so many pairs.
-use Rattle.std.proofs.Common.{◌≡◌, ℕ, ◌+◌, length}
+use Rattle.std.proofs.Common.{◌≡◌, ℕ, length}
 use Rattle.job_queue.specs.declared.jobs.Jobs.{Jobs}
 use Rattle.job_queue.specs.Passes.{JobPass, IsJobPass, IsPutter, put_by}
 

@@ -37,6 +37,7 @@ module _ {M : Type 0} where
   abbrev pub joined : Account M → Account M → Account M
   joined a b = record a { share = a.share + b.share; puts = a.puts || b.puts; put = a.put ++ b.put; given = a.given ++ b.given }
 
+  -- a pass was given the pair, and the pair's number is one that may be put
   pub record IsGiven (a : Account M) (x : ℕ × M) (b : Account M) : Type 0 where
     pub number_is : x.0 ≤ a.terms.count
     pub account_is : b ≡ with_given a (x ∷ [])

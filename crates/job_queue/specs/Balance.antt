@@ -28,6 +28,7 @@ module _ {M : Type 0} where
     pub each : (port : ℕ) (a : Account M) → get_elem? accounts port ≡ some a → Fits terms (gone ++ items) a
     pub numbers : All (λ x. x.0 ≤ terms.count) (gone ++ items)
 
+  -- what the queue holds, and what every pass knows, are in balance
   pub record Kept (items : List (ℕ × M)) (accounts : List (Account M)) : Type 0 where
     pub terms : Terms
     pub gone : List (ℕ × M)

@@ -1,5 +1,5 @@
 -- What clauses say of a queue of jobs and of its passes.
-use Rattle.std.specs.Prelude.{◌≡◌, ℕ, ◌<◌, Bool, true, List}
+use Rattle.std.specs.Prelude.{◌≡◌, ℕ, ◌<◌, Bool, true, false, List}
 use Rattle.crossbeam_queue.specs.Passes.{Pass, view, IsPassOf, ruled_capacity}
 use Rattle.job_queue.specs.declared.accounts.Account.{Account}
 use Rattle.job_queue.specs.declared.jobs.Jobs.{Jobs}
@@ -37,6 +37,7 @@ module _ {M : Type 0} where
   abbrev pub given_to : JobPass M → List (ℕ × M)
   given_to pass = (view pass).given
 
+  -- it is the pass that puts
   abbrev pub IsPutter : JobPass M → Type 0
   IsPutter pass = (view pass).puts ≡ true
 
@@ -50,6 +51,12 @@ module _ {M : Type 0} where
   pub record IsNewPassOf (puts : Bool) (jobs : Jobs M) (pass : JobPass M) : Type 0 where
     pub own : IsJobPass jobs pass
     pub account_is : account_of pass ≡ new_account jobs.terms puts
+
+  abbrev pub IsNewPutterOf : Jobs M → JobPass M → Type 0
+  IsNewPutterOf = IsNewPassOf true
+
+  abbrev pub IsNewTakerOf : Jobs M → JobPass M → Type 0
+  IsNewTakerOf = IsNewPassOf false
 
   -- all passes were joined into this one
   abbrev pub StandsForAll : Jobs M → JobPass M → Type 0

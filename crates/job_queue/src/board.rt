@@ -53,7 +53,7 @@ impl Board {
     /// [`Stray::Double`] where a line of this number was collected, and [`Stray::Stranger`] where the number is 0 or past the
     /// board's calls. The board is then as before.
     pub fn collect(&mut self, number: u32, line: CallLine) -> Result<(), Stray>
-        ensures open { IsOk result ↔ IsOpen self.old number }
+        ensures ok { IsOk result ↔ IsOpen self.old number }
         ensures double { (result ≡ Err (Stray.Double number)) ↔ IsCollected self.old number }
         ensures stranger { (result ≡ Err (Stray.Stranger number)) ↔ IsStranger self.old number }
         ensures collected { OnOk result (self.new ≡ slice_set self.old (number - 1) (Some line)) }

@@ -1,9 +1,9 @@
 //! The queue that hands numbers and items to workers.
-ghost use Rattle.std.specs.Prelude.{◌≡◌, ◌+◌, ◌-◌, ◌<◌, ◌≤◌, ◌∷◌, [], true, false, All, length, IfOk, IfSome, IfNone};
+ghost use Rattle.std.specs.Prelude.{◌≡◌, ◌+◌, ◌-◌, ◌<◌, ◌≤◌, ◌∷◌, [], true, All, length, IfOk, IfSome, IfNone};
 ghost use Rattle.std.specs.List.Sorted.{IsPermutation};
 ghost use Rattle.crossbeam_queue.specs.Passes.{IsPassOf, IsSamePass, view};
 ghost use Rattle.job_queue.specs.Accounts.{first_terms, joined, new_account, parted, told, with_given, with_put};
-ghost use Rattle.job_queue.specs.Passes.{IsJobPass, IsNewPassOf, IsPutter, StandsForAll, account_of, capacity_of, count_of, given_to, passes_of, put_by, share_of};
+ghost use Rattle.job_queue.specs.Passes.{IsJobPass, IsNewPutterOf, IsNewTakerOf, IsPutter, StandsForAll, account_of, capacity_of, count_of, given_to, passes_of, put_by, share_of};
 
 use crate::accounts::{Account, Terms};
 use crate::rules::{Balance, Opening, Puts, Shares, Takes, Tells};
@@ -13,7 +13,7 @@ use std::marker::Brand;
 use std::sync::Wait;
 use wasm_types::NoMemory;
 
-/// The right to put to a queue of jobs, or to take from it. One thread has it at a time.
+/// The right to put to a queue of jobs, or to take from it. Contracts see what it put and was given. One thread has it at a time.
 pub type JobPass<M> = Pass<(u32, M), Account<M>>;
 
 /// A queue of calls: of the number of each, with an item. Threads share it by `&`, each with a pass of its own.
@@ -39,9 +39,9 @@ impl<M: Drop> Jobs<M> {
         ensures count { IfOk result (λ o. count_of o.0 ≡ count) }
         ensures passes { IfOk result (λ o. passes_of o.0 ≡ workers + 1) }
         ensures capacity { IfOk result (λ o. capacity_of o.0 ≡ count + workers) }
-        ensures putter { IfOk result (λ o. IsNewPassOf true o.0 o.1) }
+        ensures putter { IfOk result (λ o. IsNewPutterOf o.0 o.1) }
         ensures workers { IfOk result (λ o. length o.2.items ≡ workers) }
-        ensures takers { IfOk result (λ o. All (IsNewPassOf false o.0) o.2.items) }
+        ensures takers { IfOk result (λ o. All (IsNewTakerOf o.0) o.2.items) }
     {
         let terms = Terms {
             count,
@@ -69,7 +69,7 @@ impl<M: Drop> Jobs<M> {
         ensures own { IsJobPass self.now putter.new }
         ensures left { IfOk result (λ takers. account_of putter.new ≡ record (account_of putter.old) { share = share_of putter.old - workers }) }
         ensures workers { IfOk result (λ takers. length takers.items ≡ workers) }
-        ensures takers { IfOk result (λ takers. All (IsNewPassOf false self.now) takers.items) }
+        ensures takers { IfOk result (λ takers. All (IsNewTakerOf self.now) takers.items) }
     {
         let mut takers = Vec::new(alloc);
         for _ in 0..workers {
@@ -84,7 +84,7 @@ impl<M: Drop> Jobs<M> {
         requires share { 1 < share_of pass.old }
         ensures own { IsJobPass self.now pass.new }
         ensures left { account_of pass.new ≡ parted (account_of pass.old) }
-        ensures parted { IsNewPassOf false self.now result }
+        ensures parted { IsNewTakerOf self.now result }
     {
         self.queue.another::<Shares>(pass)
     }
@@ -102,8 +102,8 @@ impl<M: Drop> Jobs<M> {
         prove!(refused.is_ok());
     }
 
-    /// Takes the pair that was put first of those that are left. Takes no memory. Answers none only where the queue was empty at
-    /// a step of this call, so that a pass which stands for all was then given all that was put.
+    /// Gives a pair that was put and given to no pass yet. Takes no memory. Answers none only where the queue was empty at a step
+    /// of this call: a pass that stands for all was then given all that was put, and another pass learns nothing from it.
     pub fn next<R: Wait>(&self, rt: &R, pass: &mut JobPass<M>) -> Option<(u32, M)>
         requires { IsJobPass self.now pass.old }
         ensures own { IsJobPass self.now pass.new }

@@ -1,6 +1,6 @@
 //! The rows of the board, and the queue between threads.
-ghost use Rattle.std.specs.Prelude.{◌≡◌, ◌+◌, ◌<◌, true, false, All, IfOk};
-ghost use Rattle.job_queue.specs.Passes.{IsJobPass, IsNewPassOf, capacity_of, count_of};
+ghost use Rattle.std.specs.Prelude.{◌≡◌, ◌+◌, ◌<◌, All, IfOk};
+ghost use Rattle.job_queue.specs.Passes.{IsJobPass, IsNewPutterOf, IsNewTakerOf, capacity_of, count_of};
 
 use crate::{Board, JobPass, Jobs, Stray};
 use request_text::CallLine;
@@ -45,7 +45,7 @@ fn put_calls<R: Wait>(
     each: u32,
     workers: u32,
 ) -> JobPass<u64>
-    requires own { IsNewPassOf true jobs.now putter }
+    requires own { IsNewPutterOf jobs.now putter }
     requires count { count_of jobs.now ≡ count }
     requires room { capacity_of jobs.now ≡ count + workers }
     requires each { 0 < each }
@@ -102,11 +102,11 @@ fn handed_out<R: Threads + Wait + Sync>(
     let (mut all, taken) = thread::join(
         rt,
         move || -> JobPass<u64>
-            requires { IsNewPassOf true jobs.now putter × (count_of jobs.now ≡ count) × (capacity_of jobs.now ≡ count + workers) × (0 < each) }
+            requires { IsNewPutterOf jobs.now putter × (count_of jobs.now ≡ count) × (capacity_of jobs.now ≡ count + workers) × (0 < each) }
             ensures { IsJobPass jobs.entry.now result }
         { put_calls(rt, jobs, putter, count, each, workers) },
         move || -> Result<Vec<Given>, AllocError>
-            requires { All (IsNewPassOf false jobs.now) takers.items }
+            requires { All (IsNewTakerOf jobs.now) takers.items }
             ensures { IfOk result (λ taken. All (λ t. IsJobPass jobs.entry.now t.pass) taken.items) }
         { take_all(rt, alloc, jobs, takers) },
     );
@@ -127,14 +127,14 @@ fn take_all<R: Threads + Wait + Sync>(
     jobs: &Jobs<u64>,
     takers: Vec<JobPass<u64>>,
 ) -> Result<Vec<Given>, AllocError>
-    requires { All (IsNewPassOf false jobs.now) takers.items }
+    requires { All (IsNewTakerOf jobs.now) takers.items }
     ensures { IfOk result (λ taken. All (λ t. IsJobPass jobs.now t.pass) taken.items) }
 {
     thread::map_vec(
         rt,
         takers,
         &|pass| -> Given
-            requires { IsNewPassOf false jobs.now pass }
+            requires { IsNewTakerOf jobs.now pass }
             ensures { IsJobPass jobs.entry.now result.pass }
         { take_calls(rt, alloc, jobs, pass) },
     )

@@ -1,14 +1,15 @@
 -- Blocks that are marked.
-use Rattle.std.proofs.Common.{◌≡◌, ℕ, zero, suc, ◌+◌, ◌-◌, ◌*◌, ◌/◌, ◌<◌, ◌≤◌, ◌⊎◌, ⊎_elim, inl, inr, List, [], ◌∷◌, Bool, true, false, length, set, take, drop, replicate, get_or, refl, sym, ap, ◌∙◌, arith}
+use Rattle.std.proofs.Common.{◌≡◌, ℕ, zero, suc, ◌+◌, ◌-◌, ◌/◌, ◌<◌, ◌≤◌, ◌⊎◌, ⊎_elim, inl, inr, List, [], ◌∷◌, Bool, true, false, length, set, take, drop, replicate, get_or, refl, sym, ap, ◌∙◌, arith}
 use Rattle.std.specs.Prelude.{cond, count_by}
 use Rattle.std.proofs.lemmas.Bool.{cases_lt}
 use Rattle.std.proofs.lemmas.List.{get_or-drop, get_or-take, get_or_past, length-set, length-take}
 use Rattle.std.proofs.lemmas.List.Sums.{sum_by-set}
-use Rattle.wasm_spec.specs.Store.{page_size, written}
+use Rattle.wasm_spec.specs.Store.{written}
 use Rattle.linear_memory.specs.declared.memory.Memory.{Memory}
 use Rattle.linear_memory.specs.Bytes.{IsMemory, shown, size_of}
-use Rattle.linear_memory.specs.Marks.{HasSameRoom, KeepsUnmarked, MarksChanges, count_marks, is_marked}
-use Rattle.linear_memory.proofs.WrittenBytes.{drop-written, length-written, outside_written, take-written}
+use Rattle.linear_memory.specs.Marks.{KeepsUnmarked, MarksChanges, is_marked}
+use Rattle.wasm_spec.proofs.StoreSizes.{length-written}
+use Rattle.linear_memory.proofs.WrittenBytes.{drop-written, outside_written, take-written}
 
 -- ---- one mark that is set
 
@@ -120,7 +121,7 @@ module _ (old new : Memory) (at : ℕ) (p : List ℕ) (fits : at + length p ≤ 
         };
         counted = rw marks (omega (arith, set_counted old.marks.items (at / 4096) first, set_counted one ((at + length p - 1) / 4096) (omega (arith, length-set {A = Bool}))));
         room = record {
-          bytes = ap length bytes ∙ length-written at p old.bytes.items (within most is);
+          bytes = ap length bytes ∙ length-written old.bytes.items at p (within most is);
           marks = ap length marks ∙ omega (arith, length-set {A = Bool});
         };
       }
@@ -135,7 +136,7 @@ module _ (old new : Memory) (at : ℕ) (p : List ℕ) (fits : at + length p ≤ 
   memory_written most is pages marks =
       let r = is.bytes in
       let s = is.size in
-      let long : length new.bytes.items ≡ length old.bytes.items = ap length bytes ∙ length-written at p old.bytes.items (within most is) in
+      let long : length new.bytes.items ≡ length old.bytes.items = ap length bytes ∙ length-written old.bytes.items at p (within most is) in
       record {
         bytes = rw long is.bytes;
         marks = rw marks is.marks;

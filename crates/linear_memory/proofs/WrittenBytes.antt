@@ -30,16 +30,6 @@ drop-over (suc at) (suc k) p xs zero e h l = absurd (omega arith)
 drop-over (suc at) (suc k) p [] (suc n) e h l = absurd (omega arith)
 drop-over (suc at) (suc k) p (x ∷ xs) (suc n) e h l = drop-over at k p xs n (omega arith) (omega arith) (omega arith)
 
-length-over : (at k : ℕ) (p xs : List ℕ) → k ≡ at + length p → k ≤ length xs → length (over at k p xs) ≡ length xs
-length-over zero zero [] xs e h = refl
-length-over zero (suc k) [] xs e h = absurd (omega arith)
-length-over zero zero (b ∷ p) xs e h = absurd (omega arith)
-length-over zero (suc k) (b ∷ p) [] e h = absurd (omega arith)
-length-over zero (suc k) (b ∷ p) (x ∷ xs) e h = omega (arith, length-over zero k p xs (omega arith) (omega arith))
-length-over (suc at) zero p xs e h = absurd (omega arith)
-length-over (suc at) (suc k) p [] e h = absurd (omega arith)
-length-over (suc at) (suc k) p (x ∷ xs) e h = omega (arith, length-over at k p xs (omega arith) (omega arith))
-
 outside_over : (at k : ℕ) (p xs : List ℕ) (i : ℕ) → k ≡ at + length p → k ≤ length xs → (i < at) ⊎ (k ≤ i) → get_or (over at k p xs) i 0 ≡ get_or xs i 0
 outside_over zero zero [] xs i e h w = refl
 outside_over zero (suc k) [] xs i e h w = absurd (omega arith)
@@ -59,9 +49,6 @@ take-written at p xs n h l = take-over at (at + length p) p xs n refl h l
 
 pub drop-written : (at : ℕ) (p xs : List ℕ) (n : ℕ) → at + length p ≤ n → n ≤ length xs → drop n (written xs at p) ≡ drop n xs
 drop-written at p xs n h l = drop-over at (at + length p) p xs n refl h l
-
-pub length-written : (at : ℕ) (p xs : List ℕ) → at + length p ≤ length xs → length (written xs at p) ≡ length xs
-length-written at p xs h = length-over at (at + length p) p xs refl h
 
 pub outside_written : (at : ℕ) (p xs : List ℕ) (i : ℕ) → at + length p ≤ length xs → (i < at) ⊎ (at + length p ≤ i) → get_or (written xs at p) i 0 ≡ get_or xs i 0
 outside_written at p xs i h w = outside_over at (at + length p) p xs i refl h w

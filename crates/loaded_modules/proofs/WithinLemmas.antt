@@ -1,29 +1,15 @@
 -- A module that loading gives.
-use Rattle.std.proofs.Common.{◌≡◌, ℕ, ◌≤◌, ◌+◌, Bool, true, false, cond, List, [], ◌∷◌, length, refl, sym, subst}
-use Rattle.std.specs.Prelude.{Option, Some, None, Ok, All, map, find, nat_lt}
+use Rattle.std.proofs.Common.{◌≡◌, ℕ, ◌≤◌, ◌+◌, List, [], ◌∷◌, length, sym, subst}
+use Rattle.std.specs.Prelude.{None, Ok, All, map, find, nat_lt}
 use Rattle.std.specs.List.{enumerate_from}
-use Rattle.std.proofs.lemmas.Bool.{ltb-false}
 use Rattle.std.proofs.lemmas.List.Elements.{All-nil, All-cons}
 use Rattle.wasm_types.specs.declared.limits.LoadLimits.{LoadLimits}
 use Rattle.wasm_types.specs.Tree.{FunctionTree, ModuleTree}
 use Rattle.wasm_spec.specs.Need.{need}
-use Rattle.wasm_spec.specs.Store.{Extent, minimum_of, first_misfit}
-use Rattle.wasm_spec.specs.Loading.{Frame, Demand, Loads, first_over, refusal_of}
+use Rattle.wasm_spec.specs.Store.{minimum_of, first_misfit}
+use Rattle.wasm_spec.specs.Loading.{Frame, Demand, Loads, first_over}
+use Rattle.wasm_spec.proofs.Loading.{no_refusal, first_keeps}
 use Rattle.loaded_modules.specs.Within.{IsWithin}
-
-no_refusal : (d : Option Demand) (e : Option Extent) → refusal_of d e ≡ None → (d ≡ None) × (e ≡ None)
-no_refusal None None h = (refl, refl)
-no_refusal None (Some x) h = absurd (cc)
-no_refusal (Some y) e h = absurd (cc)
-
--- a demand that is not found to be over keeps to its limit, and the others are not found either
-first_keeps : (limit value : ℕ) (d : Demand) (rest : Option Demand) → ◌≡◌ {A = Option Demand} (cond (nat_lt limit value) (Some d) rest) None
-    → (value ≤ limit) × (rest ≡ None)
-first_keeps limit value d rest h =
-    let split : (b : Bool) → nat_lt limit value ≡ b → ◌≡◌ {A = Option Demand} (cond b (Some d) rest) None → (value ≤ limit) × (rest ≡ None) = elim [
-      | true ↦ λ q n. absurd (cc)
-      | false ↦ λ q n. (ltb-false limit value q, n)
-    ] in split (nat_lt limit value) refl h
 
 frames_keep : (m : ModuleTree) (most k : ℕ) (fs : List FunctionTree)
     → find (λ (d : Demand). nat_lt d.limit d.value) (map (λ (f : ℕ × FunctionTree). record { which = Frame f.0; value = need m f.1; limit = most }) (enumerate_from k fs)) ≡ None

@@ -3,10 +3,10 @@ use Rattle.std.proofs.Common.{◌≡◌, ℕ, ◌+◌, ◌-◌, ◌*◌, ◌≤�
 use Rattle.std.specs.Prelude.{Bool, replicate, slice_index}
 use Rattle.std.proofs.lemmas.List.{length-replicate}
 use Rattle.wasm_types.specs.Tree.{ModuleTree}
-use Rattle.wasm_types.specs.declared.types.Limits.{Limits}
 use Rattle.wasm_types.specs.declared.limits.LoadLimits.{LoadLimits}
-use Rattle.wasm_spec.specs.Store.{fresh_store, minimum_of, memory_size, page_size}
+use Rattle.wasm_spec.specs.Store.{fresh_store, memory_size, page_size}
 use Rattle.wasm_spec.proofs.ResultLaws.{length-fresh_memory}
+use Rattle.wasm_spec.proofs.StoreSizes.{minimum_within}
 use Rattle.pool_worlds.specs.Contents.{filled, HasImageOutside}
 use Rattle.pool_worlds.proofs.Images.{from_bytes, without_zeros, filled-at, outside_from}
 use Rattle.loaded_modules.specs.Within.{IsWithin}
@@ -17,9 +17,7 @@ use Rattle.memory_slots.specs.Images.{HasImage, KeepsImage}
 -- the kept part of the image, and all of it
 module _ (limits : LoadLimits) (m : ModuleTree) (image : Image) (within : IsWithin limits m) (is : IsImageOf m image) where
   fresh_fits : length (fresh_store m).memory ≤ limits.pages * page_size
-  fresh_fits = fits m.memories limits.pages (length (fresh_store m).memory) (length-fresh_memory m within.segments) within.pages where
-    fits : (ms : List Limits) (pages n : ℕ) → n ≡ minimum_of ms * page_size → minimum_of ms ≤ pages → n ≤ pages * page_size
-    fits ms pages n e le = omega arith
+  fresh_fits = minimum_within m.memories limits.pages (length (fresh_store m).memory) (length-fresh_memory m within.segments) within.pages
 
   long : length image.memory + (memory_size m - length image.memory) ≡ length (fresh_store m).memory
   long =

@@ -10,6 +10,7 @@ use Rattle.wasm_spec.specs.Store.{Store, page_size}
 use Rattle.wasm_spec.specs.Typing.{type_of}
 use Rattle.wasm_spec.specs.Instances.{room_for}
 use Rattle.wasm_types.specs.declared.types.Limits.{Limits}
+use Rattle.wasm_spec.proofs.StoreSizes.{whole_pages}
 use Rattle.linear_memory.specs.declared.memory.Memory.{Memory}
 use Rattle.linear_memory.specs.Bytes.{IsMemory, shown, size_of}
 use Rattle.linear_memory.specs.Marks.{HasSameRoom, KeepsUnmarked}
@@ -88,15 +89,13 @@ module _ (config : Numbers) (most : ℕ) (old new : Memory) (holds : Option Name
     outside = λ i q. shown_byte i ∙ unmarked.bytes i q ∙ kept.outside i (unmarked.marks i q);
   }
 
-  whole_pages : new.pages ≡ length (shown new) / page_size
-  whole_pages = sym (ap (λ (n : ℕ). n / page_size) length-shown ∙ whole new.pages) where
-    whole : (n : ℕ) → n * page_size / page_size ≡ n
-    whole n = omega arith
+  pages_are : new.pages ≡ length (shown new) / page_size
+  pages_are = sym (ap (λ (n : ℕ). n / page_size) length-shown ∙ whole_pages new.pages)
 
   pub memory_left : (s : Store) → s.memory ≡ shown new → contents_of new holds ≡ turned config.pages s new.marks.items contents.Memory (contents_of old holds)
   memory_left s is =
       let bytes = filled_is ∙ ap (filled config.pages) (sym is) in
-      let pages = whole_pages ∙ ap (λ (l : List ℕ). length l / page_size) (sym is) in
+      let pages = pages_are ∙ ap (λ (l : List ℕ). length l / page_size) (sym is) in
       λ i. record { bytes = bytes i; pages = pages i; marks = new.marks.items; holds = holds }
 
 -- ---- the globals

@@ -1,3 +1,4 @@
 pub mod ImageLemmas
 pub mod KeptLemmas
 pub mod LentLemmas
+pub mod MarkLemmas

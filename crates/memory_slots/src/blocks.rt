@@ -1,5 +1,5 @@
 //! Blocks of a memory, and how they are written over from an image.
-ghost use Rattle.std.specs.Prelude.{◌≡◌, ◌≢◌, ◌+◌, ◌*◌, ◌<◌, ◌≤◌, false, ℕ, length, slice_index, slice_index_or, count_by, if◌then◌else◌};
+ghost use Rattle.std.specs.Prelude.{◌≡◌, ◌≢◌, ◌+◌, ◌*◌, ◌<◌, ◌≤◌, ◌↔◌, IsTrue, false, ℕ, length, take, slice_index, slice_index_or, count_by, if◌then◌else◌};
 ghost use Rattle.linear_memory.specs.Marks.{block_size};
 ghost use Rattle.pool_worlds.specs.Contents.{IsClean};
 ghost use Rattle.memory_slots.specs.Images.{HasImageFrom, HasImage, KeepsImage};
@@ -7,6 +7,9 @@ ghost use Rattle.memory_slots.specs.Images.{HasImageFrom, HasImage, KeepsImage};
 use crate::steps::Steps;
 use linear_memory::BLOCK_SIZE;
 use std::sync::ledger::Ledger;
+
+// How many marks are looked at together.
+const GROUP: usize = 128;
 
 // Writes what the image has from a place on: its bytes, and zeros past its end.
 fn write_image(part: &mut [u8], image: &[u8], from: usize)
@@ -45,7 +48,47 @@ fn restore_block<L: Ledger>(
     steps.tick();
 }
 
-// Writes the blocks that are marked over from the image, in one step each, and takes their marks away.
+// Whether a block is marked. No mark ends the loop early, so that it looks at many in one step.
+fn has_marked(marks: &[bool]) -> bool
+    ensures { IsTrue result ↔ (0 < count_by (λ marked. marked) marks.now) }
+{
+    let mut any = false;
+    for marked in marks {
+        any |= *marked;
+    }
+    any
+}
+
+// Writes those of the blocks from `first` up to `end` that are marked over from the image, in one step each, and takes their marks
+// away.
+fn restore_group<L: Ledger>(
+    bytes: &mut [u8],
+    marks: &mut [bool],
+    image: &[u8],
+    first: usize,
+    end: usize,
+    steps: &mut Steps<L>,
+)
+    requires marked { length bytes.old ≡ block_size * length marks.old }
+    requires blocks { (first ≤ end) × (end ≤ length marks.old) }
+    requires outside { KeepsImage bytes.old marks.old image.now }
+    ensures outside { KeepsImage bytes.new marks.new image.now }
+    ensures clean { (k : ℕ) → first ≤ k → k < end → slice_index_or marks.new k false ≡ false }
+    ensures before { (k : ℕ) → k < first → slice_index_or marks.new k false ≡ slice_index_or marks.old k false }
+    ensures after { (k : ℕ) → end ≤ k → slice_index_or marks.new k false ≡ slice_index_or marks.old k false }
+    ensures room { (length bytes.new ≡ length bytes.old) × (length marks.new ≡ length marks.old) }
+    ensures steps { steps.new + count_by (λ marked. marked) (take first marks.old) ≡ steps.old + count_by (λ marked. marked) (take end marks.old) }
+{
+    if !has_marked(&marks[first..end]) {
+        return;
+    }
+    for block in first..end {
+        restore_block(bytes, marks, image, block, steps);
+    }
+}
+
+// Writes the blocks that are marked over from the image, in one step each, and takes their marks away. Of blocks that are not
+// marked it looks at many together, since most are not.
 pub(crate) fn restore_marked<L: Ledger>(
     bytes: &mut [u8],
     marks: &mut [bool],
@@ -59,8 +102,11 @@ pub(crate) fn restore_marked<L: Ledger>(
     ensures room { (length bytes.new ≡ length bytes.old) × (length marks.new ≡ length marks.old) }
     ensures steps { steps.new ≡ steps.old + count_by (λ marked. marked) marks.old }
 {
-    for block in 0..marks.len() {
-        restore_block(bytes, marks, image, block, steps);
+    let mut first = 0;
+    while first < marks.len() {
+        let end = first + GROUP.min(marks.len() - first);
+        restore_group(bytes, marks, image, first, end, steps);
+        first = end;
     }
 }
 

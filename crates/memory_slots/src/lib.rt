@@ -7,6 +7,8 @@ mod images;
 mod pool;
 mod slot;
 mod steps;
+#[cfg(test)]
+mod tests;
 
 pub use linear_memory::Memory;
 pub use pool::MemoryPool;

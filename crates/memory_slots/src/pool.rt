@@ -77,7 +77,7 @@ impl<N: Naming> MemoryPool<N> {
     }
 
     /// Takes a memory and makes it the module's fresh one: the first along the order of the module's tag that it wins, or else,
-    /// after a flush, any. Takes no memory of the program's.
+    /// after a flush, any. It allocates nothing.
     ///
     /// # Errors
     ///
@@ -112,7 +112,7 @@ impl<N: Naming> MemoryPool<N> {
     }
 
     /// Gives a memory that belongs to a module back, to await its decommit. With the configured batch of them awaiting, a flush
-    /// follows. Takes no memory of the program's.
+    /// follows. It allocates nothing.
     pub fn give(
         &self,
         pass: &mut Pass<MemSlot<N>>,
@@ -133,7 +133,7 @@ impl<N: Naming> MemoryPool<N> {
         hand_in(&self.words, pass, lease, store, batch);
     }
 
-    /// Joins another pass of this pool into this one, which then stands for both. Takes no memory.
+    /// Joins another pass of this pool into this one, which then stands for both. It allocates nothing.
     pub fn join_pass(&self, pass: &mut Pass<MemSlot<N>>, other: Pass<MemSlot<N>>)
         requires own { IsMemoryPass self.now pass.old }
         requires idle { IsIdle pass.old }

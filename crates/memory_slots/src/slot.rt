@@ -31,7 +31,7 @@ use wasm_validate::Valid;
 /// module's image, so it lends no `&mut` of its memory. Contracts see its contents.
 #[derive(Drop)]
 pub struct MemSlot<N: Naming> {
-    memory: Memory,
+    pub(crate) memory: Memory,
     holds: Option<ModuleRef<N>>,
 }
 

@@ -1,11 +1,11 @@
 -- What a fault of the image says of the bytes.
 use Rattle.std.proofs.Common.{◌≡◌, ℕ, List, ap, ◌∙◌}
-use Rattle.std.specs.Prelude.{Option, Some, None}
+use Rattle.std.specs.Prelude.{Option, None}
 use Rattle.wasm_types.specs.declared.limits.LoadLimits.{LoadLimits}
 use Rattle.wasm_types.specs.Tree.{ModuleTree}
 use Rattle.wasm_spec.specs.Grammar.{Spells}
 use Rattle.wasm_spec.specs.Validity.{IsSupported, IsValid}
-use Rattle.wasm_spec.specs.Store.{Extent, first_misfit}
+use Rattle.wasm_spec.specs.Store.{first_misfit}
 use Rattle.wasm_spec.specs.Loading.{Demand, first_over, refusal_of}
 use Rattle.initial_image.specs.declared.image.ImageFault.{ImageFault}
 use Rattle.initial_image.specs.declared.image.ImageFault.TheVariants.{Segment, NoMemory}

@@ -7,8 +7,8 @@ use Rattle.initial_image.specs.Segments.{extent_of}
 use Rattle.initial_image.specs.declared.image.ImageFault.{ImageFault}
 use Rattle.initial_image.specs.declared.image.ImageFault.TheVariants as image
 use Rattle.pool_limits.specs.Limits.{demand_of}
-use Rattle.wasm_decode.specs.declared.fault.DecodeFault.{DecodeFault}
-use Rattle.wasm_decode.specs.declared.fault.DecodeFault.TheVariants as decode
+use Rattle.instr_decode.specs.declared.fault.DecodeFault.{DecodeFault}
+use Rattle.instr_decode.specs.declared.fault.DecodeFault.TheVariants as decode
 use Rattle.wasm_validate.specs.declared.valid.ValidFault.{ValidFault}
 use Rattle.wasm_validate.specs.declared.valid.ValidFault.TheVariants as valid
 use Rattle.module_store.specs.declared.fault.LoadFault.{LoadFault}

@@ -22,7 +22,8 @@ use Rattle.pool_core.proofs.CoreChanges.{IsFairSeatChange, lawful_seat_change}
 use Rattle.pool_core.proofs.SeatChanges.{CanRelease, IsAtRest, at_rest_of, holds_it, live_away, lawful_when_won, lawful_release, lawful_restage}
 use Rattle.pool_core.proofs.WordBits.{bit_le}
 
-passes : (b : Bool) (k r : ℕ) → cond b (suc k) r ≡ 0 → (b ≡ false) × (r ≡ 0)
+-- a rule that is not broken leaves the answer to the rules after it
+pub passes : (b : Bool) (k r : ℕ) → cond b (suc k) r ≡ 0 → (b ≡ false) × (r ≡ 0)
 passes true k r e = absurd (omega arith)
 passes false k r e = (refl, e)
 

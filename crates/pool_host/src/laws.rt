@@ -4,8 +4,11 @@ ghost use Rattle.wasm_types.specs.declared.outcome.Val.{Val};
 ghost use Rattle.wasm_types.specs.Tree.{ModuleTree};
 ghost use Rattle.wasm_types.specs.declared.limits.RunLimits.{RunLimits};
 ghost use Rattle.wasm_spec.specs.Validity.{IsValid};
+ghost use Rattle.pool_worlds.specs.Worlds.{AlwaysShadow, TwoWorldsAgree, AnswersAgree, RunsAreTurns, PreparingTwiceIsOnce};
 ghost use Rattle.pool_host.specs.CallWords.{IsAnswer};
 ghost use Rattle.pool_host.specs.declared.lane.LaneAnswer.{LaneAnswer};
+
+use pool_worlds::laws as worlds;
 
 /// A call of a valid module has one answer: nothing but the module, the limits, the export, the arguments and the fuel
 /// decides it.
@@ -13,3 +16,34 @@ pub fn a_call_has_one_answer()
     ensures { (m : ModuleTree) (limits : RunLimits) (export : List ℕ) (args : List Val) (fuel : ℕ) (a b : LaneAnswer)
         → IsValid m → IsAnswer m limits export args fuel a → IsAnswer m limits export args fuel b → a ≡ b }
 {}
+
+/// Whatever events came to pools since their opening, each running call has the store of a fresh instance after as many turns,
+/// with nothing past its memory's size, and will be answered as that is.
+pub fn shadow()
+    ensures { AlwaysShadow }
+{
+    worlds::shadow();
+}
+
+/// In any two worlds with the same limits two calls of one request agree, after as many turns, on memory, size, table and
+/// globals, and on their answers. Modules' numbers, the slots and all other callers may differ.
+pub fn two_worlds()
+    ensures turns { TwoWorldsAgree }
+    ensures answers { AnswersAgree }
+{
+    worlds::two_worlds();
+}
+
+/// What a call's run does to its slots, as [`Host::call`](crate::Host::call) tells it, is turns of the call, after which it ends.
+pub fn runs_are_turns()
+    ensures { RunsAreTurns }
+{
+    worlds::runs_are_turns();
+}
+
+/// To prepare what a take has prepared for the same module changes nothing, so a take may prepare before the call begins.
+pub fn preparing_twice_is_once()
+    ensures { PreparingTwiceIsOnce }
+{
+    worlds::preparing_twice_is_once();
+}

@@ -1,18 +1,20 @@
--- One call of a small module, event by event: all that the definitions ask of a call can be met.
+-- One call of `add`, event by event: all that the definitions ask of a call can be met.
 use Rattle.std.proofs.Common.{◌≡◌, true≢false, List, [], ◌∷◌, refl, sym, arith}
-use Rattle.std.specs.Prelude.{Some, None}
+use Rattle.std.specs.Prelude.{Option, Some, None}
+use Rattle.wasm_types.specs.declared.outcome.Val.{Val}
 use Rattle.wasm_types.specs.declared.outcome.Val.TheVariants.{I32}
+use Rattle.wasm_types.specs.declared.outcome.Outcome.{Outcome}
 use Rattle.wasm_types.specs.declared.outcome.Outcome.TheVariants as outcome
 use Rattle.wasm_spec.specs.Execution.{exec}
 use Rattle.wasm_spec.specs.Store.{fresh_store}
+use Rattle.wasm_spec.proofs.AddModule.{add, add_bytes, add_loads, add_type}
 use Rattle.pool_core.specs.declared.events.Event.TheVariants.{Claim, Out}
 use Rattle.pool_core.specs.PoolCore.{opening_core}
 use Rattle.pool_worlds.specs.Contents.{Named, Kind, Ticket, Memory, Table, Contents, memory_image, needs}
-use Rattle.pool_worlds.proofs.SmallModule.{small, small_bytes, small_loads, unit_type}
 use Rattle.pool_worlds.specs.PoolMachine.{World, Request, Machine, WorldEvent, Step, Begin, Turn, End, IsModule, IsCallable, AllMayHappen, answer, IsOpening}
 
 abbrev named : Named
-named = record { number = 0; tag = 0; tree = small }
+named = record { number = 0; tag = 0; tree = add }
 
 abbrev world : World
 world = record { limits = record { pages = 1; elements = 0; frame = 8; depth = 4 }; shelf = λ n. named; seats = λ k i. i; apart = λ k i j e. e }
@@ -40,16 +42,19 @@ opens = record {
   cold-is Table = (refl, refl)
 
 abbrev request : Request
-request = record { named = named; function = 0; arguments = []; fuel = 100 }
+request = record { named = named; function = 0; arguments = I32 2 ∷ I32 3 ∷ []; fuel = 100 }
 
 abbrev events : List WorldEvent
-events = Step Ticket (Claim 0 0) ∷ Step Ticket (Out 0 0) ∷ Begin 0 request ∷ Turn 0 [] ∷ End 0 ∷ []
+events = Step Ticket (Claim 0 0) ∷ Step Ticket (Out 0 0) ∷ Begin 0 request ∷ Turn 0 [] ∷ Turn 0 [] ∷ Turn 0 [] ∷ End 0 ∷ []
 
 is-module : IsModule world named
-is-module = record { on_shelf = refl; bytes = small_bytes; loads = small_loads }
+is-module = record { on_shelf = refl; bytes = add_bytes; loads = add_loads }
 
 callable : IsCallable request
-callable = record { export = []; exported = record { place = 0; export = _; there = refl; named = refl; function = refl }; type = unit_type; typed = refl; fitting = refl }
+callable = record { export = 0x61 ∷ 0x64 ∷ 0x64 ∷ []; exported = record { place = 0; export = _; there = refl; named = refl; function = refl }; type = add_type; typed = refl; fitting = refl }
+
+done-ends : (v : Option Val) → ◌≡◌ {A = Option Outcome} (Some (outcome.Done v)) (Some outcome.Fuel) → ⊥
+done-ends v h = cc
 
 pub all-happen : AllMayHappen world opened events
 unfolding exec
@@ -61,7 +66,13 @@ all-happen = (
       (refl, elim [ Ticket ↦ λ h. record { number = 0; holds = refl; out = refl } | Memory ↦ λ h. absurd (true≢false (sym h)) | Table ↦ λ h. absurd (true≢false (sym h)) ], is-module, callable),
       (
         (_, refl, record { fuel = omega arith; unfinished = refl; next = refl }, λ h. absurd (true≢false (sym h))),
-        ((_, refl, λ can. let never = can.unfinished in absurd (cc)), tt),
+        (
+          (_, refl, record { fuel = omega arith; unfinished = refl; next = refl }, λ h. absurd (true≢false (sym h))),
+          (
+            (_, refl, record { fuel = omega arith; unfinished = refl; next = refl }, λ h. absurd (true≢false (sym h))),
+            ((_, refl, λ can. done-ends _ can.unfinished), tt),
+          ),
+        ),
       ),
     ),
   ),
@@ -70,7 +81,7 @@ all-happen = (
 pub is-opening : IsOpening world opened
 is-opening = opens
 
--- and it is answered that it is done
-pub answered : answer world (record { request = request; begun = fresh_store small; turns = 1 }) ≡ Some (outcome.Done None)
+-- and it is answered that the sum is 5
+pub answered : answer world (record { request = request; begun = fresh_store add; turns = 3 }) ≡ Some (outcome.Done (Some (I32 5)))
 unfolding exec
 answered = refl

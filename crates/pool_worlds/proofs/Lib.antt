@@ -4,5 +4,4 @@ pub mod Steps
 pub mod Shadows
 pub mod Turns
 pub mod Images
-mod SmallModule
 mod Example

@@ -6,9 +6,11 @@ use Rattle.std.proofs.lemmas.Bool.{ltb-false, eqb-true, cases_lt}
 use Rattle.wasm_types.specs.declared.outcome.Val.{Val}
 use Rattle.wasm_types.specs.declared.types.Limits.{Limits}
 use Rattle.wasm_types.specs.Tree.{ModuleTree}
-use Rattle.wasm_spec.specs.Store.{Store, Extent, fresh_store, minimum_of, page_size, first_misfit}
-use Rattle.wasm_spec.specs.Loading.{Demand, first_over, refusal_of}
+use Rattle.wasm_spec.specs.Store.{Store, fresh_store, minimum_of, page_size, first_misfit}
+use Rattle.wasm_spec.specs.Loading.{first_over}
 use Rattle.wasm_spec.specs.Instances.{IsInstance, room_for}
+use Rattle.wasm_spec.proofs.StoreSizes.{whole_pages, pages_within, minimum_within}
+use Rattle.wasm_spec.proofs.Loading.{no_refusal, first_keeps}
 use Rattle.wasm_spec.proofs.ResultLaws.{length-fresh_memory, length-fresh_table, fresh-instance}
 use Rattle.pool_worlds.specs.Contents.{Named, Kind, Ticket, Memory, Table, MemoryContents, TableContents, Contents, owner, belongs_to, filled, memory_image, table_image, is_marked, rewritten_from, prepared, restored_for, restored, replaced, needs, shown_memory, shown_table, shown, turned, Marks, IsCold, HasImageOutside}
 use Rattle.pool_worlds.specs.PoolMachine.{World, IsModule, load_limits}
@@ -21,23 +23,11 @@ pub record Fits (pages : ℕ) (m : ModuleTree) : Type 0 where
   pub misfit : first_misfit m ≡ None
   pub size : minimum_of m.memories ≤ pages
 
-no_refusal : (d : Option Demand) (e : Option Extent) → refusal_of d e ≡ None → (d ≡ None) × (e ≡ None)
-no_refusal None None h = (refl, refl)
-no_refusal None (Some x) h = absurd (cc)
-no_refusal (Some y) e h = absurd (cc)
-
-not_over : (limit value : ℕ) (d : Demand) (rest : Option Demand) → ◌≡◌ {A = Option Demand} (cond (ltb limit value) (Some d) rest) None → value ≤ limit
-not_over limit value d rest h =
-    let split : (b : Bool) → ltb limit value ≡ b → ◌≡◌ {A = Option Demand} (cond b (Some d) rest) None → value ≤ limit = elim [
-      | true ↦ λ q n. absurd (cc)
-      | false ↦ λ q n. ltb-false limit value q
-    ] in split (ltb limit value) refl h
-
 pub fits : (w : World) (m : Named) → IsModule w m → Fits w.limits.pages m.tree
 fits w m is = let l = is.loads in let tree : ModuleTree = l.tree in
     let same : m.tree ≡ tree = l.answers.1 in
     let n = no_refusal (first_over (load_limits w.limits) tree) (first_misfit tree) l.answers.0.late_is in
-    let le : minimum_of tree.memories ≤ w.limits.pages = not_over w.limits.pages (minimum_of tree.memories) _ _ n.0 in
+    let le : minimum_of tree.memories ≤ w.limits.pages = (first_keeps w.limits.pages (minimum_of tree.memories) _ _ n.0).0 in
     subst (Fits w.limits.pages) (sym same) (record { misfit = n.1; size = le })
 
 -- ---- bytes
@@ -95,9 +85,7 @@ IsKept w Table x = IsOwned w x.holds × (x.entries ≡ table_image x.holds)
 -- the image of a loaded module fills the memory
 length-image : (w : World) (m : Named) → IsModule w m → length (memory_image w.limits.pages (Some m)) ≡ w.limits.pages * page_size
 length-image w m is = let f = fits w m is in let long = length-fresh_memory m.tree f.misfit in let le = f.size in
-    length-filled w.limits.pages (fresh_store m.tree).memory (least m.tree.memories w.limits.pages (length (fresh_store m.tree).memory) long le) where
-      least : (ms : List Limits) (pages n : ℕ) → n ≡ minimum_of ms * page_size → minimum_of ms ≤ pages → n ≤ pages * page_size
-      least ms pages n e le = omega arith
+    length-filled w.limits.pages (fresh_store m.tree).memory (minimum_within m.tree.memories w.limits.pages (length (fresh_store m.tree).memory) long le)
 
 -- contents that belong to the module of this number belong to this module
 own-is : (w : World) (m : Named) (own : Option Named) → IsModule w m → IsOwned w own → belongs_to m own ≡ true → own ≡ Some m
@@ -205,9 +193,7 @@ shows-store w m s marks x misfit is =
     let globals = take_at s.globals (drop (length s.globals) (x Ticket)) (length m.globals) is.globals_are in
     λ i. record { memory = memory i; table = table i; globals = globals i } where
       whole_size : (n size : ℕ) → n ≡ size * page_size → n / page_size * page_size ≡ n
-      whole_size n size e = ap (λ (k : ℕ). k / page_size * page_size) e ∙ same size ∙ sym e where
-        same : (size : ℕ) → size * page_size / page_size * page_size ≡ size * page_size
-        same size = omega arith
+      whole_size n size e = ap (λ (k : ℕ). k / page_size * page_size) e ∙ ap (λ (k : ℕ). k * page_size) (whole_pages size) ∙ sym e
 
 -- prepared for a module, they show its fresh store
 pub shows-fresh : (w : World) (m : Named) (x : (k : Kind) → Contents k) → IsModule w m → ((k : Kind) → IsKept w k (x k))
@@ -269,17 +255,13 @@ bytes-are pages size bytes memory room le is past =
     ])
 
 size-is : (pages : ℕ) (bytes memory : List ℕ) → pages * page_size ≤ length bytes → take (pages * page_size) bytes ≡ memory → length memory / page_size ≡ pages
-size-is pages bytes memory le is = let long : length memory ≡ pages * page_size = ap length (sym is) ∙ length-take-le (pages * page_size) bytes le in ap (λ (n : ℕ). n / page_size) long ∙ quotient pages where
-  quotient : (n : ℕ) → n * page_size / page_size ≡ n
-  quotient n = omega arith
+size-is pages bytes memory le is = let long : length memory ≡ pages * page_size = ap length (sym is) ∙ length-take-le (pages * page_size) bytes le in ap (λ (n : ℕ). n / page_size) long ∙ whole_pages pages
 
 -- the size of a memory that shows these bytes
 pub size-shown : (w : World) (m : ModuleTree) (x : (k : Kind) → Contents k) (s : Store) → needs Memory m ≡ true → IsKept w Memory (x Memory) → shown m x ≡ s → (x Memory).pages ≡ length s.memory / page_size
 size-shown w m x s need kept shows =
     let is : take ((x Memory).pages * page_size) (x Memory).bytes ≡ s.memory = ap (λ (b : Bool). shown_memory b (x Memory)) (sym need) ∙ ap (λ (t : Store). t.memory) shows in
-    sym (size-is (x Memory).pages (x Memory).bytes s.memory (room-for (x Memory).pages w.limits.pages (length (x Memory).bytes) kept.room kept.size) is) where
-      room-for : (n pages long : ℕ) → long ≡ pages * page_size → n ≤ pages → n * page_size ≤ long
-      room-for n pages long e le = omega arith
+    sym (size-is (x Memory).pages (x Memory).bytes s.memory (pages_within (x Memory).pages w.limits.pages (length (x Memory).bytes) kept.room kept.size) is)
 
 -- contents that show a store are those after a turn that left it and marked nothing
 pub turned-still : (w : World) (m : ModuleTree) (s : Store) (marks : List Bool) (x : (k : Kind) → Contents k) → shown m x ≡ s → ((k : Kind) → IsKept w k (x k)) → length s.globals ≡ length m.globals
@@ -290,13 +272,11 @@ turned-still w m s marks x shows kept globals past still Ticket need =
 turned-still w m s marks x shows kept globals past still Memory need =
     let y : MemoryContents = x Memory in let k = kept Memory in
     let is : take (y.pages * page_size) y.bytes ≡ s.memory = ap (λ (b : Bool). shown_memory b y) (sym need) ∙ ap (λ (t : Store). t.memory) shows in
-    let le : y.pages * page_size ≤ length y.bytes = let room = k.room in let size = k.size in room-for y.pages w.limits.pages (length y.bytes) room size in
+    let le : y.pages * page_size ≤ length y.bytes = let room = k.room in let size = k.size in pages_within y.pages w.limits.pages (length y.bytes) room size in
     let bytes : y.bytes ≡ filled w.limits.pages s.memory = bytes-are w.limits.pages (y.pages * page_size) y.bytes s.memory k.room le is (past need) in
     let size = size-is y.pages y.bytes s.memory le is in
     let same = still need in
-    λ i. record { bytes = sym bytes i; pages = size i; marks = same i; holds = y.holds } where
-      room-for : (n pages long : ℕ) → long ≡ pages * page_size → n ≤ pages → n * page_size ≤ long
-      room-for n pages long e le = omega arith
+    λ i. record { bytes = sym bytes i; pages = size i; marks = same i; holds = y.holds }
 turned-still w m s marks x shows kept globals past still Table need =
     let is : (x Table).entries ≡ s.table = ap (λ (b : Bool). shown_table b (x Table)) (sym need) ∙ ap (λ (t : Store). t.table) shows in
     λ i. record { entries = sym is i; holds = (x Table).holds }

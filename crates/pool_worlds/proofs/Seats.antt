@@ -1,19 +1,19 @@
 -- What an event of the core leaves to the other seats.
-use Rattle.std.proofs.Common.{◌≡◌, ◌≢◌, ℕ, zero, suc, Bool, true, false, cond, not, ◌||◌, List, [], ◌∷◌, get_or, refl, sym, ap, ◌∙◌, arith, true≢false}
+use Rattle.std.proofs.Common.{◌≡◌, ◌≢◌, ℕ, zero, suc, Bool, true, false, cond, not, List, [], ◌∷◌, get_or, refl, sym, ap, ◌∙◌, true≢false}
 use Rattle.std.specs.Prelude.{Some, None, map, ◌==◌}
-use Rattle.std.proofs.lemmas.Bool.{eqb-true, not-false}
+use Rattle.std.proofs.lemmas.Bool.{eqb-true, not-false, or_parts}
 use Rattle.pool_core.specs.declared.events.Event.{Event}
 use Rattle.pool_core.specs.declared.events.Event.TheVariants.{AwaitDown, AwaitLoad, AwaitUp, Claim, Close, Home, Join, Load, Out, Release, Split, Stamp, WarmDown, WarmLoad, WarmUp}
 use Rattle.pool_core.specs.declared.seats.Seat.{Seat}
-use Rattle.pool_core.specs.declared.seats.Stage.{Stage}
-use Rattle.pool_core.specs.declared.seats.Stage.TheVariants.{Unmade, Live, Joined, Closed}
-use Rattle.pool_core.specs.PoolCore.{PoolCore, idle_seat, seat_at, is_idle, is_live, is_unmade, is_away}
+use Rattle.pool_core.specs.declared.seats.Stage.TheVariants.{Unmade, Closed}
+use Rattle.pool_core.specs.PoolCore.{PoolCore, idle_seat, seat_at, is_idle, is_live, is_unmade}
 use Rattle.pool_core.specs.EventEffects.{core_after, closed_seat}
 use Rattle.pool_core.specs.RefusalRules.{refusal_of, seat_of, breaks_seat_rule, breaks_idle_rule}
 use Rattle.pool_core.specs.Lawful.{Lawful}
 use Rattle.pool_core.specs.Changes.{may_change_seat}
 use Rattle.pool_core.proofs.ChangeLemmas.{changes_only}
 use Rattle.pool_core.proofs.SeatChanges.{at_rest_of}
+use Rattle.pool_core.proofs.LawfulSteps.{passes, away_of_unmade}
 
 -- a seat holds and has out what it did
 pub record Stays (p q : Seat) : Type 0 where
@@ -23,33 +23,19 @@ pub record Stays (p q : Seat) : Type 0 where
 same : (p q : Seat) → q ≡ p → Stays p q
 same p q e = record { holds = ap (λ (s : Seat). s.holds) e; out = ap (λ (s : Seat). s.out) e }
 
-passes : (b : Bool) (n rest : ℕ) → cond b (suc n) rest ≡ 0 → (b ≡ false) × (rest ≡ 0)
-passes true n rest h = absurd (omega arith)
-passes false n rest h = (refl, h)
-
 seat_rule : (c : PoolCore) (e : Event) → refusal_of c e ≡ 0 → breaks_seat_rule c e ≡ false
 seat_rule c e h = (passes (breaks_seat_rule c e) 0 _ h).0
 
 idle_rule : (c : PoolCore) (e : Event) → refusal_of c e ≡ 0 → breaks_idle_rule c e ≡ false
 idle_rule c e h = (passes (breaks_idle_rule c e) 2 _ (passes _ 1 _ (passes (breaks_seat_rule c e) 0 _ h).1).1).0
 
-or_right : (x y : Bool) → (x || y) ≡ false → y ≡ false
-or_right true y h = absurd (true≢false h)
-or_right false y h = h
-
-unmade_away : (st : Stage) → is_unmade st ≡ true → is_away st ≡ true
-unmade_away Unmade h = refl
-unmade_away Live h = absurd (true≢false (sym h))
-unmade_away Joined h = absurd (true≢false (sym h))
-unmade_away Closed h = absurd (true≢false (sym h))
-
 -- a seat that is split off held nothing, nor does one that is joined into another
 split_holds : (c : PoolCore) (s t : ℕ) → Lawful c → refusal_of c (Split s t) ≡ 0 → (seat_at c t).holds ≡ None
-split_holds c s t law ok = (law.seats t).away (unmade_away (seat_at c t).stage (not-false (is_unmade (seat_at c t).stage)
-    (or_right _ _ (seat_rule c (Split s t) ok))))
+split_holds c s t law ok = (law.seats t).away (away_of_unmade (seat_at c t).stage (not-false (is_unmade (seat_at c t).stage)
+    (or_parts _ _ (seat_rule c (Split s t) ok)).1))
 
 join_holds : (c : PoolCore) (s t : ℕ) → refusal_of c (Join s t) ≡ 0 → (seat_at c t).holds ≡ None
-join_holds c s t ok = (at_rest_of (seat_at c t) (not-false (is_idle (seat_at c t)) (or_right (not (is_idle (seat_at c s))) _ (idle_rule c (Join s t) ok)))).holds
+join_holds c s t ok = (at_rest_of (seat_at c t) (not-false (is_idle (seat_at c t)) (or_parts (not (is_idle (seat_at c s))) _ (idle_rule c (Join s t) ok)).1)).holds
 
 closed_stays : (p : Seat) → Stays p (closed_seat p)
 closed_stays p = let split : (b : Bool) → Stays p (cond b (record p { stage = Closed }) p) = elim [

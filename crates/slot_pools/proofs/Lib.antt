@@ -1,4 +1,3 @@
 mod Causing
 mod Filling
 mod LastClaiming
-mod UnheldNumbers

@@ -1,10 +1,13 @@
 //! What holds of the definitions alone. Each function does nothing of its own: its contract is the law.
 ghost use Rattle.std.specs.Prelude.{ℕ, List};
 ghost use Rattle.slot_words.specs.declared.views.Operation.{Operation};
+ghost use Rattle.affinity_index.specs.Preference.{OwnComeFirst};
+ghost use Rattle.slot_pools.specs.Looks.{IsLook};
 ghost use Rattle.slot_pools.specs.Takes.{IsBatchedTake, IsFullBatchedTake, IsAffineTake, IsFullAffineTake, IsAnyTake, IsFullAnyTake};
 ghost use Rattle.slot_pools.specs.Causes.{FullAfterMark, FullAfterLook, FullAfterScan, LostToAnother};
 ghost use Rattle.slot_pools.specs.LastClaims.{EndsWithClaim};
 
+use affinity_index::laws::own_warm_slots_come_first as own_come_first;
 use pool_core::laws::the_lowest_bit_says_held;
 use slot_words::Pooled;
 use slot_words::laws::passes_share_the_words;
@@ -30,3 +33,10 @@ pub fn the_last_claim_names_the_slot()
     ensures affine { (limit slots tag n read : ℕ) (done : List Operation) → IsAffineTake limit slots tag n read done → EndsWithClaim n read done }
     ensures any { (slots n read : ℕ) (done : List Operation) → IsAnyTake slots n read done → EndsWithClaim n read done }
 {}
+
+/// The slots that a take's scan saw free and warm for its module come first in its order.
+pub fn own_warm_slots_come_first()
+    ensures { (limit slots tag : ℕ) (order : List ℕ) (done : List Operation) → (look : IsLook limit slots tag order done) → OwnComeFirst tag look.seen order }
+{
+    own_come_first();
+}

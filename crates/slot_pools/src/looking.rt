@@ -24,7 +24,6 @@ pub(crate) fn look<V: Pooled>(words: &Words<V>, pass: &mut Pass<V>, tag: u32) ->
 }
 
 // Reads each slot's word, and so knows which slots nobody held.
-#[tactic(auto, using(crate::proofs::UnheldNumbers::unheld_within))]
 pub(crate) fn scan_unheld<V: Pooled>(words: &Words<V>, pass: &mut Pass<V>) -> Order
     requires { IsPassOf V.room words.now pass.old }
     ensures same { IsSamePass pass.old pass.new }

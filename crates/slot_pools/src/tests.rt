@@ -56,16 +56,22 @@ enum Module {
     C,
 }
 
-use Module::{A, B, C};
+const A: Option<Module> = Some(Module::A);
+
+const B: Option<Module> = Some(Module::B);
+
+const C: Option<Module> = Some(Module::C);
+
+const N: Option<Module> = None;
 
 impl Module {
     fn tag(self) -> u32
         ensures { result < TAG_LIMIT }
     {
         match self {
-            A => 5,
-            B => 6,
-            C => 7,
+            Module::A => 5,
+            Module::B => 6,
+            Module::C => 7,
         }
     }
 }
@@ -78,6 +84,8 @@ enum Kind {
     Affine,
     Any,
 }
+
+use Kind::{Affine, Any, Batched};
 
 fn kinds(cold: u32, warm: u32, awaiting: u32) -> KindCounts {
     KindCounts {
@@ -132,9 +140,9 @@ fn take(
     ensures full { OnErr result (IsIdle pass.new) }
 {
     match kind {
-        Kind::Batched(_) => take_batched(words, pass, &(), module.tag()),
-        Kind::Affine => take_affine(words, pass, module.tag()),
-        Kind::Any => take_any(words, pass),
+        Batched(_) => take_batched(words, pass, &(), module.tag()),
+        Affine => take_affine(words, pass, module.tag()),
+        Any => take_any(words, pass),
     }
 }
 
@@ -156,9 +164,9 @@ fn give(
     lease.value.tag = module.tag();
     lease.value.visits = lease.value.visits.wrapping_add(1);
     match kind {
-        Kind::Batched(batch) => hand_in(words, pass, lease, &(), batch.max(1)),
-        Kind::Affine => give_warm(words, pass, lease, &()),
-        Kind::Any => give_cold(words, pass, lease),
+        Batched(batch) => hand_in(words, pass, lease, &(), batch.max(1)),
+        Affine => give_warm(words, pass, lease, &()),
+        Any => give_cold(words, pass, lease),
     }
 }
 
@@ -189,7 +197,7 @@ fn visits(
 {
     let (words, mut passes) = opened(alloc, slots, warm, 1)?;
     let mut pass = passes.pop().unwrap();
-    let mut numbers = [0; 4];
+    let mut numbers = [9; 4];
     for k in 0..4 {
         if let Some(module) = modules[k] {
             numbers[k] = visit(&words, &mut pass, kind, module);
@@ -200,97 +208,19 @@ fn visits(
 
 #[test]
 fn modules_come_back_to_their_slots(rt: HostRuntime) -> Result<(), Fail> {
-    let none = None;
-    // slots, the most warm ones, how they are given back, modules, which slots they get, and cold, warm and awaiting slots after them
+    // slots, the most warm ones, how they are given back, whose calls, which slots these get, and cold, warm and awaiting slots after them
     let rows = [
-        (
-            3,
-            2,
-            Kind::Batched(1),
-            [Some(A), Some(B), Some(A), Some(B)],
-            [0, 1, 0, 1],
-            (1, 2, 0),
-        ),
-        (
-            3,
-            2,
-            Kind::Batched(1),
-            [Some(A), Some(B), Some(A), Some(C)],
-            [0, 1, 0, 1],
-            (1, 2, 0),
-        ),
-        (
-            3,
-            3,
-            Kind::Batched(2),
-            [Some(A), none, none, none],
-            [0, 0, 0, 0],
-            (2, 0, 1),
-        ),
-        (
-            3,
-            3,
-            Kind::Batched(2),
-            [Some(A), Some(B), none, none],
-            [0, 1, 0, 0],
-            (1, 2, 0),
-        ),
-        (
-            2,
-            1,
-            Kind::Batched(8),
-            [Some(A), Some(B), none, none],
-            [0, 1, 0, 0],
-            (0, 0, 2),
-        ),
-        (
-            2,
-            1,
-            Kind::Batched(8),
-            [Some(A), Some(B), Some(A), none],
-            [0, 1, 0, 0],
-            (1, 0, 1),
-        ),
-        (
-            3,
-            2,
-            Kind::Affine,
-            [Some(A), Some(B), Some(A), Some(B)],
-            [0, 1, 0, 1],
-            (1, 2, 0),
-        ),
-        (
-            3,
-            2,
-            Kind::Affine,
-            [Some(A), Some(B), Some(A), Some(C)],
-            [0, 1, 0, 1],
-            (1, 2, 0),
-        ),
-        (
-            3,
-            0,
-            Kind::Affine,
-            [Some(A), Some(B), Some(A), none],
-            [0, 0, 0, 0],
-            (3, 0, 0),
-        ),
-        (
-            3,
-            1,
-            Kind::Affine,
-            [Some(A), Some(B), Some(A), none],
-            [0, 0, 0, 0],
-            (2, 1, 0),
-        ),
-        (
-            3,
-            2,
-            Kind::Any,
-            [Some(A), Some(B), Some(A), none],
-            [0, 0, 0, 0],
-            (3, 0, 0),
-        ),
+        (3, 2, Batched(1), [A, B, A, B], [0, 1, 0, 1], (1, 2, 0)),
+        (3, 2, Batched(1), [A, B, A, C], [0, 1, 0, 1], (1, 2, 0)),
+        (3, 3, Batched(2), [A, N, N, N], [0, 9, 9, 9], (2, 0, 1)),
+        (3, 3, Batched(2), [A, B, N, N], [0, 1, 9, 9], (1, 2, 0)),
+        (2, 1, Batched(8), [A, B, N, N], [0, 1, 9, 9], (0, 0, 2)),
+        (2, 1, Batched(8), [A, B, A, N], [0, 1, 0, 9], (1, 0, 1)),
+        (3, 2, Affine, [A, B, A, B], [0, 1, 0, 1], (1, 2, 0)),
+        (3, 2, Affine, [A, B, A, C], [0, 1, 0, 1], (1, 2, 0)),
+        (3, 0, Affine, [A, B, A, N], [0, 0, 0, 9], (3, 0, 0)),
+        (3, 1, Affine, [A, B, A, N], [0, 0, 0, 9], (2, 1, 0)),
+        (3, 2, Any, [A, B, A, N], [0, 0, 0, 9], (3, 0, 0)),
     ];
     for (slots, warm, kind, modules, numbers, (cold, warm_left, awaiting)) in rows {
         assert!(rt; slots >= 1 && slots <= 3);
@@ -306,17 +236,17 @@ fn beside(alloc: Global, kind: Kind) -> Result<[bool; 2], NoMemory> {
     let mut first = passes.pop().unwrap();
     let mut second = passes.pop().unwrap();
     let mut got = [true, false];
-    if let Ok(lease) = take(&words, &mut first, kind, A) {
-        got[0] = visit(&words, &mut second, kind, A) == 0;
-        give(&words, &mut first, lease, kind, A);
-        got[1] = visit(&words, &mut second, kind, A) == 0;
+    if let Ok(lease) = take(&words, &mut first, kind, Module::A) {
+        got[0] = visit(&words, &mut second, kind, Module::A) == 0;
+        give(&words, &mut first, lease, kind, Module::A);
+        got[1] = visit(&words, &mut second, kind, Module::A) == 0;
     }
     Ok(got)
 }
 
 #[test]
 fn a_held_pool_is_full_until_its_slot_is_given_back(rt: HostRuntime) -> Result<(), Fail> {
-    for kind in [Kind::Batched(1), Kind::Batched(2), Kind::Affine, Kind::Any] {
+    for kind in [Batched(1), Batched(2), Affine, Any] {
         assert_eq!(rt; beside(rt.alloc(), kind)?, [false, true]);
     }
     Ok(())
@@ -331,7 +261,7 @@ fn visit_often(words: &Words<Cell>, mut pass: Pass<Cell>, module: Module) -> (u3
 {
     let mut won = 0u32;
     for _ in 0..1000u32 {
-        if visit(words, &mut pass, Kind::Batched(1), module) == 0 {
+        if visit(words, &mut pass, Batched(1), module) == 0 {
             won = won.wrapping_add(1);
         }
     }
@@ -349,11 +279,11 @@ fn two_threads_never_have_one_slot_at_once(rt: HostRuntime) -> Result<(), Fail> 
         || -> (u32, Pass<Cell>)
             requires { IsPassOf (λ x. []) shared.now first × IsIdle first }
             ensures { IsPassOf (λ x. []) shared.entry.now result.1 × IsIdle result.1 }
-        { visit_often(shared, first, A) },
+        { visit_often(shared, first, Module::A) },
         || -> (u32, Pass<Cell>)
             requires { IsPassOf (λ x. []) shared.now second × IsIdle second }
             ensures { IsPassOf (λ x. []) shared.entry.now result.1 × IsIdle result.1 }
-        { visit_often(shared, second, B) },
+        { visit_often(shared, second, Module::B) },
     );
     words.join_pass(&mut first, second);
     let lease = take_any(&words, &mut first)?;

@@ -3,6 +3,8 @@
 
 mod pool;
 mod slot;
+#[cfg(test)]
+mod tests;
 
 pub use pool::TablePool;
 pub use slot::TableSlot;

@@ -72,7 +72,7 @@ impl<N: Naming> TablePool<N> {
     }
 
     /// Takes a table and makes it the module's fresh one: the first along the order of the module's tag that it wins, or else
-    /// any. Takes no memory.
+    /// any. It allocates nothing.
     ///
     /// # Errors
     ///
@@ -104,7 +104,7 @@ impl<N: Naming> TablePool<N> {
         Ok(lease)
     }
 
-    /// Gives a table that belongs to a module back: warm for its tag where there is a permit, and else cold. Takes no memory.
+    /// Gives a table that belongs to a module back: warm for its tag where there is a permit, and else cold. It allocates nothing.
     pub fn give(
         &self,
         pass: &mut Pass<TableSlot<N>>,
@@ -124,7 +124,7 @@ impl<N: Naming> TablePool<N> {
         give_warm(&self.words, pass, lease, store);
     }
 
-    /// Joins another pass of this pool into this one, which then stands for both. Takes no memory.
+    /// Joins another pass of this pool into this one, which then stands for both. It allocates nothing.
     pub fn join_pass(&self, pass: &mut Pass<TableSlot<N>>, other: Pass<TableSlot<N>>)
         requires own { IsTablePass self.now pass.old }
         requires idle { IsIdle pass.old }

@@ -1,8 +1,7 @@
 -- The turns of the walk: each comes to what the last one came to, with less left to check.
-use Rattle.std.proofs.Common.{◌≡◌, ℕ, suc, ◌+◌, ◌-◌, ◌<◌, List, [], ◌∷◌, ◌++◌, Bool, true, false, length, drop, get_or, Option, Some, None, Result, Ok, Err, refl, sym, ap, ◌∙◌, subst, arith, length-append, drop-cons, ⊎_elim}
+use Rattle.std.proofs.Common.{◌≡◌, ℕ, ◌+◌, ◌-◌, ◌<◌, List, [], ◌∷◌, ◌++◌, length, drop, get_or, Option, Some, None, Result, Ok, Err, refl, sym, ap, ◌∙◌, subst, arith, length-append}
 use Rattle.std.specs.Prelude.{MatchResult, slice_get}
-use Rattle.std.proofs.lemmas.Option.{slice_get_within, get_or_from_slice_get, slice_get_cases}
-use Rattle.std.proofs.lemmas.List.{drop_all, get_or_push}
+use Rattle.std.proofs.lemmas.List.{get_or_push}
 use Rattle.wasm_types.specs.declared.types.ValType.{ValType}
 use Rattle.wasm_types.specs.declared.types.ValType.TheVariants.{I32}
 use Rattle.wasm_types.specs.declared.instr.Instr.{Instr}
@@ -17,19 +16,12 @@ use Rattle.wasm_checker.specs.declared.checker.Checker.{Checker}
 use Rattle.wasm_checker.specs.declared.fault.CheckFault.{CheckFault}
 use Rattle.wasm_checker.specs.Check.{Stack, and_then, pop_type, when, no_more, apply, pop_types, push_types, end_block, leave, enter, check, empty_stack}
 use Rattle.wasm_types.specs.Sequences.{ops_of, earlier, code_at, named_in}
+use Rattle.wasm_types.proofs.SequenceLemmas.{code_at-within, code_at-past}
 use Rattle.wasm_checker.specs.Subject.{result_of}
 use Rattle.wasm_checker.specs.Position.{OpenBlock, Position, with_stack, base_of, back, inside, frame_of, frames_of, Shows, opened, outside}
 use Rattle.wasm_checker.specs.Steps.{Refuses, Stepped}
-use Rattle.wasm_checker.specs.Walk.{follows, goes_on, close, remaining, size, second_weight, weights, weight, ComesTo, Advanced, checking, whole, Counted}
+use Rattle.wasm_checker.specs.Walk.{follows, goes_on, close, remaining, size, second_weight, weights, weight, ComesTo, Advanced, checking, whole}
 use Rattle.wasm_checker.proofs.Steps.{refuses, then_none, then_some}
-
--- what stands at a place
-drop_at : (ops : List Op) (p : ℕ) (o : Op) → slice_get ops p ≡ Some o → drop p ops ≡ o ∷ drop (p + 1) ops
-drop_at ops p o h =
-    let e : get_or ops p o ≡ o = get_or_from_slice_get ops p o o h in
-    let lt : p < length ops = slice_get_within ops p o h in
-    let n : suc p ≡ p + 1 = omega arith in
-    drop-cons ops p o lt ∙ ap (λ (x : Op). x ∷ drop (suc p) ops) e ∙ ap (λ (i : ℕ). o ∷ drop i ops) n
 
 then_same : (o : Option Stack) (go go' : Stack → Option Stack) → ((e : Stack) → go e ≡ go' e) → and_then o go ≡ and_then o go'
 then_same None go go' h = refl
@@ -39,9 +31,6 @@ module _ (m : Module) (f : Function) where
   -- how a turn of the walk ends, where so much was left to check
   abbrev Turn : Checker → ℕ → Option Stack → Result (Unit {0}) CheckFault → Type 0
   Turn u n o r = MatchResult r (λ _. Advanced m f u n o) (Refuses (o ≡ None))
-
-  code_is : (q p : ℕ) (o : Op) → slice_get (ops_of f.body q) p ≡ Some o → code_at f.body q p ≡ code_of (earlier f.body q) (o ∷ drop (p + 1) (ops_of f.body q))
-  code_is q p o h = ap (code_of (earlier f.body q)) (drop_at (ops_of f.body q) p o h)
 
   close_none : (os : List OpenBlock) → close m f os None ≡ None
   close_none [] = refl
@@ -74,7 +63,7 @@ module _ (m : Module) (f : Function) where
       let k = l.position in
       let s = l.shows in
       let at : slice_get (ops_of f.body k.sequence) k.place ≡ Some i = ap (λ (q : ℕ). slice_get (ops_of f.body q) k.place) (sym s.sequence) ∙ ap (λ (p : ℕ). slice_get (ops_of f.body w.sequence) p) (sym s.place) ∙ here in
-      let c = code_is k.sequence k.place i at in
+      let c = code_at-within f.body k.sequence k.place i at in
       record {
         position = record k { place = k.place + 1 };
         shows = record { sequence = s.sequence; place = ap (λ (p : ℕ). p + 1) s.place; unreachable = s.unreachable; base = s.base; operands = s.operands; frames = s.frames; peak_operands = s.peak_operands; peak_labels = s.peak_labels };
@@ -210,14 +199,8 @@ module _ (m : Module) (f : Function) where
         weighs = omega (arith, weight_parts k w s, ap size c, ap (λ (x : List OpenBlock). weights f (frames_of x)) e, weights-append (frames_of os) (frame_of b os ∷ []));
       }
 
-  over : (ops : List Op) (p : ℕ) → slice_get ops p ≡ None → drop p ops ≡ []
-  over ops p h = ⊎_elim (λ a. cc (h, a.2)) (λ b. drop_all p ops b.0) (slice_get_cases ops p).1
-
-  code_over : (q p : ℕ) → slice_get (ops_of f.body q) p ≡ None → code_at f.body q p ≡ End
-  code_over q p h = ap (code_of (earlier f.body q)) (over (ops_of f.body q) p h)
-
   ended_at : (k : Position) (w : Checker) → Shows k w → slice_get (ops_of f.body w.sequence) w.place ≡ None → code_at f.body k.sequence k.place ≡ End
-  ended_at k w s h = code_over k.sequence k.place (ap (λ (q : ℕ). slice_get (ops_of f.body q) k.place) (sym s.sequence) ∙ ap (λ (p : ℕ). slice_get (ops_of f.body w.sequence) p) (sym s.place) ∙ h)
+  ended_at k w s h = code_at-past f.body k.sequence k.place (ap (λ (q : ℕ). slice_get (ops_of f.body q) k.place) (sym s.sequence) ∙ ap (λ (p : ℕ). slice_get (ops_of f.body w.sequence) p) (sym s.place) ∙ h)
 
   pub at_end : (w : Checker) (o : Option Stack) → ComesTo m f w o → slice_get (ops_of f.body w.sequence) w.place ≡ None → 0 < length w.frames.items → AtEnd w o
   at_end w o l h lt = at_end_as w o l.position l.position.blocks refl l.shows l.is (ended_at l.position w l.shows h) lt

@@ -1,7 +1,6 @@
 -- From what the walk finds to what checking a function promises.
-use Rattle.std.proofs.Common.{◌≡◌, ℕ, zero, suc, ◌+◌, ◌-◌, ◌<◌, ◌≤◌, List, [], ◌∷◌, ◌++◌, Option, Some, None, Result, Ok, Err, length, refl, sym, ap, ◌∙◌, subst, arith}
-use Rattle.std.specs.Prelude.{All, slice_get, IsSome, IsErrAnd}
-use Rattle.std.proofs.lemmas.Option.{slice_get_within, get_or_from_slice_get}
+use Rattle.std.proofs.Common.{◌≡◌, ℕ, zero, suc, ◌+◌, ◌-◌, ◌<◌, ◌≤◌, List, [], ◌∷◌, Option, Some, None, Result, Ok, Err, length, refl, sym, ap, ◌∙◌, subst, arith}
+use Rattle.std.specs.Prelude.{slice_get, IsSome, IsErrAnd}
 use Rattle.wasm_types.specs.declared.types.ValType.{ValType}
 use Rattle.wasm_types.specs.declared.types.FuncType.{FuncType}
 use Rattle.wasm_types.specs.declared.module.Function.{Function}
@@ -20,10 +19,7 @@ use Rattle.wasm_checker.specs.Walk.{whole, Counted}
 use Rattle.wasm_checker.proofs.Exact.{Decides, body_exact}
 use Rattle.wasm_checker.proofs.Needs.{body_need}
 use Rattle.wasm_types.proofs.SequenceLemmas.{tree_is}
-
--- what holds of each element holds of one that is found
-pub all_found : {X : Type 0} (P : X → Type 0) (xs : List X) (i : ℕ) (x : X) → All P xs → slice_get xs i ≡ Some x → P x
-all_found {X} P xs i x all e = subst P (get_or_from_slice_get xs i x x e) (all i x (slice_get_within xs i x e))
+use Rattle.wasm_types.proofs.Found.{all_found}
 
 one_value : (ts : List ValType) → length ts ≤ 1 → result_types (slice_get ts 0) ≡ ts
 one_value [] le = refl

@@ -7,6 +7,7 @@ use Rattle.wasm_types.specs.Tree.{Code, End, Plain, Block, Loop, If, Call, CallI
 use Rattle.wasm_spec.specs.Typing.{result_types, Context, under, Rule, Fixed, Diverges, Drops, Selects, Wrong, rule, call_rule, call_indirect_rule}
 use Rattle.wasm_checker.specs.Check.{Stack, and_then, when, Popped, pop, agrees, pop_type, pop_types, push, push_types, set_unreachable, both, select_both, select_second, select_first, select, apply, no_more, end_block, leave, enter, check, empty_stack, check_body}
 use Rattle.wasm_spec.specs.Need.{height, highest, deepest}
+use Rattle.wasm_spec.proofs.NeedLaws.{highest-least, deepest-least}
 
 -- a step that went on
 record Went {A : Type 0} (o : Option A) (go : A → Option Stack) (t : Stack) : Type 0 where
@@ -104,24 +105,6 @@ apply_rises base Drops s t le e =
 apply_rises base Selects s t le e = select_rises base s t le e
 apply_rises base Wrong s t le e = cc
 
-highest_least : (base : ℕ) (C : Context) (c : Code) (h : ℕ) → base + h ≤ highest base C c h
-highest_least base C End h = omega arith
-highest_least base C (Plain i rest) h = omega arith
-highest_least base C (Block t body rest) h = omega (arith, highest_least (base + h) (under (result_types t) C) body 0)
-highest_least base C (Loop t body rest) h = omega (arith, highest_least (base + h) (under [] C) body 0)
-highest_least base C (If t first second rest) h = omega arith
-highest_least base C (Call x rest) h = omega arith
-highest_least base C (CallIndirect x rest) h = omega arith
-
-deepest_least : (depth : ℕ) (c : Code) → depth ≤ deepest depth c
-deepest_least depth End = omega arith
-deepest_least depth (Plain i rest) = deepest_least depth rest
-deepest_least depth (Block t body rest) = omega (arith, deepest_least depth rest)
-deepest_least depth (Loop t body rest) = omega (arith, deepest_least depth rest)
-deepest_least depth (If t first second rest) = omega (arith, deepest_least depth rest)
-deepest_least depth (Call x rest) = deepest_least depth rest
-deepest_least depth (CallIndirect x rest) = deepest_least depth rest
-
 -- what was found
 pub record Found (s t : Stack) (peak_operands peak_labels : ℕ) : Type 0 where
   pub peak_operands_is : t.peak_operands ≡ max s.peak_operands peak_operands
@@ -162,7 +145,7 @@ rest_found base C vs rest s e t peak_operands peak_labels le ld f ih h =
     let x = ih u (omega (arith, r.height_is, r.peak_operands)) (omega (arith, r.peak_labels)) h in
     let same : highest base C rest (length u.operands) ≡ highest base C rest (length s.operands + length vs) = ap (λ (n : ℕ). highest base C rest n) r.height_is in
     record {
-      peak_operands_is = omega (arith, x.peak_operands_is, r.peak_operands, f.peak_operands_is, same, highest_least base C rest (length s.operands + length vs));
+      peak_operands_is = omega (arith, x.peak_operands_is, r.peak_operands, f.peak_operands_is, same, highest-least base C rest (length s.operands + length vs));
       peak_labels_is = omega (arith, x.peak_labels_is, r.peak_labels, f.peak_labels_is);
     }
 
@@ -176,7 +159,7 @@ rule_found base C r rest s t le ld ih h =
     let x = ih w.on t (omega (arith, a.height_is, a.peak_operands)) (omega (arith, a.peak_labels)) w.then in
     let n = height r (length s.operands) in
     let same : highest base C rest (length w.on.operands) ≡ highest base C rest n = ap (λ (k : ℕ). highest base C rest k) a.height_is in
-    record { peak_operands_is = omega (arith, x.peak_operands_is, a.peak_operands, same, highest_least base C rest n); peak_labels_is = omega (arith, x.peak_labels_is, a.peak_labels) }
+    record { peak_operands_is = omega (arith, x.peak_operands_is, a.peak_operands, same, highest-least base C rest n); peak_labels_is = omega (arith, x.peak_labels_is, a.peak_labels) }
 
 pub check_found : (base : ℕ) (C : Context) (c : Code) (s t : Stack) → base + length s.operands ≤ s.peak_operands → length C.labels ≤ s.peak_labels → check base C c s ≡ Some t → Found s t (highest base C c (length s.operands)) (deepest (length C.labels) c)
 check_found base C End s t le ld h = let r : s ≡ t = cc in
@@ -187,7 +170,7 @@ check_found base C (Block t body rest) s z le ld h =
     let o = check (base + length s.operands) D body (enter C s) in
     let w = went (end_block t o) (λ e. check base C rest (push_types base (result_types t) (leave s e))) z h in
     let up : suc (length C.labels) ≡ length C.labels + 1 = omega arith in
-    let f = body_found C t o s w.on (highest (base + length s.operands) D body 0) (deepest (length C.labels + 1) body) (deepest_least (length C.labels + 1) body)
+    let f = body_found C t o s w.on (highest (base + length s.operands) D body 0) (deepest (length C.labels + 1) body) (deepest-least (length C.labels + 1) body)
     (λ r e. subst (λ (n : ℕ). Found (enter C s) r (highest (base + length s.operands) D body 0) (deepest n body)) up (check_found (base + length s.operands) D body (enter C s) r (omega arith) (omega arith) e)) w.is in
     rest_found base C (result_types t) rest s w.on z _ _ (omega (arith, f.peak_operands_is)) (omega (arith, f.peak_labels_is)) f (λ u. check_found base C rest u z) w.then
 check_found base C (Loop t body rest) s z le ld h =
@@ -195,7 +178,7 @@ check_found base C (Loop t body rest) s z le ld h =
     let o = check (base + length s.operands) D body (enter C s) in
     let w = went (end_block t o) (λ e. check base C rest (push_types base (result_types t) (leave s e))) z h in
     let up : suc (length C.labels) ≡ length C.labels + 1 = omega arith in
-    let f = body_found C t o s w.on (highest (base + length s.operands) D body 0) (deepest (length C.labels + 1) body) (deepest_least (length C.labels + 1) body)
+    let f = body_found C t o s w.on (highest (base + length s.operands) D body 0) (deepest (length C.labels + 1) body) (deepest-least (length C.labels + 1) body)
     (λ r e. subst (λ (n : ℕ). Found (enter C s) r (highest (base + length s.operands) D body 0) (deepest n body)) up (check_found (base + length s.operands) D body (enter C s) r (omega arith) (omega arith) e)) w.is in
     rest_found base C (result_types t) rest s w.on z _ _ (omega (arith, f.peak_operands_is)) (omega (arith, f.peak_labels_is)) f (λ u. check_found base C rest u z) w.then
 check_found base C (If t first second rest) s z le ld h =
@@ -206,11 +189,11 @@ check_found base C (If t first second rest) s z le ld h =
     let o = check (base + length u.operands) D first (enter C u) in
     let w = went (end_block t o) (λ v. and_then (end_block t (check (base + length u.operands) D second (enter C (leave u v)))) (λ e. check base C rest (push_types base (result_types t) (leave u e)))) z x.then in
     let up : suc (length C.labels) ≡ length C.labels + 1 = omega arith in
-    let f = body_found C t o u w.on (highest (base + length u.operands) D first 0) (deepest (length C.labels + 1) first) (deepest_least (length C.labels + 1) first)
+    let f = body_found C t o u w.on (highest (base + length u.operands) D first 0) (deepest (length C.labels + 1) first) (deepest-least (length C.labels + 1) first)
     (λ r e. subst (λ (n : ℕ). Found (enter C u) r (highest (base + length u.operands) D first 0) (deepest n first)) up (check_found (base + length u.operands) D first (enter C u) r (omega (arith, k.height_is, k.peak_operands)) (omega (arith, k.peak_labels)) e)) w.is in
     let p = check (base + length u.operands) D second (enter C (leave u w.on)) in
     let y = went (end_block t p) (λ e. check base C rest (push_types base (result_types t) (leave u e))) z w.then in
-    let g = body_found C t p (leave u w.on) y.on (highest (base + length u.operands) D second 0) (deepest (length C.labels + 1) second) (deepest_least (length C.labels + 1) second)
+    let g = body_found C t p (leave u w.on) y.on (highest (base + length u.operands) D second 0) (deepest (length C.labels + 1) second) (deepest-least (length C.labels + 1) second)
     (λ r e. subst (λ (n : ℕ). Found (enter C (leave u w.on)) r (highest (base + length u.operands) D second 0) (deepest n second)) up (check_found (base + length u.operands) D second (enter C (leave u w.on)) r (omega (arith, k.height_is, k.peak_operands, f.peak_operands_is)) (omega (arith, k.peak_labels, f.peak_labels_is)) e)) y.is in
     let q = rest_found base C (result_types t) rest u y.on z (max (highest (base + length u.operands) D first 0) (highest (base + length u.operands) D second 0)) (max (deepest (length C.labels + 1) first) (deepest (length C.labels + 1) second))
     (omega (arith, k.height_is, k.peak_operands, f.peak_operands_is, g.peak_operands_is)) (omega (arith, k.peak_labels, f.peak_labels_is, g.peak_labels_is))
@@ -232,4 +215,4 @@ body_need C t body e one h =
     let x = left t (check 0 C body empty_stack) e h in
     let f = check_found 0 C body empty_stack x.end (omega arith) (omega (arith, one)) x.is in
     let d : deepest (length C.labels) body ≡ deepest 1 body = ap (λ (n : ℕ). deepest n body) one in
-    record { peak_operands_is = omega (arith, x.peak_operands, f.peak_operands_is); peak_labels_is = omega (arith, x.peak_labels, f.peak_labels_is, d, deepest_least 1 body) }
+    record { peak_operands_is = omega (arith, x.peak_operands, f.peak_operands_is); peak_labels_is = omega (arith, x.peak_labels, f.peak_labels_is, d, deepest-least 1 body) }

@@ -8,7 +8,7 @@ use Rattle.std.proofs.lemmas.Option.{slice_get_past}
 use Rattle.wasm_spec.specs.Typing.{result_types}
 use Rattle.wasm_checker.specs.declared.checker.ControlFrame.{ControlFrame}
 use Rattle.wasm_checker.specs.declared.checker.Checker.{Checker}
-use Rattle.wasm_checker.specs.Check.{Popped, pop, pop_as, with_operands}
+use Rattle.wasm_checker.specs.Check.{pop, pop_as, with_operands}
 use Rattle.wasm_checker.specs.Position.{OpenBlock, Position, Shows, base_of, beneath, frames_of, frame_of, labels_of}
 use Rattle.wasm_checker.specs.Steps.{PopsTo}
 

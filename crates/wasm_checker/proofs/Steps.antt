@@ -1,5 +1,5 @@
 -- From one step of a checker to the next.
-use Rattle.std.proofs.Common.{◌≡◌, ℕ, List, [], ◌∷◌, ◌++◌, reverse, Option, Some, None, Result, Ok, Err, refl, sym, ap, ◌∙◌, subst, ◌+◌, ◌-◌, ◌<◌, ◌≤◌, length, take, get_or, arith}
+use Rattle.std.proofs.Common.{◌≡◌, ℕ, List, [], ◌∷◌, ◌++◌, reverse, Option, Some, None, Result, Ok, Err, sym, ap, ◌∙◌, subst, ◌+◌, ◌-◌, ◌<◌, ◌≤◌, length, take, get_or, arith}
 use Rattle.std.specs.Prelude.{MatchResult, IsErrAnd}
 use Rattle.std.proofs.lemmas.List.{reverse-append, take_more, take_all}
 use Rattle.wasm_types.specs.declared.types.ValType.{ValType}

@@ -1,6 +1,5 @@
 -- What is still to check from a position of the walk.
 use Rattle.std.specs.Prelude.{◌≡◌, ℕ, ◌+◌, ◌-◌, ◌<◌, List, [], ◌∷◌, Option, Some, None, Result, MatchResult, length, drop}
-use Rattle.wasm_types.specs.declared.types.ValType.{ValType}
 use Rattle.wasm_types.specs.declared.instr.Op.{Op}
 use Rattle.wasm_types.specs.declared.module.Function.{Function}
 use Rattle.wasm_types.specs.declared.module.Module.{Module}

@@ -7,9 +7,9 @@ use Rattle.wasm_spec.specs.Numbers.{TakesUnsigned}
 use Rattle.wasm_spec.specs.Grammar.{Body, TakesSizedBody, body_of, type_index_of, Section, section, SpellsVec, SpellsFields}
 use Rattle.wasm_spec.proofs.UnambiguousNumbers.{unsigned-unique}
 use Rattle.wasm_spec.proofs.UnambiguousModules.{sized_body-unique, spelled_vec-unique}
-use Rattle.wasm_decode.specs.Decoding.{IsNone}
-use Rattle.wasm_decode.specs.declared.fault.DecodeFault.{DecodeFault}
-use Rattle.wasm_decode.proofs.Decoding.{exits, none-through}
+use Rattle.instr_decode.specs.Decoding.{IsNone}
+use Rattle.instr_decode.specs.declared.fault.DecodeFault.{DecodeFault}
+use Rattle.instr_decode.proofs.Decoding.{exits, none-through}
 
 -- the exit of a `?` behind a section that spells no items
 pub exits-field : {T A : Type 0} (P : A → Type 0) (sections : List Section) (r : Result T DecodeFault) (Found : T → Type 0) (fault : DecodeFault)

@@ -1,8 +1,2 @@
-pub mod Decoding
-pub mod Contexts
-pub mod Tokens
-pub mod Completions
-pub mod Opcodes
-pub mod Shapes
 pub mod Sections
 pub mod Fields

@@ -3,9 +3,9 @@ use Rattle.std.proofs.Common.{◌≡◌, ℕ, List, [], ◌∷◌, length, sym, 
 use Rattle.wasm_spec.specs.Numbers.{TakesEach}
 use Rattle.wasm_spec.specs.Grammar.{Section, TakesSection}
 use Rattle.wasm_spec.proofs.UnambiguousModules.{section-unique}
-use Rattle.wasm_decode.specs.Decoding.{IsNone, BeginsWithNone}
-use Rattle.wasm_decode.specs.declared.fault.DecodeFault.{DecodeFault}
-use Rattle.wasm_decode.specs.declared.fault.DecodeFault.TheVariants.{Malformed, NoMemory}
+use Rattle.instr_decode.specs.Decoding.{IsNone, BeginsWithNone}
+use Rattle.instr_decode.specs.declared.fault.DecodeFault.{DecodeFault}
+use Rattle.instr_decode.specs.declared.fault.DecodeFault.TheVariants.{Malformed, NoMemory}
 
 -- before the end, where some of the sections end, the next one stands
 next : (done all : List Section) (bytes here : List ℕ) → TakesEach TakesSection done bytes here → TakesEach TakesSection all bytes [] → (here ≡ [] → ⊥)

@@ -3,13 +3,13 @@
 ghost use Rattle.std.specs.Prelude.{◌≡◌, ◌++◌, ℕ, List, map, IfOk, MatchOption, MatchResult};
 ghost use Rattle.wasm_types.specs.Tree.{module_tree};
 ghost use Rattle.wasm_spec.specs.Grammar.{SpellsFields, Spells};
-ghost use Rattle.wasm_decode.specs.Decoding.{IsNone};
+ghost use Rattle.instr_decode.specs.Decoding.{IsNone};
 ghost use Rattle.wasm_decode.specs.Sections.{section_of};
 
-use crate::fault::DecodeFault;
 use crate::function::{SizedBody, join};
 use crate::section::{Section, are_in_order, decode_section, decode_start, read_sections};
 use crate::types::TableType;
+use instr_decode::DecodeFault;
 use std::alloc::{AllocError, Global};
 use wasm_types::{Items, Limits, Module};
 

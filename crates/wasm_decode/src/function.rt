@@ -2,13 +2,15 @@
 
 ghost use Rattle.std.specs.Prelude.{◌≡◌, ◌↔◌, ◌<◌, ◌^◌, IsTrue, IfOk, flat_map, length, map};
 ghost use Rattle.wasm_types.specs.declared.module.LocalRun.{LocalRun as LocalRunTree};
-ghost use Rattle.wasm_types.specs.Tree.{locals_of, function_tree};
+ghost use Rattle.wasm_types.specs.Tree.{Code, expr_tree, locals_of, function_tree};
 ghost use Rattle.wasm_spec.specs.Grammar.{Body as BodyTree, TakesLocalRun, TakesBody, TakesSizedBody, body_of, type_index_of};
+ghost use Rattle.wasm_spec.specs.InstrGrammar.{TakesExpr};
+ghost use Rattle.wasm_spec.proofs.UnambiguousInstrs.{expr-unique};
 ghost use Rattle.wasm_spec.proofs.UnambiguousModules.{local_run-unique, body-unique, sized_body-unique};
 ghost use Rattle.wasm_decode.specs.Bodies.{body_tree};
 
-use crate::fault::DecodeFault;
 use crate::item::{Item, decode_whole, read_bytes};
+use instr_decode::{DecodeFault, decode_expr};
 use leb_read::Cursor;
 use std::alloc::{AllocError, Global};
 use wasm_types::{Expr, Function, Items, LocalRun, ValType};
@@ -26,6 +28,21 @@ impl Item for LocalRun {
     fn decode(alloc: Global, cursor: &mut Cursor) -> Result<Self, DecodeFault> {
         let (count, value) = <(u32, ValType)>::decode(alloc, cursor)?;
         Ok(LocalRun { count, value })
+    }
+}
+
+// Source: section 5.4.6.
+impl Item for Expr {
+    ghost Tree = { Code };
+
+    ghost tree = { λ e. expr_tree e };
+
+    ghost Takes = { TakesExpr };
+
+    ghost unique = { expr-unique };
+
+    fn decode(alloc: Global, cursor: &mut Cursor) -> Result<Self, DecodeFault> {
+        decode_expr(alloc, cursor)
     }
 }
 

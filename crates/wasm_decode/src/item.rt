@@ -4,10 +4,10 @@ ghost use Rattle.std.specs.Prelude.{◌≡◌, ℕ, List, [], map, MatchResult};
 ghost use Rattle.wasm_spec.specs.Numbers.{TakesUnsigned, TakesVec, TakesBytes, IsUnambiguous};
 ghost use Rattle.wasm_spec.proofs.UnambiguousNumbers.{unsigned-unique, vec-unique, byte-unique};
 ghost use Rattle.leb_read.specs.Reading.{rest, IsRead, TakesByte};
-ghost use Rattle.wasm_decode.specs.Decoding.{IsNone, BeginsWithNone};
+ghost use Rattle.instr_decode.specs.Decoding.{IsNone, BeginsWithNone};
 ghost use Rattle.wasm_decode.specs.Pairs.{TakesPair, pair-unique};
 
-use crate::fault::DecodeFault;
+use instr_decode::DecodeFault;
 use leb_read::Cursor;
 use std::alloc::Global;
 use wasm_types::Items;

@@ -11,9 +11,9 @@ ghost use Rattle.wasm_spec.specs.Grammar.{TakesImportDesc, TakesImport, TakesExp
 ghost use Rattle.wasm_spec.proofs.UnambiguousNumbers.{bytes-unique, name-unique};
 ghost use Rattle.wasm_spec.proofs.UnambiguousModules.{import_desc-unique, import-unique, export_desc-unique, export-unique, global-unique, element-unique, data-unique};
 
-use crate::fault::DecodeFault;
 use crate::item::{Item, read_bytes};
 use crate::types::TableType;
+use instr_decode::DecodeFault;
 use leb_read::Cursor;
 use std::alloc::Global;
 use wasm_types::{

@@ -4,11 +4,11 @@ ghost use Rattle.std.specs.Prelude.{◌≡◌, ◌↔◌, ◌<◌, ℕ, [], IsTr
 ghost use Rattle.wasm_spec.specs.Numbers.{TakesEach};
 ghost use Rattle.wasm_spec.specs.Grammar.{TakesSection, IsCustom, IsOrderedAbove, SpellsVec, SpellsStart, section};
 ghost use Rattle.leb_read.specs.Reading.{rest, IsRead};
-ghost use Rattle.wasm_decode.specs.Decoding.{IsNone, BeginsWithNone};
+ghost use Rattle.instr_decode.specs.Decoding.{IsNone, BeginsWithNone};
 ghost use Rattle.wasm_decode.specs.Sections.{section_of};
 
-use crate::fault::DecodeFault;
 use crate::item::{Item, decode_whole, read_bytes};
+use instr_decode::DecodeFault;
 use leb_read::Cursor;
 use std::alloc::Global;
 use wasm_types::Items;

@@ -1,35 +1,19 @@
 //! Types.
 
-ghost use Rattle.std.specs.Prelude.{◌≡◌, MatchOption, MatchResult};
 ghost use Rattle.wasm_types.specs.declared.types.ValType.{ValType as ValTypeTree};
 ghost use Rattle.wasm_types.specs.declared.types.FuncType.{FuncType as FuncTypeTree};
 ghost use Rattle.wasm_types.specs.declared.types.Limits.{Limits as LimitsTree};
 ghost use Rattle.wasm_types.specs.declared.types.GlobalType.{GlobalType as GlobalTypeTree};
-ghost use Rattle.wasm_spec.specs.TypeGrammar.{value_type_byte, TakesValType, TakesBlockType, TakesFuncType, TakesLimits, TakesTableType, TakesGlobalType};
+ghost use Rattle.wasm_spec.specs.TypeGrammar.{TakesValType, TakesFuncType, TakesLimits, TakesTableType, TakesGlobalType};
 ghost use Rattle.wasm_spec.proofs.UnambiguousTypes.{val_type-unique, func_type-unique, limits-unique, table_type-unique, global_type-unique};
-ghost use Rattle.leb_read.specs.Reading.{rest, IsRead};
-ghost use Rattle.wasm_decode.specs.Decoding.{BeginsWithNone};
 
-use crate::fault::DecodeFault;
 use crate::item::Item;
+use instr_decode::{DecodeFault, value_type};
 use leb_read::Cursor;
 use std::alloc::Global;
 use wasm_types::{FuncType, GlobalType, Items, Limits, ValType};
 
-// The value type of a byte. Source: Core Specification 1.0, section 5.3.1.
-pub(crate) fn value_type(byte: u8) -> Option<ValType>
-    ensures { MatchOption result ((t : ValTypeTree) → value_type_byte t ≡ byte → ⊥) (λ t. value_type_byte t ≡ byte) }
-{
-    match byte {
-        0x7F => Some(ValType::I32),
-        0x7E => Some(ValType::I64),
-        0x7D => Some(ValType::F32),
-        0x7C => Some(ValType::F64),
-        _ => None,
-    }
-}
-
-// Source: section 5.3.1.
+// Source: Core Specification 1.0, section 5.3.1.
 impl Item for ValType {
     ghost Tree = { ValTypeTree };
 
@@ -42,20 +26,6 @@ impl Item for ValType {
     fn decode(_: Global, cursor: &mut Cursor) -> Result<Self, DecodeFault> {
         let byte = cursor.u8()?;
         value_type(byte).ok_or(DecodeFault::Malformed)
-    }
-}
-
-// The type of a block. Source: section 5.3.2.
-pub(crate) fn read_block_type(cursor: &mut Cursor) -> Result<Option<ValType>, DecodeFault>
-    ensures { MatchResult result (IsRead TakesBlockType cursor.old cursor.new) (BeginsWithNone TakesBlockType (rest cursor.old)) }
-{
-    let byte = cursor.u8()?;
-    if byte == 0x40 {
-        return Ok(None);
-    }
-    match value_type(byte) {
-        Some(value) => Ok(Some(value)),
-        None => Err(DecodeFault::Malformed),
     }
 }
 

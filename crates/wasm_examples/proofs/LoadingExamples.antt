@@ -1,6 +1,6 @@
 -- Worked examples of floats, limits and segments.
 use Rattle.std.proofs.Common.{arith}
-use Rattle.std.specs.Prelude.{◌≡◌, ℕ, List, [], ◌∷◌, Some, None, Ok, Err, true, false, replicate, codes, refl}
+use Rattle.std.specs.Prelude.{◌≡◌, ℕ, [], ◌∷◌, Some, None, Ok, Err, true, false, replicate, codes, refl}
 use Rattle.wasm_types.specs.declared.types.ValType.TheVariants as type
 use Rattle.wasm_types.specs.declared.outcome.Val.TheVariants.{I64}
 use Rattle.wasm_types.specs.declared.instr.Instr.TheVariants as instr
@@ -10,8 +10,8 @@ use Rattle.wasm_spec.specs.Validity.{IsSupported, uses_floats, offset_value}
 use Rattle.wasm_spec.specs.Store.{Element, Data, first_misfit}
 use Rattle.wasm_types.specs.declared.limits.LoadLimits.{LoadLimits}
 use Rattle.wasm_spec.specs.Loading.{Malformed, Unsupported, Invalid, Answers, Loads, OverLimit, Segment, Pages, Elements, Globals, Frame, late_refusal}
-use Rattle.wasm_examples.proofs.GrammarExamples.{add_spelled, header_cut_off}
-use Rattle.wasm_examples.proofs.TypingExamples.{add, add_valid, add_supported}
+use Rattle.wasm_spec.proofs.AddModule.{add, add_bytes, add_spelled, add_valid, add_supported}
+use Rattle.wasm_examples.proofs.GrammarExamples.{header_cut_off}
 use Rattle.wasm_examples.proofs.Modules.{straight, i32_const, function_type, function_of, at_least, bare, empty_type}
 
 abbrev usual : LoadLimits
@@ -164,12 +164,6 @@ float_offset_of_elements : uses_floats (record (bare [] [] []) { element_segment
 float_offset_of_elements = refl
 
 -- ---- what loading answers
-
-abbrev add_bytes : List ℕ
-add_bytes =
-    0x00 ∷ 0x61 ∷ 0x73 ∷ 0x6D ∷ 0x01 ∷ 0x00 ∷ 0x00 ∷ 0x00 ∷ 0x01 ∷ 0x07 ∷ 0x01 ∷ 0x60 ∷ 0x02 ∷ 0x7F ∷ 0x7F ∷ 0x01 ∷ 0x7F
-    ∷ 0x03 ∷ 0x02 ∷ 0x01 ∷ 0x00 ∷ 0x07 ∷ 0x07 ∷ 0x01 ∷ 0x03 ∷ 0x61 ∷ 0x64 ∷ 0x64 ∷ 0x00 ∷ 0x00
-    ∷ 0x0A ∷ 0x09 ∷ 0x01 ∷ 0x07 ∷ 0x00 ∷ 0x20 ∷ 0x00 ∷ 0x20 ∷ 0x01 ∷ 0x6A ∷ 0x0B ∷ []
 
 add_is_loaded : Loads add_bytes usual (Ok add)
 add_is_loaded = record { tree = add; spells = add_spelled; answers = (record { runs = add_supported; valid = add_valid; late_is = refl }, refl) }

@@ -1,7 +1,5 @@
 -- Worked examples of typing, validity, floats and frame needs.
-use Rattle.std.proofs.Common.{◌≡◌, ◌≢◌, ◌≤◌, List, [], ◌∷◌, true, Some, None, length, refl, arith}
-use Rattle.std.specs.Prelude.{AllPairs}
-use Rattle.std.proofs.lemmas.List.Elements.{All-nil, All-cons}
+use Rattle.std.proofs.Common.{◌≡◌, List, [], ◌∷◌, true, Some, None, refl, arith}
 use Rattle.wasm_types.specs.declared.types.ValType.TheVariants.{I32, I64, F32}
 use Rattle.wasm_types.specs.declared.types.FuncType.{FuncType}
 use Rattle.wasm_types.specs.declared.outcome.Val.TheVariants as val
@@ -9,11 +7,11 @@ use Rattle.wasm_types.specs.declared.instr.Width.TheVariants.{W32}
 use Rattle.wasm_types.specs.declared.instr.BinaryOp.TheVariants.{Add, Sub}
 use Rattle.wasm_types.specs.declared.instr.Instr.TheVariants as instr
 use Rattle.wasm_types.specs.declared.module.Export.{Export}
-use Rattle.wasm_types.specs.declared.module.ExportDesc.TheVariants as desc
 use Rattle.wasm_types.specs.Tree.{Code, End, Plain, If, Call, FunctionTree, ModuleTree}
 use Rattle.wasm_spec.specs.Typing.{IsTypedFunction}
-use Rattle.wasm_spec.specs.Validity.{IsValid, IsSupported, IsDefined, uses_floats}
+use Rattle.wasm_spec.specs.Validity.{IsValid, uses_floats}
 use Rattle.wasm_spec.specs.Need.{need}
+use Rattle.wasm_spec.proofs.AddModule.{add, add_function}
 
 abbrev i32_add : Code → Code
 i32_add rest = Plain (instr.Binary W32 Add) rest
@@ -31,44 +29,6 @@ nothing_to_nothing = record { params = []; results = [] }
 
 abbrev nothing_to_i32 : FuncType
 nothing_to_i32 = record { params = []; results = I32 ∷ [] }
-
--- `add`: local.get 0, local.get 1, i32.add
-abbrev add_function : FunctionTree
-add_function = function_of (Plain (instr.LocalGet 0) (Plain (instr.LocalGet 1) (i32_add End)))
-
-abbrev add_export : Export
-add_export = record { name = 97 ∷ 100 ∷ 100 ∷ []; desc = desc.Func 0 }
-
-abbrev pub add_type : FuncType
-add_type = record { params = I32 ∷ I32 ∷ []; results = I32 ∷ [] }
-
-abbrev pub add : ModuleTree
-add = module_of add_type add_function (add_export ∷ [])
-
-add_typed : IsTypedFunction add add_function
-add_typed = (refl, (I32 ∷ [], ([], refl, refl), (I32 ∷ I32 ∷ [], (I32 ∷ [], refl, refl), (I32 ∷ [], ([], refl, refl), refl))))
-
-one_pair : {X : Type 0} (R : X → X → Type 0) (x : X) → AllPairs R (x ∷ [])
-one_pair R x i j d lt le = absurd (omega arith)
-
-pub add_valid : IsValid add
-add_valid = record {
-  function_types = All-cons (λ (t : FuncType). length t.results ≤ 1) add_type [] (omega arith) (All-nil (λ (t : FuncType). length t.results ≤ 1));
-  functions = All-cons (IsTypedFunction add) add_function [] add_typed (All-nil (IsTypedFunction add));
-  one_table = omega arith;
-  table_types = All-nil _;
-  one_memory = omega arith;
-  memory_types = All-nil _;
-  globals = All-nil _;
-  element_segments = All-nil _;
-  data_segments = All-nil _;
-  start = tt;
-  exports = All-cons (λ (e : Export). IsDefined add e.desc) add_export [] refl (All-nil (λ (e : Export). IsDefined add e.desc));
-  names_differ = one_pair (λ (a b : Export). a.name ≢ b.name) add_export;
-}
-
-pub add_supported : IsSupported add
-add_supported = record { no_import = refl; no_float = refl }
 
 add_need : need add add_function ≡ 5
 add_need = refl

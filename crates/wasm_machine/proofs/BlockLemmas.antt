@@ -1,19 +1,20 @@
 -- Into inner sequences.
 use Rattle.wasm_types.specs.declared.limits.RunLimits.{RunLimits}
-use Rattle.std.proofs.Common.{◌≡◌, ◌≢◌, ℕ, zero, suc, ◌+◌, ◌*◌, ◌≤◌, List, [], ◌∷◌, ◌++◌, length, map, drop, reverse, Option, Some, None, refl, sym, ap, ◌∙◌, subst, arith, length-append}
+use Rattle.std.proofs.Common.{◌≡◌, ◌≢◌, ℕ, suc, ◌+◌, ◌*◌, ◌≤◌, List, [], ◌∷◌, ◌++◌, length, map, drop, reverse, Option, Some, None, refl, sym, ap, ◌∙◌, subst, arith, length-append}
 use Rattle.std.specs.Prelude.{slice_get}
-use Rattle.std.proofs.lemmas.List.{length-reverse, length-map, drop_more}
-use Rattle.std.proofs.lemmas.Option.{slice_get_within, get_or_from_slice_get}
+use Rattle.std.proofs.lemmas.List.{length-reverse, length-map}
 use Rattle.wasm_types.specs.declared.types.ValType.{ValType}
 use Rattle.wasm_types.specs.declared.outcome.Val.{Val}
 use Rattle.wasm_types.specs.declared.instr.Op.{Op}
 use Rattle.wasm_types.specs.declared.instr.Op.TheVariants as op
 use Rattle.wasm_types.specs.declared.module.Module.{Module}
-use Rattle.wasm_types.specs.Tree.{Code, End, Plain, Block, Loop, If, Call, CallIndirect, code_of, module_tree}
+use Rattle.wasm_types.specs.Tree.{Code, End, code_of, module_tree}
 use Rattle.wasm_spec.specs.Typing.{Context, type_of, result_types, Typed, under}
 use Rattle.wasm_spec.specs.Need.{highest, deepest}
 use Rattle.wasm_spec.specs.Store.{Store}
 use Rattle.wasm_spec.specs.Execution.{State, OutOfFuel, Ended, Continuation, ended, exec, leave, arity, inside}
+use Rattle.wasm_types.proofs.SequenceLemmas.{code_at-within, code_at-past}
+use Rattle.wasm_spec.proofs.NeedLaws.{highest-least, deepest-least}
 use Rattle.wasm_spec.proofs.Equations.{exec-End, exec-Block, exec-Loop, exec-zero}
 use Rattle.wasm_types.specs.Sequences.{code_at, earlier, named_in, ops_of}
 use Rattle.machine_steps.specs.declared.machine.Position.{Position}
@@ -29,25 +30,6 @@ use Rattle.wasm_machine.proofs.RemainingLemmas.{after_sequence-OutOfFuel}
 use Rattle.machine_steps.proofs.StackLayoutLemmas.{labels-length, room_kept}
 
 -- ---- room
-
--- code begins with operands that are counted, and under labels that are
-pub highest-least : (base : ℕ) (C : Context) (code : Code) (h : ℕ) → base + h ≤ highest base C code h
-highest-least base C End h = omega arith
-highest-least base C (Plain i rest) h = omega arith
-highest-least base C (Block t body rest) h = omega (arith, highest-least (base + h) (under (result_types t) C) body 0)
-highest-least base C (Loop t body rest) h = omega (arith, highest-least (base + h) (under [] C) body 0)
-highest-least base C (If t first second rest) h = omega arith
-highest-least base C (Call x rest) h = omega arith
-highest-least base C (CallIndirect x rest) h = omega arith
-
-pub deepest-least : (depth : ℕ) (code : Code) → depth ≤ deepest depth code
-deepest-least depth End = omega arith
-deepest-least depth (Plain i rest) = deepest-least depth rest
-deepest-least depth (Block t body rest) = omega (arith, deepest-least depth rest)
-deepest-least depth (Loop t body rest) = omega (arith, deepest-least depth rest)
-deepest-least depth (If t first second rest) = omega (arith, deepest-least depth rest)
-deepest-least depth (Call x rest) = deepest-least depth rest
-deepest-least depth (CallIndirect x rest) = deepest-least depth rest
 
 module _ (m : Module) (frame : ℕ) where
   -- a frame holds its locals, its operands and its labels
@@ -81,10 +63,6 @@ module _ (m : Module) (frame : ℕ) where
 
 -- ---- an instruction begins
 
-drop_found : (ops : List Op) (n : ℕ) (o : Op) → slice_get ops n ≡ Some o → drop n ops ≡ o ∷ drop (n + 1) ops
-drop_found ops n o e =
-    drop_more ops n o (slice_get_within ops n o e) ∙ ap (λ (x : Op). x ∷ drop (n + 1) ops) (get_or_from_slice_get ops n o o e)
-
 pub arity_is : (t : Option ValType) → arity t ≡ length (result_types t)
 arity_is None = refl
 arity_is (Some t) = refl
@@ -99,7 +77,7 @@ module _ (m : Module) (limits : RunLimits) (frame : ℕ) where
       let body = body_of m k in
       let place : k.place ≡ old.at.place = sym (ap (λ (a : Position). a.place) e.represents.at) in
       let found : slice_get (ops_of body k.sequence) k.place ≡ Some o = ap (λ (a : Position). slice_get (ops_of (function_of m a.function).body a.sequence) a.place) (sym e.represents.at) ∙ there in
-      let code : code_at body k.sequence k.place ≡ doing m o (record k { place = k.place + 1 }) = ap (code_of (earlier body k.sequence)) (drop_found (ops_of body k.sequence) k.place o found) in
+      let code : code_at body k.sequence k.place ≡ doing m o (record k { place = k.place + 1 }) = code_at-within body k.sequence k.place o found in
       record {
         configuration = record k { place = k.place + 1 };
         represents = record { at = ats ∙ ap (λ (a : Position). record a { place = a.place + 1 }) e.represents.at; values = values ∙ e.represents.values; labels = labels ∙ e.represents.labels; frames = frames ∙ e.represents.frames };
@@ -202,18 +180,12 @@ module _ (m : Module) (limits : RunLimits) (frame : ℕ) where
 
   -- ---- ends of sequences, and the end of the fuel
 
-  past : (ops : List Op) (n : ℕ) → slice_get ops n ≡ None → drop n ops ≡ []
-  past [] zero e = refl
-  past [] (suc n) e = refl
-  past (o ∷ ops) zero e = absurd (cc)
-  past (o ∷ ops) (suc n) e = past ops n e
-
   pub at_end : (machine : Machine) (store : Store) (r : ℕ → Ended) → Simulates m limits frame machine store r → op_at m machine ≡ None → SimulatesExit AtEnd m limits frame machine store r
   at_end machine store r e none =
       let k = e.configuration in
       let body = body_of m k in
       let found : slice_get (ops_of body k.sequence) k.place ≡ None = ap (λ (a : Position). slice_get (ops_of (function_of m a.function).body a.sequence) a.place) (sym e.represents.at) ∙ none in
-      let code : code_at body k.sequence k.place ≡ End = ap (code_of (earlier body k.sequence)) (past (ops_of body k.sequence) k.place found) in
+      let code : code_at body k.sequence k.place ≡ End = code_at-past body k.sequence k.place found in
       let here : IsTypedCode m frame k.function k.blocks End (map type_of k.operands) = subst (λ (c : Code). IsTypedCode m frame k.function k.blocks c (map type_of k.operands)) code e.typed.here in
       record {
         configuration = k;
@@ -240,7 +212,7 @@ module _ (m : Module) (limits : RunLimits) (frame : ℕ) where
       let k = e.configuration in
       let body = body_of m k in
       let found : slice_get (ops_of body k.sequence) k.place ≡ Some o = ap (λ (a : Position). slice_get (ops_of (function_of m a.function).body a.sequence) a.place) (sym e.represents.at) ∙ there in
-      let code : code_at body k.sequence k.place ≡ doing m o (record k { place = k.place + 1 }) = ap (code_of (earlier body k.sequence)) (drop_found (ops_of body k.sequence) k.place o found) in
+      let code : code_at body k.sequence k.place ≡ doing m o (record k { place = k.place + 1 }) = code_at-within body k.sequence k.place o found in
       sym (e.goes 0)
       ∙ ap (after_sequence m limits k) (ap (λ (c : Code). exec (module_tree m) limits (length k.activations + 1) c (state k store) 0) code
       ∙ exec-zero (module_tree m) limits (length k.activations + 1) (doing m o (record k { place = k.place + 1 })) (state k store) (longer (earlier body k.sequence) o (drop (k.place + 1) (ops_of body k.sequence))))

@@ -24,7 +24,7 @@ use Rattle.wasm_machine.specs.TypedConfiguration.{operand_count, context}
 use Rattle.wasm_machine.specs.Simulation.{HasFetched, HasResultTypes, Simulates, SimulatesExit, ToLabel, body_of, paid}
 use Rattle.machine_steps.specs.PlainSteps.{HasNumber}
 use Rattle.machine_steps.proofs.StackLayoutLemmas.{room_kept}
-use Rattle.wasm_machine.proofs.BlockLemmas.{highest-least}
+use Rattle.wasm_spec.proofs.NeedLaws.{highest-least}
 use Rattle.wasm_machine.proofs.RoomLemmas.{free_value}
 use Rattle.wasm_machine.proofs.StepLemmas.{jumps, done_as}
 

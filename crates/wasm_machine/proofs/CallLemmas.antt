@@ -1,11 +1,12 @@
 -- A function is called.
 use Rattle.wasm_types.proofs.SequenceLemmas.{tree_is}
+use Rattle.wasm_types.proofs.Found.{all_found}
 use Rattle.wasm_types.specs.declared.limits.RunLimits.{RunLimits}
 use Rattle.std.proofs.Common.{◌≡◌, ℕ, zero, suc, ◌+◌, ◌-◌, ◌*◌, ◌<◌, ◌≤◌, List, [], ◌∷◌, ◌++◌, Bool, true, false, length, map, take, drop, get_or, reverse, Option, Some, refl, sym, ap, ◌∙◌, subst, arith, append_assoc, append-nil, length-append, length-take-le, mul-le-mul_right}
-use Rattle.std.specs.Prelude.{slice_get, nat_lt, nat_le, ◌||◌, All, option_and_then, vec_capacity}
+use Rattle.std.specs.Prelude.{slice_get, nat_lt, nat_le, ◌||◌, option_and_then, vec_capacity}
 use Rattle.std.specs.List.{list_any}
 use Rattle.std.proofs.lemmas.List.{length-reverse, length-map, reverse-reverse, reverse-append}
-use Rattle.std.proofs.lemmas.Option.{get_or_from_slice_get, slice_get_within}
+use Rattle.std.proofs.lemmas.Bool.{or_parts}
 use Rattle.std.proofs.lemmas.Bool.Decides.{nat_tests}
 use Rattle.wasm_types.specs.declared.types.ValType.{ValType}
 use Rattle.wasm_types.specs.declared.types.ValType.TheVariants as type
@@ -71,9 +72,6 @@ function_there [] x f d there = cc
 function_there (h ∷ functions) zero f d there = cc
 function_there (h ∷ functions) (suc x) f d there = function_there functions x f d there
 
-pub all_at : {A : Type 0} (P : A → Type 0) (xs : List A) (i : ℕ) (x : A) → All P xs → slice_get xs i ≡ Some x → P x
-all_at P xs i x all got = subst P (get_or_from_slice_get xs i x x got) (all i x (slice_get_within xs i x got))
-
 map-reverse : (vs : List Val) → map type_of (reverse vs) ≡ reverse (map type_of vs)
 map-reverse [] = refl
 map-reverse (v ∷ vs) = ap (map type_of) (reverse-append (v ∷ []) vs) ∙ map-append (reverse vs) (v ∷ []) ∙ ap (λ (l : List ValType). l ++ type_of v ∷ []) (map-reverse vs) ∙ sym (reverse-append (type_of v ∷ []) (map type_of vs))
@@ -100,7 +98,7 @@ module _ (m : Module) (frame x : ℕ) (f : FunctionTree) (t : FuncType) (run : I
   -- its body can be run in a frame of its own
   pub body_resumes : IsTypedAt m frame x [] [] (start_of m x) 0
   body_resumes =
-      let typed : IsTypedFunction (module_tree m) f = all_at (IsTypedFunction (module_tree m)) (module_tree m).functions x f run.valid.functions there in
+      let typed : IsTypedFunction (module_tree m) f = all_found (IsTypedFunction (module_tree m)) (module_tree m).functions x f run.valid.functions there in
       let whole : Fits m frame (body_context (module_tree m) f) f.body = record { typed = typed.1; fits = run.needs x f there } in
       let tree : f.body ≡ code_at (function_of m x).body (start_of m x) 0 = ap (λ (g : FunctionTree). g.body) tree_known ∙ tree_is (function_of m x).body (start_of m x) in
       let named : body_context (module_tree m) f ≡ context m frame x [] =
@@ -143,19 +141,15 @@ zero_types (type.I64 ∷ ts) e = ap (λ (l : List ValType). type.I64 ∷ l) (zer
 zero_types (type.F32 ∷ ts) e = absurd (cc)
 zero_types (type.F64 ∷ ts) e = absurd (cc)
 
-or_false : (a b : Bool) → a || b ≡ false → (a ≡ false) × (b ≡ false)
-or_false true b e = absurd (cc)
-or_false false b e = (refl, e)
-
 any_at : {A : Type 0} (p : A → Bool) (xs : List A) (i : ℕ) (x : A) → list_any p xs ≡ false → slice_get xs i ≡ Some x → p x ≡ false
 any_at p [] i x e got = absurd (cc)
-any_at p (y ∷ xs) zero x e got = let h = (or_false (p y) (list_any p xs) e).0 in let s : y ≡ x = cc in ap p (sym s) ∙ h
-any_at p (y ∷ xs) (suc i) x e got = any_at p xs i x (or_false (p y) (list_any p xs) e).1 got
+any_at p (y ∷ xs) zero x e got = let h = (or_parts (p y) (list_any p xs) e).0 in let s : y ≡ x = cc in ap p (sym s) ∙ h
+any_at p (y ∷ xs) (suc i) x e got = any_at p xs i x (or_parts (p y) (list_any p xs) e).1 got
 
 pub no_floats : (m : Module) (x : ℕ) (f : FunctionTree) → IsSupported (module_tree m) → slice_get (module_tree m).functions x ≡ Some f → has_float f.locals ≡ false
 no_floats m x f s there =
-    let functions : list_any (λ (g : FunctionTree). has_float g.locals || code_uses_floats g.body) (module_tree m).functions ≡ false = (or_false _ _ (or_false _ _ (or_false _ _ (or_false _ _ s.no_float).0).0).0).1 in
-    (or_false (has_float f.locals) (code_uses_floats f.body) (any_at (λ (g : FunctionTree). has_float g.locals || code_uses_floats g.body) (module_tree m).functions x f functions there)).0
+    let functions : list_any (λ (g : FunctionTree). has_float g.locals || code_uses_floats g.body) (module_tree m).functions ≡ false = (or_parts _ _ (or_parts _ _ (or_parts _ _ (or_parts _ _ s.no_float).0).0).0).1 in
+    (or_parts (has_float f.locals) (code_uses_floats f.body) (any_at (λ (g : FunctionTree). has_float g.locals || code_uses_floats g.body) (module_tree m).functions x f functions there)).0
 
 module _ (m : Module) (limits : RunLimits) (frame : ℕ) where
   arguments_cut : (k : Configuration) (t : FuncType) (below : List ValType) → map type_of k.operands ≡ reverse t.params ++ below → Cut k.operands (reverse t.params) below

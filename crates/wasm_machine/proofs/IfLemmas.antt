@@ -25,7 +25,8 @@ use Rattle.wasm_machine.specs.TypedConfiguration.{operand_count, IsTypedAt, cont
 use Rattle.wasm_machine.specs.Simulation.{HasFetched, Simulates, body_of, paid, chosen_arm}
 use Rattle.machine_steps.specs.PlainSteps.{HasNumber, in_block}
 use Rattle.machine_steps.proofs.StackLayoutLemmas.{room_kept}
-use Rattle.wasm_machine.proofs.BlockLemmas.{arity_is, deepest-least}
+use Rattle.wasm_spec.proofs.NeedLaws.{deepest-least}
+use Rattle.wasm_machine.proofs.BlockLemmas.{arity_is}
 use Rattle.wasm_machine.proofs.RoomLemmas.{free_label}
 
 -- an i32 on the top of typed operands

@@ -2,7 +2,7 @@
 use Rattle.wasm_types.specs.SameTypes.{same_type}
 use Rattle.wasm_types.specs.declared.limits.RunLimits.{RunLimits}
 use Rattle.std.proofs.Common.{◌≡◌, ℕ, zero, suc, ◌+◌, ◌<◌, List, [], ◌∷◌, ◌++◌, length, map, reverse, Bool, true, false, Option, Some, None, refl, sym, ap, ◌∙◌, subst, arith, length-append}
-use Rattle.std.specs.Prelude.{slice_get, not, IsSome, option_and_then}
+use Rattle.std.specs.Prelude.{slice_get, not, option_and_then}
 use Rattle.wasm_types.specs.declared.types.ValType.{ValType}
 use Rattle.wasm_types.specs.declared.types.ValType.TheVariants.{I32}
 use Rattle.wasm_types.specs.declared.types.FuncType.{FuncType}
@@ -28,16 +28,12 @@ use Rattle.wasm_machine.specs.Simulation.{HasFetched, SimulatesCall, body_of, pa
 use Rattle.machine_steps.specs.PlainSteps.{HasNumber}
 use Rattle.machine_steps.proofs.StackLayoutLemmas.{room_kept}
 use Rattle.wasm_machine.proofs.RemainingLemmas.{after_sequence-Trapped}
-use Rattle.wasm_machine.proofs.CallLemmas.{all_at}
+use Rattle.wasm_types.proofs.Found.{all_found, some_found}
 use Rattle.wasm_types.proofs.SameTypeLemmas.{same_type_is}
 use Rattle.wasm_machine.proofs.IfLemmas.{Pops32, Condition, condition_of}
 use Rattle.wasm_machine.proofs.StepLemmas.{calls_it}
 
 -- ---- functions that are there
-
-pub some_in : {A : Type 0} (o : Option A) → IsSome o → (x : A) × (o ≡ Some x)
-some_in None h = absurd (cc (h))
-some_in (Some x) h = (x, refl)
 
 tree_within : (fs : List Function) (y : ℕ) → y < length fs → (f : FunctionTree) × (slice_get (map function_tree fs) y ≡ Some f)
 tree_within [] y h = absurd (omega arith)
@@ -55,8 +51,8 @@ pub record Member (m : Module) (y : ℕ) : Type 0 where
 pub member : (m : Module) (frame y : ℕ) → IsRunnable m frame → y < length m.functions → Member m y
 member m frame y run lt =
     let (f, there) = tree_within m.functions y lt in
-    let typed : IsTypedFunction (module_tree m) f = all_at (IsTypedFunction (module_tree m)) (module_tree m).functions y f run.valid.functions there in
-    let (t, has) = some_in (slice_get m.types f.type_index) typed.0 in
+    let typed : IsTypedFunction (module_tree m) f = all_found (IsTypedFunction (module_tree m)) (module_tree m).functions y f run.valid.functions there in
+    let (t, has) = some_found (slice_get m.types f.type_index) typed.0 in
     record { function = f; type = t; there = there; typed = has; known = ap (option_and_then (λ (g : FunctionTree). slice_get m.types g.type_index)) there ∙ has }
 
 -- ---- what the instruction takes

@@ -21,7 +21,8 @@ use Rattle.wasm_machine.specs.TypedConfiguration.{operand_count, IsTypedContext,
 use Rattle.wasm_machine.specs.Simulation.{HasFetched, Simulates, body_of, op_at}
 use Rattle.machine_steps.specs.PlainSteps.{in_block}
 use Rattle.machine_steps.proofs.StackLayoutLemmas.{labels-length, count_values}
-use Rattle.wasm_machine.proofs.BlockLemmas.{begins, beneath_fits, deepest-least, length-under}
+use Rattle.wasm_spec.proofs.NeedLaws.{deepest-least}
+use Rattle.wasm_machine.proofs.BlockLemmas.{begins, beneath_fits, length-under}
 
 abbrev pub fetched : Machine → Machine
 fetched old = record { at = record old.at { place = old.at.place + 1 }; values = old.values; labels = old.labels; frames = old.frames }

@@ -14,7 +14,7 @@ use Rattle.wasm_spec.specs.Typing.{Context, type_of, rule}
 use Rattle.wasm_spec.specs.Need.{height}
 use Rattle.wasm_spec.specs.Store.{Store}
 use Rattle.wasm_spec.specs.Result.{CallResult, result_of}
-use Rattle.wasm_spec.specs.Execution.{State, Signal, Next, Branch, Returned, Trapped, OutOfFuel, Stuck, Ended, ended, exec, invoke, plain, zero_of}
+use Rattle.wasm_spec.specs.Execution.{State, Signal, Next, Branch, Returned, Trapped, OutOfFuel, Stuck, Ended, ended, exec, invoke, zero_of}
 use Rattle.wasm_types.specs.Sequences.{code_at, earlier, ops_of}
 use Rattle.machine_steps.specs.declared.machine.Machine.{Machine}
 use Rattle.wasm_machine.specs.declared.running.Step.{Step}

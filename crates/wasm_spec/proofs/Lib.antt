@@ -8,3 +8,6 @@ pub mod Equations
 pub mod StoreLaws
 pub mod ResultLaws
 pub mod MoreFuel
+pub mod NeedLaws
+pub mod StoreSizes
+pub mod AddModule

@@ -1,11 +1,13 @@
 -- Loading has one answer, whatever modules are run.
-use Rattle.std.proofs.Common.{◌≡◌, ℕ, List, refl, sym, ap, ◌∙◌, subst, ◌⊎◌, inl, inr}
-use Rattle.std.specs.Prelude.{Result, Ok, Err}
+use Rattle.std.proofs.Common.{◌≡◌, ℕ, ◌≤◌, Bool, true, false, cond, List, Option, Some, None, refl, sym, ap, ◌∙◌, subst, ◌⊎◌, inl, inr}
+use Rattle.std.specs.Prelude.{Result, Ok, Err, nat_lt}
+use Rattle.std.proofs.lemmas.Bool.{ltb-false}
 use Rattle.wasm_types.specs.declared.limits.LoadLimits.{LoadLimits}
 use Rattle.wasm_types.specs.Tree.{ModuleTree}
 use Rattle.wasm_spec.specs.Grammar.{Spells}
 use Rattle.wasm_spec.proofs.UnambiguousModules.{spells-unique}
-use Rattle.wasm_spec.specs.Loading.{Refusal, Malformed, Unsupported, Invalid, OverLimit, Segment, IsAnswered, Answers, LoadsBy}
+use Rattle.wasm_spec.specs.Store.{Extent}
+use Rattle.wasm_spec.specs.Loading.{Refusal, Malformed, Unsupported, Invalid, OverLimit, Segment, Demand, refusal_of, IsAnswered, Answers, LoadsBy}
 
 module _ (Runs : ModuleTree → Type 0) (limits : LoadLimits) (m : ModuleTree) where
   pub answers-unique : (r s : Result ModuleTree Refusal) → Answers Runs limits m r → Answers Runs limits m s → r ≡ s
@@ -61,3 +63,19 @@ module _ (Runs : ModuleTree → Type 0) (bytes : List ℕ) (limits : LoadLimits)
     | inl a ↦ elim (answered s g) [ inl b ↦ a.0 ∙ sym b.0 | inr b ↦ absurd (a.1 b.tree b.spells) ]
     | inr a ↦ elim (answered s g) [ inl b ↦ absurd (b.1 a.tree a.spells) | inr b ↦ both_answered r s a b ]
   ]
+
+-- ---- no refusal
+
+pub no_refusal : (d : Option Demand) (e : Option Extent) → refusal_of d e ≡ None → (d ≡ None) × (e ≡ None)
+no_refusal None None h = (refl, refl)
+no_refusal None (Some x) h = absurd (cc)
+no_refusal (Some y) e h = absurd (cc)
+
+-- a demand that is not found to be over keeps to its limit, and the others are not found either
+pub first_keeps : (limit value : ℕ) (d : Demand) (rest : Option Demand) → ◌≡◌ {A = Option Demand} (cond (nat_lt limit value) (Some d) rest) None
+    → (value ≤ limit) × (rest ≡ None)
+first_keeps limit value d rest h =
+    let split : (b : Bool) → nat_lt limit value ≡ b → ◌≡◌ {A = Option Demand} (cond b (Some d) rest) None → (value ≤ limit) × (rest ≡ None) = elim [
+      | true ↦ λ q n. absurd (cc)
+      | false ↦ λ q n. (ltb-false limit value q, n)
+    ] in split (nat_lt limit value) refl h

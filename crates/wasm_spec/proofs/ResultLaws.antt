@@ -1,5 +1,5 @@
 -- What a call keeps of the store that it begins with.
-use Rattle.std.proofs.Common.{◌≡◌, ℕ, ◌+◌, ◌*◌, ◌/◌, ◌≤◌, List, [], ◌∷◌, ◌++◌, length, Option, Some, None, Bool, true, false, cond, refl, sym, ap, ◌∙◌, subst, arith, length-append, length-take, length-drop, length-set}
+use Rattle.std.proofs.Common.{◌≡◌, ℕ, ◌+◌, ◌*◌, ◌/◌, ◌≤◌, List, [], ◌∷◌, ◌++◌, length, Option, Some, None, Bool, true, false, cond, refl, sym, ap, ◌∙◌, subst, arith, length-append, length-set}
 use Rattle.std.specs.Prelude.{nat_lt, slice_get, replicate, reverse, fold, find, map}
 use Rattle.std.specs.List.{enumerate_from}
 use Rattle.std.proofs.lemmas.List.{length-map, length-replicate}
@@ -10,12 +10,13 @@ use Rattle.wasm_types.specs.declared.outcome.Val.{Val}
 use Rattle.wasm_types.specs.declared.outcome.Outcome.{Outcome}
 use Rattle.wasm_types.specs.declared.outcome.Outcome.TheVariants as outcome
 use Rattle.wasm_types.specs.Tree.{Code, End, Plain, Block, Loop, If, Call, CallIndirect, FunctionTree, ModuleTree}
-use Rattle.wasm_spec.specs.Store.{Store, Extent, page_size, written, minimum_of, memory_size, table_size, element_extent, data_extent, first_misfit, write_data, write_elements, fresh_store, offset_of}
+use Rattle.wasm_spec.specs.Store.{Store, Extent, page_size, minimum_of, memory_size, table_size, element_extent, data_extent, first_misfit, write_data, write_elements, fresh_store, offset_of}
 use Rattle.wasm_types.specs.declared.limits.RunLimits.{RunLimits}
 use Rattle.wasm_spec.specs.Execution.{State, Signal, Next, Branch, Returned, Trapped, OutOfFuel, Stuck, pages_of, most_pages, invoke, entered, exec}
 use Rattle.wasm_spec.specs.Result.{CallResult, finish, run_function, result_by, function_result, if_done_by, if_done, after_start, result_from}
 use Rattle.wasm_spec.specs.Instances.{IsInstance, room_for}
 use Rattle.wasm_spec.proofs.FuelLaws.{with_function-spends, invoke-spends, exec-spends}
+use Rattle.wasm_spec.proofs.StoreSizes.{length-written, whole_pages}
 use Rattle.wasm_spec.proofs.StoreLaws.{KeptIn, Keeps, IsKeptByChanges, invoke-keeps_at, with_function-keeps_at, exec-keeps}
 
 -- ---- results
@@ -158,15 +159,9 @@ module _ (m : ModuleTree) (limits : RunLimits) where
 
 -- ---- one instance
 
-length-written : {A : Type 0} (list : List A) (at : ℕ) (items : List A) → at + length items ≤ length list → length (written list at items) ≡ length list
-length-written list at items h = simp (length-append, length-take, length-drop) (omega arith)
-
 most-in_room : (ms : List Limits) (pages n : ℕ) → n ≤ most_pages ms pages → n ≤ room_for ms pages
 most-in_room [] pages n h = h
 most-in_room (l ∷ ms) pages n h = omega arith
-
-whole_pages : (n : ℕ) → n * page_size / page_size ≡ n
-whole_pages n = omega arith
 
 sum_is : (a b k n : ℕ) → a ≡ k * page_size → b ≡ n * page_size → a + b ≡ (k + n) * page_size
 sum_is a b k n e f = omega arith

@@ -18,7 +18,7 @@ use Rattle.wasm_spec.specs.Typing.{function_at}
 use Rattle.wasm_spec.specs.Operators.{bit_width, int_width, pack_width, pack_bits, binary, wrap}
 use Rattle.wasm_spec.specs.Store.{Store, page_size, written}
 use Rattle.wasm_types.specs.declared.limits.RunLimits.{RunLimits}
-use Rattle.wasm_spec.specs.Execution.{State, Signal, Next, Branch, Returned, Trapped, OutOfFuel, Stuck, Ended, Continuation, number, given, with_operands, pop, pop_two, pop_three, if_zero, or_trap, memory_set, store_number, pages_of, most_pages, grow, plain, pay, and_then, unless, keep, leave_by, arity, pop_index, choose, inside, return_by, return, entered, callee, invoke, if_there, with_type, with_function, with_element, exec_within, exec}
+use Rattle.wasm_spec.specs.Execution.{State, Signal, Next, Branch, Returned, Trapped, OutOfFuel, Stuck, Ended, Continuation, number, given, with_operands, pop, pop_two, pop_three, if_zero, or_trap, memory_set, store_number, pages_of, most_pages, grow, plain, pay, and_then, unless, keep, leave_by, arity, pop_index, choose, inside, return_by, entered, callee, invoke, if_there, with_type, with_function, with_element, exec_within, exec}
 
 -- the store in which a sequence ends has this property
 abbrev pub KeptIn : (Store → Type 0) → Signal → Type 0

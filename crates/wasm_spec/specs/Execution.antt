@@ -8,9 +8,9 @@
 -- what lay below comes back when it is left. A run is `Stuck` where it asks for an operand, a local, a global, a function
 -- or a type that isn't there, or that has another type. No run of a valid module is.
 use Rattle.wasm_types.specs.declared.limits.RunLimits.{RunLimits}
-use Rattle.std.specs.Prelude.{ℕ, zero, suc, ◌+◌, ◌-◌, ◌*◌, ◌/◌, ◌^◌, List, [], ◌∷◌, ◌++◌, Bool, true, false, Result, Ok, Err, Option, Some, None, nat_lt, nat_le, not, if◌then◌else◌, ◌&&◌, slice_get, slice_set, length, take, drop, reverse, map, replicate, min, unwrap_or}
+use Rattle.std.specs.Prelude.{ℕ, zero, suc, ◌+◌, ◌-◌, ◌*◌, ◌/◌, ◌^◌, List, [], ◌∷◌, ◌++◌, Bool, true, false, Result, Ok, Err, Option, Some, None, nat_lt, nat_le, not, if◌then◌else◌, slice_get, slice_set, length, take, drop, reverse, map, replicate, min, unwrap_or}
 use Rattle.std.specs.Int as int
-use Rattle.std.specs.Int.{w8, w16, w32, byte_len, to_le_bytes}
+use Rattle.std.specs.Int.{byte_len, to_le_bytes}
 use Rattle.wasm_types.specs.declared.types.ValType.{ValType}
 use Rattle.wasm_types.specs.declared.types.ValType.TheVariants as type
 use Rattle.wasm_types.specs.declared.types.FuncType.{FuncType}

@@ -1,11 +1,11 @@
 -- The types of instructions: WebAssembly Core Specification 1.0, section 3.3.
 --
 -- Lists of operands have the top first, and are those of the innermost block alone.
-use Rattle.std.specs.Prelude.{◌≡◌, ℕ, ◌^◌, List, [], ◌∷◌, ◌++◌, Bool, true, false, ◌&&◌, Option, Some, None, slice_get, reverse, nat_le, if◌then◌else◌, option_and_then, option_map, IsSome}
+use Rattle.std.specs.Prelude.{◌≡◌, ℕ, ◌^◌, List, [], ◌∷◌, ◌++◌, Bool, false, Option, Some, None, slice_get, reverse, nat_le, if◌then◌else◌, option_and_then, option_map, IsSome}
 use Rattle.std.specs.List.{list_all}
 use Rattle.std.specs.Int.{byte_len}
 use Rattle.wasm_types.specs.declared.types.ValType.{ValType}
-use Rattle.wasm_types.specs.declared.types.ValType.TheVariants.{I32, I64, F32, F64}
+use Rattle.wasm_types.specs.declared.types.ValType.TheVariants.{I32, I64}
 use Rattle.wasm_types.specs.declared.types.FuncType.{FuncType}
 use Rattle.wasm_types.specs.declared.types.Limits.{Limits}
 use Rattle.wasm_types.specs.declared.types.GlobalType.{GlobalType}

@@ -1,4 +1,4 @@
-// Laws of the binary format.
+//! Laws of the binary format.
 
 ghost use Rattle.std.specs.Prelude.{◌≡◌, ℕ, List};
 ghost use Rattle.wasm_types.specs.Tree.{ModuleTree};

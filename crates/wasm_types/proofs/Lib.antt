@@ -1,2 +1,3 @@
 pub mod SequenceLemmas
 pub mod SameTypeLemmas
+pub mod Found

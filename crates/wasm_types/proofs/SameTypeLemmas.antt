@@ -1,5 +1,5 @@
 -- Types that are tested to be the same are equal.
-use Rattle.std.proofs.Common.{◌≡◌, List, [], ◌∷◌, Bool, true, false, refl, ap, ◌∙◌, arith}
+use Rattle.std.proofs.Common.{◌≡◌, List, [], ◌∷◌, Bool, true, refl, ap, ◌∙◌, arith}
 use Rattle.std.specs.Prelude.{◌&&◌}
 use lib.Pointwise.{pointwise}
 use Rattle.wasm_types.specs.declared.types.ValType.{ValType}

@@ -1,6 +1,8 @@
 -- The trees of numbered sequences.
-use Rattle.std.proofs.Common.{◌≡◌, ℕ, zero, suc, ◌+◌, ◌-◌, ◌<◌, ◌≤◌, List, [], ◌∷◌, ◌++◌, length, take, get_or, refl, sym, ap, ◌∙◌, arith, append_assoc, append-nil, length-append, ◌⊎◌, ⊎_elim, inl, inr}
-use Rattle.std.proofs.lemmas.List.{get_or_past, get_or_push, get_or_append_left, get_or-take, length-take}
+use Rattle.std.proofs.Common.{◌≡◌, ℕ, zero, suc, ◌+◌, ◌-◌, ◌<◌, ◌≤◌, List, [], ◌∷◌, ◌++◌, length, take, drop, get_or, Some, None, refl, sym, ap, ◌∙◌, arith, append_assoc, append-nil, length-append, ◌⊎◌, ⊎_elim, inl, inr}
+use Rattle.std.specs.Prelude.{slice_get}
+use Rattle.std.proofs.lemmas.List.{drop_all, drop_more, get_or_past, get_or_push, get_or_append_left, get_or-take, length-take}
+use Rattle.std.proofs.lemmas.Option.{get_or_from_slice_get, slice_get_cases, slice_get_within}
 use Rattle.std.proofs.Math.Seq.{take-append_seam}
 use Rattle.wasm_types.specs.declared.instr.Op.{Op}
 use Rattle.wasm_types.specs.declared.instr.Expr.{Expr}
@@ -36,9 +38,19 @@ tree_from before (ops ∷ sequences) zero n e lt =
 tree_from before (ops ∷ sequences) (suc q) n e lt =
     tree_from (before ++ code_of before ops ∷ []) sequences q n (omega (arith, length-append before (code_of before ops ∷ []))) (omega arith)
 
-codes_length : (e : Expr) → length (codes e) ≡ length e.sequences
+-- each sequence has a tree
+pub length-codes_from : (before : List Code) (sequences : List (List Op)) → length (codes_from before sequences) ≡ length before + length sequences
+length-codes_from before sequences = let b = behind before sequences in omega (arith, ap length b.is, b.as_many, length-append before b.rest)
+
+length-codes : (e : Expr) → length (codes e) ≡ length e.sequences
 unfolding codes
-codes_length e = let b = behind [] e.sequences in omega (arith, ap length b.is, b.as_many)
+length-codes e = omega (arith, length-codes_from [] e.sequences)
+
+-- one sequence more
+pub codes_from-push : (before : List Code) (sequences : List (List Op)) (ops : List Op)
+    → codes_from before (sequences ++ ops ∷ []) ≡ codes_from before sequences ++ code_of (codes_from before sequences) ops ∷ []
+codes_from-push before [] ops = refl
+codes_from-push before (s ∷ sequences) ops = codes_from-push (before ++ code_of before s ∷ []) sequences ops
 
 tree_within : (e : Expr) (q : ℕ) → q < length e.sequences → get_or (codes e) q End ≡ code_at e q 0
 unfolding codes
@@ -58,7 +70,17 @@ below (suc a) (suc b) = elim (below a b) [ inl x ↦ inl (omega (arith, x)) | in
 
 pub tree_is : (e : Expr) (q : ℕ) → get_or (codes e) q End ≡ code_at e q 0
 tree_is e q =
-    ⊎_elim (λ lt. tree_within e q lt) (λ le. get_or_past (codes e) q End (omega (arith, codes_length e)) ∙ sym (no_code e q le)) (below q (length e.sequences))
+    ⊎_elim (λ lt. tree_within e q lt) (λ le. get_or_past (codes e) q End (omega (arith, length-codes e)) ∙ sym (no_code e q le)) (below q (length e.sequences))
+
+-- the code at an instruction, and past the last one
+pub code_at-within : (e : Expr) (q place : ℕ) (o : Op) → slice_get (ops_of e q) place ≡ Some o → code_at e q place ≡ code_of (earlier e q) (o ∷ drop (place + 1) (ops_of e q))
+code_at-within e q place o there =
+    let ops = ops_of e q in
+    ap (code_of (earlier e q))
+    (drop_more ops place o (slice_get_within ops place o there) ∙ ap (λ (x : Op). x ∷ drop (place + 1) ops) (get_or_from_slice_get ops place o o there))
+
+pub code_at-past : (e : Expr) (q place : ℕ) → slice_get (ops_of e q) place ≡ None → code_at e q place ≡ End
+code_at-past e q place none = ap (code_of (earlier e q)) (⊎_elim (λ within. cc (none, within.2)) (λ past. drop_all place (ops_of e q) past.0) (slice_get_cases (ops_of e q) place).1)
 
 -- a named sequence that stands before
 pub named_before : (e : Expr) (q inner : ℕ) → inner < q → code_at e inner 0 ≡ named_in e q inner

@@ -1,11 +1,11 @@
 -- Expressions of one instruction.
-use Rattle.std.proofs.Common.{◌≡◌, Some, None, ℕ, ◌-◌, List, [], ◌∷◌, length, get_or, refl, sym, ap, ◌∙◌}
+use Rattle.std.proofs.Common.{◌≡◌, Some, None, ℕ, ◌-◌, List, [], ◌∷◌, length, refl, sym, ap, ◌∙◌}
 use Rattle.std.specs.Prelude.{slice_get}
 use Rattle.wasm_types.specs.declared.instr.Op.{Op}
 use Rattle.wasm_types.specs.declared.instr.Expr.{Expr}
 use Rattle.wasm_types.specs.declared.instr.Instr.{Instr}
 use Rattle.wasm_types.specs.declared.instr.Op.TheVariants as op
-use Rattle.wasm_types.specs.Tree.{Code, End, code_of, codes, expr_tree}
+use Rattle.wasm_types.specs.Tree.{Code, code_of, expr_tree}
 use Rattle.wasm_spec.specs.Validity.{single_instruction}
 use Rattle.wasm_types.specs.Sequences.{ops_of, earlier}
 use Rattle.wasm_types.proofs.SequenceLemmas.{outermost}

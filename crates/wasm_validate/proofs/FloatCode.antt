@@ -9,6 +9,7 @@ use Rattle.wasm_types.specs.declared.instr.Expr.{Expr}
 use Rattle.wasm_types.specs.declared.types.ValType.{ValType}
 use Rattle.wasm_types.specs.declared.module.LocalRun.{LocalRun}
 use Rattle.wasm_types.specs.Tree.{Code, End, code_of, codes_from, codes, expr_tree, locals_of}
+use Rattle.wasm_types.proofs.SequenceLemmas.{codes_from-push}
 use Rattle.wasm_spec.specs.Typing.{result_types}
 use Rattle.wasm_spec.specs.Validity.{is_float, has_float, is_float_instruction, code_uses_floats}
 use Rattle.wasm_validate.specs.Floats.{op_uses_floats}
@@ -38,11 +39,6 @@ ops_use codes (op.If t k j ∷ ops) =
 ops_use codes (op.Call x ∷ ops) = ops_use codes ops
 ops_use codes (op.CallIndirect x ∷ ops) = ops_use codes ops
 
--- one sequence more
-codes_push : (earlier : List Code) (sequences : List (List Op)) (ops : List Op) → codes_from earlier (sequences ++ ops ∷ []) ≡ codes_from earlier sequences ++ code_of (codes_from earlier sequences) ops ∷ []
-codes_push earlier [] ops = refl
-codes_push earlier (s ∷ sequences) ops = codes_push (earlier ++ code_of earlier s ∷ []) sequences ops
-
 pub floats_more : (sequences : List (List Op)) (i : ℕ) (ops : List Op) (earlier : List Bool) (b : Bool) → ops ≡ get_or sequences i ops → i < length sequences
     → earlier ≡ map code_uses_floats (codes_from [] (take i sequences)) → b ≡ list_any (op_uses_floats earlier) ops
     → earlier ++ b ∷ [] ≡ map code_uses_floats (codes_from [] (take (i + 1) sequences))
@@ -51,7 +47,7 @@ floats_more sequences i ops earlier b here lt e is =
     let t : take (i + 1) sequences ≡ take i sequences ++ ops ∷ [] = take_more sequences i ops lt ∙ ap (λ (x : List Op). take i sequences ++ x ∷ []) (sym here) in
     let b_is : b ≡ code_uses_floats (code_of so_far ops) = is ∙ ap (λ (l : List Bool). list_any (op_uses_floats l) ops) e ∙ ops_use so_far ops in
     ap (λ (l : List Bool). l ++ b ∷ []) e ∙ ap (λ (x : Bool). map code_uses_floats so_far ++ x ∷ []) b_is ∙ sym (map-append code_uses_floats so_far (code_of so_far ops ∷ []))
-    ∙ ap (map code_uses_floats) (sym (codes_push [] (take i sequences) ops)) ∙ ap (λ (l : List (List Op)). map code_uses_floats (codes_from [] l)) (sym t)
+    ∙ ap (map code_uses_floats) (sym (codes_from-push [] (take i sequences) ops)) ∙ ap (λ (l : List (List Op)). map code_uses_floats (codes_from [] l)) (sym t)
 
 -- the outermost sequence is the last
 pub expr_floats : (e : Expr) (earlier : List Bool) (n k : ℕ) → length e.sequences ≤ n → k ≡ length e.sequences - 1 → earlier ≡ map code_uses_floats (codes_from [] (take n e.sequences)) → get_or earlier k false ≡ code_uses_floats (expr_tree e)

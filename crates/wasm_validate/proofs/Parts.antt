@@ -1,5 +1,5 @@
 -- A module's parts, one after the other.
-use Rattle.std.proofs.Common.{◌≡◌, ℕ, ◌<◌, List, [], ◌∷◌, Bool, true, false, Option, Some, None, length, map, refl, subst, arith}
+use Rattle.std.proofs.Common.{◌≡◌, ℕ, ◌<◌, List, [], ◌∷◌, Bool, true, false, length, map, refl, subst, arith}
 use Rattle.std.specs.Prelude.{All, AllPairs, MatchBool, HoldsAt, IsTrue, ◌↔◌}
 use Rattle.std.specs.List.{AllWithin}
 use Rattle.std.proofs.lemmas.List.{get_or-map, length-map}

@@ -8,5 +8,5 @@ abbrev pub invariant-loop : goal.invariant-loop
 invariant-loop g l = record {
   pass : IsHostPass l.host l.pass;
   own : IsJobPass l.jobs l.own;
-  working : IsWorking g.N.Naming.config l.host l.calls (account_of l.initial.own) (account_of l.own) l.initial.pass l.pass l.made.items;
+  working : IsWorking g.N.Naming.config l.host l.calls (account_of l.initial.own) (account_of l.own) l.initial.pass.passes l.pass.passes l.made.items;
 }

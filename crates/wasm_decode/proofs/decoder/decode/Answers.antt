@@ -4,7 +4,7 @@ use Rattle.wasm_spec.specs.Numbers.{TakesEach}
 use Rattle.wasm_spec.specs.Grammar.{Section, TakesSection, IsOrderedAbove, SpellsFields, Spells}
 use Rattle.wasm_spec.proofs.UnambiguousModules.{sections-are}
 use Rattle.wasm_decode.specs.Sections.{section_of}
-use Rattle.wasm_decode.proofs.Decoding.{none-through}
+use Rattle.instr_decode.proofs.Decoding.{none-through}
 use Rattle.wasm_decode.proofs.decoder.decode.Goals as goal
 
 pub returns-then-are_in_order : goal.returns-then-are_in_order

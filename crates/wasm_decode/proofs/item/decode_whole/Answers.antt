@@ -1,4 +1,4 @@
-use Rattle.wasm_decode.proofs.Decoding.{exits, whole-none}
+use Rattle.instr_decode.proofs.Decoding.{exits, whole-none}
 use Rattle.wasm_decode.proofs.item.decode_whole.Goals as goal
 
 pub returns-in_err-item : goal.returns-in_err-item

@@ -1,6 +1,6 @@
 use Rattle.leb_read.specs.Reading.{rest}
 use Rattle.std.proofs.lemmas.Result.{err_from_is_err_and}
-use Rattle.wasm_decode.proofs.Decoding.{bytes-cut}
+use Rattle.instr_decode.proofs.Decoding.{bytes-cut}
 use Rattle.wasm_decode.proofs.item.read_bytes.Goals as goal
 
 pub returns-in_err-take : goal.returns-in_err-take

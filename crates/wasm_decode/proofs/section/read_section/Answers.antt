@@ -3,7 +3,7 @@ use Rattle.wasm_spec.specs.Numbers.{TakesBytes}
 use Rattle.wasm_spec.specs.Grammar.{TakesSection}
 use Rattle.wasm_spec.proofs.UnambiguousNumbers.{same_others}
 use Rattle.leb_read.specs.Reading.{rest}
-use Rattle.wasm_decode.proofs.Decoding.{exits, begins-through}
+use Rattle.instr_decode.proofs.Decoding.{exits, begins-through}
 use Rattle.wasm_decode.proofs.section.read_section.Goals as goal
 
 pub returns-in_err-contents-clause-section : goal.returns-in_err-contents-clause-section

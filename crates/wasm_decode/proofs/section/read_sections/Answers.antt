@@ -3,7 +3,7 @@ use Rattle.std.proofs.lemmas.List.{map-append}
 use Rattle.wasm_spec.specs.Grammar.{TakesSection}
 use Rattle.leb_read.specs.Reading.{rest}
 use Rattle.wasm_decode.specs.Sections.{section_of}
-use Rattle.wasm_decode.proofs.Decoding.{exits, each-more}
+use Rattle.instr_decode.proofs.Decoding.{exits, each-more}
 use Rattle.wasm_decode.proofs.Sections.{sections-none}
 use Rattle.wasm_decode.proofs.section.read_sections.Goals as goal
 

@@ -1,4 +1,4 @@
-use Rattle.std.proofs.Common.{◌≡◌, ℕ, Option, sym, subst, rules, tests, arith}
+use Rattle.std.proofs.Common.{ℕ, Option, sym, subst, rules, tests, arith}
 use Rattle.std.specs.Prelude.{IfSome}
 use Rattle.std.proofs.lemmas.Fn.{always_returns_same}
 use Rattle.wasm_spec.specs.Validity.{Exports}

@@ -1,4 +1,4 @@
-use Rattle.std.proofs.Common.{◌≡◌, List, ℕ, subst, sym}
+use Rattle.std.proofs.Common.{List, ℕ, subst, sym}
 use Rattle.std.specs.Prelude.{length}
 use Rattle.wasm_validate.specs.ByName.{Rise}
 use Rattle.wasm_validate.proofs.ByName.{differ, rise}

@@ -1,4 +1,4 @@
-use Rattle.std.proofs.Common.{◌+◌, ◌-◌, ◌/◌, ◌∙◌, length, refl, ap, arith}
+use Rattle.std.proofs.Common.{◌∙◌, length, refl, ap, arith}
 use Rattle.std.proofs.lemmas.List.{length-set}
 use Rattle.linear_memory.specs.declared.memory.Memory.{Memory}
 use Rattle.linear_memory.proofs.MarkedBlocks.{changes_written, shown_written, memory_written}

@@ -1,7 +1,6 @@
-use Rattle.std.proofs.Common.{◌≡◌, Some, None, Option, Result, subst, sym, ap, ◌∙◌}
+use Rattle.std.proofs.Common.{◌≡◌, Some, None, Option, sym, ap, ◌∙◌}
 use Rattle.wasm_types.specs.declared.types.ValType.{ValType}
 use Rattle.wasm_checker.specs.Check.{end_block}
-use Rattle.wasm_checker.specs.Subject.{result_of}
 use Rattle.wasm_checker.proofs.Steps.{exits}
 use Rattle.wasm_checker.proofs.Advances.{body_ends}
 use Rattle.wasm_checker.proofs.checker.Checker.finish.Goals as goal

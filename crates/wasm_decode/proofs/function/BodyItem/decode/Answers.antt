@@ -9,7 +9,7 @@ use Rattle.wasm_spec.proofs.UnambiguousNumbers.{vec-unique}
 use Rattle.wasm_spec.proofs.UnambiguousModules.{local_run-unique}
 use Rattle.leb_read.specs.Reading.{rest}
 use Rattle.wasm_decode.specs.Pairs.{TakesPair}
-use Rattle.wasm_decode.proofs.Decoding.{exits-as}
+use Rattle.instr_decode.proofs.Decoding.{exits-as}
 use Rattle.wasm_decode.proofs.function.BodyItem.decode.Goals as goal
 
 pub returns-in_err-locals : goal.returns-in_err-locals

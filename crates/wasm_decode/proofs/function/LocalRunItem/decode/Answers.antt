@@ -3,7 +3,7 @@ use Rattle.wasm_spec.specs.TypeGrammar.{TakesValType}
 use Rattle.wasm_spec.specs.Grammar.{TakesLocalRun}
 use Rattle.leb_read.specs.Reading.{rest}
 use Rattle.wasm_decode.specs.Pairs.{TakesPair}
-use Rattle.wasm_decode.proofs.Decoding.{exits-as}
+use Rattle.instr_decode.proofs.Decoding.{exits-as}
 use Rattle.wasm_decode.proofs.function.LocalRunItem.decode.Goals as goal
 
 pub returns-in_err-count : goal.returns-in_err-count

@@ -3,10 +3,10 @@ use Rattle.wasm_spec.specs.Numbers.{TakesBytes}
 use Rattle.wasm_spec.specs.Grammar.{TakesBody, TakesSizedBody}
 use Rattle.wasm_spec.proofs.UnambiguousNumbers.{bytes-unique}
 use Rattle.leb_read.specs.Reading.{rest}
-use Rattle.wasm_decode.specs.Decoding.{IsNone, BeginsWithNone}
-use Rattle.wasm_decode.specs.declared.fault.DecodeFault.{DecodeFault}
-use Rattle.wasm_decode.specs.declared.fault.DecodeFault.TheVariants.{Malformed, NoMemory}
-use Rattle.wasm_decode.proofs.Decoding.{exits, exits-as}
+use Rattle.instr_decode.specs.Decoding.{IsNone, BeginsWithNone}
+use Rattle.instr_decode.specs.declared.fault.DecodeFault.{DecodeFault}
+use Rattle.instr_decode.specs.declared.fault.DecodeFault.TheVariants.{Malformed, NoMemory}
+use Rattle.instr_decode.proofs.Decoding.{exits, exits-as}
 use Rattle.wasm_decode.proofs.function.SizedBodyItem.decode.Goals as goal
 
 sized-none : (contents bytes mid : List ℕ) (fault : DecodeFault) → TakesBytes contents bytes mid → IsNone (λ b. TakesBody b contents []) fault → BeginsWithNone TakesSizedBody bytes fault

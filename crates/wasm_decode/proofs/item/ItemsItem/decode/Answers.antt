@@ -1,7 +1,7 @@
 use Rattle.std.proofs.Common.{◌≡◌, ℕ, ◌+◌, [], ◌∷◌, ◌++◌, length, map, ap, ◌∙◌, arith}
 use Rattle.std.proofs.lemmas.List.{length-map, map-append, length_push}
 use Rattle.leb_read.specs.Reading.{rest}
-use Rattle.wasm_decode.proofs.Decoding.{exits, vec-none, each-more}
+use Rattle.instr_decode.proofs.Decoding.{exits, vec-none, each-more}
 use Rattle.wasm_decode.proofs.item.ItemsItem.decode.Goals as goal
 
 pub returns-in_err-item : goal.returns-in_err-item

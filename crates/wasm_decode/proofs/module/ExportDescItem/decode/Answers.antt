@@ -5,7 +5,7 @@ use Rattle.wasm_spec.specs.Numbers.{TakesUnsigned}
 use Rattle.wasm_spec.specs.Grammar.{TakesExportDesc}
 use Rattle.leb_read.specs.Reading.{rest, TakesByte}
 use Rattle.wasm_decode.specs.Pairs.{TakesPair}
-use Rattle.wasm_decode.proofs.Decoding.{exits-as}
+use Rattle.instr_decode.proofs.Decoding.{exits-as}
 use Rattle.wasm_decode.proofs.module.ExportDescItem.decode.Goals as goal
 
 parts : (d : ExportDesc) (bytes after : List ℕ) → TakesExportDesc d bytes after → (p : ℕ × ℕ) × TakesPair TakesByte (TakesUnsigned 32) p bytes after

@@ -2,7 +2,7 @@ use Rattle.wasm_spec.specs.Numbers.{TakesName}
 use Rattle.wasm_spec.specs.Grammar.{TakesExportDesc, TakesExport}
 use Rattle.leb_read.specs.Reading.{rest}
 use Rattle.wasm_decode.specs.Pairs.{TakesPair}
-use Rattle.wasm_decode.proofs.Decoding.{exits-as}
+use Rattle.instr_decode.proofs.Decoding.{exits-as}
 use Rattle.wasm_decode.proofs.module.ExportItem.decode.Goals as goal
 
 pub returns-in_err-name : goal.returns-in_err-name

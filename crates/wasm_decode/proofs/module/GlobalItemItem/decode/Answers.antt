@@ -3,7 +3,7 @@ use Rattle.wasm_spec.specs.InstrGrammar.{TakesExpr}
 use Rattle.wasm_spec.specs.Grammar.{TakesGlobal}
 use Rattle.leb_read.specs.Reading.{rest}
 use Rattle.wasm_decode.specs.Pairs.{TakesPair}
-use Rattle.wasm_decode.proofs.Decoding.{exits-as}
+use Rattle.instr_decode.proofs.Decoding.{exits-as}
 use Rattle.wasm_decode.proofs.module.GlobalItemItem.decode.Goals as goal
 
 pub returns-in_err-global_type : goal.returns-in_err-global_type

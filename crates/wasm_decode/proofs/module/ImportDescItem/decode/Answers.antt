@@ -6,7 +6,7 @@ use Rattle.wasm_spec.specs.TypeGrammar.{TakesTableType}
 use Rattle.wasm_spec.specs.Grammar.{TakesImportDesc}
 use Rattle.wasm_spec.proofs.UnambiguousNumbers.{same_first, same_others}
 use Rattle.leb_read.specs.Reading.{rest}
-use Rattle.wasm_decode.proofs.Decoding.{exits, begins-through}
+use Rattle.instr_decode.proofs.Decoding.{exits, begins-through}
 use Rattle.wasm_decode.proofs.module.ImportDescItem.decode.Goals as goal
 
 table-is : (d : ImportDesc) (bytes a after : List ℕ) → bytes ≡ 1 ∷ a → TakesImportDesc d bytes after → (t : Limits) × TakesTableType t a after

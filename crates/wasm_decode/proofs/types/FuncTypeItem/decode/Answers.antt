@@ -4,7 +4,7 @@ use Rattle.wasm_spec.specs.Numbers.{TakesVec}
 use Rattle.wasm_spec.specs.TypeGrammar.{TakesValType, TakesFuncType}
 use Rattle.leb_read.specs.Reading.{rest, TakesByte}
 use Rattle.wasm_decode.specs.Pairs.{TakesPair}
-use Rattle.wasm_decode.proofs.Decoding.{exits-as}
+use Rattle.instr_decode.proofs.Decoding.{exits-as}
 use Rattle.wasm_decode.proofs.types.FuncTypeItem.decode.Goals as goal
 
 pub returns-in_err-tag : goal.returns-in_err-tag

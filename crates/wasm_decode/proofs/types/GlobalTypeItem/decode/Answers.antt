@@ -2,7 +2,7 @@ use Rattle.std.proofs.Common.{refl, ◌∷◌}
 use Rattle.wasm_spec.specs.TypeGrammar.{TakesValType, mutability_byte, TakesGlobalType}
 use Rattle.leb_read.specs.Reading.{rest, TakesByte}
 use Rattle.wasm_decode.specs.Pairs.{TakesPair}
-use Rattle.wasm_decode.proofs.Decoding.{exits-as}
+use Rattle.instr_decode.proofs.Decoding.{exits-as}
 use Rattle.wasm_decode.proofs.types.GlobalTypeItem.decode.Goals as goal
 
 pub returns-in_err-value : goal.returns-in_err-value

@@ -1,7 +1,7 @@
 use Rattle.wasm_spec.specs.TypeGrammar.{TakesLimits, TakesTableType}
 use Rattle.leb_read.specs.Reading.{rest, TakesByte}
 use Rattle.wasm_decode.specs.Pairs.{TakesPair}
-use Rattle.wasm_decode.proofs.Decoding.{exits-as}
+use Rattle.instr_decode.proofs.Decoding.{exits-as}
 use Rattle.wasm_decode.proofs.types.TableTypeItem.decode.Goals as goal
 
 pub returns-in_err-tag : goal.returns-in_err-tag

@@ -1,0 +1,168 @@
+-- What workers made of the calls are their lines.
+use Rattle.std.proofs.Common.{◌≡◌, ℕ, zero, suc, ◌+◌, ◌-◌, ◌<◌, ◌≤◌, ◌==◌, Bool, true, false, not, List, [], ◌∷◌, ◌++◌, Option, Some, None, Ok, Err, filter, length, refl, sym, ap, ◌∙◌, subst, arith, cond}
+use Rattle.std.specs.Prelude.{slice_get, count_by}
+use Rattle.std.specs.List.{All, AllZip}
+use Rattle.std.specs.List.Sorted.{IsPermutation}
+use Rattle.std.proofs.lemmas.Bool.Decides.{nat_tests}
+use Rattle.std.proofs.lemmas.List.Elements.{All-cons, All-filter, All-get_or, All-head, All-nil, All-tail}
+use Rattle.std.proofs.lemmas.List.Sorted.{All-permutation, sum_by-IsPermutation}
+use Rattle.std.proofs.lemmas.List.Sums.{sum_by-cons}
+use Rattle.wasm_types.specs.declared.outcome.Val.{Val}
+use Rattle.pool_limits.specs.declared.numbers.Numbers.{Numbers}
+use Rattle.pool_worlds.specs.Contents.{Named}
+use Rattle.pool_host.specs.declared.answers.Answer.{Answer}
+use Rattle.pool_host.specs.declared.answers.Answer.TheVariants as answer
+use Rattle.pool_host.specs.declared.lane.LaneAnswer.TheVariants as lane
+use Rattle.request_text.specs.declared.request.Directive.{Directive}
+use Rattle.request_text.specs.declared.request.Directive.TheVariants.{Module, Call}
+use Rattle.request_text.specs.declared.report.CallLine.{CallLine}
+use Rattle.request_text.specs.declared.report.CallLine.TheVariants as call_line
+use Rattle.request_text.specs.Text.{call_count, modules_of}
+use Rattle.call_workers.specs.declared.calls.Due.{Due}
+use Rattle.call_workers.specs.declared.calls.Worked.{Worked}
+use Rattle.call_workers.specs.Crews.{AnswersAll}
+use Rattle.call_workers.specs.Entries as worked
+use Rattle.call_workers.specs.Entries.{IsAnswered, Pair, called}
+use Rattle.host_report.specs.Collected.{AreOfCalls, IsBoard, IsLineOf, IsOfWorked, call_at, line_of}
+use Rattle.host_report.specs.Due.{dues_from}
+use Rattle.host_report.specs.Entries.{AreEntries, Entry, IsEntry}
+use Rattle.host_report.specs.Put.{module_at, module_of, pairs_put}
+use Rattle.host_report.specs.Report.{GoesAs, IsCallLine, Limits, limits_in}
+use Rattle.host_report.proofs.CallLemmas.{ArePlacedBelow, accepted_call, refused_call}
+use Rattle.host_report.proofs.DueLemmas.{IsDueOf, due_at_call}
+use Rattle.host_report.proofs.EntryLemmas.{entry_at, entry_there}
+use Rattle.host_report.proofs.PutLemmas.{IsPair, IsPairAt, put_below, put_once, put_pairs}
+
+-- ---- the line of one call
+
+module _ (config : Numbers) (bytes : List ℕ) (due : Due) (line : CallLine) where
+  answered_line : (named : Named) (a : Option Answer) → IsEntry (limits_in config) bytes (Ok named) → IsAnswered config due (Some named) a → line_of a ≡ Some line
+      → IsCallLine (limits_in config) bytes due.export due.fuel due.args line
+  answered_line named None entry answered shown = absurd answered
+  answered_line named (Some (answer.Done outcome)) entry answered shown =
+      accepted_call (limits_in config) bytes (Ok named) named due.export due.fuel due.args (lane.Done outcome) line refl entry answered (cc)
+  answered_line named (Some answer.NoExport) entry answered shown =
+      accepted_call (limits_in config) bytes (Ok named) named due.export due.fuel due.args lane.NoExport line refl entry answered (cc)
+  answered_line named (Some answer.BadArgs) entry answered shown =
+      accepted_call (limits_in config) bytes (Ok named) named due.export due.fuel due.args lane.BadArgs line refl entry answered (cc)
+  answered_line named (Some (answer.Full kind)) entry answered shown = cc
+
+  worked_line : (entry : Entry) (m : Option Named) (a : Option Answer) → IsEntry (limits_in config) bytes entry → m ≡ module_of entry → IsAnswered config due m a → line_of a ≡ Some line
+      → IsCallLine (limits_in config) bytes due.export due.fuel due.args line
+  worked_line (Ok named) m a entry is answered shown =
+      answered_line named a entry (subst (λ (x : Option Named). IsAnswered config due x a) is answered) shown
+  worked_line (Err told) m a entry is answered shown =
+      let none : a ≡ None = subst (λ (x : Option Named). IsAnswered config due x a) is answered in
+      let shows : Some call_line.NoModule ≡ Some line = ap line_of (sym none) ∙ shown in
+      let is_line : call_line.NoModule ≡ line = cc in
+      subst (λ (l : CallLine). IsCallLine (limits_in config) bytes due.export due.fuel due.args l) is_line
+      (refused_call (limits_in config) bytes (Err told) told due.export due.fuel due.args refl entry)
+
+some_entry : (entries : List Entry) (i : ℕ) → i < length entries → (e : Entry) × (slice_get entries i ≡ Some e)
+some_entry [] i lt = absurd (omega arith)
+some_entry (e ∷ entries) zero lt = (e, refl)
+some_entry (e ∷ entries) (suc i) lt = some_entry entries i (omega arith)
+
+module _ (config : Numbers) (requests : List Directive) (entries : List Entry) (are : AreEntries (limits_in config) (modules_of requests) entries) where
+  line_right : (at : ℕ) (m : Option Named) (due : Due) (a : Option Answer) (line : CallLine) → IsPairAt entries requests requests at m
+      → slice_get (dues_from 1 requests) at ≡ Some due → IsAnswered config due m a → line_of a ≡ Some line → IsLineOf (limits_in config) requests at line
+  line_right at m due a line p due_is answered shown =
+      let limits = limits_in config in
+      let d = due_at_call 1 requests at due p.place p.export p.fuel p.args due_is p.call in
+      let (entry, stands) = some_entry entries p.place (entry_there limits (modules_of requests) entries p.place p.bytes are p.there) in
+      let is_entry = entry_at limits (modules_of requests) entries p.place p.bytes entry are p.there stands in
+      let module_is : m ≡ module_of entry = p.module_is ∙ rw stands refl in
+      let told : IsCallLine limits p.bytes due.export due.fuel due.args line = worked_line config p.bytes due line entry m a is_entry module_is answered shown in
+      let goes : IsCallLine limits p.bytes p.export p.fuel p.args line = rw (d.export_is, d.fuel_is, d.args_is) at told in
+      rw p.call (record { bytes = p.bytes; there = p.there; goes = goes })
+
+  -- ---- entries and pairs
+
+  found : (pairs : List Pair) (all : List Worked) → AllZip (worked.IsEntry config (dues_from 1 requests)) pairs all → All (λ (pair : Pair). 0 < pair.0) pairs → All (IsPair entries requests) pairs
+      → (at : ℕ) (line : CallLine) (i : ℕ) (one : Worked) → slice_get all i ≡ Some one → one.number ≡ at + 1 → line_of one.answer ≡ Some line → IsLineOf (limits_in config) requests at line
+  found [] [] zip counted known at line i one one_is number_is line_is = cc
+  found [] (w ∷ all) zip counted known at line i one one_is number_is line_is = absurd zip
+  found (pair ∷ pairs) [] zip counted known at line i one one_is number_is line_is = absurd zip
+  found (pair ∷ pairs) (w ∷ all) zip counted known at line zero one one_is number_is line_is =
+      let same : w ≡ one = cc in
+      let e : worked.IsEntry config (dues_from 1 requests) pair one = subst (λ (x : Worked). worked.IsEntry config (dues_from 1 requests) pair x) same zip.0 in
+      let number : pair.0 - 1 ≡ at = let n = e.number_is in omega arith in
+      let p = All-head (IsPair entries requests) pair pairs known (All-head (λ (x : Pair). 0 < x.0) pair pairs counted) in
+      line_right at pair.1 e.due one.answer line (subst (λ (n : ℕ). IsPairAt entries requests requests n pair.1) number p)
+      (subst (λ (n : ℕ). slice_get (dues_from 1 requests) n ≡ Some e.due) number e.due_is) e.answered line_is
+  found (pair ∷ pairs) (w ∷ all) zip counted known at line (suc i) one one_is number_is line_is =
+      found pairs all zip.1 (All-tail (λ (x : Pair). 0 < x.0) pair pairs counted) (All-tail (IsPair entries requests) pair pairs known) at line i one one_is number_is line_is
+
+-- ---- the numbers of entries
+
+numbers_zip : (config : Numbers) (calls : List Due) (count k : ℕ) (pairs : List Pair) (all : List Worked) → AllZip (worked.IsEntry config calls) pairs all
+    → count_by (λ (one : Worked). one.number == k) all ≡ count_by (λ (pair : Pair). pair.0 == k) pairs
+numbers_zip config calls count k [] [] zip = refl
+numbers_zip config calls count k [] (w ∷ all) zip = absurd zip
+numbers_zip config calls count k (pair ∷ pairs) [] zip = absurd zip
+numbers_zip config calls count k (pair ∷ pairs) (w ∷ all) zip =
+    let a : count_by (λ (one : Worked). one.number == k) (w ∷ all) ≡ cond (w.number == k) 1 0 + count_by (λ (one : Worked). one.number == k) all =
+    sum_by-cons (λ (one : Worked). cond (one.number == k) 1 0) w all in
+    let b : count_by (λ (x : Pair). x.0 == k) (pair ∷ pairs) ≡ cond (pair.0 == k) 1 0 + count_by (λ (x : Pair). x.0 == k) pairs =
+    sum_by-cons (λ (x : Pair). cond (x.0 == k) 1 0) pair pairs in
+    let same : cond (w.number == k) 1 0 ≡ cond (pair.0 == k) 1 0 = ap (λ (n : ℕ). cond (n == k) 1 0) zip.0.number_is in
+    let rest = numbers_zip config calls count k pairs all zip.1 in omega arith
+
+all_zip : (config : Numbers) (calls : List Due) (count : ℕ) (pairs : List Pair) (all : List Worked) → AllZip (worked.IsEntry config calls) pairs all
+    → All (λ (pair : Pair). 0 < pair.0) pairs → All (λ (pair : Pair). pair.0 ≤ count) pairs → All (λ (one : Worked). (0 < one.number) × (one.number ≤ count)) all
+all_zip config calls count [] [] zip counted below = All-nil (λ (one : Worked). (0 < one.number) × (one.number ≤ count))
+all_zip config calls count [] (w ∷ all) zip counted below = absurd zip
+all_zip config calls count (pair ∷ pairs) [] zip counted below = absurd zip
+all_zip config calls count (pair ∷ pairs) (w ∷ all) zip counted below =
+    let n = zip.0.number_is in
+    let c : 0 < pair.0 = All-head (λ (x : Pair). 0 < x.0) pair pairs counted in
+    let b : pair.0 ≤ count = All-head (λ (x : Pair). x.0 ≤ count) pair pairs below in
+    All-cons (λ (one : Worked). (0 < one.number) × (one.number ≤ count)) w all (omega arith, omega arith)
+    (all_zip config calls count pairs all zip.1 (All-tail (λ (x : Pair). 0 < x.0) pair pairs counted) (All-tail (λ (x : Pair). x.0 ≤ count) pair pairs below))
+
+called_counted : (pairs : List Pair) → All (λ (pair : Pair). 0 < pair.0) (called pairs)
+called_counted [] = All-nil (λ (pair : Pair). 0 < pair.0)
+called_counted (pair ∷ pairs) = by_zero (pair.0 == 0) refl
+  where
+    by_zero : (b : Bool) → (pair.0 == 0) ≡ b → All (λ (x : Pair). 0 < x.0) (called (pair ∷ pairs))
+    by_zero true is = rw is (called_counted pairs)
+    by_zero false is = rw is (All-cons (λ (x : Pair). 0 < x.0) pair (called pairs) (grind (arith, nat_tests, is)) (called_counted pairs))
+
+times_called : (k : ℕ) (pairs : List Pair) → count_by (λ (pair : Pair). pair.0 == k) (called pairs) ≤ count_by (λ (pair : Pair). pair.0 == k) pairs
+times_called k [] = omega arith
+times_called k (pair ∷ pairs) = by_zero (pair.0 == 0) refl
+  where
+    b : count_by (λ (x : Pair). x.0 == k) (pair ∷ pairs) ≡ cond (pair.0 == k) 1 0 + count_by (λ (x : Pair). x.0 == k) pairs
+    b = sum_by-cons (λ (x : Pair). cond (x.0 == k) 1 0) pair pairs
+
+    a : count_by (λ (x : Pair). x.0 == k) (pair ∷ called pairs) ≡ cond (pair.0 == k) 1 0 + count_by (λ (x : Pair). x.0 == k) (called pairs)
+    a = sum_by-cons (λ (x : Pair). cond (x.0 == k) 1 0) pair (called pairs)
+
+    by_zero : (zeroed : Bool) → (pair.0 == 0) ≡ zeroed → count_by (λ (x : Pair). x.0 == k) (called (pair ∷ pairs)) ≤ count_by (λ (x : Pair). x.0 == k) (pair ∷ pairs)
+    by_zero true is = let t : count_by (λ (x : Pair). x.0 == k) (called pairs) ≤ count_by (λ (x : Pair). x.0 == k) (pair ∷ pairs) = let r = times_called k pairs in omega (arith, b) in rw is t
+    by_zero false is = let t : count_by (λ (x : Pair). x.0 == k) (pair ∷ called pairs) ≤ count_by (λ (x : Pair). x.0 == k) (pair ∷ pairs) = let r = times_called k pairs in omega (arith, a, b) in rw is t
+
+-- ---- all entries
+
+module _ (config : Numbers) (requests : List Directive) (entries : List Entry) (workers : ℕ) (all : List Worked)
+    (are : AreEntries (limits_in config) (modules_of requests) entries) (placed : ArePlacedBelow (length (modules_of requests)) requests)
+    (h : AnswersAll config (dues_from 1 requests) (pairs_put entries requests workers) all) where
+  pub of_calls : AreOfCalls (call_count requests) all
+  of_calls = record {
+    counted = all_zip config (dues_from 1 requests) (call_count requests) (called h.given) all h.made (called_counted h.given)
+        (All-filter (λ (pair : Pair). not (pair.0 == 0)) (λ (pair : Pair). pair.0 ≤ call_count requests) h.given
+        (All-permutation (λ (pair : Pair). pair.0 ≤ call_count requests) (pairs_put entries requests workers) h.given h.all (put_below entries requests workers)));
+    once = λ k some.
+        let a = numbers_zip config (dues_from 1 requests) 0 k (called h.given) all h.made in
+        let b = times_called k h.given in
+        let c : count_by (λ (pair : Pair). pair.0 == k) h.given ≡ count_by (λ (pair : Pair). pair.0 == k) (pairs_put entries requests workers) =
+        sum_by-IsPermutation (λ (pair : Pair). cond (pair.0 == k) 1 0) (pairs_put entries requests workers) h.given h.all in
+        let d = put_once entries requests workers k some in omega arith;
+  }
+
+  pub lines_of_calls : (at : ℕ) (line : CallLine) → IsOfWorked all at line → IsLineOf (limits_in config) requests at line
+  lines_of_calls at line w =
+      found config requests entries are (called h.given) all h.made (called_counted h.given)
+      (All-filter (λ (pair : Pair). not (pair.0 == 0)) (IsPair entries requests) h.given
+      (All-permutation (IsPair entries requests) (pairs_put entries requests workers) h.given h.all (put_pairs entries requests workers placed)))
+      at line w.place w.one w.one_is w.number_is w.line_is

@@ -1,0 +1,53 @@
+-- What the board has of the calls.
+use Rattle.std.specs.Prelude.{◌≡◌, ℕ, ◌+◌, ◌<◌, ◌≤◌, ◌==◌, zero, suc, List, [], ◌∷◌, All, length, count_by, slice_get, Option, Some, None, IfSome}
+use Rattle.pool_host.specs.declared.answers.Answer.{Answer}
+use Rattle.pool_host.specs.declared.answers.Answer.TheVariants as answer
+use Rattle.request_text.specs.declared.request.Directive.{Directive}
+use Rattle.request_text.specs.declared.request.Directive.TheVariants.{Module, Call}
+use Rattle.request_text.specs.declared.report.CallLine.{CallLine}
+use Rattle.request_text.specs.declared.report.CallLine.TheVariants as call_line
+use Rattle.request_text.specs.Text.{call_count, modules_of}
+use Rattle.call_workers.specs.declared.calls.Worked.{Worked}
+use Rattle.host_report.specs.Report.{GoesAs, Limits}
+
+-- the line of a call that was answered so by a host, or without a module; there is none where it was answered Full
+abbrev pub line_of : Option Answer → Option CallLine
+line_of None = Some call_line.NoModule
+line_of (Some (answer.Done outcome)) = Some (call_line.Done outcome)
+line_of (Some answer.NoExport) = Some call_line.NoExport
+line_of (Some answer.BadArgs) = Some call_line.BadArgs
+line_of (Some (answer.Full kind)) = None
+
+-- the call that comes after so many others
+abbrev pub call_at : List Directive → ℕ → Option Directive
+call_at [] at = None
+call_at (Module name bytes ∷ requests) at = call_at requests at
+call_at (Call place export fuel args ∷ requests) zero = Some (Call place export fuel args)
+call_at (Call place export fuel args ∷ requests) (suc at) = call_at requests at
+
+-- the line tells how this call goes
+abbrev pub Tells : Limits → (modules : List (List ℕ)) → Directive → CallLine → Type 0
+Tells limits modules (Module name bytes) line = ⊥
+Tells limits modules (Call place export fuel args) line = GoesAs limits modules place export fuel args line
+
+-- the line tells how the call goes that comes after so many others
+abbrev pub IsLineOf : Limits → List Directive → ℕ → CallLine → Type 0
+IsLineOf limits requests at line = IfSome (call_at requests at) (λ call. Tells limits (modules_of requests) call line)
+
+-- a board for these calls, on which each line tells how its call goes
+pub record IsBoard (limits : Limits) (requests : List Directive) (board : List (Option CallLine)) : Type 0 where
+  pub many : length board ≡ call_count requests
+  pub right : (at : ℕ) (line : CallLine) → slice_get board at ≡ Some (Some line) → IsLineOf limits requests at line
+
+-- there are entries of so many calls, at most one of each
+pub record AreOfCalls (count : ℕ) (worked : List Worked) : Type 0 where
+  pub counted : All (λ one. (0 < one.number) × (one.number ≤ count)) worked
+  pub once : (number : ℕ) → 0 < number → count_by (λ one. one.number == number) worked ≤ 1
+
+-- the line at this place of the board is that of one of these entries
+pub record IsOfWorked (worked : List Worked) (at : ℕ) (line : CallLine) : Type 0 where
+  pub place : ℕ
+  pub one : Worked
+  pub one_is : slice_get worked place ≡ Some one
+  pub number_is : one.number ≡ at + 1
+  pub line_is : line_of one.answer ≡ Some line

@@ -1,0 +1,46 @@
+//! The board collects the lines of calls.
+ghost use Rattle.std.specs.Prelude.{◌≡◌, ◌-◌, ℕ, None, Some, length, replicate, slice_get, slice_set};
+ghost use Rattle.request_text.specs.declared.report.CallLine.{CallLine};
+ghost use Rattle.job_queue.specs.Boards.{IsOpen};
+ghost use Rattle.host_report.specs.Collected.{AreOfCalls, IsOfWorked, line_of};
+
+use call_workers::Worked;
+use job_queue::Board;
+use pool_host::Answer;
+use request_text::CallLine;
+
+// The line of a call that a worker made, or none where it was answered Full.
+fn line_of(answer: Option<Answer>) -> Option<CallLine>
+    ensures { result ≡ line_of answer }
+{
+    match answer {
+        None => Some(CallLine::NoModule),
+        Some(Answer::Done(outcome)) => Some(CallLine::Done(outcome)),
+        Some(Answer::NoExport) => Some(CallLine::NoExport),
+        Some(Answer::BadArgs) => Some(CallLine::BadArgs),
+        Some(Answer::Full(_)) => None,
+    }
+}
+
+// Collects the line of a call of which there is none.
+pub(crate) fn collect(board: &mut Board, number: u32, line: CallLine)
+    requires { IsOpen board.old number }
+    ensures { board.new ≡ slice_set board.old (number - 1) (Some line) }
+{
+    let collected = board.collect(number, line);
+    prove!(collected.is_ok());
+}
+
+// Collects the lines of the calls that workers made. Those that were answered Full have none.
+pub(crate) fn collect_all(board: &mut Board, worked: &[Worked])
+    requires calls { AreOfCalls (length board.old) worked.now }
+    requires none { board.old ≡ replicate (length board.old) None }
+    ensures many { length board.new ≡ length board.old }
+    ensures lines { (at : ℕ) (line : CallLine) → slice_get board.new at ≡ Some (Some line) → IsOfWorked worked.now at line }
+{
+    for one in worked {
+        if let Some(line) = line_of(one.answer) {
+            collect(board, one.number, line);
+        }
+    }
+}

@@ -1,0 +1,6 @@
+pub mod Decoding
+pub mod Contexts
+pub mod Tokens
+pub mod Completions
+pub mod Opcodes
+pub mod Shapes

@@ -1,0 +1,95 @@
+use Rattle.std.proofs.Common.{◌≡◌, true, false, ◌∙◌, arith, rules}
+use Rattle.leb_read.specs.Reading.{rest}
+use Rattle.instr_decode.specs.Contexts.{pushed, opened}
+use Rattle.instr_decode.proofs.Decoding.{exits}
+use Rattle.instr_decode.proofs.Completions.{same-then, same-pushed, same-opened, start, none-token, none-else, else-reached, end-reached, whole-read}
+use Rattle.instr_decode.proofs.expr.decode_expr.Goals as goal
+
+pub returns-in_err-op : goal.returns-in_err-op
+returns-in_err-op c =
+    exits c.from_residual.result _ _ c.in_err-op.field-0.0 c.from_residual.ensures.1
+    (none-token c.loop-builder.invariant.context (rest c.args.cursor.now) (rest c.loop-builder.cursor) c.in_err-op.field-0.0 c.loop-builder.invariant.same c.in_err-op.ensures.token)
+
+pub loop-builder-preserved-in_ok-push-in-Leaf : goal.loop-builder-preserved-in_ok-push-in-Leaf
+loop-builder-preserved-in_ok-push-in-Leaf c =
+    let inv = c.loop-builder.invariant in
+    let read = c.in_ok-op.ensures.token in
+    let h = read.spelled in
+    let next = pushed c.in-Leaf.op inv.context in
+    record {
+      whole = read.whole ∙ inv.whole;
+      forth = omega (arith, read.forth, inv.forth);
+      context = next;
+      stands = c.in_ok-push-in-Leaf.ensures inv.context inv.stands;
+      same = same-then start inv.context next _ (rest c.loop-builder.cursor) _ inv.same
+          (same-pushed c.in-Leaf.op (rest c.loop-builder.cursor) (rest c.read_token.new.cursor) inv.context (rw c.in-Leaf.is at h));
+    }
+
+pub loop-builder-preserved-in_ok-open-in-Open : goal.loop-builder-preserved-in_ok-open-in-Open
+loop-builder-preserved-in_ok-open-in-Open c =
+    let inv = c.loop-builder.invariant in
+    let read = c.in_ok-op.ensures.token in
+    let h = read.spelled in
+    let next = opened c.in-Open.block c.in-Open.block_type inv.context in
+    record {
+      whole = read.whole ∙ inv.whole;
+      forth = omega (arith, read.forth, inv.forth);
+      context = next;
+      stands = c.in_ok-open-in-Open.ensures inv.context inv.stands;
+      same = same-then start inv.context next _ (rest c.loop-builder.cursor) _ inv.same
+          (same-opened c.in-Open.block c.in-Open.block_type (rest c.loop-builder.cursor) (rest c.read_token.new.cursor) inv.context (rw c.in-Open.is at h));
+    }
+
+pub returns-then-not-branch : goal.returns-then-not-branch
+returns-then-not-branch c =
+    let inv = c.loop-builder.invariant in
+    let h = c.in_ok-op.ensures.token.spelled in
+    let b : c.in_ok-begin_else-in-Else.field-0 ≡ false = first_of (cc, search rules) in
+    none-else inv.context c.in_ok-begin_else-in-Else.field-0 c.begin_else.new.self (rest c.args.cursor.now) (rest c.loop-builder.cursor) (rest c.read_token.new.cursor) inv.same (rw c.in-Else.is at h) b
+    (c.in_ok-begin_else-in-Else.ensures inv.context inv.stands)
+
+pub loop-builder-preserved-else-not-branch : goal.loop-builder-preserved-else-not-branch
+loop-builder-preserved-else-not-branch c =
+    let inv = c.loop-builder.invariant in
+    let read = c.in_ok-op.ensures.token in
+    let h = read.spelled in
+    let b : c.in_ok-begin_else-in-Else.field-0 ≡ true = first_of (cc, search rules) in
+    let r = else-reached inv.context c.in_ok-begin_else-in-Else.field-0 c.begin_else.new.self (rest c.loop-builder.cursor) (rest c.read_token.new.cursor) (rw c.in-Else.is at h) b
+    (c.in_ok-begin_else-in-Else.ensures inv.context inv.stands) in
+    record {
+      whole = read.whole ∙ inv.whole;
+      forth = omega (arith, read.forth, inv.forth);
+      context = r.context;
+      stands = r.stands;
+      same = same-then start inv.context r.context _ (rest c.loop-builder.cursor) _ inv.same r.same;
+    }
+
+pub returns-then-branch : goal.returns-then-branch
+returns-then-branch c =
+    let inv = c.loop-builder.invariant in
+    let read = c.in_ok-op.ensures.token in
+    let h = read.spelled in
+    let b : c.in_ok-end-in-End.field-0 ≡ true = first_of (cc, search rules) in
+    record {
+      whole = read.whole ∙ inv.whole;
+      forth = omega (arith, read.forth, inv.forth);
+      within = read.within;
+      spelled = whole-read inv.context c.in_ok-end-in-End.field-0 c.end.new.self (rest c.args.cursor.now) (rest c.loop-builder.cursor) (rest c.read_token.new.cursor) _ inv.same (rw c.in-End.is at h) b
+          (c.in_ok-end-in-End.ensures inv.context inv.stands) c.into_expr.ensures;
+    }
+
+pub loop-builder-preserved : goal.loop-builder-preserved
+loop-builder-preserved c =
+    let inv = c.loop-builder.invariant in
+    let read = c.in_ok-op.ensures.token in
+    let h = read.spelled in
+    let b : c.in_ok-end-in-End.field-0 ≡ false = first_of (cc, search rules) in
+    let r = end-reached inv.context c.in_ok-end-in-End.field-0 c.end.new.self (rest c.loop-builder.cursor) (rest c.read_token.new.cursor) (rw c.in-End.is at h) b
+    (c.in_ok-end-in-End.ensures inv.context inv.stands) in
+    record {
+      whole = read.whole ∙ inv.whole;
+      forth = omega (arith, read.forth, inv.forth);
+      context = r.context;
+      stands = r.stands;
+      same = same-then start inv.context r.context _ (rest c.loop-builder.cursor) _ inv.same r.same;
+    }

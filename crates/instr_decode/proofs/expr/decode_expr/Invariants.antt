@@ -1,0 +1,17 @@
+use Rattle.std.proofs.Common.{◌≡◌, ◌-◌, ◌≤◌, length}
+use Rattle.leb_read.specs.Reading.{rest}
+use Rattle.instr_decode.specs.Contexts.{Context, Represents}
+use Rattle.instr_decode.proofs.Completions.{SameCompletions, start}
+use Rattle.instr_decode.proofs.expr.decode_expr.Given as goal
+
+abbrev pub invariant-loop-builder : goal.invariant-loop-builder
+invariant-loop-builder l = record {
+  whole : l.cursor.whole ≡ l.initial.cursor.whole;
+  forth : l.initial.cursor.place ≤ l.cursor.place;
+  context : Context;
+  stands : Represents l.builder context;
+  same : SameCompletions start (rest l.initial.cursor) context (rest l.cursor);
+}
+
+abbrev pub decreases-loop-builder : goal.decreases-loop-builder
+decreases-loop-builder l = length l.cursor.whole - l.cursor.place

@@ -1,0 +1,4 @@
+pub mod Decoding
+pub mod Tokens
+pub mod Contexts
+pub mod Opcodes

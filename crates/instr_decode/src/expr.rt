@@ -1,0 +1,42 @@
+//! Expressions, read in one loop over their tokens.
+
+ghost use Rattle.std.specs.Prelude.{MatchResult};
+ghost use Rattle.wasm_types.specs.Tree.{expr_tree};
+ghost use Rattle.wasm_spec.specs.InstrGrammar.{TakesExpr};
+ghost use Rattle.leb_read.specs.Reading.{rest, IsRead};
+ghost use Rattle.instr_decode.specs.Decoding.{BeginsWithNone};
+
+use crate::expr_builder::ExprBuilder;
+use crate::fault::DecodeFault;
+use crate::token::{Token, read_token};
+use leb_read::Cursor;
+use std::alloc::Global;
+use wasm_types::Expr;
+
+/// The expression at the cursor: instructions up to their end, just after which the cursor then stands. Nothing recurses
+/// on the bytes. Source: Core Specification 1.0, section 5.4.6.
+///
+/// # Errors
+///
+/// `Malformed` exactly where no expression stands there; `NoMemory` only where memory was refused.
+pub fn decode_expr(alloc: Global, cursor: &mut Cursor) -> Result<Expr, DecodeFault>
+    ensures { MatchResult result (λ e. IsRead TakesExpr cursor.old cursor.new (expr_tree e)) (BeginsWithNone TakesExpr (rest cursor.old)) }
+{
+    let mut builder = ExprBuilder::new(alloc);
+    loop {
+        match read_token(alloc, cursor)? {
+            Token::Leaf(op) => builder.push(op)?,
+            Token::Open(block, block_type) => builder.open(alloc, block, block_type)?,
+            Token::Else => {
+                if !builder.begin_else(alloc)? {
+                    return Err(DecodeFault::Malformed);
+                }
+            }
+            Token::End => {
+                if builder.end(alloc)? {
+                    return Ok(builder.into_expr());
+                }
+            }
+        }
+    }
+}

@@ -1,0 +1,17 @@
+//! Expressions of the WebAssembly binary format, decoded: instructions up to their end, from a place in bytes.
+//!
+//! Source: WebAssembly Core Specification 1.0, section 5.4.
+#![tactic(auto)]
+
+mod expr;
+mod expr_builder;
+mod fault;
+mod instr;
+#[cfg(test)]
+mod tests;
+mod token;
+mod types;
+
+pub use expr::decode_expr;
+pub use fault::DecodeFault;
+pub use types::value_type;

@@ -1,0 +1,267 @@
+// Worked pools of memories. Each store has its name from the test that opens it.
+ghost use Rattle.std.specs.Prelude.{◌≡◌, ◌<◌};
+ghost use Rattle.slot_words.specs.Passes.{IsIdle, IsSamePass};
+ghost use Rattle.module_store.specs.Names.{Bears};
+ghost use Rattle.memory_slots.specs.Pools.{IsMemoryPass};
+
+use crate::{MemSlot, MemoryPool};
+use module_store::{Desk, ModuleRef, ModuleStore, Naming, Opened};
+use pool_limits::{Numbers, PoolConfig};
+use slot_words::{KindCounts, Pass};
+use std::alloc::Global;
+use std::marker::Brand;
+use std::process::Abort;
+use std::sync::Wait;
+use std::test::Fail;
+use std::thread;
+use std::thread::Threads;
+
+// A counter at address 0 of one page.
+static BUMP: [u8; 58] =
+    *b"\0asm\x01\0\0\0\x01\x05\x01\x60\0\x01\x7f\x03\x02\x01\0\x05\x03\x01\0\x01\x07\x08\x01\x04bump\0\0\x0a\x16\x01\x14\0\x41\0\x41\0\x28\x02\0\x41\x01\x6a\x36\x02\0\x41\0\x28\x02\0\x0b";
+
+// "ab" in the last bytes of one page, and two pages of zeros.
+static LETTERS: [u8; 25] =
+    *b"\0asm\x01\0\0\0\x05\x03\x01\0\x01\x0b\x0a\x01\0\x41\xfe\xff\x03\x0b\x02ab";
+
+static ZEROS: [u8; 13] = *b"\0asm\x01\0\0\0\x05\x03\x01\0\x02";
+
+// A store of memories of two pages, which are flushed by so many.
+fn opened(alloc: Global, batch: u32) -> Result<Opened, Fail> {
+    let config = PoolConfig::new(Numbers {
+        workers: 1,
+        instances: 1,
+        memories: 1,
+        tables: 1,
+        warm: 0,
+        batch,
+        pages: 2,
+        elements: 0,
+        depth: 1,
+        frame: 8,
+    })?;
+    Ok(Opened::open(alloc, config)?)
+}
+
+fn registered<N: Naming, R: Abort + Wait>(
+    rt: &R,
+    alloc: Global,
+    store: &ModuleStore<N>,
+    desk: &mut Desk<N>,
+    bytes: &[u8],
+) -> ModuleRef<N> {
+    store
+        .register(rt, alloc, desk, bytes)
+        .expect(rt, "registered")
+}
+
+fn check_slot<N: Naming, R: Abort + Wait>(rt: &R, alloc: Global, opened: Opened)
+    requires { Bears opened N.shelves N.config }
+{
+    let (store, mut desk) = opened.named::<N>();
+    let letters = registered(rt, alloc, &store, &mut desk, &LETTERS);
+    let zeros = registered(rt, alloc, &store, &mut desk, &ZEROS);
+    let mut slot = MemSlot::open(alloc, &store).expect(rt, "opened");
+    let rows = [
+        (&letters, 1, b'a'),
+        (&zeros, 2, 0),
+        (&letters, 1, b'a'),
+        (&letters, 1, b'a'),
+    ];
+    for (module, pages, byte) in rows {
+        slot.prepare(&store, module);
+        assert_eq!(rt; slot.memory.pages, pages);
+        assert_eq!(rt; slot.memory.bytes.get(65_534).copied(), Some(byte));
+        assert_eq!(rt; slot.dirty(), 0);
+    }
+    slot.clear();
+    assert_eq!(rt; slot.memory.pages, 0);
+    assert_eq!(rt; slot.memory.bytes.get(65_534).copied(), Some(0));
+}
+
+#[test]
+fn a_slot_goes_from_module_to_module(rt: HostRuntime) -> Result<(), Fail> {
+    check_slot::<Brand, HostRuntime>(&rt, rt.alloc(), opened(rt.alloc(), 1)?);
+    Ok(())
+}
+
+// The number of the slot that is taken for the module and given back, or none where the pool is full.
+fn visit<N: Naming>(
+    pool: &MemoryPool<N>,
+    pass: &mut Pass<MemSlot<N>>,
+    store: &ModuleStore<N>,
+    module: &ModuleRef<N>,
+) -> Option<u32>
+    requires own { IsMemoryPass pool.now pass.old }
+    requires idle { IsIdle pass.old }
+    ensures same { IsSamePass pass.old pass.new }
+    ensures idle { IsIdle pass.new }
+{
+    let Ok(lease) = pool.take(pass, store, module) else {
+        return None;
+    };
+    let number = lease.number();
+    pool.give(pass, lease, store);
+    Some(number)
+}
+
+#[derive(Clone, Copy)]
+struct Visits {
+    // How many slots may be warm.
+    warm: u32,
+    // Which of three modules, and the slot that it gets.
+    visits: [Option<(usize, u32)>; 4],
+    // How many slots are cold, warm and awaiting after them.
+    left: (u32, u32, u32),
+}
+
+fn check_visits<N: Naming, R: Abort + Wait>(rt: &R, alloc: Global, opened: Opened, row: &Visits)
+    requires { Bears opened N.shelves N.config }
+{
+    let (store, mut desk) = opened.named::<N>();
+    let first = registered(rt, alloc, &store, &mut desk, &BUMP);
+    let second = registered(rt, alloc, &store, &mut desk, &BUMP);
+    let third = registered(rt, alloc, &store, &mut desk, &BUMP);
+    let modules = [&first, &second, &third];
+    let (pool, mut passes) = MemoryPool::open(alloc, &store, 3, row.warm, 1).expect(rt, "opened");
+    let mut pass = passes.pop().unwrap();
+    for visited in row.visits {
+        if let Some((module, number)) = visited {
+            assert!(rt; module < 3);
+            let got = visit(&pool, &mut pass, &store, modules[module]);
+            assert_eq!(rt; got, Some(number));
+        }
+    }
+    let (cold, warm, awaiting) = row.left;
+    let want = KindCounts {
+        cold,
+        warm,
+        awaiting,
+        held: 0,
+    };
+    assert_eq!(rt; pool.close(pass), want);
+}
+
+#[test]
+fn modules_come_back_to_their_memories(rt: HostRuntime) -> Result<(), Fail> {
+    let rows = [
+        (
+            1,
+            Visits {
+                warm: 2,
+                visits: [Some((0, 0)), Some((1, 1)), Some((0, 0)), Some((2, 1))],
+                left: (1, 2, 0),
+            },
+        ),
+        (
+            2,
+            Visits {
+                warm: 3,
+                visits: [Some((0, 0)), None, None, None],
+                left: (2, 0, 1),
+            },
+        ),
+        (
+            2,
+            Visits {
+                warm: 3,
+                visits: [Some((0, 0)), Some((1, 1)), None, None],
+                left: (1, 2, 0),
+            },
+        ),
+    ];
+    for (batch, row) in rows {
+        let opened = opened(rt.alloc(), batch)?;
+        check_visits::<Brand, HostRuntime>(&rt, rt.alloc(), opened, &row);
+    }
+    Ok(())
+}
+
+// What a second pass gets while the first has a slot, and after the first gave it back.
+fn visits_beside<N: Naming>(
+    pool: &MemoryPool<N>,
+    mut first: Pass<MemSlot<N>>,
+    mut second: Pass<MemSlot<N>>,
+    store: &ModuleStore<N>,
+    module: &ModuleRef<N>,
+) -> [Option<u32>; 2]
+    requires own { IsMemoryPass pool.now first × IsMemoryPass pool.now second }
+    requires idle { IsIdle first × IsIdle second }
+{
+    let Ok(lease) = pool.take(&mut first, store, module) else {
+        return [Some(9); 2];
+    };
+    let beside = visit(pool, &mut second, store, module);
+    pool.give(&mut first, lease, store);
+    [beside, visit(pool, &mut second, store, module)]
+}
+
+fn check_full<N: Naming, R: Abort + Wait>(rt: &R, alloc: Global, opened: Opened)
+    requires { Bears opened N.shelves N.config }
+{
+    let (store, mut desk) = opened.named::<N>();
+    let module = registered(rt, alloc, &store, &mut desk, &BUMP);
+    let (pool, mut passes) = MemoryPool::open(alloc, &store, 1, 1, 2).expect(rt, "opened");
+    let first = passes.pop().unwrap();
+    let second = passes.pop().unwrap();
+    let got = visits_beside(&pool, first, second, &store, &module);
+    assert_eq!(rt; got, [None, Some(0)]);
+}
+
+#[test]
+fn a_pool_is_full_until_its_memory_is_given_back(rt: HostRuntime) -> Result<(), Fail> {
+    check_full::<Brand, HostRuntime>(&rt, rt.alloc(), opened(rt.alloc(), 2)?);
+    Ok(())
+}
+
+fn visit_often<N: Naming>(
+    pool: &MemoryPool<N>,
+    mut pass: Pass<MemSlot<N>>,
+    store: &ModuleStore<N>,
+    module: &ModuleRef<N>,
+) -> Pass<MemSlot<N>>
+    requires own { IsMemoryPass pool.now pass }
+    requires idle { IsIdle pass }
+    ensures own { IsMemoryPass pool.now result }
+    ensures idle { IsIdle result }
+{
+    for _ in 0..300u32 {
+        let _number = visit(pool, &mut pass, store, module);
+    }
+    pass
+}
+
+fn check_threads<N: Naming + Send + Sync, R: Abort + Threads + Wait + Sync>(
+    rt: &R,
+    alloc: Global,
+    opened: Opened,
+)
+    requires { Bears opened N.shelves N.config }
+{
+    let (store, mut desk) = opened.named::<N>();
+    let letters = registered(rt, alloc, &store, &mut desk, &LETTERS);
+    let zeros = registered(rt, alloc, &store, &mut desk, &ZEROS);
+    let (pool, mut passes) = MemoryPool::open(alloc, &store, 2, 1, 2).expect(rt, "opened");
+    let first = passes.pop().unwrap();
+    let second = passes.pop().unwrap();
+    let shared = &pool;
+    let (mut first, second) = thread::join(
+        rt,
+        || -> Pass<MemSlot<N>>
+            requires { IsMemoryPass shared.now first × IsIdle first }
+            ensures { IsMemoryPass shared.entry.now result × IsIdle result }
+        { visit_often(shared, first, &store, &letters) },
+        || -> Pass<MemSlot<N>>
+            requires { IsMemoryPass shared.now second × IsIdle second }
+            ensures { IsMemoryPass shared.entry.now result × IsIdle result }
+        { visit_often(shared, second, &store, &zeros) },
+    );
+    pool.join_pass(&mut first, second);
+    assert_eq!(rt; pool.close(first).held, 0);
+}
+
+#[test]
+fn two_threads_share_a_pool_and_leave_nothing_held(rt: HostRuntime) -> Result<(), Fail> {
+    check_threads::<Brand, HostRuntime>(&rt, rt.alloc(), opened(rt.alloc(), 2)?);
+    Ok(())
+}

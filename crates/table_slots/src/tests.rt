@@ -1,0 +1,251 @@
+// Worked pools of tables. Each store has its name from the test that opens it.
+ghost use Rattle.std.specs.Prelude.{◌≡◌, ◌<◌};
+ghost use Rattle.slot_words.specs.Passes.{IsIdle, IsSamePass};
+ghost use Rattle.module_store.specs.Names.{Bears};
+ghost use Rattle.table_slots.specs.Pools.{IsTablePass};
+
+use crate::{TablePool, TableSlot};
+use module_store::{Desk, ModuleRef, ModuleStore, Naming, Opened};
+use pool_limits::{Numbers, PoolConfig};
+use slot_words::{KindCounts, Pass};
+use std::alloc::Global;
+use std::marker::Brand;
+use std::process::Abort;
+use std::sync::Wait;
+use std::test::Fail;
+use std::thread;
+use std::thread::Threads;
+
+// Three elements of which the second is function 0; one element; no table.
+static THREE: [u8; 39] =
+    *b"\0asm\x01\0\0\0\x01\x04\x01\x60\0\0\x03\x02\x01\0\x04\x04\x01\x70\0\x03\x09\x07\x01\0\x41\x01\x0b\x01\0\x0a\x04\x01\x02\0\x0b";
+
+static ONE: [u8; 14] = *b"\0asm\x01\0\0\0\x04\x04\x01\x70\0\x01";
+
+static NONE: [u8; 8] = *b"\0asm\x01\0\0\0";
+
+// A store of tables of three elements.
+fn opened(alloc: Global) -> Result<Opened, Fail> {
+    let config = PoolConfig::new(Numbers {
+        workers: 1,
+        instances: 1,
+        memories: 1,
+        tables: 1,
+        warm: 0,
+        batch: 1,
+        pages: 1,
+        elements: 3,
+        depth: 1,
+        frame: 8,
+    })?;
+    Ok(Opened::open(alloc, config)?)
+}
+
+fn registered<N: Naming, R: Abort + Wait>(
+    rt: &R,
+    alloc: Global,
+    store: &ModuleStore<N>,
+    desk: &mut Desk<N>,
+    bytes: &[u8],
+) -> ModuleRef<N> {
+    store
+        .register(rt, alloc, desk, bytes)
+        .expect(rt, "registered")
+}
+
+fn check_slot<N: Naming, R: Abort + Wait>(rt: &R, alloc: Global, opened: Opened)
+    requires { Bears opened N.shelves N.config }
+{
+    let (store, mut desk) = opened.named::<N>();
+    let three = registered(rt, alloc, &store, &mut desk, &THREE);
+    let one = registered(rt, alloc, &store, &mut desk, &ONE);
+    let none = registered(rt, alloc, &store, &mut desk, &NONE);
+    let mut slot = TableSlot::open(alloc, &store).expect(rt, "opened");
+    let rows = [
+        (&three, [None, Some(0), None].as_slice()),
+        (&one, [None].as_slice()),
+        (&three, [None, Some(0), None].as_slice()),
+        (&three, [None, Some(0), None].as_slice()),
+        (&none, [].as_slice()),
+    ];
+    for (module, entries) in rows {
+        slot.prepare(&store, module);
+        assert_eq!(rt; slot.entries(), entries);
+    }
+    slot.prepare(&store, &three);
+    slot.clear();
+    assert_eq!(rt; slot.entries(), [].as_slice());
+}
+
+#[test]
+fn a_slot_goes_from_module_to_module(rt: HostRuntime) -> Result<(), Fail> {
+    check_slot::<Brand, HostRuntime>(&rt, rt.alloc(), opened(rt.alloc())?);
+    Ok(())
+}
+
+// The number of the slot that is taken for the module and given back, or none where the pool is full.
+fn visit<N: Naming>(
+    pool: &TablePool<N>,
+    pass: &mut Pass<TableSlot<N>>,
+    store: &ModuleStore<N>,
+    module: &ModuleRef<N>,
+) -> Option<u32>
+    requires own { IsTablePass pool.now pass.old }
+    requires idle { IsIdle pass.old }
+    ensures same { IsSamePass pass.old pass.new }
+    ensures idle { IsIdle pass.new }
+{
+    let Ok(lease) = pool.take(pass, store, module) else {
+        return None;
+    };
+    let number = lease.number();
+    pool.give(pass, lease, store);
+    Some(number)
+}
+
+#[derive(Clone, Copy)]
+struct Visits {
+    // How many slots may be warm.
+    warm: u32,
+    // Which of three modules, and the slot that it gets.
+    visits: [Option<(usize, u32)>; 4],
+    // How many slots are cold and warm after them.
+    left: (u32, u32),
+}
+
+fn check_visits<N: Naming, R: Abort + Wait>(rt: &R, alloc: Global, opened: Opened, row: &Visits)
+    requires { Bears opened N.shelves N.config }
+{
+    let (store, mut desk) = opened.named::<N>();
+    let first = registered(rt, alloc, &store, &mut desk, &THREE);
+    let second = registered(rt, alloc, &store, &mut desk, &THREE);
+    let third = registered(rt, alloc, &store, &mut desk, &THREE);
+    let modules = [&first, &second, &third];
+    let (pool, mut passes) = TablePool::open(alloc, &store, 3, row.warm, 1).expect(rt, "opened");
+    let mut pass = passes.pop().unwrap();
+    for visited in row.visits {
+        if let Some((module, number)) = visited {
+            assert!(rt; module < 3);
+            let got = visit(&pool, &mut pass, &store, modules[module]);
+            assert_eq!(rt; got, Some(number));
+        }
+    }
+    let (cold, warm) = row.left;
+    let want = KindCounts {
+        cold,
+        warm,
+        awaiting: 0,
+        held: 0,
+    };
+    assert_eq!(rt; pool.close(pass), want);
+}
+
+#[test]
+fn modules_come_back_to_their_tables(rt: HostRuntime) -> Result<(), Fail> {
+    let rows = [
+        Visits {
+            warm: 2,
+            visits: [Some((0, 0)), Some((1, 1)), Some((0, 0)), Some((2, 1))],
+            left: (1, 2),
+        },
+        Visits {
+            warm: 0,
+            visits: [Some((0, 0)), Some((1, 0)), None, None],
+            left: (3, 0),
+        },
+    ];
+    for row in rows {
+        let opened = opened(rt.alloc())?;
+        check_visits::<Brand, HostRuntime>(&rt, rt.alloc(), opened, &row);
+    }
+    Ok(())
+}
+
+// What a second pass gets while the first has a slot, and after the first gave it back.
+fn visits_beside<N: Naming>(
+    pool: &TablePool<N>,
+    mut first: Pass<TableSlot<N>>,
+    mut second: Pass<TableSlot<N>>,
+    store: &ModuleStore<N>,
+    module: &ModuleRef<N>,
+) -> [Option<u32>; 2]
+    requires own { IsTablePass pool.now first × IsTablePass pool.now second }
+    requires idle { IsIdle first × IsIdle second }
+{
+    let Ok(lease) = pool.take(&mut first, store, module) else {
+        return [Some(9); 2];
+    };
+    let beside = visit(pool, &mut second, store, module);
+    pool.give(&mut first, lease, store);
+    [beside, visit(pool, &mut second, store, module)]
+}
+
+fn check_full<N: Naming, R: Abort + Wait>(rt: &R, alloc: Global, opened: Opened)
+    requires { Bears opened N.shelves N.config }
+{
+    let (store, mut desk) = opened.named::<N>();
+    let module = registered(rt, alloc, &store, &mut desk, &THREE);
+    let (pool, mut passes) = TablePool::open(alloc, &store, 1, 1, 2).expect(rt, "opened");
+    let first = passes.pop().unwrap();
+    let second = passes.pop().unwrap();
+    let got = visits_beside(&pool, first, second, &store, &module);
+    assert_eq!(rt; got, [None, Some(0)]);
+}
+
+#[test]
+fn a_pool_is_full_until_its_table_is_given_back(rt: HostRuntime) -> Result<(), Fail> {
+    check_full::<Brand, HostRuntime>(&rt, rt.alloc(), opened(rt.alloc())?);
+    Ok(())
+}
+
+fn visit_often<N: Naming>(
+    pool: &TablePool<N>,
+    mut pass: Pass<TableSlot<N>>,
+    store: &ModuleStore<N>,
+    module: &ModuleRef<N>,
+) -> Pass<TableSlot<N>>
+    requires own { IsTablePass pool.now pass }
+    requires idle { IsIdle pass }
+    ensures own { IsTablePass pool.now result }
+    ensures idle { IsIdle result }
+{
+    for _ in 0..300u32 {
+        let _number = visit(pool, &mut pass, store, module);
+    }
+    pass
+}
+
+fn check_threads<N: Naming + Send + Sync, R: Abort + Threads + Wait + Sync>(
+    rt: &R,
+    alloc: Global,
+    opened: Opened,
+)
+    requires { Bears opened N.shelves N.config }
+{
+    let (store, mut desk) = opened.named::<N>();
+    let three = registered(rt, alloc, &store, &mut desk, &THREE);
+    let one = registered(rt, alloc, &store, &mut desk, &ONE);
+    let (pool, mut passes) = TablePool::open(alloc, &store, 2, 1, 2).expect(rt, "opened");
+    let first = passes.pop().unwrap();
+    let second = passes.pop().unwrap();
+    let shared = &pool;
+    let (mut first, second) = thread::join(
+        rt,
+        || -> Pass<TableSlot<N>>
+            requires { IsTablePass shared.now first × IsIdle first }
+            ensures { IsTablePass shared.entry.now result × IsIdle result }
+        { visit_often(shared, first, &store, &three) },
+        || -> Pass<TableSlot<N>>
+            requires { IsTablePass shared.now second × IsIdle second }
+            ensures { IsTablePass shared.entry.now result × IsIdle result }
+        { visit_often(shared, second, &store, &one) },
+    );
+    pool.join_pass(&mut first, second);
+    assert_eq!(rt; pool.close(first).held, 0);
+}
+
+#[test]
+fn two_threads_share_a_pool_and_leave_nothing_held(rt: HostRuntime) -> Result<(), Fail> {
+    check_threads::<Brand, HostRuntime>(&rt, rt.alloc(), opened(rt.alloc())?);
+    Ok(())
+}
