@@ -1,9 +1,9 @@
 -- The store that the slots of an instance show.
-use Rattle.std.proofs.Common.{◌≡◌, ◌≢◌, ℕ, ◌*◌, ◌≤◌, List, [], ◌∷◌, ◌++◌, Option, Some, None, Bool, true, false, length, take, drop, nat_lt, refl, sym, ap, ◌∙◌, subst, arith}
+use Rattle.std.proofs.Common.{◌≡◌, ◌≢◌, ℕ, ◌*◌, List, [], ◌∷◌, ◌++◌, Option, Some, None, Bool, true, false, length, take, drop, nat_lt, refl, sym, ap, ◌∙◌, subst, arith}
 use Rattle.std.specs.Prelude.{is_some, not}
 use Rattle.std.proofs.Math.Seq.{take-append_seam}
 use Rattle.std.proofs.lemmas.Bool.{lt-ltb}
-use Rattle.std.proofs.lemmas.List.{length-map, length-take, length-take-le, nil_from_length, take-append-drop}
+use Rattle.std.proofs.lemmas.List.{length-map, length-take, nil_from_length}
 use Rattle.wasm_types.specs.declared.limits.RunLimits.{RunLimits}
 use Rattle.wasm_types.specs.declared.outcome.Outcome.{Outcome}
 use Rattle.wasm_types.specs.declared.outcome.Val.{Val}
@@ -11,7 +11,6 @@ use Rattle.wasm_types.specs.declared.module.Module.{Module}
 use Rattle.wasm_types.specs.Tree.{ModuleTree, global_tree, module_tree}
 use Rattle.wasm_spec.specs.Store.{Store, fresh_store, memory_size, minimum_of, page_size, table_size}
 use Rattle.wasm_spec.specs.Result.{CallResult}
-use Rattle.wasm_spec.specs.Typing.{type_of}
 use Rattle.linear_memory.specs.declared.memory.Memory.{Memory as LinearMemory}
 use Rattle.wasm_machine.specs.Lent.{lent_store, own, others}
 use Rattle.wasm_machine.specs.TypedConfiguration.{IsTypedStore}
