@@ -1,5 +1,5 @@
 -- What the words of a command line mean; the first is the program's name.
-use Rattle.std.specs.Prelude.{◌≤◌, ℕ, ◌==◌, Bool, true, List, Option, Some, None, length, codes, if◌then◌else◌, is_none, is_some, option_and_then}
+use Rattle.std.specs.Prelude.{◌≤◌, ◌==◌, Bool, true, List, Option, Some, None, length, codes, if◌then◌else◌, is_none, is_some, option_and_then}
 use Rattle.std.specs.Str.{bytes_eq}
 use Rattle.clap.specs.Words.{Row, Text, fault_of, subcommand_of}
 use Rattle.pool_limits.specs.Ranges.{AreInRange, bad_number}

@@ -1,6 +1,5 @@
-use Rattle.std.proofs.Common.{◌≡◌, ◌∙◌, List, Some, map, rules, sym}
+use Rattle.std.proofs.Common.{◌≡◌, ◌∙◌, List, map, rules, sym}
 use Rattle.clap.specs.Words.{App, HasKind, Text, app_of, fault_of}
-use Rattle.command_line.specs.Words.{is_allowed}
 use Rattle.command_line.specs.declared.words.WordsFault.TheVariants.{NoMemory, Refused}
 use Rattle.command_line.proofs.ParsedWords.{at_poolhost, no_command, parsed, refused, taken}
 use Rattle.command_line.proofs.words.read_command.Goals as goal
