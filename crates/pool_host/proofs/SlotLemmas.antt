@@ -1,5 +1,5 @@
 -- The slots of an instance, from their takes to their gives.
-use Rattle.std.proofs.Common.{◌≡◌, ℕ, List, Option, Some, sym, subst}
+use Rattle.std.proofs.Common.{ℕ, List, Option, Some, sym, subst}
 use Rattle.wasm_types.specs.declared.outcome.Outcome.{Outcome}
 use Rattle.wasm_types.specs.declared.outcome.Val.{Val}
 use Rattle.slot_words.specs.declared.leases.Lease.{Lease}

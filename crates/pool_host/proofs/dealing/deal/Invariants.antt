@@ -1,4 +1,4 @@
-use Rattle.std.proofs.Common.{◌≡◌, ◌+◌, ◌≤◌, length, vec_len, vec_capacity}
+use Rattle.std.proofs.Common.{◌≡◌, ◌+◌, ◌≤◌, vec_len, vec_capacity}
 use Rattle.std.specs.List.{All}
 use Rattle.instance_slots.specs.Pools.{IsNewTicketPass}
 use Rattle.memory_slots.specs.Pools.{IsNewMemoryPass}

@@ -1,5 +1,3 @@
-use Rattle.instance_calls.specs.Instances.{KeepsSlots}
-use Rattle.pool_host.specs.Taking.{GaveSlots, HaveSlots}
 use Rattle.pool_host.proofs.SlotLemmas.{all_served, gave_those, ran_on_slots, still_have}
 use Rattle.pool_host.proofs.host.Host.answer.Goals as goal
 
