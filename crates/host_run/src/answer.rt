@@ -14,10 +14,11 @@ use host_report::report;
 use request_text::{ParseFault, parse, report_text, write_text_fault};
 use std::alloc::Global;
 use std::sync::Wait;
+use std::thread::Threads;
 use wasm_types::NoMemory;
 
 // What a request file of these bytes is answered, once its calls are made.
-pub(crate) fn answer<R: Wait, G: Gate>(
+pub(crate) fn answer<R: Threads + Wait + Sync, G: Gate>(
     rt: &R,
     alloc: Global,
     options: &Options,

@@ -14,6 +14,7 @@ use host_edge::{Gate, Source};
 use request_text::MOST_BYTES;
 use std::alloc::Global;
 use std::sync::Wait;
+use std::thread::Threads;
 use wasm_types::NoMemory;
 
 // What is written where the words are refused.
@@ -27,7 +28,7 @@ pub(crate) struct Due {
 }
 
 // What is due for the words and all bytes of the source. Words that are refused leave the source unread.
-pub(crate) fn due_text<R: Wait, S: Source, G: Gate>(
+pub(crate) fn due_text<R: Threads + Wait + Sync, S: Source, G: Gate>(
     rt: &R,
     alloc: Global,
     words: &[&str],
