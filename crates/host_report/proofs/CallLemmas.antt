@@ -49,19 +49,19 @@ ArePlacedBelow n [] = Unit {0}
 ArePlacedBelow n (Module name bytes ∷ rest) = ArePlacedBelow n rest
 ArePlacedBelow n (Call place export fuel args ∷ rest) = (place < n) × ArePlacedBelow n rest
 
-placed_below : (ds : List Directive) (m n : ℕ) → IsPlacedFrom m ds → m + length (modules_of ds) ≤ n → ArePlacedBelow n ds
+pub placed_below : (ds : List Directive) (m n : ℕ) → IsPlacedFrom m ds → m + length (modules_of ds) ≤ n → ArePlacedBelow n ds
 placed_below [] m n placed le = tt
 placed_below (Module name bytes ∷ ds) m n placed le =
     let more : length (modules_of (Module name bytes ∷ ds)) ≡ suc (length (modules_of ds)) = refl in
     placed_below ds (m + 1) n placed (omega arith)
 placed_below (Call place export fuel args ∷ ds) m n placed le = (let p : place < m = placed.0 in omega arith, placed_below ds m n placed.1 le)
 
-element_below : (modules : List (List ℕ)) (i : ℕ) → i < length modules → (b : List ℕ) × (slice_get modules i ≡ Some b)
+pub element_below : (modules : List (List ℕ)) (i : ℕ) → i < length modules → (b : List ℕ) × (slice_get modules i ≡ Some b)
 element_below [] i lt = absurd (omega arith)
 element_below (b ∷ modules) zero lt = (b, refl)
 element_below (b ∷ modules) (suc i) lt = element_below modules i (omega arith)
 
-kind_of : (d : Directive) → ((name : List ℕ) × (bytes : List ℕ) × (d ≡ Module name bytes))
+pub kind_of : (d : Directive) → ((name : List ℕ) × (bytes : List ℕ) × (d ≡ Module name bytes))
     ⊎ ((place : ℕ) × (export : List ℕ) × (fuel : ℕ) × (args : List Val) × (d ≡ Call place export fuel args))
 kind_of (Module name bytes) = inl (name, bytes, refl)
 kind_of (Call place export fuel args) = inr (place, export, fuel, args, refl)

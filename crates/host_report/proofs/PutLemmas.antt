@@ -33,6 +33,9 @@ slice_get_left (x ∷ xs) ys (suc i) lt = slice_get_left xs ys i (omega arith)
 module_at_left : (entries more : List Entry) (place : ℕ) → place < length entries → module_at (entries ++ more) place ≡ module_at entries place
 module_at_left entries more place lt = rw (slice_get_left entries more place lt) refl
 
+pub module_there : (entries : List Entry) (place : ℕ) (e : Entry) (m : Option Named) → slice_get entries place ≡ Some e → m ≡ module_of e → m ≡ module_at entries place
+module_there entries place e m got is = rw got is
+
 -- So many calls were put, each with its module: whatever are the entries of the modules that are left, the calls that are left
 -- complete those of the file.
 pub record PutsLeft (limits : Limits) (whole rest : List Directive) (registered : ℕ) (entries : List Entry) (number : ℕ) (before after : Account (Option Named)) : Type 0 where
@@ -102,11 +105,12 @@ module _ (limits : Limits) (whole : List Directive) where
         pub room_for_call : number < call_count whole
         room_for_call = let f = at_call.few in omega (arith, call_count-call place export fuel args more)
 
-        pub puts_call : (after' : Puts) → after' ≡ with_put after ((number + 1, module_at entries place) ∷ []) → PutsLeft limits whole more registered entries (number + 1) before after'
-        puts_call after' put =
+        pub puts_call : (after' : Puts) (m : Option Named) → m ≡ module_at entries place → after' ≡ with_put after ((number + 1, m) ∷ []) → PutsLeft limits whole more registered entries (number + 1) before after'
+        puts_call after' m module_is stored =
             let k = at_call in
+            let put : after' ≡ with_put after ((number + 1, module_at entries place) ∷ []) = stored ∙ ap (λ (x : Option Named). with_put after ((number + 1, x) ∷ [])) module_is in
             let put' : after'.put ≡ after.put ++ (number + 1, module_at entries place) ∷ [] = ap (λ (x : Puts). x.put) put in record {
-              entered = k.entered;
+              entered = record { few = k.entered.few; completes = k.entered.completes };
               placed = k.placed.1;
               few = (let f = k.few in omega (arith, call_count-call place export fuel args more));
               putter = ap (λ (x : Puts). x.puts) put ∙ k.putter;
@@ -139,10 +143,10 @@ IsPair entries whole pair = 0 < pair.0 → IsPairAt entries whole whole (pair.0 
 abbrev times : ℕ → List Pair → ℕ
 times k pairs = count_by (λ (pair : Pair). pair.0 == k) pairs
 
-times-here : (n k : ℕ) → n ≡ k → cond (n == k) 1 0 ≡ 1
+times-here : (n k : ℕ) → n ≡ k → ◌≡◌ {A = ℕ} (cond (n == k) 1 0) 1
 times-here n k is = let b : (n == k) ≡ true = grind (arith, nat_tests) in rw b refl
 
-times-else : (n k : ℕ) → n ≢ k → cond (n == k) 1 0 ≡ 0
+times-else : (n k : ℕ) → n ≢ k → ◌≡◌ {A = ℕ} (cond (n == k) 1 0) 0
 times-else n k isnt = let b : (n == k) ≡ false = grind (arith, nat_tests) in rw b refl
 
 module _ (entries : List Entry) where
@@ -154,11 +158,11 @@ module _ (entries : List Entry) where
       let all : times k ((n, module_at entries place) ∷ pairs_from entries (n + 1) ds) ≡ cond (n == k) 1 0 + times k (pairs_from entries (n + 1) ds) =
       sum_by-cons (λ (pair : Pair). cond (pair.0 == k) 1 0) (n, module_at entries place) (pairs_from entries (n + 1) ds) in
       ⊎_elim
-          (λ (is : n ≡ k).
-          let one = times-here n k is in
-          let rest = none (omega arith) in (omega arith, λ lt. absurd (omega arith)))
-          (λ (isnt : n ≢ k). let nought = times-else n k isnt in (omega arith, λ lt. let rest = none (omega arith) in omega arith))
-          (cases_eq n k)
+      (λ (is : n ≡ k).
+      let one = times-here n k is in
+      let rest = none (omega arith) in (omega arith, λ lt. absurd (omega arith)))
+      (λ (isnt : n ≢ k). let nought = times-else n k isnt in (omega arith, λ lt. let rest = none (omega arith) in omega arith))
+      (cases_eq n k)
 
   times_zeros : (k workers : ℕ) → 0 < k → times k (replicate workers (0, None)) ≡ 0
   times_zeros k zero counted = refl

@@ -105,7 +105,7 @@ numbers_zip config calls count k (pair ∷ pairs) (w ∷ all) zip =
     sum_by-cons (λ (one : Worked). cond (one.number == k) 1 0) w all in
     let b : count_by (λ (x : Pair). x.0 == k) (pair ∷ pairs) ≡ cond (pair.0 == k) 1 0 + count_by (λ (x : Pair). x.0 == k) pairs =
     sum_by-cons (λ (x : Pair). cond (x.0 == k) 1 0) pair pairs in
-    let same : cond (w.number == k) 1 0 ≡ cond (pair.0 == k) 1 0 = ap (λ (n : ℕ). cond (n == k) 1 0) zip.0.number_is in
+    let same : ◌≡◌ {A = ℕ} (cond (w.number == k) 1 0) (cond (pair.0 == k) 1 0) = ap (λ (n : ℕ). cond {A = ℕ} (n == k) 1 0) zip.0.number_is in
     let rest = numbers_zip config calls count k pairs all zip.1 in omega arith
 
 all_zip : (config : Numbers) (calls : List Due) (count : ℕ) (pairs : List Pair) (all : List Worked) → AllZip (worked.IsEntry config calls) pairs all
@@ -120,27 +120,29 @@ all_zip config calls count (pair ∷ pairs) (w ∷ all) zip counted below =
     All-cons (λ (one : Worked). (0 < one.number) × (one.number ≤ count)) w all (omega arith, omega arith)
     (all_zip config calls count pairs all zip.1 (All-tail (λ (x : Pair). 0 < x.0) pair pairs counted) (All-tail (λ (x : Pair). x.0 ≤ count) pair pairs below))
 
+counted_more : (pair : Pair) (pairs : List Pair) (zeroed : Bool) → (pair.0 == 0) ≡ zeroed → All (λ (x : Pair). 0 < x.0) (called pairs) → All (λ (x : Pair). 0 < x.0) (called (pair ∷ pairs))
+counted_more pair pairs true is h = rw is h
+counted_more pair pairs false is h = rw is (All-cons (λ (x : Pair). 0 < x.0) pair (called pairs) (grind (arith, nat_tests, is)) h)
+
 called_counted : (pairs : List Pair) → All (λ (pair : Pair). 0 < pair.0) (called pairs)
 called_counted [] = All-nil (λ (pair : Pair). 0 < pair.0)
-called_counted (pair ∷ pairs) = by_zero (pair.0 == 0) refl
-  where
-    by_zero : (b : Bool) → (pair.0 == 0) ≡ b → All (λ (x : Pair). 0 < x.0) (called (pair ∷ pairs))
-    by_zero true is = rw is (called_counted pairs)
-    by_zero false is = rw is (All-cons (λ (x : Pair). 0 < x.0) pair (called pairs) (grind (arith, nat_tests, is)) (called_counted pairs))
+called_counted (pair ∷ pairs) = counted_more pair pairs (pair.0 == 0) refl (called_counted pairs)
 
-times_called : (k : ℕ) (pairs : List Pair) → count_by (λ (pair : Pair). pair.0 == k) (called pairs) ≤ count_by (λ (pair : Pair). pair.0 == k) pairs
+abbrev times : ℕ → List Pair → ℕ
+times k pairs = count_by (λ (pair : Pair). pair.0 == k) pairs
+
+times_more : (k : ℕ) (pair : Pair) (pairs : List Pair) (zeroed : Bool) → (pair.0 == 0) ≡ zeroed → times k (called pairs) ≤ times k pairs → times k (called (pair ∷ pairs)) ≤ times k (pair ∷ pairs)
+times_more k pair pairs true is h =
+    let b : times k (pair ∷ pairs) ≡ cond (pair.0 == k) 1 0 + times k pairs = sum_by-cons (λ (x : Pair). cond (x.0 == k) 1 0) pair pairs in
+    let t : times k (called pairs) ≤ times k (pair ∷ pairs) = omega arith in rw is t
+times_more k pair pairs false is h =
+    let b : times k (pair ∷ pairs) ≡ cond (pair.0 == k) 1 0 + times k pairs = sum_by-cons (λ (x : Pair). cond (x.0 == k) 1 0) pair pairs in
+    let a : times k (pair ∷ called pairs) ≡ cond (pair.0 == k) 1 0 + times k (called pairs) = sum_by-cons (λ (x : Pair). cond (x.0 == k) 1 0) pair (called pairs) in
+    let t : times k (pair ∷ called pairs) ≤ times k (pair ∷ pairs) = omega arith in rw is t
+
+times_called : (k : ℕ) (pairs : List Pair) → times k (called pairs) ≤ times k pairs
 times_called k [] = omega arith
-times_called k (pair ∷ pairs) = by_zero (pair.0 == 0) refl
-  where
-    b : count_by (λ (x : Pair). x.0 == k) (pair ∷ pairs) ≡ cond (pair.0 == k) 1 0 + count_by (λ (x : Pair). x.0 == k) pairs
-    b = sum_by-cons (λ (x : Pair). cond (x.0 == k) 1 0) pair pairs
-
-    a : count_by (λ (x : Pair). x.0 == k) (pair ∷ called pairs) ≡ cond (pair.0 == k) 1 0 + count_by (λ (x : Pair). x.0 == k) (called pairs)
-    a = sum_by-cons (λ (x : Pair). cond (x.0 == k) 1 0) pair (called pairs)
-
-    by_zero : (zeroed : Bool) → (pair.0 == 0) ≡ zeroed → count_by (λ (x : Pair). x.0 == k) (called (pair ∷ pairs)) ≤ count_by (λ (x : Pair). x.0 == k) (pair ∷ pairs)
-    by_zero true is = let t : count_by (λ (x : Pair). x.0 == k) (called pairs) ≤ count_by (λ (x : Pair). x.0 == k) (pair ∷ pairs) = let r = times_called k pairs in omega (arith, b) in rw is t
-    by_zero false is = let t : count_by (λ (x : Pair). x.0 == k) (pair ∷ called pairs) ≤ count_by (λ (x : Pair). x.0 == k) (pair ∷ pairs) = let r = times_called k pairs in omega (arith, a, b) in rw is t
+times_called k (pair ∷ pairs) = times_more k pair pairs (pair.0 == 0) refl (times_called k pairs)
 
 -- ---- all entries
 

@@ -1,5 +1,5 @@
 //! The board collects the lines of calls.
-ghost use Rattle.std.specs.Prelude.{◌≡◌, ◌-◌, ℕ, None, Some, length, replicate, slice_get, slice_set};
+ghost use Rattle.std.specs.Prelude.{◌≡◌, ◌-◌, ℕ, None, Some, MatchOption, length, replicate, slice_get, slice_set};
 ghost use Rattle.request_text.specs.declared.report.CallLine.{CallLine};
 ghost use Rattle.job_queue.specs.Boards.{IsOpen};
 ghost use Rattle.host_report.specs.Collected.{AreOfCalls, IsOfWorked, line_of};
@@ -31,6 +31,16 @@ pub(crate) fn collect(board: &mut Board, number: u32, line: CallLine)
     prove!(collected.is_ok());
 }
 
+// Collects the line of a call that a worker made, if it has one.
+fn collect_worked(board: &mut Board, worked: &Worked)
+    requires { IsOpen board.old worked.now.number }
+    ensures { MatchOption (line_of worked.now.answer) (board.new ≡ board.old) (λ line. board.new ≡ slice_set board.old (worked.now.number - 1) (Some line)) }
+{
+    if let Some(line) = line_of(worked.answer) {
+        collect(board, worked.number, line);
+    }
+}
+
 // Collects the lines of the calls that workers made. Those that were answered Full have none.
 pub(crate) fn collect_all(board: &mut Board, worked: &[Worked])
     requires calls { AreOfCalls (length board.old) worked.now }
@@ -39,8 +49,6 @@ pub(crate) fn collect_all(board: &mut Board, worked: &[Worked])
     ensures lines { (at : ℕ) (line : CallLine) → slice_get board.new at ≡ Some (Some line) → IsOfWorked worked.now at line }
 {
     for one in worked {
-        if let Some(line) = line_of(one.answer) {
-            collect(board, one.number, line);
-        }
+        collect_worked(board, one);
     }
 }

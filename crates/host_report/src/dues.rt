@@ -9,13 +9,7 @@ use std::alloc::Global;
 use wasm_types::{Items, NoMemory, Val};
 
 // A call with copies of its words.
-fn due(
-    alloc: Global,
-    number: u32,
-    export: &[u8],
-    args: &[Val],
-    fuel: u32,
-) -> Result<Due, NoMemory>
+fn due(alloc: Global, number: u32, export: &[u8], args: &[Val], fuel: u32) -> Result<Due, NoMemory>
     ensures { IfOk result (λ due. due ≡ due_of number export.now args.now fuel) }
 {
     let export = export.to_vec(alloc).map_err(|_| NoMemory)?;
@@ -37,7 +31,10 @@ pub(crate) fn dues(alloc: Global, requests: &[Directive]) -> Result<Vec<Due>, No
     let mut number = 0;
     for directive in requests {
         if let Directive::Call {
-            export, fuel, args, ..
+            export,
+            fuel,
+            args,
+            ..
         } = directive
         {
             number += 1;

@@ -2,9 +2,14 @@
 #![tactic(auto)]
 
 mod calls;
+mod collecting;
 mod config;
+mod dues;
 pub mod laws;
 mod modules;
+mod putting;
 mod reporting;
+mod shares;
+mod sharing;
 
 pub use reporting::report;

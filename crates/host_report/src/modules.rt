@@ -25,7 +25,7 @@ pub(crate) fn entry_line<N: Naming>(entry: &Entry<N>) -> ModuleLine
 }
 
 // The entry of a module line.
-fn register<N: Naming, R: Wait>(
+pub(crate) fn register<N: Naming, R: Wait>(
     rt: &R,
     alloc: Global,
     store: &ModuleStore<N>,

@@ -56,8 +56,9 @@ fn put_calls<N: Naming, R: Wait>(
     for directive in requests {
         match directive {
             Directive::Module { bytes, .. } => {
+                entries.reserve(1).map_err(|_| NoMemory)?;
                 let entry = register(rt, alloc, store, desk, bytes.as_slice())?;
-                entries.push(entry).map_err(|_| NoMemory)?;
+                entries.push_reserved(entry);
             }
             Directive::Call { module, .. } => {
                 number += 1;
@@ -100,7 +101,7 @@ pub(crate) fn put_all<N: Naming, R: Wait>(
     ensures put { IfOk result.entries (λ entries. HasPut (pairs_put entries.items requests.now workers) (account_of own) (account_of result.own)) }
 {
     let entries = put_calls(rt, alloc, store, &mut desk, jobs, &mut own, requests);
-    for _ in 0..workers {
+    for i in 0..workers {
         jobs.put(rt, &mut own, 0, None);
     }
     Put { own, entries }

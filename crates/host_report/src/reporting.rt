@@ -10,14 +10,18 @@ ghost use Rattle.host_report.specs.Report.{AreLines, IsReport, limits_in};
 
 use crate::calls::answers;
 use crate::config::config_of;
-use crate::modules::{Entry, entry_line, register_all};
+use crate::modules::{Entry, entry_line};
+use crate::shares::lane_share;
+use crate::sharing::{Collected, gather};
 use host_edge::Gate;
 use module_store::{Naming, Opened};
+use pool_host::LaneHost;
 use pool_limits::Numbers;
 use request_text::{CallLine, Directive, MOST_CALLS, MOST_MODULES, ReportLine};
 use std::alloc::Global;
 use std::marker::Brand;
 use std::sync::Wait;
+use std::thread::Threads;
 use wasm_types::{Items, NoMemory};
 
 // How many module lines and calls have been reported on.
@@ -80,9 +84,9 @@ fn lines<N: Naming>(
     Ok(lines)
 }
 
-// The report under the store's configuration: the modules are loaded first, then the calls are made, and then there is a
-// line for each directive.
-fn report_in<N: Naming, R: Wait, G: Gate>(
+// The report under the store's configuration: the modules are loaded, several workers make the calls meanwhile, the lane
+// makes those that are left, and then there is a line for each directive.
+fn report_in<N: Naming + Send + Sync, R: Threads + Wait + Sync, G: Gate>(
     rt: &R,
     alloc: Global,
     opened: Opened,
@@ -95,9 +99,12 @@ fn report_in<N: Naming, R: Wait, G: Gate>(
     requires few_calls { call_count requests.now ≤ MOST_CALLS }
     ensures { IfOk result (λ lines. AreLines (limits_in N.config) (modules_of requests.now) 1 requests.now lines.items) }
 {
-    let (store, mut desk) = opened.named::<N>();
-    let entries = register_all(rt, alloc, &store, &mut desk, requests)?;
-    let answers = answers(alloc, &store, requests, &entries, gate)?;
+    let (store, desk) = opened.named::<N>();
+    let Collected { entries, mut board } = gather(rt, alloc, &store, desk, requests, gate)?;
+    let mut lane = LaneHost::open(alloc, &store, lane_share(&store))?;
+    let answers = answers(
+        alloc, &store, requests, &entries, &mut board, &mut lane, gate,
+    )?;
     lines(alloc, requests, &entries, &answers)
 }
 
@@ -106,7 +113,7 @@ fn report_in<N: Naming, R: Wait, G: Gate>(
 /// # Errors
 ///
 /// Memory was refused.
-pub fn report<R: Wait, G: Gate>(
+pub fn report<R: Threads + Wait + Sync, G: Gate>(
     rt: &R,
     alloc: Global,
     numbers: Numbers,

@@ -13,6 +13,7 @@ use pool_limits::Numbers;
 use request_text::{ParseFault, ReportLine, parse, report_text, write_summary, write_text_fault};
 use std::alloc::Global;
 use std::sync::Wait;
+use std::thread::Threads;
 use wasm_types::NoMemory;
 
 // What a run writes on the lines of a report.
@@ -29,7 +30,7 @@ fn lines_text(alloc: Global, lines: &[ReportLine], summary: bool) -> Result<Vec<
 }
 
 // What a request file of these bytes is answered, once its calls are made.
-pub(crate) fn answer<R: Wait, G: Gate>(
+pub(crate) fn answer<R: Threads + Wait + Sync, G: Gate>(
     rt: &R,
     alloc: Global,
     numbers: Numbers,

@@ -18,6 +18,7 @@ use pool_limits::Numbers;
 use request_text::MOST_BYTES;
 use std::alloc::Global;
 use std::sync::Wait;
+use std::thread::Threads;
 use wasm_types::NoMemory;
 
 // What is written where the words are refused.
@@ -31,7 +32,7 @@ pub(crate) struct Due {
 }
 
 // What is due for a run under a configuration of these numbers, once all bytes of the source are read.
-fn run_due<R: Wait, S: Source, G: Gate>(
+fn run_due<R: Threads + Wait + Sync, S: Source, G: Gate>(
     rt: &R,
     alloc: Global,
     numbers: Numbers,
@@ -68,7 +69,7 @@ fn load_due(alloc: Global, seed: u64, count: u32) -> Result<Due, NoMemory>
 }
 
 // What is due for the words and all bytes of the source. Only the words of a run have the source read.
-pub(crate) fn due_text<R: Wait, S: Source, G: Gate>(
+pub(crate) fn due_text<R: Threads + Wait + Sync, S: Source, G: Gate>(
     rt: &R,
     alloc: Global,
     words: &[&str],

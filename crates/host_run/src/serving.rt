@@ -28,7 +28,7 @@ use std::thread::Threads;
 /// The result is the program's exit status: 0 where what was asked for was written, 2 after the reason of a refusal, 3
 /// where the source failed, 4 where the sink failed, 5 for want of memory. `gate` is told of each call.
 pub fn serve<S: Source, K: Sink, G: Gate>(
-    rt: &(impl Threads + Wait),
+    rt: &(impl Threads + Wait + Sync),
     alloc: Global,
     words: &[&str],
     source: &mut S,

@@ -147,7 +147,18 @@ call over x 1
 call wide x 1
 ";
 
-const RUNS: [Run; 18] = [
+// Reports.
+// An import, an empty section of imports, locals past every frame and past every count, and a loop that counts down.
+const BOUNDS: &[u8] = b"module m 0061736d01000000010401600000020701016101620000
+module t 0061736d01000000020100
+module n 0061736d01000000010401600000030201000a0a010801ffffffff0f7f0b
+module l 0061736d01000000010401600000030201000a0c010a02ffffffff0f7f017f0b
+module cnt 0061736d0100000001060160017f017f03020100070501016300000a120110000340200041016b22000d000b20000b
+call cnt c 19 i32:3
+call cnt c 18 i32:3
+";
+
+const RUNS: [Run; 8] = [
     // a call of an addition
     Run {
         words: RUN,
@@ -163,15 +174,6 @@ const RUNS: [Run; 18] = [
         bytes: ADDITION,
         source: (3, &[]),
         sink: (1, &[]),
-        status: 0,
-        written: b"module add ok\n1 ok i32:5\n",
-    },
-    // by several workers
-    Run {
-        words: &["poolhost", "run", "--workers", "4"],
-        bytes: ADDITION,
-        source: (4096, &[]),
-        sink: (4096, &[]),
         status: 0,
         written: b"module add ok\n1 ok i32:5\n",
     },
@@ -214,6 +216,28 @@ const RUNS: [Run; 18] = [
         status: 0,
         written: b"",
     },
+    // a frame that is enough
+    Run {
+        words: &["poolhost", "run", "--frame", "5"],
+        bytes: ADDITION,
+        source: (4096, &[]),
+        sink: (4096, &[]),
+        status: 0,
+        written: b"module add ok\n1 ok i32:5\n",
+    },
+    // a frame that is too small
+    Run {
+        words: &["poolhost", "run", "--frame", "4"],
+        bytes: ADDITION,
+        source: (4096, &[]),
+        sink: (4096, &[]),
+        status: 0,
+        written: b"module add refused limit\n1 refused module\n",
+    },
+];
+
+// Refusals, and sources and sinks that fail.
+const ENDS: [Run; 9] = [
     // an unknown module
     Run {
         words: RUN,
@@ -240,24 +264,6 @@ const RUNS: [Run; 18] = [
         sink: (4096, &[]),
         status: 2,
         written: b"line 2: name used twice\n",
-    },
-    // a frame that is enough
-    Run {
-        words: &["poolhost", "run", "--frame", "5"],
-        bytes: ADDITION,
-        source: (4096, &[]),
-        sink: (4096, &[]),
-        status: 0,
-        written: b"module add ok\n1 ok i32:5\n",
-    },
-    // a frame that is too small
-    Run {
-        words: &["poolhost", "run", "--frame", "4"],
-        bytes: ADDITION,
-        source: (4096, &[]),
-        sink: (4096, &[]),
-        status: 0,
-        written: b"module add refused limit\n1 refused module\n",
     },
     // a read that fails
     Run {
@@ -316,6 +322,16 @@ const RUNS: [Run; 18] = [
 ];
 
 const INSTANCES: [Run; 9] = [
+    // modules at the bounds of what is read and run
+    Run {
+        words: RUN,
+        bytes: BOUNDS,
+        source: (4096, &[]),
+        sink: (4096, &[]),
+        status: 0,
+        written: b"module m refused unsupported\nmodule t ok\nmodule n refused limit\nmodule l refused malformed\nmodule cnt ok\n\
+            1 ok i32:0\n2 fuel\n",
+    },
     // memories, each call's fresh
     Run {
         words: RUN,
@@ -390,6 +406,10 @@ const INSTANCES: [Run; 9] = [
         status: 0,
         written: b"module over refused segment\nmodule wide ok\nmodule long ok\n1 refused module\n2 refused export\n",
     },
+];
+
+// Reports with one slot of a kind, which several workers can't share.
+const ONE_SLOT: [Run; 1] = [
     // a memory for one slot
     Run {
         words: &[
@@ -498,7 +518,13 @@ const LOADS: [Run; 8] = [
     },
 ];
 
-fn check_runs<R: Abort + Threads + Wait>(rt: &R, alloc: Global, runs: &[Run]) -> Result<(), Fail> {
+// Each run, with these words behind its own.
+fn check_runs<R: Abort + Threads + Wait + Sync>(
+    rt: &R,
+    alloc: Global,
+    runs: &[Run],
+    more: &[&str],
+) -> Result<(), Fail> {
     for (at, run) in runs.iter().enumerate() {
         let mut source = MemSource::new(
             run.bytes.to_vec(alloc)?,
@@ -506,7 +532,9 @@ fn check_runs<R: Abort + Threads + Wait>(rt: &R, alloc: Global, runs: &[Run]) ->
             run.source.1.to_vec(alloc)?,
         );
         let mut sink = MemSink::new(alloc, run.sink.0.max(1), run.sink.1.to_vec(alloc)?);
-        let status = serve(rt, alloc, run.words, &mut source, &mut sink, &OpenGate);
+        let mut words = run.words.to_vec(alloc)?;
+        words.extend_from_slice(more)?;
+        let status = serve(rt, alloc, &words, &mut source, &mut sink, &OpenGate);
         assert_eq!(rt; status, run.status, "at run {at}");
         assert_eq!(rt; sink.bytes(), run.written, "at run {at}");
     }
@@ -515,17 +543,26 @@ fn check_runs<R: Abort + Threads + Wait>(rt: &R, alloc: Global, runs: &[Run]) ->
 
 #[test]
 fn runs_end_with_their_status_and_text(rt: HostRuntime) -> Result<(), Fail> {
-    check_runs(&rt, rt.alloc(), &RUNS)
+    check_runs(&rt, rt.alloc(), &RUNS, &[])?;
+    check_runs(&rt, rt.alloc(), &ENDS, &[])
 }
 
 #[test]
 fn each_call_runs_on_a_fresh_instance(rt: HostRuntime) -> Result<(), Fail> {
-    check_runs(&rt, rt.alloc(), &INSTANCES)
+    check_runs(&rt, rt.alloc(), &INSTANCES, &[])?;
+    check_runs(&rt, rt.alloc(), &ONE_SLOT, &[])
+}
+
+#[test]
+fn several_workers_write_the_same_reports(rt: HostRuntime) -> Result<(), Fail> {
+    let workers = ["--workers", "4"];
+    check_runs(&rt, rt.alloc(), &RUNS, &workers)?;
+    check_runs(&rt, rt.alloc(), &INSTANCES, &workers)
 }
 
 #[test]
 fn loads_and_summaries_are_written(rt: HostRuntime) -> Result<(), Fail> {
-    check_runs(&rt, rt.alloc(), &LOADS)
+    check_runs(&rt, rt.alloc(), &LOADS, &[])
 }
 
 #[test]
@@ -660,8 +697,117 @@ fn the_gate_is_told_of_each_call_and_of_each_that_begins(rt: HostRuntime) -> Res
     Ok(())
 }
 
+// The most turns for which a gate holds a call.
+const MOST_TURNS: u64 = 2_000_000_000;
+
+const BUMPS: &str =
+    "module bump 0061736d010000000105016000017f0302010005030100010708010462756d7000000a160114004100410028020041016a36020041002802000b
+call bump bump 100
+call bump bump 100
+";
+
+// A gate that holds one call as it enters, until so many calls were answered or it has waited for long enough.
+#[derive(Drop)]
+struct HoldingGate {
+    // its number, or 0 for whichever enters first
+    held: u64,
+    until: u64,
+    entered: AtomicU64,
+    answered: AtomicU64,
+    // how many were answered when it went on
+    seen: AtomicU64,
+}
+
+impl HoldingGate {
+    fn hold(&self) {
+        for _ in 0..MOST_TURNS {
+            let answered = self.answered.load(Ordering::SeqCst);
+            self.seen.store(answered, Ordering::SeqCst);
+            if answered >= self.until {
+                return;
+            }
+        }
+    }
+}
+
+impl Gate for HoldingGate {
+    fn entered(&self, call: u64) {
+        let first = self.entered.fetch_add(1, Ordering::SeqCst) == 0;
+        if call == self.held || (first && self.held == 0) {
+            self.hold();
+        }
+    }
+
+    fn answered(&self, _call: u64) {
+        self.answered.fetch_add(1, Ordering::SeqCst);
+    }
+}
+
+// How many calls were answered in a run over a file, while one of them was held until `until` others were.
+fn answered_beside_a_held_call<R: Abort + Threads + Wait + Sync>(
+    rt: &R,
+    alloc: Global,
+    words: &[&str],
+    text: &str,
+    held: u64,
+    until: u64,
+    written: &[u8],
+) -> Result<u64, Fail> {
+    let gate = HoldingGate {
+        held,
+        until,
+        entered: AtomicU64::new(0),
+        answered: AtomicU64::new(0),
+        seen: AtomicU64::new(0),
+    };
+    let mut source = MemSource::new(text.as_bytes().to_vec(alloc)?, 4096, Vec::new(alloc));
+    let mut sink = MemSink::new(alloc, 4096, Vec::new(alloc));
+    assert_eq!(rt; serve(rt, alloc, words, &mut source, &mut sink, &gate), 0);
+    assert_eq!(rt; sink.bytes(), written);
+    assert_eq!(rt; gate.seen.load(Ordering::SeqCst), until);
+    Ok(gate.answered.load(Ordering::SeqCst))
+}
+
+// One memory is shared: while the first call is held the others are answered Full, and the lane makes them again.
+#[test]
+fn a_call_that_finds_no_slot_is_made_again_on_the_lane(rt: HostRuntime) -> Result<(), Fail> {
+    let alloc = rt.alloc();
+    let words = ["poolhost", "run", "--workers", "2", "--memories", "2"];
+    let written = b"module bump ok\n1 ok i32:1\n2 ok i32:1\n";
+    let answered = answered_beside_a_held_call(&rt, alloc, &words, BUMPS, 0, 1, written)?;
+    assert_eq!(rt; answered, 3);
+    let mut four = String::from_str(alloc, BUMPS)?;
+    four.push_str("call bump bump 100\ncall bump bump 100\n")?;
+    let words = ["poolhost", "run", "--workers", "4", "--memories", "2"];
+    let written = b"module bump ok\n1 ok i32:1\n2 ok i32:1\n3 ok i32:1\n4 ok i32:1\n";
+    let answered = answered_beside_a_held_call(&rt, alloc, &words, four.as_str(), 0, 3, written)?;
+    assert_eq!(rt; answered, 7);
+    Ok(())
+}
+
+// Two memories are shared: the second call runs while the first is held, and no call is made twice.
+#[test]
+fn two_calls_run_at_the_same_time(rt: HostRuntime) -> Result<(), Fail> {
+    let words = [
+        "poolhost",
+        "run",
+        "--workers",
+        "2",
+        "--memories",
+        "3",
+        "--instances",
+        "3",
+        "--tables",
+        "2",
+    ];
+    let written = b"module bump ok\n1 ok i32:1\n2 ok i32:1\n";
+    let answered = answered_beside_a_held_call(&rt, rt.alloc(), &words, BUMPS, 1, 1, written)?;
+    assert_eq!(rt; answered, 2);
+    Ok(())
+}
+
 // What a run over a file with ample memory writes.
-fn answered<R: Threads + Wait>(rt: &R, alloc: Global, text: &str) -> Result<MemSink, Fail> {
+fn answered<R: Threads + Wait + Sync>(rt: &R, alloc: Global, text: &str) -> Result<MemSink, Fail> {
     let mut source = MemSource::new(text.as_bytes().to_vec(alloc)?, 4096, Vec::new(alloc));
     let mut sink = MemSink::new(alloc, 65536, Vec::new(alloc));
     let status = serve(rt, alloc, RUN, &mut source, &mut sink, &OpenGate);

@@ -29,7 +29,7 @@ fn args(rt: &HostRuntime) -> io::Result<Vec<String>> {
 // The exit status of the program, for the words of the process or for what kept them from being collected: the host's where
 // they are text, 5 where memory was refused, and else that of words which are refused.
 fn status_of<S: Source, K: Sink>(
-    rt: &(impl Threads + Wait),
+    rt: &(impl Threads + Wait + Sync),
     alloc: Global,
     args: io::Result<Vec<String>>,
     source: &mut S,
@@ -71,7 +71,7 @@ fn words_of(alloc: Global, args: &[String]) -> Result<Vec<&str>, AllocError>
 
 // Runs the host on the words of the process. Memory may run out before.
 fn serve_args<S: Source, K: Sink>(
-    rt: &(impl Threads + Wait),
+    rt: &(impl Threads + Wait + Sync),
     alloc: Global,
     args: &[String],
     source: &mut S,
