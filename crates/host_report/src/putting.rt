@@ -101,7 +101,7 @@ pub(crate) fn put_all<N: Naming, R: Wait>(
     ensures put { IfOk result.entries (λ entries. HasPut (pairs_put entries.items requests.now workers) (account_of own) (account_of result.own)) }
 {
     let entries = put_calls(rt, alloc, store, &mut desk, jobs, &mut own, requests);
-    for i in 0..workers {
+    for _ in 0..workers {
         jobs.put(rt, &mut own, 0, None);
     }
     Put { own, entries }

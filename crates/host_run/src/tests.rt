@@ -553,11 +553,16 @@ fn each_call_runs_on_a_fresh_instance(rt: HostRuntime) -> Result<(), Fail> {
     check_runs(&rt, rt.alloc(), &ONE_SLOT, &[])
 }
 
+const FOUR_WORKERS: &[&str] = &["--workers", "4"];
+
 #[test]
 fn several_workers_write_the_same_reports(rt: HostRuntime) -> Result<(), Fail> {
-    let workers = ["--workers", "4"];
-    check_runs(&rt, rt.alloc(), &RUNS, &workers)?;
-    check_runs(&rt, rt.alloc(), &INSTANCES, &workers)
+    check_runs(&rt, rt.alloc(), &RUNS, FOUR_WORKERS)
+}
+
+#[test]
+fn several_workers_run_each_call_on_a_fresh_instance(rt: HostRuntime) -> Result<(), Fail> {
+    check_runs(&rt, rt.alloc(), &INSTANCES, FOUR_WORKERS)
 }
 
 #[test]
