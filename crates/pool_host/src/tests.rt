@@ -2,10 +2,13 @@
 ghost use Rattle.std.specs.Prelude.{◌≡◌, ◌<◌, length};
 ghost use Rattle.std.specs.List.{All};
 ghost use Rattle.module_store.specs.Names.{Bears};
-ghost use Rattle.pool_host.specs.Hosts.{IsHostPass};
+ghost use Rattle.pool_host.specs.Hosts.{AreIdle, ArePassesOf, AreSamePasses, IsHostPass};
 
+use crate::passes::Passes;
+use crate::slots::{give_slots, take_slots};
 use crate::{Answer, Host, HostPass, Kind, LaneAnswer, LaneHost};
 use host_edge::{Gate, OpenGate};
+use instance_calls::{Instance, find_function};
 use module_store::{Desk, ModuleRef, ModuleStore, Naming, Opened};
 use pool_limits::{Numbers, PoolConfig, Share};
 use slot_words::KindCounts;
@@ -350,5 +353,97 @@ fn check_calls<N: Naming, R: Abort + Wait>(rt: &R, alloc: Global, opened: Opened
 fn each_call_of_a_lane_is_on_a_fresh_instance(rt: HostRuntime) -> Result<(), Fail> {
     let opened = open(rt.alloc(), 1, 1)?;
     check_calls::<Brand, HostRuntime>(&rt, rt.alloc(), opened);
+    Ok(())
+}
+
+static GROW: [u8; 45] =
+    *b"\0asm\x01\0\0\0\x01\x06\x01\x60\x01\x7f\x01\x7f\x03\x02\x01\0\x05\x03\x01\0\x01\x07\x08\x01\x04grow\0\0\x0a\x08\x01\x06\0\x20\0\x40\0\x0b";
+
+// How many blocks of an instance's memory are marked.
+fn marks_of<N: Naming>(instance: &Instance<N>) -> Option<u32> {
+    match &instance.memory {
+        Some(memory) => Some(memory.value.dirty()),
+        None => None,
+    }
+}
+
+// How many blocks of its memory a call marks.
+fn marks_after<N: Naming>(
+    host: &Host<N>,
+    passes: &mut Passes<N>,
+    store: &ModuleStore<N>,
+    module: &ModuleRef<N>,
+    export: &[u8],
+    args: &[Val],
+    fuel: u64,
+) -> Option<u32>
+    requires own { ArePassesOf host.now passes.old }
+    requires idle { AreIdle passes.old }
+    ensures same { AreSamePasses passes.old passes.new }
+    ensures idle { AreIdle passes.new }
+{
+    let Ok(function) = find_function(store, module, export, args) else {
+        return None;
+    };
+    match take_slots(host, passes, store, module) {
+        Ok(mut instance) => {
+            let _outcome = instance.run(store, module, function, args, fuel);
+            let marks = marks_of(&instance);
+            give_slots(host, passes, store, instance);
+            marks
+        }
+        Err(_) => None,
+    }
+}
+
+// The same with a pass of the host, which is given back.
+fn marked_by<N: Naming>(
+    host: &Host<N>,
+    mut pass: HostPass<N>,
+    store: &ModuleStore<N>,
+    module: &ModuleRef<N>,
+    export: &[u8],
+    args: &[Val],
+    fuel: u64,
+) -> (Option<u32>, HostPass<N>)
+    requires { IsHostPass host.now pass }
+    ensures { IsHostPass host.now result.1 }
+{
+    let marks = marks_after(host, &mut pass.passes, store, module, export, args, fuel);
+    (marks, pass)
+}
+
+fn check_marks<N: Naming, R: Abort + Wait>(rt: &R, alloc: Global, opened: Opened)
+    requires { Bears opened N.shelves N.config }
+{
+    let (store, mut desk) = opened.named::<N>();
+    let modules = [
+        register(rt, alloc, &store, &mut desk, BUMP.as_slice()),
+        register(rt, alloc, &store, &mut desk, POKE.as_slice()),
+        register(rt, alloc, &store, &mut desk, GROWN.as_slice()),
+        register(rt, alloc, &store, &mut desk, GROW.as_slice()),
+    ];
+    let (host, mut pass) = one_caller(rt, alloc, &store);
+    // the module, the export, how many of the two arguments, the first of them, the fuel, and the blocks
+    let rows: [(usize, &str, usize, u32, u64, u32); 5] = [
+        (0, "bump", 0, 0, 100, 1),
+        (1, "poke", 2, 4094, 100, 2),
+        (1, "poke", 2, 4092, 100, 1),
+        (2, "dirty", 0, 0, 50, 1),
+        (3, "grow", 1, 1, 100, 0),
+    ];
+    for (module, export, count, first, fuel, blocks) in rows {
+        let args = [Val::I32(first), Val::I32(7)];
+        let module = &modules[module % 4];
+        let args = &args[..count.min(2)];
+        let (marks, back) = marked_by(&host, pass, &store, module, export.as_bytes(), args, fuel);
+        assert_eq!(rt; marks, Some(blocks), "at {export}");
+        pass = back;
+    }
+}
+
+#[test]
+fn a_call_marks_the_blocks_that_it_writes(rt: HostRuntime) -> Result<(), Fail> {
+    check_marks::<Brand, HostRuntime>(&rt, rt.alloc(), open(rt.alloc(), 2, 1)?);
     Ok(())
 }
