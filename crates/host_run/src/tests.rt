@@ -136,7 +136,10 @@ call ind i 9 i32:3
 call ind i 9 i32:-1
 call div d 9 i32:-2147483648 i32:-1
 call div r 9 i32:-2147483648 i32:-1
+call div d 9 i32:1 i32:0
+call div d 9 i32:-7 i32:2
 call div r 9 i32:-7 i32:2
+call div r 9 i32:1 i32:0
 ";
 
 // A segment past its memory, 33 pages, and 1,025 elements.
@@ -386,7 +389,7 @@ const INSTANCES: [Run; 9] = [
         sink: (4096, &[]),
         status: 0,
         written: b"module ind ok\nmodule div ok\n1 ok i32:7\n2 trap signature\n3 trap uninit\n4 trap element\n5 trap element\n\
-            6 trap overflow\n7 ok i32:0\n8 ok i32:-1\n",
+            6 trap overflow\n7 ok i32:0\n8 trap divide\n9 ok i32:-3\n10 ok i32:-1\n11 trap divide\n",
     },
     // what is past a memory or a limit
     Run {

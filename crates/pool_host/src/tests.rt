@@ -22,7 +22,8 @@ use std::thread;
 use std::thread::Threads;
 use wasm_types::{Outcome, Val};
 
-// A counter in memory, a store at an address, a memory that is grown and written to, a counter in a global, and a table.
+// A counter in memory, a store at an address, a memory that is grown and written to, an addition, a counter in a global,
+// and a table.
 static BUMP: [u8; 58] =
     *b"\0asm\x01\0\0\0\x01\x05\x01\x60\0\x01\x7f\x03\x02\x01\0\x05\x03\x01\0\x01\x07\x08\x01\x04bump\0\0\x0a\x16\x01\x14\0\x41\0\x41\0\x28\x02\0\x41\x01\x6a\x36\x02\0\x41\0\x28\x02\0\x0b";
 
@@ -31,6 +32,9 @@ static POKE: [u8; 48] =
 
 static GROWN: [u8; 86] =
     *b"\0asm\x01\0\0\0\x01\x08\x02\x60\0\0\x60\0\x01\x7f\x03\x03\x02\0\x01\x05\x03\x01\0\x01\x07\x10\x02\x05dirty\0\0\x04look\0\x01\x0a\x26\x02\x15\0\x41\x01\x40\0\x1a\x41\xff\xff\x07\x41\x7f\x3a\0\0\x03\x40\x0c\0\x0b\x0b\x0e\0\x41\x01\x40\0\x1a\x41\xff\xff\x07\x2d\0\0\x0b";
+
+static ADD: [u8; 41] =
+    *b"\0asm\x01\0\0\0\x01\x07\x01\x60\x02\x7f\x7f\x01\x7f\x03\x02\x01\0\x07\x07\x01\x03add\0\0\x0a\x09\x01\x07\0\x20\0\x20\x01\x6a\x0b";
 
 static NXT: [u8; 49] =
     *b"\0asm\x01\0\0\0\x01\x05\x01\x60\0\x01\x7f\x03\x02\x01\0\x06\x06\x01\x7f\x01\x41\0\x0b\x07\x05\x01\x01n\0\0\x0a\x0d\x01\x0b\0\x23\0\x41\x01\x6a\x24\0\x23\0\x0b";
@@ -217,6 +221,63 @@ fn a_call_is_full_while_another_has_the_memory(rt: HostRuntime) -> Result<(), Fa
     let opened = open(alloc, 2, 4)?;
     let two_memories = held::<Brand, HostRuntime>(&rt, alloc, opened, 2);
     assert_eq!(rt; two_memories, ([done, done, done], [0, 0, 0]));
+    Ok(())
+}
+
+// Adds 2 and 3 with a pass of the host, as call 2.
+fn add<N: Naming, G: Gate>(
+    host: &Host<N>,
+    mut pass: HostPass<N>,
+    store: &ModuleStore<N>,
+    module: &ModuleRef<N>,
+    gate: &G,
+) -> Answer
+    requires { IsHostPass host.now pass }
+{
+    let args = [Val::I32(2), Val::I32(3)];
+    host.call(&mut pass, store, module, b"add", &args, 100, 2, gate)
+}
+
+// What a call of `bump` is answered that is held until another module was registered and called, and what that one is
+// answered.
+fn registered_beside<N: Naming + Send + Sync, R: Abort + Threads + Wait + Sync>(
+    rt: &R,
+    alloc: Global,
+    opened: Opened,
+) -> (Answer, Answer)
+    requires { Bears opened N.shelves N.config }
+{
+    let (store, mut desk) = opened.named::<N>();
+    let module = register(rt, alloc, &store, &mut desk, BUMP.as_slice());
+    let (host, one, two) = two_callers(rt, alloc, &store, 2);
+    let gate = HoldingGate {
+        entered: AtomicBool::new(false),
+        answered: AtomicBool::new(false),
+    };
+    let (held, other) = thread::join(
+        rt,
+        || -> Answer
+            requires { IsHostPass host.now one }
+        { bump(&host, one, &store, &module, 1, &gate).0 },
+        || -> Answer
+            requires { IsHostPass host.now two }
+        {
+            wait_for(&gate.entered);
+            let module = register(rt, alloc, &store, &mut desk, ADD.as_slice());
+            add(&host, two, &store, &module, &gate)
+        },
+    );
+    assert!(rt; gate.answered.load(Ordering::SeqCst));
+    (held, other)
+}
+
+#[test]
+fn a_module_is_registered_and_called_beside_a_held_call(rt: HostRuntime) -> Result<(), Fail> {
+    let alloc = rt.alloc();
+    let opened = open(alloc, 2, 4)?;
+    let answers = registered_beside::<Brand, HostRuntime>(&rt, alloc, opened);
+    let five = Answer::Done(Outcome::Done(Some(Val::I32(5))));
+    assert_eq!(rt; answers, (Answer::Done(ONE), five));
     Ok(())
 }
 

@@ -1,12 +1,12 @@
 -- From one step of a checker to the next.
-use Rattle.std.proofs.Common.{◌≡◌, ℕ, List, [], ◌∷◌, ◌++◌, reverse, Option, Some, None, Result, Ok, Err, sym, ap, ◌∙◌, subst, ◌+◌, ◌-◌, ◌<◌, ◌≤◌, length, take, get_or, arith}
-use Rattle.std.specs.Prelude.{MatchResult, IsErrAnd}
+use Rattle.std.proofs.Common.{◌≡◌, ℕ, List, [], ◌∷◌, ◌++◌, reverse, Option, Some, None, Result, Ok, Err, refl, sym, ap, ◌∙◌, subst, ◌+◌, ◌-◌, ◌<◌, ◌≤◌, length, take, get_or, arith}
+use Rattle.std.specs.Prelude.{Bool, MatchResult, IsErrAnd, true}
 use Rattle.std.proofs.lemmas.List.{reverse-append, take_more, take_all}
 use Rattle.wasm_types.specs.declared.types.ValType.{ValType}
 use Rattle.wasm_checker.specs.declared.checker.Checker.{Checker}
 use Rattle.wasm_checker.specs.declared.fault.CheckFault.{CheckFault}
 use Rattle.wasm_checker.specs.declared.fault.CheckFault.TheVariants.{Invalid, NoMemory}
-use Rattle.wasm_checker.specs.Check.{Stack, and_then, pop_type, pop_types}
+use Rattle.wasm_checker.specs.Check.{HasAny, Stack, and_then, pop_type, pop_types}
 use Rattle.wasm_checker.specs.Position.{Position, Shows, with_stack}
 use Rattle.wasm_checker.specs.Steps.{Refuses, Stepped}
 
@@ -67,3 +67,20 @@ module _ (types rest : List ValType) (d : ValType) (k : Position) (w : Checker) 
 pub rest_over : (types rest : List ValType) (k : Position) (w : Checker) → length rest < 1 → (r : Rest types rest k w) → Stepped (pop_types (reverse types) k.stack) k w
 rest_over types [] k w le r = record { stack = r.stack; is = r.same; shows = r.shows }
 rest_over types (t ∷ ts) k w le r = absurd (omega arith)
+
+abbrev bare_stack : (peak_operands peak_labels : ℕ) → Stack
+bare_stack peak_operands peak_labels = record { unreachable = true; operands = []; peak_operands = peak_operands; peak_labels = peak_labels }
+
+pops_bare : (ts : List ValType) (m n : ℕ) → pop_types ts (bare_stack m n) ≡ Some (bare_stack m n)
+pops_bare [] m n = refl
+pops_bare (t ∷ ts) m n = pops_bare ts m n
+
+-- operands of all types are there
+pub pops_any : (ts : List ValType) (s : Stack) → HasAny s → pop_types ts s ≡ Some s
+pops_any ts s any =
+    let same : s ≡ bare_stack s.peak_operands s.peak_labels =
+    ap (λ (ks : List (Option ValType)). record s { operands = ks }) any.0 ∙ ap (λ (b : Bool). record s { operands = []; unreachable = b }) any.1 in
+    ap (pop_types ts) same ∙ pops_bare ts s.peak_operands s.peak_labels ∙ ap (λ (x : Stack). Some x) (sym same)
+
+pub rest_any : (types rest : List ValType) (k : Position) (w : Checker) (r : Rest types rest k w) → HasAny r.stack → Stepped (pop_types (reverse types) k.stack) k w
+rest_any types rest k w r any = record { stack = r.stack; is = r.same ∙ pops_any (reverse rest) r.stack any; shows = r.shows }

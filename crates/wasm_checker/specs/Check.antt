@@ -66,6 +66,10 @@ abbrev pub pop_types : List ValType → Stack → Option Stack
 pop_types [] s = Some s
 pop_types (t ∷ ts) s = and_then (pop_type t s) (pop_types ts)
 
+-- no operand, in code that isn't reached: whatever types are popped, they are there
+abbrev pub HasAny : Stack → Type 0
+HasAny s = (s.operands ≡ []) × (s.unreachable ≡ true)
+
 -- the one type that both may be
 abbrev pub both : Option ValType → Option ValType → Option (Option ValType)
 both None l = Some l

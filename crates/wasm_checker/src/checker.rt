@@ -1,9 +1,10 @@
 //! The checker's stacks of operands and control frames, and what pushes on them and pops from them.
 
-ghost use Rattle.std.specs.Prelude.{◌≡◌, ℕ, ◌<◌, ◌≤◌, ◌^◌, List, [], ◌∷◌, Option, None, Some, IsErr, IfOk, MatchResult, slice_get, option_map, reverse, max};
+ghost use Rattle.std.specs.Prelude.{◌≡◌, ℕ, ◌<◌, ◌≤◌, ◌^◌, IsTrue, List, [], ◌∷◌, Option, None, Some, IsErr, IfOk, MatchResult, slice_get, option_map, reverse, max};
 ghost use Rattle.wasm_types.specs.declared.types.ValType.{ValType};
 ghost use Rattle.wasm_spec.specs.Typing.{result_types};
 ghost use Rattle.wasm_checker.specs.Check as check;
+ghost use Rattle.wasm_checker.specs.Check.{HasAny};
 ghost use Rattle.wasm_checker.specs.Position.{Position, OpenBlock, Shows, with_stack, base_of, labels_of, opened, outside};
 ghost use Rattle.wasm_checker.specs.Steps.{Refuses, Pops, Steps};
 
@@ -99,12 +100,23 @@ impl Checker {
         }
     }
 
-    /// Operands of these types, the last one on the top.
+    // Whether the code is not reached and the innermost block has no operand: there are as many of each type as are popped.
+    fn has_any(&self) -> bool
+        ensures { (k : Position) → Shows k self.now → IsTrue result → HasAny k.stack }
+    {
+        self.unreachable && self.operands.len() == self.base
+    }
+
+    /// Operands of these types, the last one on the top, in steps that grow with the operands that are there: of types there may be
+    /// many.
     pub(crate) fn pop_types(&mut self, types: &[ValType]) -> Result<(), CheckFault>
         ensures { Steps (λ k. check.pop_types (reverse types.now) k.stack) self.old result self.new }
     {
         let mut rest = types;
         while let [front @ .., t] = rest {
+            if self.has_any() {
+                return Ok(());
+            }
             self.pop_type(*t)?;
             rest = front;
         }

@@ -2,7 +2,7 @@ use Rattle.std.proofs.Common.{◌≡◌, ◌-◌, None, refl, arith, length, get
 use Rattle.wasm_checker.specs.Check.{pop_type}
 use Rattle.wasm_checker.specs.Position.{with_stack}
 use Rattle.wasm_types.specs.declared.types.ValType.TheVariants.{I32}
-use Rattle.wasm_checker.proofs.Steps.{exits, rest_more, rest_none, rest_over}
+use Rattle.wasm_checker.proofs.Steps.{exits, rest_any, rest_more, rest_none, rest_over}
 use Rattle.wasm_checker.proofs.checker.Checker.pop_types.Goals as goal
 
 pub loop-rest-init : goal.loop-rest-init
@@ -22,3 +22,8 @@ returns-in_err-pop_type c k s =
 
 pub returns : goal.returns
 returns c k s = rest_over c.args.types.now c.loop-rest.rest.now k c.loop-rest.self (omega arith) (c.loop-rest.invariant k s)
+
+pub returns-then-has_any : goal.returns-then-has_any
+returns-then-has_any c k s =
+    let r = c.loop-rest.invariant k s in
+    rest_any c.args.types.now c.loop-rest.rest.now k c.loop-rest.self r (c.has_any.ensures (with_stack k r.stack) r.shows c.if-has_any.true)

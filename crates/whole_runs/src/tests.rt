@@ -1,0 +1,302 @@
+//! Runs over files, sources and sinks in memory.
+use host_edge::{MemSink, MemSource, OpenGate};
+use host_run::serve;
+use request_text::MOST_BYTES;
+use std::alloc::Global;
+use std::process::Abort;
+use std::sync::Wait;
+use std::test::Fail;
+use std::thread::Threads;
+
+const ADDITION: &str =
+    "module add 0061736d0100000001070160027f7f017f030201000707010361646400000a09010700200020016a0b
+call add add 100 i32:2 i32:3
+";
+
+const BUMP: &str =
+    "module bump 0061736d010000000105016000017f0302010005030100010708010462756d7000000a160114004100410028020041016a36020041002802000b
+";
+
+const GROWN: &str =
+    "module g 0061736d010000000108026000006000017f030302000105030100010710020564697274790000046c6f6f6b00010a26021500410140001a41ffff07417f3a000003400c000b0b0e00410140001a41ffff072d00000b
+";
+
+// A run whose sources and sinks are read and written in pieces of so many bytes, and fail at these calls.
+#[derive(Drop)]
+struct Ends {
+    source: (usize, Vec<u64>),
+    sink: (usize, Vec<u64>),
+}
+
+// Ends that never fail.
+fn whole(alloc: Global) -> Ends {
+    Ends {
+        source: (4096, Vec::new(alloc)),
+        sink: (65536, Vec::new(alloc)),
+    }
+}
+
+// The status of a run on these words, parted by spaces, over a file, and what it writes.
+fn run<R: Threads + Wait + Sync>(
+    rt: &R,
+    alloc: Global,
+    line: &str,
+    text: &str,
+    ends: Ends,
+) -> Result<(u8, MemSink), Fail> {
+    let mut words = Vec::new(alloc);
+    for word in line.split_whitespace() {
+        words.push(word)?;
+    }
+    let bytes = text.as_bytes().to_vec(alloc)?;
+    let mut source = MemSource::new(bytes, ends.source.0.max(1), ends.source.1);
+    let mut sink = MemSink::new(alloc, ends.sink.0.max(1), ends.sink.1);
+    let status = serve(rt, alloc, &words, &mut source, &mut sink, &OpenGate);
+    Ok((status, sink))
+}
+
+// What a run on these words over a file must write.
+fn check<R: Abort + Threads + Wait + Sync>(
+    rt: &R,
+    alloc: Global,
+    line: &str,
+    text: &str,
+    written: &str,
+) -> Result<(), Fail> {
+    let (status, sink) = run(rt, alloc, line, text, whole(alloc))?;
+    assert_eq!(rt; status, 0, "{line}");
+    assert_eq!(rt; sink.bytes(), written.as_bytes(), "{line}");
+    Ok(())
+}
+
+// The file has 123 bytes: eight reads of 16 bytes take them, and a ninth finds the end.
+#[test]
+fn each_read_fails_in_turn(rt: HostRuntime) -> Result<(), Fail> {
+    let alloc = rt.alloc();
+    for call in 1..11 {
+        let ends = Ends {
+            source: (16, vec![in alloc; call]?),
+            sink: (4096, Vec::new(alloc)),
+        };
+        let (status, sink) = run(&rt, alloc, "poolhost run", ADDITION, ends)?;
+        assert_eq!(rt; status, if call < 10 { 3 } else { 0 }, "at {call}");
+        assert_eq!(rt; sink.bytes().is_empty(), call < 10, "at {call}");
+    }
+    Ok(())
+}
+
+// The report has 25 bytes: five writes of 5 bytes.
+#[test]
+fn each_write_fails_in_turn(rt: HostRuntime) -> Result<(), Fail> {
+    let alloc = rt.alloc();
+    let report = b"module add ok\n1 ok i32:5\n";
+    for call in 1..7 {
+        let ends = Ends {
+            source: (4096, Vec::new(alloc)),
+            sink: (5, vec![in alloc; call]?),
+        };
+        let (status, sink) = run(&rt, alloc, "poolhost run", ADDITION, ends)?;
+        let written = call as usize * 5 - 5;
+        assert_eq!(rt; status, if call < 6 { 4 } else { 0 }, "at {call}");
+        assert_eq!(rt; Some(sink.bytes()), report.get(..written), "at {call}");
+    }
+    Ok(())
+}
+
+// The words under which the tenants of one file share their memories.
+const SHARED: [&str; 6] = [
+    "poolhost run --memories 1 --warm 0 --batch 1",
+    "poolhost run --memories 1 --warm 0 --batch 8",
+    "poolhost run --memories 1 --warm 1 --batch 1",
+    "poolhost run --memories 1 --warm 1 --batch 8",
+    "poolhost run --workers 4 --memories 2 --warm 1 --batch 8",
+    "poolhost run --workers 4 --memories 5 --warm 2 --batch 1",
+];
+
+// A tenant that writes a byte is cut off at each fuel, and the next one looks for that byte.
+#[test]
+fn what_a_tenant_wrote_is_never_seen(rt: HostRuntime) -> Result<(), Fail> {
+    let alloc = rt.alloc();
+    let mut text = String::from_str(alloc, GROWN)?;
+    let mut written = String::from_str(alloc, "module g ok\n")?;
+    for fuel in 0..51 {
+        write!(text, "call g dirty {fuel}\ncall g look 5\n")?;
+        write!(written, "{} fuel\n{} ok i32:0\n", 2 * fuel + 1, 2 * fuel + 2)?;
+    }
+    for line in SHARED {
+        check(&rt, alloc, line, text.as_str(), written.as_str())?;
+    }
+    Ok(())
+}
+
+// A tenant that counts is cut off at each fuel, and the next one counts from zero.
+#[test]
+fn what_a_tenant_counted_is_never_seen(rt: HostRuntime) -> Result<(), Fail> {
+    let alloc = rt.alloc();
+    let mut text = String::from_str(alloc, BUMP)?;
+    let mut written = String::from_str(alloc, "module bump ok\n")?;
+    for fuel in 0..9 {
+        write!(text, "call bump bump {fuel}\ncall bump bump 8\n")?;
+        let end = if fuel < 8 { "fuel" } else { "ok i32:1" };
+        write!(written, "{} {end}\n{} ok i32:1\n", 2 * fuel + 1, 2 * fuel + 2)?;
+    }
+    for line in SHARED {
+        check(&rt, alloc, line, text.as_str(), written.as_str())?;
+    }
+    Ok(())
+}
+
+// The summary of a load of 2,000 calls.
+#[test]
+fn eight_workers_and_one_have_the_same_summary(rt: HostRuntime) -> Result<(), Fail> {
+    let alloc = rt.alloc();
+    let (status, load) = run(&rt, alloc, "poolhost make 7 2000", "", whole(alloc))?;
+    assert_eq!(rt; status, 0);
+    let text = str::from_utf8(load.bytes())?;
+    let written = "modules ok 3\nmodules refused 0\ncalls ok 1489\ncalls trap 0\ncalls fuel 511\ncalls refused 0\n";
+    for line in [
+        "poolhost run --summary --workers 1",
+        "poolhost run --summary --workers 8 --memories 9 --instances 9",
+    ] {
+        check(&rt, alloc, line, text, written)?;
+    }
+    Ok(())
+}
+
+// A number as five bytes of LEB128, in hex.
+fn push_number(hex: &mut String, number: u32) -> Result<(), Fail> {
+    for k in 0..4 {
+        write!(hex, "{:02x}", number >> (7 * k) & 0x7f | 0x80)?;
+    }
+    write!(hex, "{:02x}", number >> 28)?;
+    Ok(())
+}
+
+// Appends a text so many times.
+fn push_times(hex: &mut String, text: &str, times: u32) -> Result<(), Fail> {
+    for _ in 0..times {
+        hex.push_str(text)?;
+    }
+    Ok(())
+}
+
+// How many bytes a text in hex spells.
+fn size(hex: &str) -> u32 {
+    (hex.len() / 2) as u32
+}
+
+// The line of a module named m that has this section behind others, all in hex.
+fn with_section(alloc: Global, others: &str, id: &str, contents: &str) -> Result<String, Fail> {
+    let mut line = String::from_str(alloc, "module m 0061736d01000000")?;
+    line.push_str(others)?;
+    line.push_str(id)?;
+    push_number(&mut line, size(contents))?;
+    line.push_str(contents)?;
+    line.push_str("\n")?;
+    Ok(line)
+}
+
+// One function of no parameters and no results, whose locals and instructions are these, in hex.
+fn with_code(alloc: Global, code: &str) -> Result<String, Fail> {
+    let mut section = String::from_str(alloc, "01")?;
+    push_number(&mut section, size(code))?;
+    section.push_str(code)?;
+    with_section(alloc, "01040160000003020100", "0a", section.as_str())
+}
+
+// So many empty blocks, each in the one before.
+fn nested_blocks(alloc: Global, count: u32) -> Result<String, Fail> {
+    let mut code = String::from_str(alloc, "00")?;
+    push_times(&mut code, "0240", count)?;
+    push_times(&mut code, "0b", count + 1)?;
+    with_code(alloc, code.as_str())
+}
+
+// So many runs of no locals.
+fn runs_of_locals(alloc: Global, count: u32) -> Result<String, Fail> {
+    let mut code = String::new(alloc);
+    push_number(&mut code, count)?;
+    push_times(&mut code, "007f", count)?;
+    code.push_str("0b")?;
+    with_code(alloc, code.as_str())
+}
+
+// A table of so many branches out of a block.
+fn branches(alloc: Global, count: u32) -> Result<String, Fail> {
+    let mut code = String::from_str(alloc, "00024041000e")?;
+    push_number(&mut code, count)?;
+    push_times(&mut code, "00", count)?;
+    code.push_str("000b0b")?;
+    with_code(alloc, code.as_str())
+}
+
+const MEMORY: &str = "0503010000";
+
+// A memory under so many names of five digits, the last one first.
+fn exports(alloc: Global, count: u32) -> Result<String, Fail> {
+    let mut section = String::new(alloc);
+    push_number(&mut section, count)?;
+    for k in 0..count {
+        section.push_str("05")?;
+        let mut digits = count - 1 - k;
+        for _ in 0..5 {
+            write!(section, "3{}", digits % 10)?;
+            digits /= 10;
+        }
+        section.push_str("0200")?;
+    }
+    with_section(alloc, MEMORY, "07", section.as_str())
+}
+
+// A memory under a name of so many bytes.
+fn long_name(alloc: Global, bytes: u32) -> Result<String, Fail> {
+    let mut section = String::from_str(alloc, "01")?;
+    push_number(&mut section, bytes)?;
+    push_times(&mut section, "61", bytes)?;
+    section.push_str("0200")?;
+    with_section(alloc, MEMORY, "07", section.as_str())
+}
+
+// A custom section of so many bytes, the first of which is the length of its name.
+fn custom_section(alloc: Global, bytes: u32) -> Result<String, Fail> {
+    let mut section = String::new(alloc);
+    push_times(&mut section, "00", bytes)?;
+    with_section(alloc, "", "00", section.as_str())
+}
+
+#[test]
+fn blocks_may_be_nested_as_deep_as_a_frame(rt: HostRuntime) -> Result<(), Fail> {
+    let alloc = rt.alloc();
+    for (count, written) in [
+        (1023, "module m ok\n"),
+        (1024, "module m refused limit\n"),
+        (1_000_000, "module m refused limit\n"),
+    ] {
+        let text = nested_blocks(alloc, count)?;
+        check(&rt, alloc, "poolhost run", text.as_str(), written)?;
+    }
+    Ok(())
+}
+
+#[test]
+fn long_modules_are_read(rt: HostRuntime) -> Result<(), Fail> {
+    let alloc = rt.alloc();
+    for text in [
+        runs_of_locals(alloc, 1_000_000)?,
+        branches(alloc, 1_000_000)?,
+        exports(alloc, 100_000)?,
+        long_name(alloc, 1 << 20)?,
+    ] {
+        check(&rt, alloc, "poolhost run", text.as_str(), "module m ok\n")?;
+    }
+    Ok(())
+}
+
+// Of the 16 MiB that a file may have, 38 bytes stand around the section's bytes.
+#[test]
+fn a_file_may_be_one_line(rt: HostRuntime) -> Result<(), Fail> {
+    let alloc = rt.alloc();
+    let text = custom_section(alloc, (1 << 23) - 19)?;
+    assert_eq!(rt; text.as_str().len(), MOST_BYTES);
+    check(&rt, alloc, "poolhost run", text.as_str(), "module m ok\n")
+}

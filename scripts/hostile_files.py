@@ -1,0 +1,105 @@
+#!/usr/bin/env python3
+"""Runs poolhost on large and hostile request files: hostile_files.py PROGRAM
+
+Prints what each run wrote, its seconds and the most memory that it had. The status is 1 where a run wrote anything but
+what its row says, or took more than ten seconds.
+"""
+import os
+import resource
+import subprocess
+import sys
+import tempfile
+import time
+
+HEADER = bytes.fromhex("0061736d01000000")
+VOID_FUNCTION = bytes.fromhex("01040160000003020100")
+MOST_SECONDS = 10
+
+
+def number(n):
+    """LEB128."""
+    out = bytearray()
+    while n >= 128:
+        out.append(n & 127 | 128)
+        n >>= 7
+    out.append(n)
+    return bytes(out)
+
+
+def section(kind, contents):
+    return bytes([kind]) + number(len(contents)) + contents
+
+
+def with_code(code):
+    """A function of no parameters and no results."""
+    return HEADER + VOID_FUNCTION + section(10, number(1) + number(len(code)) + code)
+
+
+def with_exports(names):
+    """A memory under these names."""
+    entries = b"".join(number(len(name)) + name + b"\x02\x00" for name in names)
+    return HEADER + section(5, b"\x01\x00\x00") + section(7, number(len(names)) + entries)
+
+
+def line(module):
+    return b"module m " + module.hex().encode() + b"\n"
+
+
+def nested_blocks(count):
+    return line(with_code(b"\x00" + b"\x02\x40" * count + b"\x0b" * (count + 1)))
+
+
+def many_calls():
+    """As many modules and calls as a file may have, each call of the last name."""
+    addition = "0061736d0100000001070160027f7f017f030201000707010361646400000a09010700200020016a0b"
+    modules = "".join(f"module m{k} {addition}\n" for k in range(4096))
+    return (modules + "call m4095 add 4 i32:1 i32:1\n" * 100_000).encode()
+
+
+MANY = 1_000_000
+# A file, the end of what is written, and options.
+ROWS = [
+    ("1,000,000 nested blocks", nested_blocks(MANY), "module m refused limit\n"),
+    ("1,000,000 runs of no locals", line(with_code(number(MANY) + b"\x00\x7f" * MANY + b"\x0b")), "module m ok\n"),
+    ("1,000,000 runs of one local", line(with_code(number(MANY) + b"\x01\x7f" * MANY + b"\x0b")), "module m refused limit\n"),
+    ("1,000,000 branches of a table", line(with_code(b"\x00\x02\x40\x41\x00\x0e" + number(MANY) + b"\x00" * (MANY + 1) + b"\x0b\x0b")), "module m ok\n"),
+    ("1,000,000 functions without a body", line(HEADER + b"\x01\x04\x01\x60\x00\x00" + section(3, number(MANY) + b"\x00" * MANY)), "module m refused malformed\n"),
+    ("1,000,000 functions", line(HEADER + b"\x01\x04\x01\x60\x00\x00" + section(3, number(MANY) + b"\x00" * MANY) + section(10, number(MANY) + b"\x02\x00\x0b" * MANY)), "module m ok\n"),
+    ("100,000 exports, the last name first", line(with_exports([b"%05d" % k for k in range(99_999, -1, -1)])), "module m ok\n"),
+    ("100,000 exports, two of one name", line(with_exports([b"%05d" % k for k in range(99_999)] + [b"00000"])), "module m refused invalid\n"),
+    ("a name of 1 MiB", line(with_exports([b"a" * (1 << 20)])), "module m ok\n"),
+    ("1,000,000 empty custom sections", line(HEADER + b"\x00\x01\x00" * MANY), "module m ok\n"),
+    ("16 MiB of one module line", line(HEADER + b"\x00\xf9\xff\xff\x03" + b"\x00" * ((1 << 23) - 18)), None),
+    ("a count of items that are not there", line(HEADER + bytes.fromhex("0105ffffffff0f")), "module m refused malformed\n"),
+    ("a count of locals past 32 bits", line(with_code(bytes.fromhex("02ffffffff0f7f017f0b"))), "module m refused malformed\n"),
+    ("4,096 modules and 100,000 calls of the last one", many_calls(), "\n100000 ok i32:2\n"),
+]
+
+
+def run(program, text):
+    """What the program writes, its seconds and its most memory in MiB."""
+    with tempfile.TemporaryFile() as given, tempfile.TemporaryFile() as written:
+        given.write(text)
+        given.seek(0)
+        began = time.time()
+        child = subprocess.Popen([program, "run"], stdin=given, stdout=written)
+        _, status, usage = os.wait4(child.pid, 0)
+        seconds = time.time() - began
+        written.seek(0)
+        return written.read().decode(), status, seconds, usage.ru_maxrss / 1024
+
+
+def main(program):
+    bad = 0
+    for what, text, end in ROWS:
+        written, status, seconds, memory = run(program, text)
+        right = status == 0 and seconds < MOST_SECONDS and written.endswith(end or "module m ok\n")
+        bad += not right
+        print(f"{what}: {len(text)} bytes, {written[-40:].splitlines()[-1] if written else 'nothing'}, "
+              f"{seconds:.2f} s, {memory:.0f} MiB{'' if right else ' WRONG'}", flush=True)
+    sys.exit(1 if bad else 0)
+
+
+if len(sys.argv) != 2:
+    sys.exit(__doc__)
+main(sys.argv[1])
