@@ -57,6 +57,24 @@ def many_calls():
 
 
 MANY = 1_000_000
+
+
+def calls_not_reached():
+    kind = section(1, b"\x01\x60" + number(MANY) + b"\x7f" * MANY + b"\x00")
+    code = b"\x00\x00" + b"\x10\x00" * MANY + b"\x0b"
+    return HEADER + kind + section(3, b"\x01\x00") + section(10, b"\x01" + number(len(code)) + code)
+
+
+def images():
+    """Modules of 32 pages, with a byte at the end of the last one, 2,097,151 as an i32.const."""
+    module = HEADER + section(5, b"\x01\x00\x20") + section(11, b"\x01\x00\x41\xff\xff\xff\x00\x0b\x01a")
+    return b"".join(b"module m%d %s\n" % (k, module.hex().encode()) for k in range(1000))
+
+
+def long_names():
+    modules = "".join(f"module {k:064} 0061736d01000000\n" for k in range(4096))
+    return (modules + f"call {4095:064} f 1\n" * 100_000).encode()
+
 # A file, the end of what is written, and options.
 ROWS = [
     ("1,000,000 nested blocks", nested_blocks(MANY), "module m refused limit\n"),
@@ -69,7 +87,10 @@ ROWS = [
     ("100,000 exports, two of one name", line(with_exports([b"%05d" % k for k in range(99_999)] + [b"00000"])), "module m refused invalid\n"),
     ("a name of 1 MiB", line(with_exports([b"a" * (1 << 20)])), "module m ok\n"),
     ("1,000,000 empty custom sections", line(HEADER + b"\x00\x01\x00" * MANY), "module m ok\n"),
-    ("16 MiB of one module line", line(HEADER + b"\x00\xf9\xff\xff\x03" + b"\x00" * ((1 << 23) - 18)), None),
+    ("16 MiB of one module line", line(HEADER + section(0, b"\x00" * ((1 << 23) - 18))), "module m ok\n"),
+    ("1,000,000 calls, not reached, of a function of 1,000,000 parameters", line(calls_not_reached()), "module m refused limit\n"),
+    ("1,000 images of 2 MiB each, of one byte", images(), "\nmodule m999 ok\n"),
+    ("100,000 calls of the last of 4,096 names that differ at their end", long_names(), "\n100000 refused export\n"),
     ("a count of items that are not there", line(HEADER + bytes.fromhex("0105ffffffff0f")), "module m refused malformed\n"),
     ("a count of locals past 32 bits", line(with_code(bytes.fromhex("02ffffffff0f7f017f0b"))), "module m refused malformed\n"),
     ("4,096 modules and 100,000 calls of the last one", many_calls(), "\n100000 ok i32:2\n"),
@@ -93,7 +114,7 @@ def main(program):
     bad = 0
     for what, text, end in ROWS:
         written, status, seconds, memory = run(program, text)
-        right = status == 0 and seconds < MOST_SECONDS and written.endswith(end or "module m ok\n")
+        right = status == 0 and seconds < MOST_SECONDS and written.endswith(end)
         bad += not right
         print(f"{what}: {len(text)} bytes, {written[-40:].splitlines()[-1] if written else 'nothing'}, "
               f"{seconds:.2f} s, {memory:.0f} MiB{'' if right else ' WRONG'}", flush=True)

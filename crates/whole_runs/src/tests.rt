@@ -119,9 +119,10 @@ fn what_a_tenant_wrote_is_never_seen(rt: HostRuntime) -> Result<(), Fail> {
     let alloc = rt.alloc();
     let mut text = String::from_str(alloc, GROWN)?;
     let mut written = String::from_str(alloc, "module g ok\n")?;
-    for fuel in 0..51 {
+    for fuel in 0..51u32 {
+        let number = fuel as u64 * 2;
         write!(text, "call g dirty {fuel}\ncall g look 5\n")?;
-        write!(written, "{} fuel\n{} ok i32:0\n", 2 * fuel + 1, 2 * fuel + 2)?;
+        write!(written, "{} fuel\n{} ok i32:0\n", number + 1, number + 2)?;
     }
     for line in SHARED {
         check(&rt, alloc, line, text.as_str(), written.as_str())?;
@@ -135,10 +136,11 @@ fn what_a_tenant_counted_is_never_seen(rt: HostRuntime) -> Result<(), Fail> {
     let alloc = rt.alloc();
     let mut text = String::from_str(alloc, BUMP)?;
     let mut written = String::from_str(alloc, "module bump ok\n")?;
-    for fuel in 0..9 {
+    for fuel in 0..9u32 {
+        let number = fuel as u64 * 2;
         write!(text, "call bump bump {fuel}\ncall bump bump 8\n")?;
         let end = if fuel < 8 { "fuel" } else { "ok i32:1" };
-        write!(written, "{} {end}\n{} ok i32:1\n", 2 * fuel + 1, 2 * fuel + 2)?;
+        write!(written, "{} {end}\n{} ok i32:1\n", number + 1, number + 2)?;
     }
     for line in SHARED {
         check(&rt, alloc, line, text.as_str(), written.as_str())?;
@@ -153,7 +155,8 @@ fn eight_workers_and_one_have_the_same_summary(rt: HostRuntime) -> Result<(), Fa
     let (status, load) = run(&rt, alloc, "poolhost make 7 2000", "", whole(alloc))?;
     assert_eq!(rt; status, 0);
     let text = str::from_utf8(load.bytes())?;
-    let written = "modules ok 3\nmodules refused 0\ncalls ok 1489\ncalls trap 0\ncalls fuel 511\ncalls refused 0\n";
+    let written =
+        "modules ok 3\nmodules refused 0\ncalls ok 1489\ncalls trap 0\ncalls fuel 511\ncalls refused 0\n";
     for line in [
         "poolhost run --summary --workers 1",
         "poolhost run --summary --workers 8 --memories 9 --instances 9",
@@ -164,16 +167,18 @@ fn eight_workers_and_one_have_the_same_summary(rt: HostRuntime) -> Result<(), Fa
 }
 
 // A number as five bytes of LEB128, in hex.
-fn push_number(hex: &mut String, number: u32) -> Result<(), Fail> {
-    for k in 0..4 {
-        write!(hex, "{:02x}", number >> (7 * k) & 0x7f | 0x80)?;
+fn push_number(hex: &mut String, number: usize) -> Result<(), Fail> {
+    let mut rest = number;
+    for _ in 0..4 {
+        write!(hex, "{:02x}", rest & 0x7f | 0x80)?;
+        rest >>= 7;
     }
-    write!(hex, "{:02x}", number >> 28)?;
+    write!(hex, "{rest:02x}")?;
     Ok(())
 }
 
 // Appends a text so many times.
-fn push_times(hex: &mut String, text: &str, times: u32) -> Result<(), Fail> {
+fn push_times(hex: &mut String, text: &str, times: usize) -> Result<(), Fail> {
     for _ in 0..times {
         hex.push_str(text)?;
     }
@@ -181,8 +186,8 @@ fn push_times(hex: &mut String, text: &str, times: u32) -> Result<(), Fail> {
 }
 
 // How many bytes a text in hex spells.
-fn size(hex: &str) -> u32 {
-    (hex.len() / 2) as u32
+fn size(hex: &str) -> usize {
+    hex.len() / 2
 }
 
 // The line of a module named m that has this section behind others, all in hex.
@@ -196,24 +201,30 @@ fn with_section(alloc: Global, others: &str, id: &str, contents: &str) -> Result
     Ok(line)
 }
 
-// One function of no parameters and no results, whose locals and instructions are these, in hex.
-fn with_code(alloc: Global, code: &str) -> Result<String, Fail> {
+// One function of type 0, whose locals and instructions are these, behind other sections, all in hex.
+fn with_body(alloc: Global, others: &str, code: &str) -> Result<String, Fail> {
     let mut section = String::from_str(alloc, "01")?;
     push_number(&mut section, size(code))?;
     section.push_str(code)?;
-    with_section(alloc, "01040160000003020100", "0a", section.as_str())
+    with_section(alloc, others, "0a", section.as_str())
+}
+
+// One function of no parameters and no results.
+fn with_code(alloc: Global, code: &str) -> Result<String, Fail> {
+    with_body(alloc, "01040160000003020100", code)
 }
 
 // So many empty blocks, each in the one before.
-fn nested_blocks(alloc: Global, count: u32) -> Result<String, Fail> {
+fn nested_blocks(alloc: Global, count: usize) -> Result<String, Fail> {
     let mut code = String::from_str(alloc, "00")?;
     push_times(&mut code, "0240", count)?;
-    push_times(&mut code, "0b", count + 1)?;
+    push_times(&mut code, "0b", count)?;
+    code.push_str("0b")?;
     with_code(alloc, code.as_str())
 }
 
 // So many runs of no locals.
-fn runs_of_locals(alloc: Global, count: u32) -> Result<String, Fail> {
+fn runs_of_locals(alloc: Global, count: usize) -> Result<String, Fail> {
     let mut code = String::new(alloc);
     push_number(&mut code, count)?;
     push_times(&mut code, "007f", count)?;
@@ -222,7 +233,7 @@ fn runs_of_locals(alloc: Global, count: u32) -> Result<String, Fail> {
 }
 
 // A table of so many branches out of a block.
-fn branches(alloc: Global, count: u32) -> Result<String, Fail> {
+fn branches(alloc: Global, count: usize) -> Result<String, Fail> {
     let mut code = String::from_str(alloc, "00024041000e")?;
     push_number(&mut code, count)?;
     push_times(&mut code, "00", count)?;
@@ -230,10 +241,26 @@ fn branches(alloc: Global, count: u32) -> Result<String, Fail> {
     with_code(alloc, code.as_str())
 }
 
+// A function that calls itself so often where that is not reached, with so many parameters.
+fn calls_not_reached(alloc: Global, params: usize, calls: usize) -> Result<String, Fail> {
+    let mut kind = String::from_str(alloc, "0160")?;
+    push_number(&mut kind, params)?;
+    push_times(&mut kind, "7f", params)?;
+    kind.push_str("00")?;
+    let mut others = String::from_str(alloc, "01")?;
+    push_number(&mut others, size(kind.as_str()))?;
+    others.push_str(kind.as_str())?;
+    others.push_str("03020100")?;
+    let mut code = String::from_str(alloc, "0000")?;
+    push_times(&mut code, "1000", calls)?;
+    code.push_str("0b")?;
+    with_body(alloc, others.as_str(), code.as_str())
+}
+
 const MEMORY: &str = "0503010000";
 
 // A memory under so many names of five digits, the last one first.
-fn exports(alloc: Global, count: u32) -> Result<String, Fail> {
+fn exports(alloc: Global, count: usize) -> Result<String, Fail> {
     let mut section = String::new(alloc);
     push_number(&mut section, count)?;
     for k in 0..count {
@@ -249,7 +276,7 @@ fn exports(alloc: Global, count: u32) -> Result<String, Fail> {
 }
 
 // A memory under a name of so many bytes.
-fn long_name(alloc: Global, bytes: u32) -> Result<String, Fail> {
+fn long_name(alloc: Global, bytes: usize) -> Result<String, Fail> {
     let mut section = String::from_str(alloc, "01")?;
     push_number(&mut section, bytes)?;
     push_times(&mut section, "61", bytes)?;
@@ -258,7 +285,7 @@ fn long_name(alloc: Global, bytes: u32) -> Result<String, Fail> {
 }
 
 // A custom section of so many bytes, the first of which is the length of its name.
-fn custom_section(alloc: Global, bytes: u32) -> Result<String, Fail> {
+fn custom_section(alloc: Global, bytes: usize) -> Result<String, Fail> {
     let mut section = String::new(alloc);
     push_times(&mut section, "00", bytes)?;
     with_section(alloc, "", "00", section.as_str())
@@ -276,6 +303,20 @@ fn blocks_may_be_nested_as_deep_as_a_frame(rt: HostRuntime) -> Result<(), Fail> 
         check(&rt, alloc, "poolhost run", text.as_str(), written)?;
     }
     Ok(())
+}
+
+// A type of 1,000,000 parameters that 1,000,000 calls name: such calls pop nothing for each of them.
+#[test]
+fn calls_that_are_not_reached_are_checked_at_once(rt: HostRuntime) -> Result<(), Fail> {
+    let alloc = rt.alloc();
+    let text = calls_not_reached(alloc, 1_000_000, 1_000_000)?;
+    check(
+        &rt,
+        alloc,
+        "poolhost run",
+        text.as_str(),
+        "module m refused limit\n",
+    )
 }
 
 #[test]
