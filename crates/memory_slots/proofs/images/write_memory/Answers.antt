@@ -4,12 +4,18 @@ use Rattle.std.proofs.lemmas.List.{take_at}
 use Rattle.wasm_types.specs.Tree.{ModuleTree}
 use Rattle.wasm_spec.specs.Store.{minimum_of}
 use Rattle.pool_limits.specs.Limits.{load_limits}
+use Rattle.pool_worlds.specs.Contents.{memory_image}
 use Rattle.pool_worlds.proofs.Images.{clean_is}
 use Rattle.loaded_modules.proofs.WithinLemmas.{loaded-within}
 use Rattle.memory_slots.specs.Kept.{contents_of}
-use Rattle.memory_slots.proofs.ImageLemmas.{image_written}
+use Rattle.memory_slots.proofs.ImageLemmas.{image_written, image_zeros}
 use Rattle.memory_slots.proofs.KeptLemmas.{fresh_kept}
 use Rattle.memory_slots.proofs.images.write_memory.Goals as goal
+
+pub write_all-requires-clause-outside : goal.write_all-requires-clause-outside
+write_all-requires-clause-outside g c =
+    rw (c.deref_mut.ensures.value, c.deref_mut-2.ensures.value)
+    (memory_image g.N.Naming.config.pages c.requires.0, (λ i lt free. c.requires.1.outside i free), c.requires.2)
 
 pub returns-clause-fresh : goal.returns-clause-fresh
 returns-clause-fresh g c =
@@ -48,3 +54,9 @@ returns-clause-kept g c =
       bytes = ap length (take_at bytes (drop (length bytes) c.args.memory.now.bytes.items) c.args.memory.now.bytes.len all) ∙ c.write_all.ensures.room.0 ∙ ap length c.deref_mut.ensures.value;
       marks = ap length (take_at marks (drop (length marks) c.args.memory.now.marks.items) c.args.memory.now.marks.len blocks) ∙ c.write_all.ensures.room.1 ∙ ap length c.deref_mut-2.ensures.value;
     }) (loaded-within is.bytes _ _ is.loads).pages
+
+pub returns-clause-zeros : goal.returns-clause-zeros
+returns-clause-zeros g c =
+    let is = c.valid.ensures.loaded in
+    let zeros = image_zeros (load_limits g.N.Naming.config) c.args.module.now.tree c.image-image.result.now (loaded-within is.bytes _ _ is.loads) c.image-image.ensures in
+    λ i le. zeros i (rw (← c.len.ensures) le)
