@@ -15,4 +15,4 @@ KeepsImage bytes marks image = (i : ℕ) → i < length bytes → is_marked mark
 
 -- zeros from a place on
 abbrev pub IsZeroFrom : ℕ → List ℕ → Type 0
-IsZeroFrom from image = (i : ℕ) → from ≤ i → slice_index image i ≡ 0
+IsZeroFrom from bytes = (i : ℕ) → from ≤ i → slice_index bytes i ≡ 0

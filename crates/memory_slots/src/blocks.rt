@@ -111,8 +111,8 @@ pub(crate) fn restore_marked<L: Ledger>(
     }
 }
 
-// Makes all bytes zero and takes all marks away. The bytes are those of an image that is zero from `written` on, but for marked
-// blocks, so that no more than these and the bytes before `written` is written.
+// Makes all bytes zero and takes all marks away. Outside marked blocks the bytes are those of an image that is zero from `written` on,
+// so only the marked blocks and the bytes before `written` are written.
 fn zero_all<L: Ledger>(bytes: &mut [u8], marks: &mut [bool], written: usize, blank: Blank)
     requires marked { length bytes.old ≡ block_size * length marks.old }
     requires outside { (image : List ℕ) × KeepsImage bytes.old marks.old image × IsZeroFrom written image }
@@ -127,8 +127,8 @@ fn zero_all<L: Ledger>(bytes: &mut [u8], marks: &mut [bool], written: usize, bla
     restore_marked(bytes, marks, &[], &mut steps);
 }
 
-// Writes an image over bytes that are those of another, but for marked blocks, and takes all marks away. The other is zero from
-// `written` on: what is zero already is not written.
+// Makes all bytes the image's and takes all marks away. Outside marked blocks they were those of another image, which is zero from
+// `written` on: zeros that are there already are not written.
 pub(crate) fn write_all(bytes: &mut [u8], marks: &mut [bool], written: usize, image: &[u8])
     requires marked { length bytes.old ≡ block_size * length marks.old }
     requires outside { (other : List ℕ) × KeepsImage bytes.old marks.old other × IsZeroFrom written other }

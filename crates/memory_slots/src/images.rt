@@ -3,9 +3,8 @@ ghost use Rattle.std.specs.Prelude.{◌≡◌, ◌+◌, false, Some, Option, map
 ghost use Rattle.wasm_types.specs.Tree.{module_tree};
 ghost use Rattle.wasm_spec.specs.Store.{minimum_of};
 ghost use Rattle.linear_memory.specs.Marks.{count_marks};
-ghost use Rattle.pool_worlds.specs.Contents.{Named, memory_image, IsFreshMemory};
-ghost use Rattle.memory_slots.specs.Images.{IsZeroFrom};
-ghost use Rattle.memory_slots.specs.Kept.{IsKept, contents_of};
+ghost use Rattle.pool_worlds.specs.Contents.{Named, IsFreshMemory};
+ghost use Rattle.memory_slots.specs.Kept.{IsKept, IsWrittenTo, contents_of};
 
 use crate::blocks::{restore_marked, write_all};
 use crate::steps::Steps;
@@ -48,19 +47,18 @@ pub(crate) fn restore_memory<N: Naming, L: Ledger>(
     memory.pages = pages;
 }
 
-// Makes a memory the module's, and says from where on the module's image is zero. What is there is the image of another module, or of
-// none, but for marked blocks, and that image is zero from `written` on.
+// Makes a memory the module's fresh one, and says from which byte on the module's image is zero. Before, it belonged to another module
+// or to none, whose image is zero from `written` on.
 pub(crate) fn write_memory<N: Naming>(
     memory: &mut Memory,
     written: usize,
     store: &ModuleStore<N>,
     module: &ModuleRef<N>,
 ) -> usize
-    requires { (holds : Option Named) × IsKept N.config (contents_of memory.old holds) × IsZeroFrom written (memory_image N.config.pages holds) }
+    requires { (holds : Option Named) × IsWrittenTo N.config written (contents_of memory.old holds) }
     ensures fresh { IsFreshMemory N.config.pages (contents_of memory.new (Some «module».now)) «module».now }
-    ensures kept { IsKept N.config (contents_of memory.new (Some «module».now)) }
+    ensures written { IsWrittenTo N.config result (contents_of memory.new (Some «module».now)) }
     ensures marks { memory.new.marks.items ≡ map (λ marked. false) memory.old.marks.items }
-    ensures zeros { IsZeroFrom result (memory_image N.config.pages (Some «module».now)) }
 {
     let image = store.image(module);
     let pages = least_pages(store.valid(module));

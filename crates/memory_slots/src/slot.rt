@@ -33,15 +33,14 @@ use wasm_validate::Valid;
 pub struct MemSlot<N: Naming> {
     pub(crate) memory: Memory,
     holds: Option<ModuleRef<N>>,
-    // From this byte on the image of its module is zero.
+    // The image of its module, or of none, is zero from this byte on.
     written: usize,
 }
 
 impl<N: Naming> Model for MemSlot<N> {
-    ghost use Rattle.pool_worlds.specs.Contents.{MemoryContents, memory_image};
+    ghost use Rattle.pool_worlds.specs.Contents.{MemoryContents};
     ghost use Rattle.pool_worlds.specs.Codes.{coded_memory};
-    ghost use Rattle.memory_slots.specs.Images.{IsZeroFrom};
-    ghost use Rattle.memory_slots.specs.Kept.{IsKept, contents_of};
+    ghost use Rattle.memory_slots.specs.Kept.{IsWrittenTo, contents_of};
 
     ghost Value = { MemoryContents };
 
@@ -49,7 +48,7 @@ impl<N: Naming> Model for MemSlot<N> {
 
     ghost view = { λ s. contents_of s.memory s.holds };
 
-    ghost invariant = { λ s. IsKept N.config (contents_of s.memory s.holds) × IsZeroFrom s.written (memory_image N.config.pages s.holds) };
+    ghost invariant = { λ s. IsWrittenTo N.config s.written (contents_of s.memory s.holds) };
 }
 
 impl<N: Naming> MemSlot<N> {

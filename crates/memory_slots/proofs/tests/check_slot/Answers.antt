@@ -1,5 +1,4 @@
 use Rattle.std.proofs.Common.{arith}
-use Rattle.wasm_spec.specs.Instances.{room_for}
 use Rattle.memory_slots.proofs.LentLemmas.{room_within}
 use Rattle.memory_slots.proofs.tests.check_slot.Goals as goal
 

@@ -11,7 +11,7 @@ use Rattle.memory_slots.proofs.slot.MemSlot.clear.Goals as goal
 pub write_all-requires-clause-outside : goal.write_all-requires-clause-outside
 write_all-requires-clause-outside g c =
     rw (c.deref_mut.ensures.value, c.deref_mut-2.ensures.value)
-    (memory_image g.N.Naming.config.pages c.self.inside.holds, (λ i lt free. c.self.invariant.0.outside i free), c.self.invariant.1)
+    (memory_image g.N.Naming.config.pages c.self.inside.holds, (λ i lt free. c.self.invariant.kept.outside i free), c.self.invariant.zeros)
 
 pub returns : goal.returns
 returns g c =
@@ -21,7 +21,7 @@ returns g c =
     let old = c.self.inside.memory in
     let all : length bytes ≡ old.bytes.len = omega arith in
     let blocks : length marks ≡ old.marks.len = omega arith in
-    let room = c.write_all.ensures.room.0 ∙ ap length c.deref_mut.ensures.value ∙ c.self.invariant.0.room in
+    let room = c.write_all.ensures.room.0 ∙ ap length c.deref_mut.ensures.value ∙ c.self.invariant.kept.room in
     record {
       holds = refl;
       size = refl;
@@ -36,11 +36,12 @@ invariant_of-self g c =
     let marks = c.write_all.new.marks in
     let old = c.self.inside.memory in
     let all : length bytes ≡ old.bytes.len = omega arith in
-    let blocks : length marks ≡ old.marks.len = omega arith in (
-      whole_kept config (contents_of old c.self.inside.holds) _ c.self.invariant.0
+    let blocks : length marks ≡ old.marks.len = omega arith in
+    record {
+      kept = whole_kept config (contents_of old c.self.inside.holds) _ c.self.invariant.kept
           (record {
             bytes = ap length (take_at bytes (drop (length bytes) old.bytes.items) old.bytes.len all) ∙ c.write_all.ensures.room.0 ∙ ap length c.deref_mut.ensures.value;
             marks = ap length (take_at marks (drop (length marks) old.marks.items) old.marks.len blocks) ∙ c.write_all.ensures.room.1 ∙ ap length c.deref_mut-2.ensures.value;
-          }) (omega arith) (returns g c).bytes,
-      λ i le. filled-past config.pages [] i le,
-    )
+          }) (omega arith) (returns g c).bytes;
+      zeros = λ i le. filled-past config.pages [] i le;
+    }
