@@ -8,11 +8,12 @@ use Rattle.wasm_spec.specs.Store.{fresh_store, memory_size, page_size}
 use Rattle.wasm_spec.proofs.ResultLaws.{length-fresh_memory}
 use Rattle.wasm_spec.proofs.StoreSizes.{minimum_within}
 use Rattle.pool_worlds.specs.Contents.{filled, HasImageOutside}
+use Rattle.pool_worlds.proofs.Parts.{filled-past}
 use Rattle.pool_worlds.proofs.Images.{from_bytes, without_zeros, filled-at, outside_from}
 use Rattle.loaded_modules.specs.Within.{IsWithin}
 use Rattle.initial_image.specs.declared.image.Image.{Image}
 use Rattle.initial_image.specs.Image.{IsImageOf}
-use Rattle.memory_slots.specs.Images.{HasImage, KeepsImage}
+use Rattle.memory_slots.specs.Images.{HasImage, KeepsImage, IsZeroFrom}
 
 -- the kept part of the image, and all of it
 module _ (limits : LoadLimits) (m : ModuleTree) (image : Image) (within : IsWithin limits m) (is : IsImageOf m image) where
@@ -45,3 +46,7 @@ module _ (limits : LoadLimits) (m : ModuleTree) (image : Image) (within : IsWith
   image_outside bytes marks room keeps i free =
       outside_from limits.pages image.memory bytes marks room kept_fits (λ j lt q. keeps j lt q) i free
       ∙ ap (λ (l : List ℕ). slice_index l i) (sym same_image)
+
+  -- past the kept part it is zero
+  pub image_zeros : IsZeroFrom (length image.memory) (filled limits.pages (fresh_store m).memory)
+  image_zeros i le = ap (λ (l : List ℕ). slice_index l i) same_image ∙ filled-past limits.pages image.memory i le

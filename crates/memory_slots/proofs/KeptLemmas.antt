@@ -38,15 +38,21 @@ prepared_is config m x new kept fresh room own =
     let holds = fresh.holds in
     λ i. record { bytes = bytes i; pages = pages i; marks = marks i; holds = holds i }
 
-pub fresh_kept : (config : Numbers) (m : Named) (x new : MemoryContents) → IsKept config x → IsFreshMemory config.pages new m → HasRoomOf x new
-    → minimum_of m.tree.memories ≤ config.pages → IsKept config new
-fresh_kept config m x new kept fresh room le = record {
+-- all its bytes are its image's
+pub whole_kept : (config : Numbers) (x new : MemoryContents) → IsKept config x → HasRoomOf x new → new.pages ≤ config.pages
+    → new.bytes ≡ memory_image config.pages new.holds → IsKept config new
+whole_kept config x new kept room le bytes = record {
   room = room.bytes ∙ kept.room;
   marked = room.bytes ∙ kept.marked ∙ ap (λ (n : ℕ). 4096 * n) (sym room.marks);
   few = kept.few;
-  size = subst (λ (n : ℕ). n ≤ config.pages) (sym fresh.size) le;
-  outside = λ i q. ap (λ (l : List ℕ). slice_index l i) fresh.bytes ∙ ap (λ (o : Option Named). slice_index (memory_image config.pages o) i) (sym fresh.holds);
+  size = le;
+  outside = λ i q. ap (λ (l : List ℕ). slice_index l i) bytes;
 }
+
+pub fresh_kept : (config : Numbers) (m : Named) (x new : MemoryContents) → IsKept config x → IsFreshMemory config.pages new m → HasRoomOf x new
+    → minimum_of m.tree.memories ≤ config.pages → IsKept config new
+fresh_kept config m x new kept fresh room le =
+    whole_kept config x new kept room (subst (λ (n : ℕ). n ≤ config.pages) (sym fresh.size) le) (fresh.bytes ∙ ap (memory_image config.pages) (sym fresh.holds))
 
 -- ---- fresh memories
 

@@ -1,12 +1,13 @@
 //! Blocks of a memory, and how they are written over from an image.
-ghost use Rattle.std.specs.Prelude.{◌≡◌, ◌≢◌, ◌+◌, ◌*◌, ◌<◌, ◌≤◌, ◌↔◌, IsTrue, false, ℕ, length, take, slice_index, slice_index_or, count_by, if◌then◌else◌};
+ghost use Rattle.std.specs.Prelude.{◌≡◌, ◌≢◌, ◌+◌, ◌*◌, ◌<◌, ◌≤◌, ◌↔◌, IsTrue, false, ℕ, List, [], length, take, slice_index, slice_index_or, count_by, if◌then◌else◌};
 ghost use Rattle.linear_memory.specs.Marks.{block_size};
 ghost use Rattle.pool_worlds.specs.Contents.{IsClean};
-ghost use Rattle.memory_slots.specs.Images.{HasImageFrom, HasImage, KeepsImage};
+ghost use Rattle.memory_slots.specs.Images.{HasImageFrom, HasImage, KeepsImage, IsZeroFrom};
 
 use crate::steps::Steps;
 use linear_memory::BLOCK_SIZE;
-use std::sync::ledger::Ledger;
+use std::marker::Brand;
+use std::sync::ledger::{Blank, Ledger};
 
 // How many marks are looked at together.
 const GROUP: usize = 128;
@@ -110,12 +111,32 @@ pub(crate) fn restore_marked<L: Ledger>(
     }
 }
 
-// Writes all over from the image, and takes all marks away.
-pub(crate) fn write_all(bytes: &mut [u8], marks: &mut [bool], image: &[u8])
+// Makes all bytes zero and takes all marks away. Outside marked blocks the bytes are those of an image that is zero from `written` on,
+// so only the marked blocks and the bytes before `written` are written.
+fn zero_all<L: Ledger>(bytes: &mut [u8], marks: &mut [bool], written: usize, blank: Blank)
+    requires marked { length bytes.old ≡ block_size * length marks.old }
+    requires outside { (image : List ℕ) × KeepsImage bytes.old marks.old image × IsZeroFrom written image }
+    requires name { (blank.name ≡ L.name) × (blank.parts ≡ L.parts) × (0 < blank.parts) }
+    ensures bytes { HasImage bytes.new [] }
+    ensures marks { IsClean marks.new }
+    ensures room { (length bytes.new ≡ length bytes.old) × (length marks.new ≡ length marks.old) }
+{
+    let kept = written.min(bytes.len());
+    bytes[..kept].fill(0);
+    let mut steps = Steps::<L>::new(blank);
+    restore_marked(bytes, marks, &[], &mut steps);
+}
+
+// Makes all bytes the image's and takes all marks away. Outside marked blocks they were those of another image, which is zero from
+// `written` on: zeros that are there already are not written.
+pub(crate) fn write_all(bytes: &mut [u8], marks: &mut [bool], written: usize, image: &[u8])
+    requires marked { length bytes.old ≡ block_size * length marks.old }
+    requires outside { (other : List ℕ) × KeepsImage bytes.old marks.old other × IsZeroFrom written other }
     ensures bytes { HasImage bytes.new image.now }
     ensures marks { IsClean marks.new }
     ensures room { (length bytes.new ≡ length bytes.old) × (length marks.new ≡ length marks.old) }
 {
-    write_image(bytes, image, 0);
-    marks.fill(false);
+    zero_all::<Brand>(bytes, marks, written, Blank::new(1));
+    let kept = image.len().min(bytes.len());
+    bytes[..kept].copy_from_slice(&image[..kept]);
 }

@@ -4,7 +4,7 @@ ghost use Rattle.wasm_types.specs.Tree.{module_tree};
 ghost use Rattle.wasm_spec.specs.Store.{minimum_of};
 ghost use Rattle.linear_memory.specs.Marks.{count_marks};
 ghost use Rattle.pool_worlds.specs.Contents.{Named, IsFreshMemory};
-ghost use Rattle.memory_slots.specs.Kept.{IsKept, contents_of};
+ghost use Rattle.memory_slots.specs.Kept.{IsKept, IsWrittenTo, contents_of};
 
 use crate::blocks::{restore_marked, write_all};
 use crate::steps::Steps;
@@ -47,15 +47,17 @@ pub(crate) fn restore_memory<N: Naming, L: Ledger>(
     memory.pages = pages;
 }
 
-// Writes all of a memory over from the module's image.
+// Makes a memory the module's fresh one, and says from which byte on the module's image is zero. Before, it belonged to another module
+// or to none, whose image is zero from `written` on.
 pub(crate) fn write_memory<N: Naming>(
     memory: &mut Memory,
+    written: usize,
     store: &ModuleStore<N>,
     module: &ModuleRef<N>,
-)
-    requires { (holds : Option Named) × IsKept N.config (contents_of memory.old holds) }
+) -> usize
+    requires { (holds : Option Named) × IsWrittenTo N.config written (contents_of memory.old holds) }
     ensures fresh { IsFreshMemory N.config.pages (contents_of memory.new (Some «module».now)) «module».now }
-    ensures kept { IsKept N.config (contents_of memory.new (Some «module».now)) }
+    ensures written { IsWrittenTo N.config result (contents_of memory.new (Some «module».now)) }
     ensures marks { memory.new.marks.items ≡ map (λ marked. false) memory.old.marks.items }
 {
     let image = store.image(module);
@@ -63,7 +65,9 @@ pub(crate) fn write_memory<N: Naming>(
     write_all(
         &mut memory.bytes,
         &mut memory.marks,
+        written,
         image.memory.as_slice(),
     );
     memory.pages = pages;
+    image.memory.len()
 }

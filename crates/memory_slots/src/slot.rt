@@ -33,12 +33,14 @@ use wasm_validate::Valid;
 pub struct MemSlot<N: Naming> {
     pub(crate) memory: Memory,
     holds: Option<ModuleRef<N>>,
+    // The image of its module, or of none, is zero from this byte on.
+    written: usize,
 }
 
 impl<N: Naming> Model for MemSlot<N> {
     ghost use Rattle.pool_worlds.specs.Contents.{MemoryContents};
     ghost use Rattle.pool_worlds.specs.Codes.{coded_memory};
-    ghost use Rattle.memory_slots.specs.Kept.{IsKept, contents_of};
+    ghost use Rattle.memory_slots.specs.Kept.{IsWrittenTo, contents_of};
 
     ghost Value = { MemoryContents };
 
@@ -46,7 +48,7 @@ impl<N: Naming> Model for MemSlot<N> {
 
     ghost view = { λ s. contents_of s.memory s.holds };
 
-    ghost invariant = { λ s. IsKept N.config (contents_of s.memory s.holds) };
+    ghost invariant = { λ s. IsWrittenTo N.config s.written (contents_of s.memory s.holds) };
 }
 
 impl<N: Naming> MemSlot<N> {
@@ -63,6 +65,7 @@ impl<N: Naming> MemSlot<N> {
         Ok(MemSlot {
             memory,
             holds: None,
+            written: 0,
         })
     }
 
@@ -97,7 +100,7 @@ impl<N: Naming> MemSlot<N> {
         ensures fresh { IsFreshMemory N.config.pages self.new «module».now }
         ensures marks { self.new.marks ≡ map (λ marked. false) self.old.marks }
     {
-        write_memory(&mut self.memory, store, module);
+        self.written = write_memory(&mut self.memory, self.written, store, module);
         self.holds = Some(module.again());
     }
 
@@ -138,9 +141,15 @@ impl<N: Naming> MemSlot<N> {
     pub fn clear(&mut self)
         ensures { IsCold N.config.pages contents.Memory self.new }
     {
-        write_all(&mut self.memory.bytes, &mut self.memory.marks, &[]);
+        write_all(
+            &mut self.memory.bytes,
+            &mut self.memory.marks,
+            self.written,
+            &[],
+        );
         self.memory.pages = 0;
         self.holds = None;
+        self.written = 0;
     }
 
     /// How many blocks are marked. Takes no memory.

@@ -1,7 +1,8 @@
 // Worked pools of memories. Each store has its name from the test that opens it.
-ghost use Rattle.std.specs.Prelude.{◌≡◌, ◌<◌};
+ghost use Rattle.std.specs.Prelude.{◌≡◌, ◌<◌, ◌≤◌, ℕ};
 ghost use Rattle.slot_words.specs.Passes.{IsIdle, IsSamePass};
 ghost use Rattle.module_store.specs.Names.{Bears};
+ghost use Rattle.memory_slots.specs.Lent.{IsReady};
 ghost use Rattle.memory_slots.specs.Pools.{IsMemoryPass};
 
 use crate::{MemSlot, MemoryPool};
@@ -55,6 +56,18 @@ fn registered<N: Naming, R: Abort + Wait>(
         .expect(rt, "registered")
 }
 
+// Writes to the third block of the memory, as its module might, and says whether that lies within its size.
+fn scribble<N: Naming>(slot: &mut MemSlot<N>) -> bool
+    requires { (most : ℕ) × (most ≤ N.config.pages) × IsReady most slot.old }
+{
+    slot.memory.write(9_000, b"scribble")
+}
+
+// How many bytes of the whole slot are not zero.
+fn filled<N: Naming>(slot: &MemSlot<N>) -> usize {
+    slot.memory.bytes.iter().filter(|byte| **byte != 0).count()
+}
+
 fn check_slot<N: Naming, R: Abort + Wait>(rt: &R, alloc: Global, opened: Opened)
     requires { Bears opened N.shelves N.config }
 {
@@ -63,20 +76,24 @@ fn check_slot<N: Naming, R: Abort + Wait>(rt: &R, alloc: Global, opened: Opened)
     let zeros = registered(rt, alloc, &store, &mut desk, &ZEROS);
     let mut slot = MemSlot::open(alloc, &store).expect(rt, "opened");
     let rows = [
-        (&letters, 1, b'a'),
-        (&zeros, 2, 0),
-        (&letters, 1, b'a'),
-        (&letters, 1, b'a'),
+        (&letters, 1, b'a', 2),
+        (&zeros, 2, 0, 0),
+        (&letters, 1, b'a', 2),
+        (&letters, 1, b'a', 2),
     ];
-    for (module, pages, byte) in rows {
+    for (module, pages, byte, count) in rows {
         slot.prepare(&store, module);
         assert_eq!(rt; slot.memory.pages, pages);
         assert_eq!(rt; slot.memory.bytes.get(65_534).copied(), Some(byte));
+        assert_eq!(rt; filled(&slot), count);
         assert_eq!(rt; slot.dirty(), 0);
+        assert!(rt; scribble(&mut slot));
+        assert_eq!(rt; slot.dirty(), 1);
     }
     slot.clear();
     assert_eq!(rt; slot.memory.pages, 0);
-    assert_eq!(rt; slot.memory.bytes.get(65_534).copied(), Some(0));
+    assert_eq!(rt; filled(&slot), 0);
+    assert_eq!(rt; slot.dirty(), 0);
 }
 
 #[test]

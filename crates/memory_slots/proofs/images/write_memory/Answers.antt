@@ -4,12 +4,18 @@ use Rattle.std.proofs.lemmas.List.{take_at}
 use Rattle.wasm_types.specs.Tree.{ModuleTree}
 use Rattle.wasm_spec.specs.Store.{minimum_of}
 use Rattle.pool_limits.specs.Limits.{load_limits}
+use Rattle.pool_worlds.specs.Contents.{memory_image}
 use Rattle.pool_worlds.proofs.Images.{clean_is}
 use Rattle.loaded_modules.proofs.WithinLemmas.{loaded-within}
 use Rattle.memory_slots.specs.Kept.{contents_of}
-use Rattle.memory_slots.proofs.ImageLemmas.{image_written}
+use Rattle.memory_slots.proofs.ImageLemmas.{image_written, image_zeros}
 use Rattle.memory_slots.proofs.KeptLemmas.{fresh_kept}
 use Rattle.memory_slots.proofs.images.write_memory.Goals as goal
+
+pub write_all-requires-clause-outside : goal.write_all-requires-clause-outside
+write_all-requires-clause-outside g c =
+    rw (c.deref_mut.ensures.value, c.deref_mut-2.ensures.value)
+    (memory_image g.N.Naming.config.pages c.requires.0, (λ i lt free. c.requires.1.kept.outside i free), c.requires.1.zeros)
 
 pub returns-clause-fresh : goal.returns-clause-fresh
 returns-clause-fresh g c =
@@ -20,7 +26,7 @@ returns-clause-fresh g c =
     let marks = c.write_all.new.marks in
     let all : length bytes ≡ c.args.memory.now.bytes.len = omega arith in
     let blocks : length marks ≡ c.args.memory.now.marks.len = omega arith in
-    let room = c.write_all.ensures.room.0 ∙ ap length c.deref_mut.ensures.value ∙ c.requires.1.room in
+    let room = c.write_all.ensures.room.0 ∙ ap length c.deref_mut.ensures.value ∙ c.requires.1.kept.room in
     record {
       holds = refl;
       size = c.least_pages-pages.ensures ∙ ap (λ (t : ModuleTree). minimum_of t.memories) c.valid.ensures.tree;
@@ -36,15 +42,19 @@ returns-clause-marks g c =
     take_at marks (drop (length marks) c.args.memory.now.marks.items) c.args.memory.now.marks.len blocks
     ∙ clean_is c.args.memory.now.marks.items marks (c.write_all.ensures.room.1 ∙ ap length c.deref_mut-2.ensures.value) c.write_all.ensures.marks
 
-pub returns-clause-kept : goal.returns-clause-kept
-returns-clause-kept g c =
+pub returns-clause-written : goal.returns-clause-written
+returns-clause-written g c =
     let is = c.valid.ensures.loaded in
     let bytes = c.write_all.new.bytes in
     let marks = c.write_all.new.marks in
     let all : length bytes ≡ c.args.memory.now.bytes.len = omega arith in
     let blocks : length marks ≡ c.args.memory.now.marks.len = omega arith in
-    fresh_kept g.N.Naming.config c.args.module.now (contents_of c.args.memory.now c.requires.0) _ c.requires.1 (returns-clause-fresh g c)
-    (record {
-      bytes = ap length (take_at bytes (drop (length bytes) c.args.memory.now.bytes.items) c.args.memory.now.bytes.len all) ∙ c.write_all.ensures.room.0 ∙ ap length c.deref_mut.ensures.value;
-      marks = ap length (take_at marks (drop (length marks) c.args.memory.now.marks.items) c.args.memory.now.marks.len blocks) ∙ c.write_all.ensures.room.1 ∙ ap length c.deref_mut-2.ensures.value;
-    }) (loaded-within is.bytes _ _ is.loads).pages
+    let zeros = image_zeros (load_limits g.N.Naming.config) c.args.module.now.tree c.image-image.result.now (loaded-within is.bytes _ _ is.loads) c.image-image.ensures in
+    record {
+      kept = fresh_kept g.N.Naming.config c.args.module.now (contents_of c.args.memory.now c.requires.0) _ c.requires.1.kept (returns-clause-fresh g c)
+          (record {
+            bytes = ap length (take_at bytes (drop (length bytes) c.args.memory.now.bytes.items) c.args.memory.now.bytes.len all) ∙ c.write_all.ensures.room.0 ∙ ap length c.deref_mut.ensures.value;
+            marks = ap length (take_at marks (drop (length marks) c.args.memory.now.marks.items) c.args.memory.now.marks.len blocks) ∙ c.write_all.ensures.room.1 ∙ ap length c.deref_mut-2.ensures.value;
+          }) (loaded-within is.bytes _ _ is.loads).pages;
+      zeros = λ i le. zeros i (rw (← c.len.ensures) le);
+    }

@@ -1,8 +1,17 @@
 use Rattle.std.proofs.Common.{◌≡◌, ◌∙◌, Bool, false, List, [], length, drop, refl, ap, arith}
 use Rattle.std.specs.Prelude.{slice_index_or}
 use Rattle.std.proofs.lemmas.List.{take_at}
+use Rattle.pool_worlds.specs.Contents.{memory_image}
 use Rattle.pool_worlds.proofs.Images.{from_bytes}
+use Rattle.pool_worlds.proofs.Parts.{filled-past}
+use Rattle.memory_slots.specs.Kept.{contents_of}
+use Rattle.memory_slots.proofs.KeptLemmas.{whole_kept}
 use Rattle.memory_slots.proofs.slot.MemSlot.clear.Goals as goal
+
+pub write_all-requires-clause-outside : goal.write_all-requires-clause-outside
+write_all-requires-clause-outside g c =
+    rw (c.deref_mut.ensures.value, c.deref_mut-2.ensures.value)
+    (memory_image g.N.Naming.config.pages c.self.inside.holds, (λ i lt free. c.self.invariant.kept.outside i free), c.self.invariant.zeros)
 
 pub returns : goal.returns
 returns g c =
@@ -12,10 +21,27 @@ returns g c =
     let old = c.self.inside.memory in
     let all : length bytes ≡ old.bytes.len = omega arith in
     let blocks : length marks ≡ old.marks.len = omega arith in
-    let room = c.write_all.ensures.room.0 ∙ ap length c.deref_mut.ensures.value ∙ c.self.invariant.room in
+    let room = c.write_all.ensures.room.0 ∙ ap length c.deref_mut.ensures.value ∙ c.self.invariant.kept.room in
     record {
       holds = refl;
       size = refl;
       bytes = take_at bytes (drop (length bytes) old.bytes.items) old.bytes.len all ∙ from_bytes config.pages [] bytes room (omega arith) c.write_all.ensures.bytes;
       clean = λ k. ap (λ (l : List Bool). slice_index_or l k false) (take_at marks (drop (length marks) old.marks.items) old.marks.len blocks) ∙ c.write_all.ensures.marks k;
+    }
+
+pub invariant_of-self : goal.invariant_of-self
+invariant_of-self g c =
+    let config = g.N.Naming.config in
+    let bytes = c.write_all.new.bytes in
+    let marks = c.write_all.new.marks in
+    let old = c.self.inside.memory in
+    let all : length bytes ≡ old.bytes.len = omega arith in
+    let blocks : length marks ≡ old.marks.len = omega arith in
+    record {
+      kept = whole_kept config (contents_of old c.self.inside.holds) _ c.self.invariant.kept
+          (record {
+            bytes = ap length (take_at bytes (drop (length bytes) old.bytes.items) old.bytes.len all) ∙ c.write_all.ensures.room.0 ∙ ap length c.deref_mut.ensures.value;
+            marks = ap length (take_at marks (drop (length marks) old.marks.items) old.marks.len blocks) ∙ c.write_all.ensures.room.1 ∙ ap length c.deref_mut-2.ensures.value;
+          }) (omega arith) (returns g c).bytes;
+      zeros = λ i le. filled-past config.pages [] i le;
     }

@@ -14,19 +14,22 @@ pub run-requires-clause-memory : goal.run-requires-clause-memory
 run-requires-clause-memory g c =
     let config = g.N.Naming.config in
     let most : ℕ = room_for c.args.valid.now.memories c.args.limits.pages in
-    is_memory config most c.self.inside.memory c.self.inside.holds c.self.invariant (room_within c.args.valid.now.memories c.args.limits.pages config.pages c.requires.pages)
+    is_memory config most c.self.inside.memory c.self.inside.holds c.self.invariant.kept (room_within c.args.valid.now.memories c.args.limits.pages config.pages c.requires.pages)
     (subst (IsReady most) (sym c.self.view_is) c.requires.ready)
 
 pub invariant_of-self : goal.invariant_of-self
 invariant_of-self g c =
     let config = g.N.Naming.config in
-    is_kept config (room_for c.args.valid.now.memories c.args.limits.pages) c.self.inside.memory c.run.new.memory c.self.inside.holds c.self.invariant c.run.ensures.memory c.run.ensures.room
-    (room_within c.args.valid.now.memories c.args.limits.pages config.pages c.requires.pages)
-    (c.run.ensures.marked c.args.fuel _ (omega arith) c.run.ensures.result)
+    record {
+      kept = is_kept config (room_for c.args.valid.now.memories c.args.limits.pages) c.self.inside.memory c.run.new.memory c.self.inside.holds c.self.invariant.kept c.run.ensures.memory c.run.ensures.room
+          (room_within c.args.valid.now.memories c.args.limits.pages config.pages c.requires.pages)
+          (c.run.ensures.marked c.args.fuel _ (omega arith) c.run.ensures.result);
+      zeros = c.self.invariant.zeros;
+    }
 
 pub returns-clause-ready : goal.returns-clause-ready
 returns-clause-ready g c =
-    is_ready g.N.Naming.config (room_for c.args.valid.now.memories c.args.limits.pages) c.self.inside.memory c.run.new.memory c.self.inside.holds c.self.invariant c.run.ensures.memory c.run.ensures.room
+    is_ready g.N.Naming.config (room_for c.args.valid.now.memories c.args.limits.pages) c.self.inside.memory c.run.new.memory c.self.inside.holds c.self.invariant.kept c.run.ensures.memory c.run.ensures.room
 
 pub returns-clause-leaves : goal.returns-clause-leaves
 returns-clause-leaves g c owner =
@@ -45,7 +48,7 @@ returns-clause-leaves g c owner =
     subst P c.self.view_is (record {
       gives = c.run.ensures.result;
       left = parts_left config.pages (module_tree m) store (contents_of old holds) (contents_of new holds) owner table globals c.run.new.globals
-          (memory_left config most old new holds c.self.invariant c.run.ensures.memory c.run.ensures.room store refl) refl
+          (memory_left config most old new holds c.self.invariant.kept c.run.ensures.memory c.run.ensures.room store refl) refl
           (globals_left (length m.globals) globals c.run.new.globals there c.run.ensures.globals c.run.ensures.others);
       marked = λ needed turns r le is. marks_are config.pages old.bytes.items r.store.memory old.marks.items new.marks.items (c.run.ensures.marked turns r le is);
       still = λ needed e. c.run.ensures.unspent e;
