@@ -257,10 +257,10 @@ fn registered_beside<N: Naming + Send + Sync, R: Abort + Threads + Wait + Sync>(
     let (held, other) = thread::join(
         rt,
         || -> Answer
-            requires { IsHostPass host.now one }
+            requires { IsHostPass host one }
         { bump(&host, one, &store, &module, 1, &gate).0 },
         || -> Answer
-            requires { IsHostPass host.now two }
+            requires { IsHostPass host two }
         {
             wait_for(&gate.entered);
             let module = register(rt, alloc, &store, &mut desk, ADD.as_slice());
