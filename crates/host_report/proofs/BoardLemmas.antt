@@ -1,10 +1,11 @@
 -- The board, from which the answers of all calls are taken.
-use Rattle.std.proofs.Common.{◌≡◌, ◌≢◌, ◌⊎◌, inl, inr, ⊎_elim, ℕ, zero, suc, ◌+◌, ◌-◌, ◌<◌, ◌≤◌, ◌==◌, true, List, [], ◌∷◌, ◌++◌, Option, Some, None, length, drop, drop-cons, get_or, replicate, refl, sym, ap, ◌∙◌, subst, arith, cond, length-set}
+use Rattle.std.proofs.Common.{◌≡◌, ◌≢◌, ◌⊎◌, inl, inr, ⊎_elim, ℕ, zero, suc, ◌+◌, ◌-◌, ◌<◌, ◌≤◌, ◌==◌, true, List, [], ◌∷◌, ◌++◌, Option, Some, None, length, drop, drop-cons, get_or, map, replicate, take, take_all, refl, sym, ap, ◌∙◌, subst, arith, cond, length-set}
 use Rattle.std.specs.Prelude.{slice_get, slice_set, count_by, MatchOption}
 use Rattle.std.proofs.lemmas.Option.{get_or_from_slice_get, slice_get-get_or}
 use Rattle.std.specs.List.{All}
 use Rattle.std.proofs.lemmas.Bool.{cases_eq}
 use Rattle.std.proofs.lemmas.Bool.Decides.{nat_tests}
+use Rattle.std.proofs.lemmas.List.{map-append, take_more, take_more_set}
 use Rattle.std.proofs.lemmas.List.Elements.{All-head, All-tail}
 use Rattle.std.proofs.lemmas.List.Sums.{sum_by-cons}
 use Rattle.wasm_types.specs.declared.outcome.Val.{Val}
@@ -15,7 +16,7 @@ use Rattle.request_text.specs.declared.report.CallLine.{CallLine}
 use Rattle.request_text.specs.Text.{IsPlacedFrom, call_count, modules_of}
 use Rattle.request_text.specs.declared.request.TheConstants.{MOST_CALLS}
 use Rattle.call_workers.specs.declared.calls.Worked.{Worked}
-use Rattle.host_report.specs.Collected.{AreOfCalls, IsBoard, IsLineOf, IsOfWorked, call_at, line_of}
+use Rattle.host_report.specs.Collected.{AreCollected, AreOfCalls, IsBoard, IsLineOf, IsOfWorked, call_at, line_of}
 use Rattle.host_report.specs.Report.{GoesAs, IsCallLine, Limits}
 use Rattle.host_report.proofs.CallLemmas.{CallsLeft, after_call, after_other, calls_begin, calls_end, call_count-call, call_count-module, kind_of}
 
@@ -56,12 +57,14 @@ board_more limits whole board at line h within right = record {
 
 -- ---- the answers of all calls
 
--- So many calls have their answers, which those of the calls that are left complete; what lines the board has are right.
+-- So many calls have their answers, which those of the calls that are left complete. The board begins with them, and what
+-- lines it has are right.
 pub record SettledLeft (limits : Limits) (whole rest : List Directive) (number : ℕ) (answers : List CallLine) (board : Lines) : Type 0 where
   pub left : CallsLeft limits whole rest number answers
   pub count : number + call_count rest ≡ call_count whole
   pub board_is : IsBoard limits whole board
   pub calls : (j : ℕ) → call_at whole (number + j) ≡ call_at rest j
+  pub begun : AreCollected (take number board) answers
 
 module _ (limits : Limits) (whole : List Directive) where
   pub settled_begin : (board : Lines) → IsPlacedFrom 0 whole → call_count whole ≤ MOST_CALLS → IsBoard limits whole board → SettledLeft limits whole whole 0 [] board
@@ -70,7 +73,15 @@ module _ (limits : Limits) (whole : List Directive) where
     count = omega arith;
     board_is = is;
     calls = λ j. let none : 0 + j ≡ j = omega arith in ap (call_at whole) none;
+    begun = refl;
   }
+
+  pub settled_end : (rest : List Directive) (number : ℕ) (answers : List CallLine) (board : Lines) → rest ≡ [] → SettledLeft limits whole rest number answers board → AreCollected board answers
+  settled_end rest number answers board none h =
+      let k : SettledLeft limits whole [] number answers board = rw none at h in
+      let no_more : call_count [] ≡ 0 = refl in
+      let within : length board ≤ number = let f = k.count in let m = k.board_is.many in omega arith in
+      sym (take_all number board within) ∙ k.begun
 
   module _ (rest more : List Directive) (number : ℕ) (answers : List CallLine) (board : Lines) (d : Directive) (is : rest ≡ d ∷ more) (h : SettledLeft limits whole rest number answers board) where
     settled_module : (name bytes : List ℕ) → d ≡ Module name bytes → SettledLeft limits whole more number answers board
@@ -80,6 +91,7 @@ module _ (limits : Limits) (whole : List Directive) where
           count = (let f = k.count in omega (arith, call_count-module name bytes more));
           board_is = h.board_is;
           calls = k.calls;
+          begun = k.begun;
         }
 
     pub settled_other : ((place : ℕ) (export : List ℕ) (fuel : ℕ) (args : List Val) → d ≡ Call place export fuel args → ⊥) → SettledLeft limits whole more number answers board
@@ -95,6 +107,12 @@ module _ (limits : Limits) (whole : List Directive) where
       pub on_board : number < length board
       on_board = let f = as_settled.count in let m = h.board_is.many in omega (arith, call_count-call place export fuel args more)
 
+      -- the board begins with one line more
+      begun_more : (how : CallLine) (answers' : List CallLine) (board' : Lines) → take (number + 1) board' ≡ take number board ++ Some how ∷ [] → answers' ≡ answers ++ how ∷ []
+          → AreCollected (take (number + 1) board') answers'
+      begun_more how answers' board' one_more pushed =
+          one_more ∙ (ap (λ (lines : Lines). lines ++ Some how ∷ []) h.begun ∙ sym (ap (map (λ (line : CallLine). Some line)) pushed ∙ map-append (λ (line : CallLine). Some line) answers (how ∷ [])))
+
       -- the line of this call: the board has it, or it was made now
       pub settled_call : (bytes : List ℕ) (how : CallLine) (answers' : List CallLine) (board' : Lines) → slice_get (modules_of whole) place ≡ Some bytes
           → ((line : CallLine) → slice_get board number ≡ Some (Some line) → (how ≡ line) × (board' ≡ board))
@@ -103,23 +121,28 @@ module _ (limits : Limits) (whole : List Directive) where
           → answers' ≡ answers ++ how ∷ [] → SettledLeft limits whole more (number + 1) answers' board'
       settled_call bytes how answers' board' there had collected made pushed = slot (got_within board number on_board).0 (got_within board number on_board).1
         where
-          next : (goes : GoesAs limits (modules_of whole) place export fuel args how) → IsBoard limits whole board' → SettledLeft limits whole more (number + 1) answers' board'
-          next goes on = record {
+          next : (goes : GoesAs limits (modules_of whole) place export fuel args how) → IsBoard limits whole board' → take (number + 1) board' ≡ take number board ++ Some how ∷ []
+              → SettledLeft limits whole more (number + 1) answers' board'
+          next goes on one_more = record {
             left = after_call limits whole rest more number answers d is h.left place export fuel args call_is goes.bytes how answers' goes.there goes.goes pushed;
             count = (let f = as_settled.count in omega (arith, call_count-call place export fuel args more));
             board_is = on;
             calls = λ j. let shift : number + 1 + j ≡ number + suc j = omega arith in ap (call_at whole) shift ∙ as_settled.calls (suc j);
+            begun = begun_more how answers' board' one_more pushed;
           }
 
           slot : (o : Option CallLine) → slice_get board number ≡ Some o → SettledLeft limits whole more (number + 1) answers' board'
           slot (Some line) stands =
               let (same, kept) = had line stands in
               let right : GoesAs limits (modules_of whole) place export fuel args line = rw this_call at (h.board_is.right number line stands) in
+              let shown : get_or board number None ≡ Some how = get_or_from_slice_get board number (Some line) None stands ∙ ap (λ (l : CallLine). Some l) (sym same) in
               next (subst (λ (l : CallLine). GoesAs limits (modules_of whole) place export fuel args l) (sym same) right) (subst (IsBoard limits whole) (sym kept) h.board_is)
+              (ap (take (number + 1)) kept ∙ (take_more board number None on_board ∙ ap (λ (o : Option CallLine). take number board ++ o ∷ []) shown))
           slot None stands =
               let goes : GoesAs limits (modules_of whole) place export fuel args how = record { bytes = bytes; there = there; goes = made stands } in
               let line : IsLineOf limits whole number how = rw this_call goes in
               next goes (subst (IsBoard limits whole) (sym (collected stands)) (board_more limits whole board number how h.board_is on_board line))
+              (ap (take (number + 1)) (collected stands) ∙ take_more_set board number (Some how) on_board)
 
 -- ---- collecting
 

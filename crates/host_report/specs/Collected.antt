@@ -1,5 +1,5 @@
 -- What the board has of the calls.
-use Rattle.std.specs.Prelude.{◌≡◌, ℕ, ◌+◌, ◌<◌, ◌≤◌, ◌==◌, zero, suc, List, [], ◌∷◌, All, length, count_by, slice_get, Option, Some, None, IfSome}
+use Rattle.std.specs.Prelude.{◌≡◌, ℕ, ◌+◌, ◌<◌, ◌≤◌, ◌==◌, zero, suc, List, [], ◌∷◌, All, length, map, count_by, slice_get, Option, Some, None, IfSome}
 use Rattle.pool_host.specs.declared.answers.Answer.{Answer}
 use Rattle.pool_host.specs.declared.answers.Answer.TheVariants as answer
 use Rattle.request_text.specs.declared.request.Directive.{Directive}
@@ -38,6 +38,10 @@ IsLineOf limits requests at line = IfSome (call_at requests at) (λ call. Tells 
 pub record IsBoard (limits : Limits) (requests : List Directive) (board : List (Option CallLine)) : Type 0 where
   pub many : length board ≡ call_count requests
   pub right : (at : ℕ) (line : CallLine) → slice_get board at ≡ Some (Some line) → IsLineOf limits requests at line
+
+-- the board has these lines, one for each call in order, and none is missing
+abbrev pub AreCollected : (board : List (Option CallLine)) → List CallLine → Type 0
+AreCollected board lines = board ≡ map (λ line. Some line) lines
 
 -- there are entries of so many calls, at most one of each
 pub record AreOfCalls (count : ℕ) (worked : List Worked) : Type 0 where

@@ -3,7 +3,7 @@ ghost use Rattle.std.specs.Prelude.{◌≡◌, ◌-◌, ◌≤◌, ◌<◌, ℕ,
 ghost use Rattle.request_text.specs.declared.report.CallLine.{CallLine};
 ghost use Rattle.request_text.specs.Text.{IsPlacedFrom, call_count, modules_of};
 ghost use Rattle.host_report.specs.Answers.{AreAnswers};
-ghost use Rattle.host_report.specs.Collected.{IsBoard};
+ghost use Rattle.host_report.specs.Collected.{AreCollected, IsBoard};
 ghost use Rattle.host_report.specs.Entries.{AreEntries, IsEntry};
 ghost use Rattle.host_report.specs.Report.{IsCallLine, answer_line, limits_in};
 
@@ -84,7 +84,8 @@ fn settle<N: Naming, G: Gate>(
     line
 }
 
-// How the calls go, in file order. Those of which the board has no line are made on the lane, one after the other.
+// How the calls go, in file order. Those of which the board has no line are made on the lane, one after the other; then the
+// board has the line of each.
 pub(crate) fn answers<N: Naming, G: Gate>(
     alloc: Global,
     store: &ModuleStore<N>,
@@ -98,7 +99,8 @@ pub(crate) fn answers<N: Naming, G: Gate>(
     requires few { call_count requests.now ≤ MOST_CALLS }
     requires entries { AreEntries (limits_in N.config) (modules_of requests.now) entries.now }
     requires board { IsBoard (limits_in N.config) requests.now board.old }
-    ensures { IfOk result (λ answers. AreAnswers (limits_in N.config) (modules_of requests.now) requests.now answers.items) }
+    ensures answers { IfOk result (λ answers. AreAnswers (limits_in N.config) (modules_of requests.now) requests.now answers.items) }
+    ensures collected { IfOk result (λ answers. AreCollected board.new answers.items) }
 {
     let mut answers = Vec::new(alloc);
     let mut number = 0u32;

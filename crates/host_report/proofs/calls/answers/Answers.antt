@@ -2,7 +2,7 @@ use Rattle.std.proofs.Common.{◌≡◌, ◌+◌, ◌-◌, [], ◌∷◌, ◌++�
 use Rattle.std.proofs.lemmas.List.{drop_all}
 use Rattle.request_text.specs.Text.{modules_of}
 use Rattle.host_report.specs.Report.{limits_in}
-use Rattle.host_report.proofs.BoardLemmas.{on_board, settled_begin, settled_call, settled_other}
+use Rattle.host_report.proofs.BoardLemmas.{on_board, settled_begin, settled_call, settled_end, settled_other}
 use Rattle.host_report.proofs.CallLemmas.{called_module, calls_end, entry_below, next_directive}
 use Rattle.host_report.proofs.EntryLemmas.{entry_at}
 use Rattle.host_report.proofs.calls.answers.Goals as goal
@@ -43,7 +43,12 @@ loop-directive-preserved g c =
       | in_default w ↦ rw (w.number-is, w.answers-is, w.board-is) (settled_other limits whole _ _ _ _ _ _ first left w.in_default.not-Call)
     ]
 
-pub returns : goal.returns
-returns g c =
+pub returns-clause-answers : goal.returns-clause-answers
+returns-clause-answers g c =
     calls_end (limits_in g.N.Naming.config) c.args.requests.now _ _ _
     (drop_all c.loop-directive.directive-index c.args.requests.now c.loop-directive-test.false) c.loop-directive.invariant.left
+
+pub returns-clause-collected : goal.returns-clause-collected
+returns-clause-collected g c =
+    settled_end (limits_in g.N.Naming.config) c.args.requests.now _ _ _ _
+    (drop_all c.loop-directive.directive-index c.args.requests.now c.loop-directive-test.false) c.loop-directive.invariant
