@@ -17,6 +17,15 @@ const BUMP: &str =
     "module bump 0061736d010000000105016000017f0302010005030100010708010462756d7000000a160114004100410028020041016a36020041002802000b
 ";
 
+const POKE: &str =
+    "module poke 0061736d0100000001060160027f7f0003020100050301000107080104706f6b6500000a0b010900200020013602000b
+";
+
+const RECURSION: &str =
+    "module rec 0061736d0100000001060160017f017f030201000707010372656300000a14011200200045047f410005200041016b10000b0b
+call rec rec 1000 i32:127
+";
+
 const GROWN: &str =
     "module g 0061736d010000000108026000006000017f030302000105030100010710020564697274790000046c6f6f6b00010a26021500410140001a41ffff07417f3a000003400c000b0b0e00410140001a41ffff072d00000b
 ";
@@ -144,6 +153,54 @@ fn what_a_tenant_counted_is_never_seen(rt: HostRuntime) -> Result<(), Fail> {
     }
     for line in SHARED {
         check(&rt, alloc, line, text.as_str(), written.as_str())?;
+    }
+    Ok(())
+}
+
+const BUMP_CALL: &str = "call bump bump 100\n";
+
+const POKE_CALL: &str = "call poke poke 100 i32:0 i32:-1\n";
+
+// Calls of two modules, of which the one overwrites what the other counts in: in one memory, decommitted at once, and in two that
+// await their decommit.
+#[test]
+fn two_modules_share_memories(rt: HostRuntime) -> Result<(), Fail> {
+    let alloc = rt.alloc();
+    let rows = [
+        (
+            "poolhost run --memories 1 --warm 0 --batch 1",
+            [POKE_CALL, BUMP_CALL, POKE_CALL, BUMP_CALL],
+            "module bump ok\nmodule poke ok\n1 ok\n2 ok i32:1\n3 ok\n4 ok i32:1\n",
+        ),
+        (
+            "poolhost run --memories 2 --warm 1 --batch 8",
+            [BUMP_CALL, POKE_CALL, BUMP_CALL, ""],
+            "module bump ok\nmodule poke ok\n1 ok i32:1\n2 ok\n3 ok i32:1\n",
+        ),
+    ];
+    for (line, calls, written) in rows {
+        let mut text = String::from_str(alloc, BUMP)?;
+        text.push_str(POKE)?;
+        for call in calls {
+            text.push_str(call)?;
+        }
+        check(&rt, alloc, line, text.as_str(), written)?;
+    }
+    Ok(())
+}
+
+// A function whose frame needs five places.
+#[test]
+fn a_frame_is_enough_or_too_small(rt: HostRuntime) -> Result<(), Fail> {
+    let alloc = rt.alloc();
+    for (line, written) in [
+        ("poolhost run --frame 5", "module rec ok\n1 ok i32:0\n"),
+        (
+            "poolhost run --frame 4",
+            "module rec refused limit\n1 refused module\n",
+        ),
+    ] {
+        check(&rt, alloc, line, RECURSION, written)?;
     }
     Ok(())
 }
