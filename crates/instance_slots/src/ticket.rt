@@ -1,5 +1,6 @@
 //! Tickets.
-ghost use Rattle.std.specs.Prelude.{◌≡◌, ◌≤◌, ◌++◌, IfOk, length, drop, take};
+ghost use Rattle.std.specs.Prelude.{◌≡◌, ◌≤◌, ◌++◌, IfOk, length, drop, replicate, take};
+ghost use Rattle.wasm_types.specs.declared.outcome.Val.TheVariants.{I32};
 ghost use Rattle.wasm_spec.specs.Store.{fresh_store};
 ghost use Rattle.pool_worlds.specs.Contents as contents;
 ghost use Rattle.pool_worlds.specs.Contents.{prepared, Matches};
@@ -39,7 +40,7 @@ impl<N: Naming> Model for Ticket<N> {
 
 // As many values as a module may have globals.
 fn zeros(alloc: Global) -> Result<Vec<Val>, NoMemory>
-    ensures { IfOk result (λ globals. length globals.items ≡ MOST_GLOBALS) }
+    ensures { IfOk result (λ globals. globals.items ≡ replicate MOST_GLOBALS (I32 0)) }
 {
     match vec![in alloc; Val::I32(0); MOST_GLOBALS as usize] {
         Ok(globals) => Ok(globals),
@@ -56,12 +57,14 @@ fn put(globals: &mut [Val], first: &[Val])
 }
 
 impl<N: Naming> Ticket<N> {
-    /// A ticket.
+    /// A ticket whose globals are zeros.
     ///
     /// # Errors
     ///
     /// `NoMemory` where memory is refused.
-    pub fn open(alloc: Global, store: &ModuleStore<N>) -> Result<Ticket<N>, NoMemory> {
+    pub fn open(alloc: Global, store: &ModuleStore<N>) -> Result<Ticket<N>, NoMemory>
+        ensures { IfOk result (λ ticket. ticket ≡ replicate MOST_GLOBALS (I32 0)) }
+    {
         let numbers = store.config().numbers();
         let globals = zeros(alloc)?;
         let stacks = Stacks::open(alloc, numbers.depth, numbers.frame)?;

@@ -1,12 +1,15 @@
 use Rattle.std.proofs.Common.{ap, length, ◌∙◌}
+use Rattle.std.proofs.lemmas.List.{length-replicate}
+use Rattle.wasm_types.specs.declared.outcome.Val.TheVariants.{I32}
 use Rattle.wasm_machine.specs.Room.{Room}
+use Rattle.pool_limits.specs.declared.over.TheConstants.{MOST_GLOBALS}
 use Rattle.pool_limits.specs.declared.numbers.Numbers.{Numbers}
 use Rattle.instance_slots.proofs.ticket.Ticket.open.Goals as goal
 
 pub invariant_of-result : goal.invariant_of-result
 invariant_of-result g c =
     let room : Numbers → Room = λ n. record { depth = n.depth; frame = n.frame } in record {
-      globals_are = c.in_ok-globals.ensures;
+      globals_are = ap length c.in_ok-globals.ensures ∙ length-replicate MOST_GLOBALS (I32 0);
       stacks_are = c.in_ok-stacks.ensures ∙ ap room (c.numbers-numbers.ensures.same ∙ c.config.ensures.name);
       memory_is = c.in_ok-memory.ensures.memory;
       no_bytes = ap length c.in_ok-memory.ensures.zeroed.bytes;
