@@ -1,0 +1,4 @@
+pub mod Cells
+pub mod CopiedCells
+pub mod MarkedBlocks
+pub mod WrittenCells

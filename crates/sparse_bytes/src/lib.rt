@@ -1,0 +1,8 @@
+//! Bytes of which most are zero, kept as the cells that were written to.
+#![tactic(auto)]
+
+mod bytes;
+#[cfg(test)]
+mod tests;
+
+pub use bytes::{CELL_SIZE, SparseBytes};
