@@ -1,14 +1,25 @@
--- The image of a module: what a new instance holds.
-use Rattle.std.specs.Prelude.{◌≡◌, ◌-◌, ◌++◌, length, replicate}
-use Rattle.wasm_types.specs.Tree.{ModuleTree}
-use Rattle.wasm_spec.specs.Store.{fresh_store, memory_size}
+-- The image of a module: what a new instance holds beside its table.
+use Rattle.std.specs.Prelude.{◌≡◌, ℕ, List, Some, length, slice_get, slice_index}
+use Rattle.wasm_types.specs.Tree.{DataTree, ModuleTree}
+use Rattle.wasm_spec.specs.Store.{fresh_store, offset_of}
+use Rattle.sparse_bytes.specs.declared.bytes.SparseBytes.{SparseBytes}
+use Rattle.sparse_bytes.specs.SparseBytes.{HasCell, Touches, byte_at}
 use Rattle.initial_image.specs.declared.image.Image.{Image}
-use Rattle.initial_image.specs.Segments.{ends_of_data, greatest}
+
+-- these bytes, and zeros after them
+abbrev pub Shows : SparseBytes → List ℕ → Type 0
+Shows memory bytes = (i : ℕ) → byte_at memory i ≡ slice_index bytes i
+
+-- a data segment of the module has bytes in the cell of this number
+pub record IsNeeded (m : ModuleTree) (number : ℕ) : Type 0 where
+  pub place : ℕ
+  pub segment : DataTree
+  pub is_there : slice_get m.data_segments place ≡ Some segment
+  pub touches : Touches (offset_of m segment.offset) (length segment.bytes) number
 
 pub record IsImageOf (m : ModuleTree) (image : Image) : Type 0 where
-  -- the bytes up to the last data segment's end; with zeros after them they are the fresh memory
-  pub memory : (fresh_store m).memory ≡ image.memory ++ replicate (memory_size m - length image.memory) 0
-  pub kept : length image.memory ≡ greatest (ends_of_data m)
-  pub table : image.table ≡ (fresh_store m).table
+  pub memory : Shows image.memory (fresh_store m).memory
+  -- its memory has no other cells
+  pub cells : (number : ℕ) → HasCell image.memory number → IsNeeded m number
   pub globals : image.globals ≡ (fresh_store m).globals
   pub start : image.start ≡ m.start

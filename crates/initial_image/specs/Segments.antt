@@ -1,10 +1,10 @@
 -- Where the segments of a module end, and which is the first past its table or memory (WebAssembly Core Specification
 -- 1.0, section 4.5.4).
-use Rattle.std.specs.Prelude.{◌≡◌, ◌+◌, ℕ, List, Bool, Option, Some, length, map, max, fold, find, nat_lt, unwrap_or}
+use Rattle.std.specs.Prelude.{◌≡◌, ◌+◌, ℕ, List, Bool, Option, Some, length, map, find, nat_lt, unwrap_or}
 use Rattle.std.specs.List.{enumerate_from}
 use Rattle.wasm_types.specs.declared.outcome.Val.{Val}
 use Rattle.wasm_types.specs.declared.outcome.Val.TheVariants as val
-use Rattle.wasm_types.specs.Tree.{DataTree, GlobalTree, ModuleTree}
+use Rattle.wasm_types.specs.Tree.{GlobalTree, ModuleTree}
 use Rattle.wasm_spec.specs.Validity.{initial_value}
 use Rattle.wasm_spec.specs.Store as store
 use Rattle.wasm_spec.specs.Store.{Extent, element_extent, data_extent, offset_of}
@@ -37,17 +37,6 @@ first_element_misfit m = find is_past (map (element_extent m) (enumerate_from 0 
 
 abbrev pub first_data_misfit : ModuleTree → Option Extent
 first_data_misfit m = find is_past (map (data_extent m) (enumerate_from 0 m.data_segments))
-
--- where a data segment ends, and each
-abbrev pub end_of_data : ModuleTree → DataTree → ℕ
-end_of_data m s = offset_of m s.offset + length s.bytes
-
-abbrev pub ends_of_data : ModuleTree → List ℕ
-ends_of_data m = map (end_of_data m) m.data_segments
-
--- the greatest of these numbers, or 0 where there is none
-abbrev pub greatest : List ℕ → ℕ
-greatest ns = fold max 0 ns
 
 -- ---- globals
 

@@ -1,13 +1,16 @@
 //! A table and a memory with their segments written, and the first values of the globals.
-ghost use Rattle.std.specs.Prelude.{◌≡◌, ◌≤◌, None, Some, All, IfOk, fold, length, map, replicate};
+ghost use Rattle.std.specs.Prelude.{◌≡◌, ℕ, ◌≤◌, ◌++◌, None, Some, IfOk, OnOk, [], drop, fold, length, map};
 ghost use Rattle.wasm_types.specs.Tree.{global_tree, module_tree};
-ghost use Rattle.wasm_spec.specs.Store.{fresh_store, table_size, write_data, write_elements};
-ghost use Rattle.initial_image.specs.Segments.{ends_of_data, first_element_misfit, first_value};
+ghost use Rattle.wasm_spec.specs.Store.{first_misfit, fresh_store, table_size, write_elements};
+ghost use Rattle.sparse_bytes.specs.SparseBytes.{HasCell};
+ghost use Rattle.initial_image.specs.Image.{IsNeeded, Shows};
+ghost use Rattle.initial_image.specs.Segments.{first_data_misfit, first_element_misfit, first_value};
 
 use crate::segments::{minimum, offset_of};
+use sparse_bytes::SparseBytes;
 use std::alloc::{AllocError, Global};
-use wasm_types::{Module, Val};
-use wasm_validate::initial_value;
+use wasm_types::{Module, NoMemory, Val};
+use wasm_validate::{Valid, initial_value};
 
 // Each entry becomes the function of its place.
 fn write_functions(entries: &mut [Option<u32>], functions: &[u32])
@@ -32,35 +35,44 @@ fn write_elements(m: &Module, table: &mut [Option<u32>])
     }
 }
 
-// Writes the data segments, in order.
-fn write_data(m: &Module, memory: &mut [u8])
-    requires { All (λ end. end ≤ length memory.old) (ends_of_data (module_tree m.now)) }
-    ensures { memory.new ≡ fold (write_data (module_tree m.now)) memory.old (module_tree m.now).data_segments }
+/// Writes the table of a new instance over the first entries, and says how many it has. The others stay. Takes no memory.
+pub fn write_table(valid: &Valid, entries: &mut [Option<u32>]) -> usize
+    requires fit { first_misfit (module_tree valid.now) ≡ None }
+    requires room { table_size (module_tree valid.now) ≤ length entries.old }
+    ensures count { result ≡ table_size (module_tree valid.now) }
+    ensures table { entries.new ≡ (fresh_store (module_tree valid.now)).table ++ drop result entries.old }
+{
+    let m = valid.module();
+    let count = minimum(m.tables.as_slice()) as usize;
+    let table = &mut entries[..count];
+    table.fill(None);
+    write_elements(m, table);
+    count
+}
+
+// Writes the data segments over zeros, in order.
+fn write_data(m: &Module, memory: &mut SparseBytes) -> Result<(), NoMemory>
+    requires fit { first_data_misfit (module_tree m.now) ≡ None }
+    requires zeros { Shows memory.old [] }
+    requires cells { (number : ℕ) → HasCell memory.old number → ⊥ }
+    ensures memory { OnOk result (Shows memory.new (fresh_store (module_tree m.now)).memory) }
+    ensures cells { OnOk result ((number : ℕ) → HasCell memory.new number → IsNeeded (module_tree m.now) number) }
 {
     for segment in m.data_segments.as_slice() {
-        let start = offset_of(m, &segment.offset) as usize;
-        let end = start + segment.bytes.len();
-        memory[start..end].copy_from_slice(segment.bytes.as_slice());
+        let start = offset_of(m, &segment.offset);
+        memory.write(start, segment.bytes.as_slice())?;
     }
+    Ok(())
 }
 
-// The table of a new instance.
-pub(crate) fn filled_table(alloc: Global, m: &Module) -> Result<Vec<Option<u32>>, AllocError>
-    requires { first_element_misfit (module_tree m.now) ≡ None }
-    ensures { IfOk result (λ t. t.items ≡ (fresh_store (module_tree m.now)).table) }
+// The memory of a new instance.
+pub(crate) fn filled_memory(alloc: Global, m: &Module) -> Result<SparseBytes, NoMemory>
+    requires fit { first_data_misfit (module_tree m.now) ≡ None }
+    ensures memory { IfOk result (λ b. Shows b (fresh_store (module_tree m.now)).memory) }
+    ensures cells { IfOk result (λ b. (number : ℕ) → HasCell b number → IsNeeded (module_tree m.now) number) }
 {
-    let mut table = vec![in alloc; None; minimum(m.tables.as_slice()) as usize]?;
-    write_elements(m, table.as_mut_slice());
-    Ok(table)
-}
-
-// So many bytes of the memory of a new instance, where no data segment ends past them.
-pub(crate) fn filled_memory(alloc: Global, m: &Module, size: usize) -> Result<Vec<u8>, AllocError>
-    requires { All (λ end. end ≤ size) (ends_of_data (module_tree m.now)) }
-    ensures { IfOk result (λ b. b.items ≡ fold (write_data (module_tree m.now)) (replicate size 0) (module_tree m.now).data_segments) }
-{
-    let mut memory = vec![in alloc; 0; size]?;
-    write_data(m, memory.as_mut_slice());
+    let mut memory = SparseBytes::zeros(alloc);
+    write_data(m, &mut memory)?;
     Ok(memory)
 }
 

@@ -5,20 +5,20 @@ ghost use Rattle.wasm_spec.specs.Store.{first_misfit};
 ghost use Rattle.initial_image.specs.Image.{IsImageOf};
 ghost use Rattle.initial_image.specs.Segments.{Names};
 
-use crate::fill::{filled_memory, filled_table, first_values};
+use crate::fill::{filled_memory, first_values};
 use crate::segments::{Misfit, check_data, check_elements};
+use sparse_bytes::SparseBytes;
 use std::alloc::{AllocError, Global};
 use thiserror::Error;
-use wasm_types::{Items, Val};
+use wasm_types::{Items, NoMemory, Val};
 use wasm_validate::Valid;
 
-/// What a new instance of a module holds. Source: Core Specification 1.0, section 4.5.4.
+/// What a new instance of a module holds beside its table, which [`write_table`](crate::write_table) writes. Source: Core
+/// Specification 1.0, section 4.5.4.
 #[derive(Drop)]
 pub struct Image {
-    /// The memory's bytes up to the greatest end of a data segment. All later ones are zero.
-    pub memory: Items<u8>,
-    /// A function's index or nothing for each element of the table.
-    pub table: Items<Option<u32>>,
+    /// The memory's bytes.
+    pub memory: SparseBytes,
     /// The first value of each global.
     pub globals: Items<Val>,
     /// The index of the start function.
@@ -46,7 +46,18 @@ impl From<AllocError> for ImageFault {
     }
 }
 
-/// The image of a module. It takes memory in proportion to the module's bytes and its least sizes.
+impl From<NoMemory> for ImageFault {
+    ghost use Rattle.initial_image.specs.declared.image.ImageFault.TheVariants as fault;
+
+    ghost from_gives = { λ _ e. e ≡ fault.NoMemory };
+
+    fn from(_: NoMemory) -> ImageFault {
+        ImageFault::NoMemory
+    }
+}
+
+/// The image of a module. It takes memory in proportion to the bytes of the module's data segments and to its globals, whatever its least
+/// sizes are.
 ///
 /// # Errors
 ///
@@ -59,13 +70,11 @@ pub fn build(alloc: Global, valid: &Valid) -> Result<Image, ImageFault>
 {
     let m = valid.module();
     check_elements(m)?;
-    let end = check_data(m)?;
-    let table = filled_table(alloc, m)?;
-    let memory = filled_memory(alloc, m, end as usize)?;
+    check_data(m)?;
+    let memory = filled_memory(alloc, m)?;
     let globals = first_values(alloc, m.globals.as_slice())?;
     Ok(Image {
-        memory: Items::new(memory),
-        table: Items::new(table),
+        memory,
         globals: Items::new(globals),
         start: m.start,
     })

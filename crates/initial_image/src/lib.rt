@@ -9,5 +9,6 @@ mod segments;
 #[cfg(test)]
 mod tests;
 
+pub use fill::write_table;
 pub use image::{Image, ImageFault, build};
 pub use segments::{Misfit, SegmentIndex};

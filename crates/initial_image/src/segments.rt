@@ -1,10 +1,10 @@
 //! Where segments end, and the first that reaches past its table or memory.
-ghost use Rattle.std.specs.Prelude.{◌≡◌, ◌+◌, ◌*◌, ◌<◌, ◌≤◌, ◌^◌, Some, None, All, IfOk, IfErr, OnOk, IsErrOf, map, max, fold, length};
+ghost use Rattle.std.specs.Prelude.{◌≡◌, ◌+◌, ◌<◌, ◌≤◌, ◌^◌, None, IfOk, IfErr, OnOk, IsErrOf, length};
 ghost use Rattle.std.specs.Option.{SomeIff};
 ghost use Rattle.wasm_types.specs.Tree.{expr_tree, module_tree};
-ghost use Rattle.wasm_spec.specs.Store.{minimum_of, table_size, memory_size};
+ghost use Rattle.wasm_spec.specs.Store.{minimum_of};
 ghost use Rattle.wasm_spec.specs.Store as store;
-ghost use Rattle.initial_image.specs.Segments.{ends_of_data, greatest, first_element_misfit, first_data_misfit, Names};
+ghost use Rattle.initial_image.specs.Segments.{first_element_misfit, first_data_misfit, Names};
 
 use crate::image::ImageFault;
 use thiserror::Error;
@@ -79,20 +79,16 @@ pub(crate) fn check_elements(m: &Module) -> Result<(), ImageFault>
     Ok(())
 }
 
-// The greatest end of a data segment, where each is within the memory, or the first that is not.
-pub(crate) fn check_data(m: &Module) -> Result<u64, ImageFault>
+// Each data segment is within the memory, or the first that is not.
+pub(crate) fn check_data(m: &Module) -> Result<(), ImageFault>
     ensures fit { OnOk result (first_data_misfit (module_tree m.now) ≡ None) }
-    ensures greatest { IfOk result (λ end. end ≡ greatest (ends_of_data (module_tree m.now))) }
-    ensures within { IfOk result (λ end. end ≤ memory_size (module_tree m.now)) }
     ensures misfit { IfErr result (Names (first_data_misfit (module_tree m.now))) }
 {
     let size = minimum(m.memories.as_slice()) as u64 * 65_536;
-    let mut greatest = 0;
     for (place, segment) in m.data_segments.as_slice().iter().enumerate() {
         let offset = offset_of(m, &segment.offset);
         let length = segment.bytes.len();
-        let end = checked_end(SegmentIndex::Data(place), offset, length, size)?;
-        greatest = greatest.max(end);
+        checked_end(SegmentIndex::Data(place), offset, length, size)?;
     }
-    Ok(greatest)
+    Ok(())
 }

@@ -1,5 +1,6 @@
-// Worked images.
+// Worked tables.
 
+use crate::fill::write_table;
 use crate::image::build;
 use std::alloc::{AllocError, Global};
 use std::test::Fail;
@@ -32,13 +33,15 @@ fn module(alloc: Global, elements: u32) -> Result<Module, AllocError> {
 }
 
 #[test]
-fn the_greatest_table_has_an_image(rt: HostRuntime) -> Result<(), Fail> {
+fn the_greatest_table_is_written_and_no_entry_past_it(rt: HostRuntime) -> Result<(), Fail> {
     let alloc = rt.alloc();
     let module = module(alloc, 65_536)?;
     let valid = validate(alloc, module)?;
-    let image = build(alloc, &valid)?;
-    assert_eq!(rt; image.table.as_slice().len(), 65_536);
-    assert_eq!(rt; image.table.as_slice()[65_535], None);
-    assert_eq!(rt; image.memory.as_slice().len(), 0);
+    build(alloc, &valid)?;
+    let mut entries = vec![in alloc; Some(7); 65_540]?;
+    assert_eq!(rt; write_table(&valid, &mut entries), 65_536);
+    assert_eq!(rt; entries[0], None);
+    assert_eq!(rt; entries[65_535], None);
+    assert_eq!(rt; entries[65_536], Some(7));
     Ok(())
 }

@@ -1,40 +1,46 @@
 //! Blocks of a memory, and how they are written over from an image.
-ghost use Rattle.std.specs.Prelude.{◌≡◌, ◌≢◌, ◌+◌, ◌*◌, ◌<◌, ◌≤◌, ◌↔◌, IsTrue, false, ℕ, List, [], length, take, slice_index, slice_index_or, count_by, if◌then◌else◌};
+ghost use Rattle.std.specs.Prelude.{◌≡◌, ◌≢◌, ◌+◌, ◌*◌, ◌<◌, ◌≤◌, ◌↔◌, ◌^◌, IsTrue, false, ℕ, length, take, slice_index, slice_index_or, count_by, if◌then◌else◌};
 ghost use Rattle.linear_memory.specs.Marks.{block_size};
 ghost use Rattle.pool_worlds.specs.Contents.{IsClean};
-ghost use Rattle.memory_slots.specs.Images.{HasImageFrom, HasImage, KeepsImage, IsZeroFrom};
+ghost use Rattle.memory_slots.specs.Images.{HasImageFrom, HasImage, KeepsImage, IsZeroOutside, byte_of};
 
 use crate::steps::Steps;
 use linear_memory::BLOCK_SIZE;
+use sparse_bytes::SparseBytes;
 use std::marker::Brand;
 use std::sync::ledger::{Blank, Ledger};
 
 // How many marks are looked at together.
 const GROUP: usize = 128;
 
-// Writes what the image has from a place on: its bytes, and zeros past its end.
-fn write_image(part: &mut [u8], image: &[u8], from: usize)
-    ensures image { HasImageFrom from part.new image.now }
+// How many cells of an image make a block.
+const CELLS: u32 = 64;
+
+// Writes a block over from the image; without one, with zeros.
+fn write_block(part: &mut [u8], image: Option<&SparseBytes>, block: usize)
+    requires { block < 2 ^ 26 }
+    ensures image { HasImageFrom (block_size * block) part.new (byte_of image.entry) }
     ensures room { length part.new ≡ length part.old }
 {
-    let rest = &image[from.min(image.len())..];
-    let kept = rest.len().min(part.len());
-    part[..kept].copy_from_slice(&rest[..kept]);
-    part[kept..].fill(0);
+    match image {
+        Some(image) => image.copy_to(block as u32 * CELLS, part),
+        None => part.fill(0),
+    }
 }
 
 // Where the block is marked, it is written over from the image, in one step, and its mark is taken away.
 fn restore_block<L: Ledger>(
     bytes: &mut [u8],
     marks: &mut [bool],
-    image: &[u8],
+    image: Option<&SparseBytes>,
     block: usize,
     steps: &mut Steps<L>,
 )
     requires marked { length bytes.old ≡ block_size * length marks.old }
+    requires few { length marks.old ≤ 2 ^ 26 }
     requires block { block < length marks.old }
-    requires outside { KeepsImage bytes.old marks.old image.now }
-    ensures outside { KeepsImage bytes.new marks.new image.now }
+    requires outside { KeepsImage bytes.old marks.old (byte_of image) }
+    ensures outside { KeepsImage bytes.new marks.new (byte_of image.entry) }
     ensures clean { slice_index_or marks.new block false ≡ false }
     ensures others { (k : ℕ) → k ≢ block → slice_index_or marks.new k false ≡ slice_index_or marks.old k false }
     ensures room { (length bytes.new ≡ length bytes.old) × (length marks.new ≡ length marks.old) }
@@ -44,7 +50,11 @@ fn restore_block<L: Ledger>(
         return;
     }
     let start = block * BLOCK_SIZE as usize;
-    write_image(&mut bytes[start..start + BLOCK_SIZE as usize], image, start);
+    write_block(
+        &mut bytes[start..start + BLOCK_SIZE as usize],
+        image,
+        block,
+    );
     marks[block] = false;
     steps.tick();
 }
@@ -65,15 +75,16 @@ fn has_marked(marks: &[bool]) -> bool
 fn restore_group<L: Ledger>(
     bytes: &mut [u8],
     marks: &mut [bool],
-    image: &[u8],
+    image: Option<&SparseBytes>,
     first: usize,
     end: usize,
     steps: &mut Steps<L>,
 )
     requires marked { length bytes.old ≡ block_size * length marks.old }
+    requires few { length marks.old ≤ 2 ^ 26 }
     requires blocks { (first ≤ end) × (end ≤ length marks.old) }
-    requires outside { KeepsImage bytes.old marks.old image.now }
-    ensures outside { KeepsImage bytes.new marks.new image.now }
+    requires outside { KeepsImage bytes.old marks.old (byte_of image) }
+    ensures outside { KeepsImage bytes.new marks.new (byte_of image.entry) }
     ensures clean { (k : ℕ) → first ≤ k → k < end → slice_index_or marks.new k false ≡ false }
     ensures before { (k : ℕ) → k < first → slice_index_or marks.new k false ≡ slice_index_or marks.old k false }
     ensures after { (k : ℕ) → end ≤ k → slice_index_or marks.new k false ≡ slice_index_or marks.old k false }
@@ -93,12 +104,13 @@ fn restore_group<L: Ledger>(
 pub(crate) fn restore_marked<L: Ledger>(
     bytes: &mut [u8],
     marks: &mut [bool],
-    image: &[u8],
+    image: Option<&SparseBytes>,
     steps: &mut Steps<L>,
 )
     requires marked { length bytes.old ≡ block_size * length marks.old }
-    requires outside { KeepsImage bytes.old marks.old image.now }
-    ensures bytes { HasImage bytes.new image.now }
+    requires few { length marks.old ≤ 2 ^ 26 }
+    requires outside { KeepsImage bytes.old marks.old (byte_of image) }
+    ensures bytes { HasImage bytes.new (byte_of image.entry) }
     ensures marks { IsClean marks.new }
     ensures room { (length bytes.new ≡ length bytes.old) × (length marks.new ≡ length marks.old) }
     ensures steps { steps.new ≡ steps.old + count_by (λ marked. marked) marks.old }
@@ -111,32 +123,68 @@ pub(crate) fn restore_marked<L: Ledger>(
     }
 }
 
-// Makes all bytes zero and takes all marks away. Outside marked blocks the bytes are those of an image that is zero from `written` on,
-// so only the marked blocks and the bytes before `written` are written.
-fn zero_all<L: Ledger>(bytes: &mut [u8], marks: &mut [bool], written: usize, blank: Blank)
-    requires marked { length bytes.old ≡ block_size * length marks.old }
-    requires outside { (image : List ℕ) × KeepsImage bytes.old marks.old image × IsZeroFrom written image }
-    requires name { (blank.name ≡ L.name) × (blank.parts ≡ L.parts) × (0 < blank.parts) }
-    ensures bytes { HasImage bytes.new [] }
-    ensures marks { IsClean marks.new }
-    ensures room { (length bytes.new ≡ length bytes.old) × (length marks.new ≡ length marks.old) }
+// Marks what is marked there, too.
+fn add_marks(marks: &mut [bool], others: &[bool])
+    requires { length others.now ≡ length marks.old }
+    ensures marks { (k : ℕ) → slice_index_or marks.new k false ≡ false
+        → (slice_index_or marks.old k false ≡ false) × (slice_index_or others.now k false ≡ false) }
+    ensures room { length marks.new ≡ length marks.old }
 {
-    let kept = written.min(bytes.len());
-    bytes[..kept].fill(0);
-    let mut steps = Steps::<L>::new(blank);
-    restore_marked(bytes, marks, &[], &mut steps);
+    for block in 0..marks.len() {
+        marks[block] |= others[block];
+    }
 }
 
-// Makes all bytes the image's and takes all marks away. Outside marked blocks they were those of another image, which is zero from
-// `written` on: zeros that are there already are not written.
-pub(crate) fn write_all(bytes: &mut [u8], marks: &mut [bool], written: usize, image: &[u8])
+// Marks the blocks in which a byte of the image may not be zero, and no other.
+fn mark_written(written: &mut [bool], image: Option<&SparseBytes>)
+    ensures zeros { IsZeroOutside (block_size * length written.new) written.new (byte_of image.entry) }
+    ensures room { length written.new ≡ length written.old }
+{
+    written.fill(false);
+    if let Some(image) = image {
+        image.mark_blocks(CELLS, written);
+    }
+}
+
+// Writes the blocks that are marked over from the image, and takes their marks away.
+fn restore_uncounted<L: Ledger>(
+    bytes: &mut [u8],
+    marks: &mut [bool],
+    image: Option<&SparseBytes>,
+    blank: Blank,
+)
     requires marked { length bytes.old ≡ block_size * length marks.old }
-    requires outside { (other : List ℕ) × KeepsImage bytes.old marks.old other × IsZeroFrom written other }
-    ensures bytes { HasImage bytes.new image.now }
+    requires few { length marks.old ≤ 2 ^ 26 }
+    requires outside { KeepsImage bytes.old marks.old (byte_of image) }
+    requires name { (blank.name ≡ L.name) × (blank.parts ≡ L.parts) × (0 < blank.parts) }
+    ensures bytes { HasImage bytes.new (byte_of image.entry) }
     ensures marks { IsClean marks.new }
     ensures room { (length bytes.new ≡ length bytes.old) × (length marks.new ≡ length marks.old) }
 {
-    zero_all::<Brand>(bytes, marks, written, Blank::new(1));
-    let kept = image.len().min(bytes.len());
-    bytes[..kept].copy_from_slice(&image[..kept]);
+    let mut steps = Steps::<L>::new(blank);
+    restore_marked(bytes, marks, image, &mut steps);
+}
+
+// Makes all bytes the image's, or zero without one, and takes all marks away. Outside marked blocks they were those of another image,
+// which is zero outside the blocks `written`; after it these are the blocks of the new one. Zeros that are there already are not written.
+pub(crate) fn write_all(
+    bytes: &mut [u8],
+    marks: &mut [bool],
+    written: &mut [bool],
+    image: Option<&SparseBytes>,
+)
+    requires marked { length bytes.old ≡ block_size * length marks.old }
+    requires few { length marks.old ≤ 2 ^ 26 }
+    requires blocks { length written.old ≡ length marks.old }
+    requires outside { (other : ℕ → ℕ) × KeepsImage bytes.old marks.old other × IsZeroOutside (length bytes.old) written.old other }
+    ensures bytes { HasImage bytes.new (byte_of image.entry) }
+    ensures marks { IsClean marks.new }
+    ensures written { IsZeroOutside (length bytes.new) written.new (byte_of image.entry) }
+    ensures room { (length bytes.new ≡ length bytes.old) × (length marks.new ≡ length marks.old) }
+    ensures blocks { length written.new ≡ length written.old }
+{
+    add_marks(marks, written);
+    mark_written(written, image);
+    add_marks(marks, written);
+    restore_uncounted::<Brand>(bytes, marks, image, Blank::new(1));
 }

@@ -41,23 +41,23 @@ pub(crate) fn restore_memory<N: Naming, L: Ledger>(
     restore_marked(
         &mut memory.bytes,
         &mut memory.marks,
-        image.memory.as_slice(),
+        Some(&image.memory),
         steps,
     );
     memory.pages = pages;
 }
 
-// Makes a memory the module's fresh one, and says from which byte on the module's image is zero. Before, it belonged to another module
-// or to none, whose image is zero from `written` on.
+// Makes a memory the module's fresh one. Before, it belonged to another module or to none, whose image is zero outside the blocks
+// `written`; after it these are the blocks of the module's image.
 pub(crate) fn write_memory<N: Naming>(
     memory: &mut Memory,
-    written: usize,
+    written: &mut [bool],
     store: &ModuleStore<N>,
     module: &ModuleRef<N>,
-) -> usize
-    requires { (holds : Option Named) × IsWrittenTo N.config written (contents_of memory.old holds) }
+)
+    requires { (holds : Option Named) × IsWrittenTo N.config written.old (contents_of memory.old holds) }
     ensures fresh { IsFreshMemory N.config.pages (contents_of memory.new (Some «module».now)) «module».now }
-    ensures written { IsWrittenTo N.config result (contents_of memory.new (Some «module».now)) }
+    ensures written { IsWrittenTo N.config written.new (contents_of memory.new (Some «module».now)) }
     ensures marks { memory.new.marks.items ≡ map (λ marked. false) memory.old.marks.items }
 {
     let image = store.image(module);
@@ -66,8 +66,7 @@ pub(crate) fn write_memory<N: Naming>(
         &mut memory.bytes,
         &mut memory.marks,
         written,
-        image.memory.as_slice(),
+        Some(&image.memory),
     );
     memory.pages = pages;
-    image.memory.len()
 }

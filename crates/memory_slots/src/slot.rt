@@ -33,8 +33,8 @@ use wasm_validate::Valid;
 pub struct MemSlot<N: Naming> {
     pub(crate) memory: Memory,
     holds: Option<ModuleRef<N>>,
-    // The image of its module, or of none, is zero from this byte on.
-    written: usize,
+    // For each block, whether a byte of its module's image may not be zero there.
+    written: Vec<bool>,
 }
 
 impl<N: Naming> Model for MemSlot<N> {
@@ -48,7 +48,7 @@ impl<N: Naming> Model for MemSlot<N> {
 
     ghost view = { λ s. contents_of s.memory s.holds };
 
-    ghost invariant = { λ s. IsWrittenTo N.config s.written (contents_of s.memory s.holds) };
+    ghost invariant = { λ s. IsWrittenTo N.config s.written.items (contents_of s.memory s.holds) };
 }
 
 impl<N: Naming> MemSlot<N> {
@@ -62,10 +62,11 @@ impl<N: Naming> MemSlot<N> {
     {
         let pages = store.config().numbers().pages;
         let memory = Memory::zeroed(alloc, pages)?;
+        let written = vec![in alloc; false; memory.marks.len()].map_err(|_| NoMemory)?;
         Ok(MemSlot {
             memory,
             holds: None,
-            written: 0,
+            written,
         })
     }
 
@@ -100,7 +101,7 @@ impl<N: Naming> MemSlot<N> {
         ensures fresh { IsFreshMemory N.config.pages self.new «module».now }
         ensures marks { self.new.marks ≡ map (λ marked. false) self.old.marks }
     {
-        self.written = write_memory(&mut self.memory, self.written, store, module);
+        write_memory(&mut self.memory, &mut self.written, store, module);
         self.holds = Some(module.again());
     }
 
@@ -144,12 +145,11 @@ impl<N: Naming> MemSlot<N> {
         write_all(
             &mut self.memory.bytes,
             &mut self.memory.marks,
-            self.written,
-            &[],
+            &mut self.written,
+            None,
         );
         self.memory.pages = 0;
         self.holds = None;
-        self.written = 0;
     }
 
     /// How many blocks are marked. Takes no memory.

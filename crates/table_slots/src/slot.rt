@@ -1,9 +1,10 @@
 //! Tables in slots, and the modules that they belong to.
-ghost use Rattle.std.specs.Prelude.{◌≡◌, ◌≤◌, ◌++◌, true, is_some, IfOk, length, drop};
+ghost use Rattle.std.specs.Prelude.{◌≡◌, true, is_some, IfOk};
 ghost use Rattle.pool_core.specs.declared.words.State.TheVariants.{Warm};
 ghost use Rattle.pool_worlds.specs.Contents.{Table, prepared, restored, IsCold, IsTableOf, Matches};
 ghost use Rattle.table_slots.specs.Fits.{room, own_tag, fits-own_tag};
 
+use initial_image::write_table;
 use module_store::{ModuleRef, ModuleStore, Naming};
 use slot_words::Pooled;
 use std::alloc::Global;
@@ -33,14 +34,6 @@ impl<N: Naming> Model for TableSlot<N> {
     ghost view = { λ s. record { entries = take s.count s.entries.items; holds = s.holds } };
 
     ghost invariant = { λ s. IsKept N.config s.entries.items s.count s.holds };
-}
-
-// Writes these entries over the first.
-fn put(entries: &mut [Option<u32>], table: &[Option<u32>])
-    requires { length table.now ≤ length entries.old }
-    ensures { entries.new ≡ table.now ++ drop (length table.now) entries.old }
-{
-    entries[..table.len()].copy_from_slice(table);
 }
 
 impl<N: Naming> TableSlot<N> {
@@ -79,10 +72,8 @@ impl<N: Naming> TableSlot<N> {
         ensures { IsTableOf self.new «module».now }
     {
         // A module of the store has no larger table than the configuration allows.
-        let _valid = store.valid(module);
-        let table = store.image(module).table.as_slice();
-        put(&mut self.entries, table);
-        self.count = table.len();
+        let valid = store.valid(module);
+        self.count = write_table(valid, &mut self.entries);
         self.holds = Some(module.again());
     }
 

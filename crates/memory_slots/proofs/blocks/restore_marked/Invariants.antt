@@ -1,13 +1,13 @@
 use Rattle.std.proofs.Common.{◌≡◌, ◌+◌, ◌-◌, ◌<◌, ◌≤◌, ℕ, false, length, take}
 use Rattle.std.specs.Prelude.{slice_index_or}
-use Rattle.memory_slots.specs.Images.{KeepsImage}
+use Rattle.memory_slots.specs.Images.{KeepsImage, byte_of}
 use Rattle.memory_slots.proofs.MarkLemmas.{count}
 use Rattle.memory_slots.proofs.blocks.restore_marked.Given as goal
 
 abbrev pub invariant-loop-first : goal.invariant-loop-first
 invariant-loop-first g l = record {
   within : l.first ≤ length l.marks;
-  outside : KeepsImage l.bytes l.marks l.image;
+  outside : KeepsImage l.bytes l.marks (byte_of l.image);
   clean : (k : ℕ) → k < l.first → slice_index_or l.marks k false ≡ false;
   later : (k : ℕ) → l.first ≤ k → slice_index_or l.marks k false ≡ slice_index_or l.initial.marks k false;
   steps : l.steps ≡ l.initial.steps + count (take l.first l.initial.marks);

@@ -1,5 +1,5 @@
-use Rattle.std.proofs.Common.{◌≡◌, ◌∙◌, Bool, false, List, length, drop, refl, ap, arith}
-use Rattle.std.specs.Prelude.{slice_index_or}
+use Rattle.std.proofs.Common.{◌≡◌, ◌∙◌, Bool, false, List, length, drop, refl, sym, ap, arith}
+use Rattle.std.specs.Prelude.{slice_index, slice_index_or}
 use Rattle.std.proofs.lemmas.List.{take_at}
 use Rattle.wasm_types.specs.Tree.{ModuleTree}
 use Rattle.wasm_spec.specs.Store.{minimum_of}
@@ -15,7 +15,7 @@ use Rattle.memory_slots.proofs.images.write_memory.Goals as goal
 pub write_all-requires-clause-outside : goal.write_all-requires-clause-outside
 write_all-requires-clause-outside g c =
     rw (c.deref_mut.ensures.value, c.deref_mut-2.ensures.value)
-    (memory_image g.N.Naming.config.pages c.requires.0, (λ i lt free. c.requires.1.kept.outside i free), c.requires.1.zeros)
+    (slice_index (memory_image g.N.Naming.config.pages c.requires.0), (λ i lt free. c.requires.1.kept.outside i free), c.requires.1.zeros)
 
 pub returns-clause-fresh : goal.returns-clause-fresh
 returns-clause-fresh g c =
@@ -31,7 +31,7 @@ returns-clause-fresh g c =
       holds = refl;
       size = c.least_pages-pages.ensures ∙ ap (λ (t : ModuleTree). minimum_of t.memories) c.valid.ensures.tree;
       bytes = take_at bytes (drop (length bytes) c.args.memory.now.bytes.items) c.args.memory.now.bytes.len all
-          ∙ image_written (load_limits config) m.tree c.image-image.result.now (loaded-within is.bytes _ _ is.loads) c.image-image.ensures bytes room (rw c.as_slice.ensures at c.write_all.ensures.bytes);
+          ∙ image_written (load_limits config) m.tree c.image-image.result.now (loaded-within is.bytes _ _ is.loads) c.image-image.ensures bytes room c.write_all.ensures.bytes;
       clean = λ k. ap (λ (l : List Bool). slice_index_or l k false) (take_at marks (drop (length marks) c.args.memory.now.marks.items) c.args.memory.now.marks.len blocks) ∙ c.write_all.ensures.marks k;
     }
 
@@ -49,12 +49,17 @@ returns-clause-written g c =
     let marks = c.write_all.new.marks in
     let all : length bytes ≡ c.args.memory.now.bytes.len = omega arith in
     let blocks : length marks ≡ c.args.memory.now.marks.len = omega arith in
-    let zeros = image_zeros (load_limits g.N.Naming.config) c.args.module.now.tree c.image-image.result.now (loaded-within is.bytes _ _ is.loads) c.image-image.ensures in
+    let m = c.args.module.now in
+    let config = g.N.Naming.config in
+    let loaded = loaded-within is.bytes _ _ is.loads in
+    let long_bytes = ap length (take_at bytes (drop (length bytes) c.args.memory.now.bytes.items) c.args.memory.now.bytes.len all) in
+    let long_marks = ap length (take_at marks (drop (length marks) c.args.memory.now.marks.items) c.args.memory.now.marks.len blocks) ∙ c.write_all.ensures.room.1 ∙ ap length c.deref_mut-2.ensures.value in
     record {
-      kept = fresh_kept g.N.Naming.config c.args.module.now (contents_of c.args.memory.now c.requires.0) _ c.requires.1.kept (returns-clause-fresh g c)
+      kept = fresh_kept config m (contents_of c.args.memory.now c.requires.0) _ c.requires.1.kept (returns-clause-fresh g c)
           (record {
-            bytes = ap length (take_at bytes (drop (length bytes) c.args.memory.now.bytes.items) c.args.memory.now.bytes.len all) ∙ c.write_all.ensures.room.0 ∙ ap length c.deref_mut.ensures.value;
-            marks = ap length (take_at marks (drop (length marks) c.args.memory.now.marks.items) c.args.memory.now.marks.len blocks) ∙ c.write_all.ensures.room.1 ∙ ap length c.deref_mut-2.ensures.value;
-          }) (loaded-within is.bytes _ _ is.loads).pages;
-      zeros = λ i le. zeros i (rw (← c.len.ensures) le);
+            bytes = long_bytes ∙ c.write_all.ensures.room.0 ∙ ap length c.deref_mut.ensures.value;
+            marks = long_marks;
+          }) loaded.pages;
+      blocks = c.write_all.ensures.blocks ∙ c.requires.1.blocks ∙ sym long_marks;
+      zeros = λ i lt free. image_zeros (load_limits config) m.tree c.image-image.result.now loaded c.image-image.ensures (length bytes) c.write_all.new.written c.write_all.ensures.written i (omega (arith, lt, long_bytes)) free;
     }

@@ -1,5 +1,5 @@
-use Rattle.std.proofs.Common.{◌≡◌, ◌∙◌, Bool, false, List, [], length, drop, refl, ap, arith}
-use Rattle.std.specs.Prelude.{slice_index_or}
+use Rattle.std.proofs.Common.{◌≡◌, ◌∙◌, Bool, false, List, [], length, drop, refl, sym, ap, arith}
+use Rattle.std.specs.Prelude.{slice_index, slice_index_or}
 use Rattle.std.proofs.lemmas.List.{take_at}
 use Rattle.pool_worlds.specs.Contents.{memory_image}
 use Rattle.pool_worlds.proofs.Images.{from_bytes}
@@ -10,8 +10,8 @@ use Rattle.memory_slots.proofs.slot.MemSlot.clear.Goals as goal
 
 pub write_all-requires-clause-outside : goal.write_all-requires-clause-outside
 write_all-requires-clause-outside g c =
-    rw (c.deref_mut.ensures.value, c.deref_mut-2.ensures.value)
-    (memory_image g.N.Naming.config.pages c.self.inside.holds, (λ i lt free. c.self.invariant.kept.outside i free), c.self.invariant.zeros)
+    rw (c.deref_mut.ensures.value, c.deref_mut-2.ensures.value, c.deref_mut-3.ensures.value)
+    (slice_index (memory_image g.N.Naming.config.pages c.self.inside.holds), (λ i lt free. c.self.invariant.kept.outside i free), c.self.invariant.zeros)
 
 pub returns : goal.returns
 returns g c =
@@ -37,11 +37,16 @@ invariant_of-self g c =
     let old = c.self.inside.memory in
     let all : length bytes ≡ old.bytes.len = omega arith in
     let blocks : length marks ≡ old.marks.len = omega arith in
+    let long_marks = ap length (take_at marks (drop (length marks) old.marks.items) old.marks.len blocks) ∙ c.write_all.ensures.room.1 ∙ ap length c.deref_mut-2.ensures.value in
+    let written = c.write_all.new.written in
+    let as_many : length written ≡ c.self.inside.written.len = omega arith in
+    let long_written = ap length (take_at written (drop (length written) c.self.inside.written.items) c.self.inside.written.len as_many) ∙ c.write_all.ensures.blocks ∙ ap length c.deref_mut-3.ensures.value in
     record {
       kept = whole_kept config (contents_of old c.self.inside.holds) _ c.self.invariant.kept
           (record {
             bytes = ap length (take_at bytes (drop (length bytes) old.bytes.items) old.bytes.len all) ∙ c.write_all.ensures.room.0 ∙ ap length c.deref_mut.ensures.value;
-            marks = ap length (take_at marks (drop (length marks) old.marks.items) old.marks.len blocks) ∙ c.write_all.ensures.room.1 ∙ ap length c.deref_mut-2.ensures.value;
+            marks = long_marks;
           }) (omega arith) (returns g c).bytes;
-      zeros = λ i le. filled-past config.pages [] i le;
+      blocks = long_written ∙ c.self.invariant.blocks ∙ sym long_marks;
+      zeros = λ i lt free. filled-past config.pages [] i (omega arith);
     }

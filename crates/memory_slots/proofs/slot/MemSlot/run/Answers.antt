@@ -1,4 +1,4 @@
-use Rattle.std.proofs.Common.{ℕ, refl, sym, subst, length, arith}
+use Rattle.std.proofs.Common.{ℕ, ◌∙◌, refl, sym, subst, length, arith}
 use Rattle.wasm_types.specs.Tree.{module_tree}
 use Rattle.wasm_spec.specs.Instances.{room_for}
 use Rattle.wasm_spec.specs.Result.{function_result}
@@ -24,7 +24,8 @@ invariant_of-self g c =
       kept = is_kept config (room_for c.args.valid.now.memories c.args.limits.pages) c.self.inside.memory c.run.new.memory c.self.inside.holds c.self.invariant.kept c.run.ensures.memory c.run.ensures.room
           (room_within c.args.valid.now.memories c.args.limits.pages config.pages c.requires.pages)
           (c.run.ensures.marked c.args.fuel _ (omega arith) c.run.ensures.result);
-      zeros = c.self.invariant.zeros;
+      blocks = c.self.invariant.blocks ∙ sym c.run.ensures.room.marks;
+      zeros = λ i lt free. c.self.invariant.zeros i (omega (arith, lt, c.run.ensures.room.bytes)) free;
     }
 
 pub returns-clause-ready : goal.returns-clause-ready
