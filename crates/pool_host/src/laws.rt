@@ -5,6 +5,7 @@ ghost use Rattle.wasm_types.specs.Tree.{ModuleTree};
 ghost use Rattle.wasm_types.specs.declared.limits.RunLimits.{RunLimits};
 ghost use Rattle.wasm_spec.specs.Validity.{IsValid};
 ghost use Rattle.pool_worlds.specs.Worlds.{AlwaysShadow, TwoWorldsAgree, AnswersAgree, RunsAreTurns, PreparingTwiceIsOnce};
+ghost use Rattle.pool_worlds.specs.Fitting.{FreeSlotsFit, ClearedFitsCold, RestoredFitsWarm, UsedFitsAwaiting, TablesFitWarm};
 ghost use Rattle.pool_host.specs.CallWords.{IsAnswer};
 ghost use Rattle.pool_host.specs.declared.lane.LaneAnswer.{LaneAnswer};
 
@@ -46,4 +47,17 @@ pub fn preparing_twice_is_once()
     ensures { PreparingTwiceIsOnce }
 {
     worlds::preparing_twice_is_once();
+}
+
+/// Whatever events came to pools since their opening, if each release was made with contents that fit what it released to, the
+/// contents of every slot that nobody holds fit its word. What was cleared may be released as cold, what was restored as warm, and
+/// what belongs to a module as awaiting, each of the last two under that module's tag; a table of a module also as warm.
+pub fn contents_fit_their_words()
+    ensures free { FreeSlotsFit }
+    ensures cleared { ClearedFitsCold }
+    ensures restored { RestoredFitsWarm }
+    ensures used { UsedFitsAwaiting }
+    ensures tables { TablesFitWarm }
+{
+    worlds::contents_fit_their_words();
 }

@@ -1,4 +1,4 @@
--- One call of `add`, event by event: all that the definitions ask of a call can be met.
+-- One call of `add`, event by event, and a release: all that the definitions ask of them can be met.
 use Rattle.std.proofs.Common.{◌≡◌, true≢false, List, [], ◌∷◌, refl, sym, arith}
 use Rattle.std.specs.Prelude.{Option, Some, None}
 use Rattle.wasm_types.specs.declared.outcome.Val.{Val}
@@ -8,10 +8,12 @@ use Rattle.wasm_types.specs.declared.outcome.Outcome.TheVariants as outcome
 use Rattle.wasm_spec.specs.Execution.{exec}
 use Rattle.wasm_spec.specs.Store.{fresh_store}
 use Rattle.wasm_spec.proofs.AddModule.{add, add_bytes, add_loads, add_type}
-use Rattle.pool_core.specs.declared.events.Event.TheVariants.{Claim, Out}
+use Rattle.pool_core.specs.declared.words.State.TheVariants.{Awaiting}
+use Rattle.pool_core.specs.declared.events.Event.TheVariants.{AwaitUp, Claim, Home, Out, Release}
 use Rattle.pool_core.specs.PoolCore.{opening_core}
 use Rattle.pool_worlds.specs.Contents.{Named, Kind, Ticket, Memory, Table, Contents, memory_image, needs}
-use Rattle.pool_worlds.specs.PoolMachine.{World, Request, Machine, WorldEvent, Step, Begin, Turn, End, IsModule, IsCallable, AllMayHappen, answer, IsOpening}
+use Rattle.pool_worlds.specs.PoolMachine.{World, Request, Machine, WorldEvent, Step, Prepare, Begin, Turn, End, IsModule, IsCallable, AllMayHappen, answer, IsOpening}
+use Rattle.pool_worlds.specs.Fitting.{AllReleasesFit}
 
 abbrev named : Named
 named = record { number = 0; tag = 0; tree = add }
@@ -85,3 +87,25 @@ is-opening = opens
 pub answered : answer world (record { request = request; begun = fresh_store add; turns = 3 }) ≡ Some (outcome.Done (Some (I32 5)))
 unfolding exec
 answered = refl
+
+-- ---- a release
+
+abbrev releasing : List WorldEvent
+releasing = Step Memory (Claim 0 0) ∷ Step Memory (Out 0 0) ∷ Prepare Memory 0 named ∷ Step Memory (AwaitUp 0) ∷ Step Memory (Home 0 0)
+    ∷ Step Memory (Release 0 0 (record { state = Awaiting; tag = 0; stamp = 0 })) ∷ []
+
+pub may-release : AllMayHappen world opened releasing
+may-release = (
+  (refl, λ i e. refl),
+  (
+    (refl, λ i e. refl),
+    (
+      (record { number = 0; holds = refl; out = refl }, λ i e. refl, is-module),
+      ((refl, λ i e. refl), ((refl, λ i e. refl), ((refl, λ i e. refl), tt))),
+    ),
+  ),
+)
+
+-- a prepared memory fits awaiting
+pub release-fits : AllReleasesFit world opened releasing
+release-fits = (tt, (tt, (tt, (tt, (tt, ((named, record { holds = refl; outside = λ i free. refl }, refl), tt))))))

@@ -4,4 +4,5 @@ pub mod Steps
 pub mod Shadows
 pub mod Turns
 pub mod Images
+pub mod Fitting
 mod Example

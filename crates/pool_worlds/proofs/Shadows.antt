@@ -13,7 +13,7 @@ use Rattle.pool_worlds.specs.Worlds.{ShadowsCall, AlwaysShadow, IsSameRequest, R
 use Rattle.pool_worlds.proofs.Parts.{cold-kept, size-shown}
 use Rattle.pool_worlds.proofs.Steps.{GoodCall, Good, found, after-good}
 
-opening-good : (w : World) (p : Machine) → IsOpening w p → Good w p nothing_runs
+pub opening-good : (w : World) (p : Machine) → IsOpening w p → Good w p nothing_runs
 opening-good w p o = record {
   lawful = λ k. subst Lawful (sym (o.core k)) (lawful_opening (o.slots k) (o.limit k) (o.passes k));
   kept = λ k n. cold-kept w k (p.contents k n) (o.cold k n);

@@ -155,7 +155,7 @@ missed w p hits change i k away = record {
   ] in split (hits k (slot_of w p i k)) refl;
 }
 
-held-is : (p : Machine) (k : Kind) (s : ℕ) (o : HasOut p k s) → held_by p k s ≡ o.number
+pub held-is : (p : Machine) (k : Kind) (s : ℕ) (o : HasOut p k s) → held_by p k s ≡ o.number
 held-is p k s o = ap (λ (h : Option ℕ). unwrap_or h 0) o.holds
 
 -- two seats that hold one slot are one

@@ -4,3 +4,4 @@ pub mod PoolMachine
 pub mod FreshMachine
 pub mod Runs
 pub mod Worlds
+pub mod Fitting

@@ -1,5 +1,6 @@
 //! What holds of every pool in use. Each function does nothing: its contract is the law.
 ghost use Rattle.pool_worlds.specs.Worlds.{AlwaysShadow, TwoWorldsAgree, AnswersAgree, RunsAreTurns, PreparingTwiceIsOnce};
+ghost use Rattle.pool_worlds.specs.Fitting.{FreeSlotsFit, ClearedFitsCold, RestoredFitsWarm, UsedFitsAwaiting, TablesFitWarm};
 
 /// Whatever events came since the opening, each running call has the store of a fresh instance after as many turns, with nothing past the memory's size, and will be answered as that is.
 pub fn shadow()
@@ -20,4 +21,13 @@ pub fn runs_are_turns()
 /// To prepare what is prepared for the same module already changes nothing.
 pub fn preparing_twice_is_once()
     ensures { PreparingTwiceIsOnce }
+{}
+
+/// Whatever events came since the opening, if each release was made with contents that fit what it released to, the contents of every slot that nobody holds fit its word. What was cleared may be released as cold, what was restored as warm, and what belongs to a module as awaiting, each of the last two under that module's tag; a table of a module also as warm.
+pub fn contents_fit_their_words()
+    ensures free { FreeSlotsFit }
+    ensures cleared { ClearedFitsCold }
+    ensures restored { RestoredFitsWarm }
+    ensures used { UsedFitsAwaiting }
+    ensures tables { TablesFitWarm }
 {}
