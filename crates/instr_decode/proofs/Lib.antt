@@ -4,3 +4,4 @@ pub mod Tokens
 pub mod Completions
 pub mod Opcodes
 pub mod Shapes
+pub mod Wants

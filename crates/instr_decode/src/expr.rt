@@ -1,10 +1,11 @@
 //! Expressions, read in one loop over their tokens.
 
-ghost use Rattle.std.specs.Prelude.{MatchResult};
+ghost use Rattle.std.specs.Prelude.{IsErrOf, MatchResult};
 ghost use Rattle.wasm_types.specs.Tree.{expr_tree};
 ghost use Rattle.wasm_spec.specs.InstrGrammar.{TakesExpr};
 ghost use Rattle.leb_read.specs.Reading.{rest, IsRead};
 ghost use Rattle.instr_decode.specs.Decoding.{BeginsWithNone};
+ghost use Rattle.instr_decode.specs.Wants.{WantsExpr};
 
 use crate::expr_builder::ExprBuilder;
 use crate::fault::DecodeFault;
@@ -18,9 +19,11 @@ use wasm_types::Expr;
 ///
 /// # Errors
 ///
-/// `Malformed` exactly where no expression stands there; `NoMemory` only where memory was refused.
+/// `Malformed` exactly where no expression stands there; `NoMemory` only where memory was refused, for an instruction or a
+/// label that has been read.
 pub fn decode_expr(alloc: Global, cursor: &mut Cursor) -> Result<Expr, DecodeFault>
-    ensures { MatchResult result (λ e. IsRead TakesExpr cursor.old cursor.new (expr_tree e)) (BeginsWithNone TakesExpr (rest cursor.old)) }
+    ensures read { MatchResult result (λ e. IsRead TakesExpr cursor.old cursor.new (expr_tree e)) (BeginsWithNone TakesExpr (rest cursor.old)) }
+    ensures wanted { IsErrOf result DecodeFault.NoMemory → WantsExpr (rest cursor.old) }
 {
     let mut builder = ExprBuilder::new(alloc);
     loop {

@@ -1,10 +1,11 @@
 //! Plain instructions, by their opcodes.
 
-ghost use Rattle.std.specs.Prelude.{◌≡◌, ◌≤◌, length, get_or, MatchResult};
+ghost use Rattle.std.specs.Prelude.{◌≡◌, ◌≤◌, length, get_or, IsErrOf, MatchResult};
 ghost use Rattle.wasm_spec.specs.Numbers.{TakesUnsigned, TakesVec};
 ghost use Rattle.wasm_spec.specs.InstrGrammar.{shape, comparisons, operators, NotPlain, WithLabels, TakesShape};
 ghost use Rattle.leb_read.specs.Reading.{rest, IsRead};
 ghost use Rattle.instr_decode.specs.Decoding.{BeginsWithNone};
+ghost use Rattle.instr_decode.specs.Wants.{WantsVec, WantsShape};
 ghost use Rattle.instr_decode.specs.Opcodes.{TakesAddress, made_alone, made_with_index, made_with_address, made_with_zero, immediate_of};
 
 use crate::fault::DecodeFault;
@@ -182,7 +183,8 @@ pub(crate) fn immediate_at(opcode: u8) -> Option<Immediate>
 
 // A vector of indices. Source: section 5.1.3.
 fn indices(alloc: Global, cursor: &mut Cursor) -> Result<Items<u32>, DecodeFault>
-    ensures { MatchResult result (IsRead (TakesVec (TakesUnsigned 32)) cursor.old cursor.new) (BeginsWithNone (TakesVec (TakesUnsigned 32)) (rest cursor.old)) }
+    ensures read { MatchResult result (IsRead (TakesVec (TakesUnsigned 32)) cursor.old cursor.new) (BeginsWithNone (TakesVec (TakesUnsigned 32)) (rest cursor.old)) }
+    ensures wanted { IsErrOf result DecodeFault.NoMemory → WantsVec (TakesUnsigned 32) (λ _. ⊥) (rest cursor.old) }
 {
     let count = cursor.u32()?;
     let mut indices = Vec::new(alloc);
@@ -195,7 +197,8 @@ fn indices(alloc: Global, cursor: &mut Cursor) -> Result<Items<u32>, DecodeFault
 
 // A place in memory: its alignment and its offset.
 fn address(cursor: &mut Cursor) -> Result<MemArg, DecodeFault>
-    ensures { MatchResult result (IsRead TakesAddress cursor.old cursor.new) (BeginsWithNone TakesAddress (rest cursor.old)) }
+    ensures read { MatchResult result (IsRead TakesAddress cursor.old cursor.new) (BeginsWithNone TakesAddress (rest cursor.old)) }
+    ensures wanted { IsErrOf result DecodeFault.NoMemory → ⊥ }
 {
     let align = cursor.u32()?;
     let offset = cursor.u32()?;
@@ -204,7 +207,8 @@ fn address(cursor: &mut Cursor) -> Result<MemArg, DecodeFault>
 
 // The labels of a `br_table`.
 fn labels(alloc: Global, cursor: &mut Cursor) -> Result<Instr, DecodeFault>
-    ensures { MatchResult result (IsRead (TakesShape WithLabels) cursor.old cursor.new) (BeginsWithNone (TakesShape WithLabels) (rest cursor.old)) }
+    ensures read { MatchResult result (IsRead (TakesShape WithLabels) cursor.old cursor.new) (BeginsWithNone (TakesShape WithLabels) (rest cursor.old)) }
+    ensures wanted { IsErrOf result DecodeFault.NoMemory → WantsShape WithLabels (rest cursor.old) }
 {
     let labels = indices(alloc, cursor)?;
     let label = cursor.u32()?;
@@ -230,7 +234,8 @@ pub(crate) fn read_instr(
     opcode: u8,
 ) -> Result<Instr, DecodeFault>
     requires { cursor.old.place ≤ length cursor.old.whole }
-    ensures { MatchResult result (IsRead (TakesShape (shape opcode)) cursor.old cursor.new) (BeginsWithNone (TakesShape (shape opcode)) (rest cursor.old)) }
+    ensures read { MatchResult result (IsRead (TakesShape (shape opcode)) cursor.old cursor.new) (BeginsWithNone (TakesShape (shape opcode)) (rest cursor.old)) }
+    ensures wanted { IsErrOf result DecodeFault.NoMemory → WantsShape (shape opcode) (rest cursor.old) }
 {
     let Some(immediate) = immediate_at(opcode) else {
         return Err(DecodeFault::Malformed);

@@ -1,8 +1,9 @@
 //! The tokens that code is made of.
 
-ghost use Rattle.std.specs.Prelude.{◌<◌, IfOk, MatchResult};
+ghost use Rattle.std.specs.Prelude.{◌<◌, IfOk, IsErrOf, MatchResult};
 ghost use Rattle.leb_read.specs.Reading.{rest, IsRead};
 ghost use Rattle.instr_decode.specs.Decoding.{BeginsWithNone};
+ghost use Rattle.instr_decode.specs.Wants.{WantsToken};
 ghost use Rattle.instr_decode.specs.Tokens.{TakesToken, TakesIndexAndZero};
 
 use crate::fault::DecodeFault;
@@ -31,7 +32,8 @@ pub(crate) enum Token {
 
 // The operands of a `call_indirect`, a type and a zero byte.
 fn call_indirect(cursor: &mut Cursor) -> Result<u32, DecodeFault>
-    ensures { MatchResult result (IsRead TakesIndexAndZero cursor.old cursor.new) (BeginsWithNone TakesIndexAndZero (rest cursor.old)) }
+    ensures read { MatchResult result (IsRead TakesIndexAndZero cursor.old cursor.new) (BeginsWithNone TakesIndexAndZero (rest cursor.old)) }
+    ensures wanted { IsErrOf result DecodeFault.NoMemory → ⊥ }
 {
     let index = cursor.u32()?;
     if cursor.u8()? == 0 {
@@ -45,6 +47,7 @@ fn call_indirect(cursor: &mut Cursor) -> Result<u32, DecodeFault>
 pub(crate) fn read_token(alloc: Global, cursor: &mut Cursor) -> Result<Token, DecodeFault>
     ensures token { MatchResult result (IsRead TakesToken cursor.old cursor.new) (BeginsWithNone TakesToken (rest cursor.old)) }
     ensures forth { IfOk result (λ _. cursor.old.place < cursor.new.place) }
+    ensures wanted { IsErrOf result DecodeFault.NoMemory → WantsToken (rest cursor.old) }
 {
     let opcode = cursor.u8()?;
     match opcode {

@@ -1,6 +1,6 @@
 //! The types that stand in code.
 
-ghost use Rattle.std.specs.Prelude.{◌≡◌, MatchOption, MatchResult};
+ghost use Rattle.std.specs.Prelude.{◌≡◌, IsErrOf, MatchOption, MatchResult};
 ghost use Rattle.wasm_types.specs.declared.types.ValType.{ValType as ValTypeTree};
 ghost use Rattle.wasm_spec.specs.TypeGrammar.{value_type_byte, TakesBlockType};
 ghost use Rattle.leb_read.specs.Reading.{rest, IsRead};
@@ -25,7 +25,8 @@ pub fn value_type(byte: u8) -> Option<ValType>
 
 // The type of a block. Source: section 5.3.2.
 pub(crate) fn read_block_type(cursor: &mut Cursor) -> Result<Option<ValType>, DecodeFault>
-    ensures { MatchResult result (IsRead TakesBlockType cursor.old cursor.new) (BeginsWithNone TakesBlockType (rest cursor.old)) }
+    ensures read { MatchResult result (IsRead TakesBlockType cursor.old cursor.new) (BeginsWithNone TakesBlockType (rest cursor.old)) }
+    ensures wanted { IsErrOf result DecodeFault.NoMemory → ⊥ }
 {
     let byte = cursor.u8()?;
     if byte == 0x40 {

@@ -1,10 +1,10 @@
 //! Modules, from their sections.
 
-ghost use Rattle.std.specs.Prelude.{◌≡◌, ◌++◌, ℕ, List, map, IfOk, MatchOption, MatchResult};
+ghost use Rattle.std.specs.Prelude.{◌≡◌, ◌++◌, ◌<◌, ℕ, List, length, map, IfOk, IsErrOf, OnErr, MatchOption, MatchResult};
 ghost use Rattle.wasm_types.specs.Tree.{module_tree};
 ghost use Rattle.wasm_spec.specs.Grammar.{SpellsFields, Spells};
 ghost use Rattle.instr_decode.specs.Decoding.{IsNone};
-ghost use Rattle.wasm_decode.specs.Sections.{section_of};
+ghost use Rattle.wasm_decode.specs.Sections.{section_of, WantsModule};
 
 use crate::function::{SizedBody, join};
 use crate::section::{Section, are_in_order, decode_section, decode_start, read_sections};
@@ -21,9 +21,11 @@ const HEADER: [u8; 8] = [0x00, 0x61, 0x73, 0x6D, 0x01, 0x00, 0x00, 0x00];
 ///
 /// # Errors
 ///
-/// `Malformed` exactly where the bytes spell no module; `NoMemory` only where memory was refused.
+/// `Malformed` exactly where the bytes spell no module; `NoMemory` only where memory was refused, and never before a section
+/// behind the header has been read.
 pub fn decode(alloc: Global, bytes: &[u8]) -> Result<Module, DecodeFault>
-    ensures { MatchResult result (λ m. Spells bytes.now (module_tree m)) (IsNone (Spells bytes.now)) }
+    ensures read { MatchResult result (λ m. Spells bytes.now (module_tree m)) (IsNone (Spells bytes.now)) }
+    ensures wanted { IsErrOf result DecodeFault.NoMemory → WantsModule bytes.now }
 {
     let Some(after) = after_header(bytes) else {
         return Err(DecodeFault::Malformed);
@@ -45,7 +47,8 @@ fn after_header(bytes: &[u8]) -> Option<&[u8]>
 
 // The limits of these tables.
 fn limits(alloc: Global, tables: &[TableType]) -> Result<Items<Limits>, AllocError>
-    ensures { IfOk result (λ ls. ls ≡ map (λ t. t.limits) tables.now) }
+    ensures limits { IfOk result (λ ls. ls ≡ map (λ t. t.limits) tables.now) }
+    ensures wanted { OnErr result (0 < length tables.now) }
 {
     let mut limits = Vec::new(alloc);
     for table in tables {
@@ -56,7 +59,8 @@ fn limits(alloc: Global, tables: &[TableType]) -> Result<Items<Limits>, AllocErr
 
 // The module whose sections these are.
 fn decode_fields(alloc: Global, sections: &[Section]) -> Result<Module, DecodeFault>
-    ensures { MatchResult result (λ m. SpellsFields (map section_of sections.now) (module_tree m)) (IsNone (SpellsFields (map section_of sections.now))) }
+    ensures read { MatchResult result (λ m. SpellsFields (map section_of sections.now) (module_tree m)) (IsNone (SpellsFields (map section_of sections.now))) }
+    ensures wanted { IsErrOf result DecodeFault.NoMemory → 0 < length sections.now }
 {
     let types = decode_section(alloc, sections, 1)?;
     let imports = decode_section(alloc, sections, 2)?;

@@ -1,13 +1,14 @@
 //! Functions: their locals and their code.
 
-ghost use Rattle.std.specs.Prelude.{◌≡◌, ◌↔◌, ◌<◌, ◌^◌, IsTrue, IfOk, flat_map, length, map};
+ghost use Rattle.std.specs.Prelude.{◌≡◌, ◌↔◌, ◌<◌, ◌^◌, IsTrue, IfOk, OnErr, flat_map, length, map};
 ghost use Rattle.wasm_types.specs.declared.module.LocalRun.{LocalRun as LocalRunTree};
 ghost use Rattle.wasm_types.specs.Tree.{Code, expr_tree, locals_of, function_tree};
 ghost use Rattle.wasm_spec.specs.Grammar.{Body as BodyTree, TakesLocalRun, TakesBody, TakesSizedBody, body_of, type_index_of};
 ghost use Rattle.wasm_spec.specs.InstrGrammar.{TakesExpr};
 ghost use Rattle.wasm_spec.proofs.UnambiguousInstrs.{expr-unique};
 ghost use Rattle.wasm_spec.proofs.UnambiguousModules.{local_run-unique, body-unique, sized_body-unique};
-ghost use Rattle.wasm_decode.specs.Bodies.{body_tree};
+ghost use Rattle.instr_decode.specs.Wants.{WantsExpr};
+ghost use Rattle.wasm_decode.specs.Bodies.{body_tree, WantsSized};
 
 use crate::item::{Item, decode_whole, read_bytes};
 use instr_decode::{DecodeFault, decode_expr};
@@ -22,6 +23,8 @@ impl Item for LocalRun {
     ghost tree = { λ run. run };
 
     ghost Takes = { TakesLocalRun };
+
+    ghost Wants = { λ _. ⊥ };
 
     ghost unique = { local_run-unique };
 
@@ -38,6 +41,8 @@ impl Item for Expr {
     ghost tree = { λ e. expr_tree e };
 
     ghost Takes = { TakesExpr };
+
+    ghost Wants = { WantsExpr };
 
     ghost unique = { expr-unique };
 
@@ -75,6 +80,8 @@ impl Item for Body {
 
     ghost Takes = { TakesBody };
 
+    ghost Wants = { ⟦<(Items<LocalRun>, Expr) as Item>⟧.Wants };
+
     ghost unique = { body-unique };
 
     fn decode(alloc: Global, cursor: &mut Cursor) -> Result<Self, DecodeFault> {
@@ -100,6 +107,8 @@ impl Item for SizedBody {
 
     ghost Takes = { TakesSizedBody };
 
+    ghost Wants = { WantsSized ⟦<Body as Item>⟧.Wants };
+
     ghost unique = { sized_body-unique };
 
     fn decode(alloc: Global, cursor: &mut Cursor) -> Result<Self, DecodeFault> {
@@ -118,6 +127,7 @@ pub(crate) fn join(
     requires { length type_indices.now ≡ length bodies.items }
     ensures types { IfOk result (λ fs. map type_index_of (map function_tree fs.items) ≡ type_indices.now) }
     ensures bodies { IfOk result (λ fs. map body_of (map function_tree fs.items) ≡ map (λ s. body_tree s.body) bodies.items) }
+    ensures wanted { OnErr result (0 < length bodies.items) }
 {
     let mut functions = Vec::new(alloc);
     for (type_index, sized) in type_indices.iter().zip(bodies) {

@@ -1,11 +1,12 @@
 //! Items of the binary format: what stands alone, in a row, and in a vector.
 
-ghost use Rattle.std.specs.Prelude.{◌≡◌, ℕ, List, [], map, MatchResult};
+ghost use Rattle.std.specs.Prelude.{◌≡◌, ℕ, List, [], map, IsErrOf, MatchResult};
 ghost use Rattle.wasm_spec.specs.Numbers.{TakesUnsigned, TakesVec, TakesBytes, IsUnambiguous};
 ghost use Rattle.wasm_spec.proofs.UnambiguousNumbers.{unsigned-unique, vec-unique, byte-unique};
 ghost use Rattle.leb_read.specs.Reading.{rest, IsRead, TakesByte};
 ghost use Rattle.instr_decode.specs.Decoding.{IsNone, BeginsWithNone};
-ghost use Rattle.wasm_decode.specs.Pairs.{TakesPair, pair-unique};
+ghost use Rattle.instr_decode.specs.Wants.{WantsVec};
+ghost use Rattle.wasm_decode.specs.Pairs.{TakesPair, WantsPair, pair-unique};
 
 use instr_decode::DecodeFault;
 use leb_read::Cursor;
@@ -21,9 +22,13 @@ pub(crate) trait Item: Sized + Drop {
 
     ghost Takes: { Tree → List ℕ → List ℕ → Type 0 };
 
+    // where memory may be wanted to read what begins these bytes
+    ghost Wants: { List ℕ → Type 0 };
+
     // The item at the cursor, which then stands just after it.
     fn decode(alloc: Global, cursor: &mut Cursor) -> Result<Self, DecodeFault>
-        ensures { MatchResult result (λ x. IsRead Takes cursor.old cursor.new (tree x)) (BeginsWithNone Takes (rest cursor.old)) };
+        ensures read { MatchResult result (λ x. IsRead Takes cursor.old cursor.new (tree x)) (BeginsWithNone Takes (rest cursor.old)) }
+        ensures wanted { IsErrOf result DecodeFault.NoMemory → Wants (rest cursor.old) };
 
     ghost unique: { IsUnambiguous Takes };
 }
@@ -34,6 +39,8 @@ impl Item for u8 {
     ghost tree = { λ x. x };
 
     ghost Takes = { TakesByte };
+
+    ghost Wants = { λ _. ⊥ };
 
     ghost unique = { byte-unique };
 
@@ -49,6 +56,8 @@ impl Item for u32 {
 
     ghost Takes = { TakesUnsigned 32 };
 
+    ghost Wants = { λ _. ⊥ };
+
     ghost unique = { unsigned-unique 32 };
 
     fn decode(_: Global, cursor: &mut Cursor) -> Result<Self, DecodeFault> {
@@ -63,6 +72,8 @@ impl<A: Item, B: Item> Item for (A, B) {
     ghost tree = { λ p. (A.tree p.0, B.tree p.1) };
 
     ghost Takes = { TakesPair A.Takes B.Takes };
+
+    ghost Wants = { WantsPair A.Takes A.Wants B.Wants };
 
     ghost unique = { pair-unique A.Takes B.Takes A.unique B.unique };
 
@@ -81,6 +92,8 @@ impl<T: Item> Item for Items<T> {
 
     ghost Takes = { TakesVec T.Takes };
 
+    ghost Wants = { WantsVec T.Takes T.Wants };
+
     ghost unique = { vec-unique T.Takes T.unique };
 
     fn decode(alloc: Global, cursor: &mut Cursor) -> Result<Self, DecodeFault> {
@@ -96,7 +109,8 @@ impl<T: Item> Item for Items<T> {
 
 // A size, and that many bytes.
 pub(crate) fn read_bytes<'a>(cursor: &mut Cursor<'a>) -> Result<&'a [u8], DecodeFault>
-    ensures { MatchResult result (λ xs. IsRead TakesBytes cursor.old cursor.new xs.now) (BeginsWithNone TakesBytes (rest cursor.old)) }
+    ensures read { MatchResult result (λ xs. IsRead TakesBytes cursor.old cursor.new xs.now) (BeginsWithNone TakesBytes (rest cursor.old)) }
+    ensures wanted { IsErrOf result DecodeFault.NoMemory → ⊥ }
 {
     let size = cursor.u32()?;
     Ok(cursor.take(size as usize)?)
@@ -104,7 +118,8 @@ pub(crate) fn read_bytes<'a>(cursor: &mut Cursor<'a>) -> Result<&'a [u8], Decode
 
 // The item that is all of these bytes.
 pub(crate) fn decode_whole<T: Item>(alloc: Global, bytes: &[u8]) -> Result<T, DecodeFault>
-    ensures { MatchResult result (λ x. T.Takes (T.tree x) bytes.now []) (IsNone (λ x. T.Takes x bytes.now [])) }
+    ensures read { MatchResult result (λ x. T.Takes (T.tree x) bytes.now []) (IsNone (λ x. T.Takes x bytes.now [])) }
+    ensures wanted { IsErrOf result DecodeFault.NoMemory → T.Wants bytes.now }
 {
     let mut cursor = Cursor::new(bytes);
     let item = T::decode(alloc, &mut cursor)?;

@@ -10,6 +10,7 @@ ghost use Rattle.wasm_spec.specs.Numbers.{TakesBytes, TakesName};
 ghost use Rattle.wasm_spec.specs.Grammar.{TakesImportDesc, TakesImport, TakesExportDesc, TakesExport, TakesGlobal, TakesElement, TakesData};
 ghost use Rattle.wasm_spec.proofs.UnambiguousNumbers.{bytes-unique, name-unique};
 ghost use Rattle.wasm_spec.proofs.UnambiguousModules.{import_desc-unique, import-unique, export_desc-unique, export-unique, global-unique, element-unique, data-unique};
+ghost use Rattle.instr_decode.specs.Wants.{BeginsWith};
 
 use crate::item::{Item, read_bytes};
 use crate::types::TableType;
@@ -35,6 +36,8 @@ impl Item for Name {
 
     ghost Takes = { TakesName };
 
+    ghost Wants = { BeginsWith TakesName };
+
     ghost unique = { name-unique };
 
     fn decode(alloc: Global, cursor: &mut Cursor) -> Result<Self, DecodeFault> {
@@ -58,6 +61,8 @@ impl Item for Bytes {
 
     ghost Takes = { TakesBytes };
 
+    ghost Wants = { BeginsWith TakesBytes };
+
     ghost unique = { bytes-unique };
 
     fn decode(alloc: Global, cursor: &mut Cursor) -> Result<Self, DecodeFault> {
@@ -75,6 +80,8 @@ impl Item for ImportDesc {
     ghost tree = { λ d. d };
 
     ghost Takes = { TakesImportDesc };
+
+    ghost Wants = { λ _. ⊥ };
 
     ghost unique = { import_desc-unique };
 
@@ -110,6 +117,8 @@ impl Item for Import {
 
     ghost Takes = { TakesImport };
 
+    ghost Wants = { ⟦<(Name, (Name, ImportDesc)) as Item>⟧.Wants };
+
     ghost unique = { import-unique };
 
     fn decode(alloc: Global, cursor: &mut Cursor) -> Result<Self, DecodeFault> {
@@ -129,6 +138,8 @@ impl Item for ExportDesc {
     ghost tree = { λ d. d };
 
     ghost Takes = { TakesExportDesc };
+
+    ghost Wants = { λ _. ⊥ };
 
     ghost unique = { export_desc-unique };
 
@@ -152,6 +163,8 @@ impl Item for Export {
 
     ghost Takes = { TakesExport };
 
+    ghost Wants = { ⟦<(Name, ExportDesc) as Item>⟧.Wants };
+
     ghost unique = { export-unique };
 
     fn decode(alloc: Global, cursor: &mut Cursor) -> Result<Self, DecodeFault> {
@@ -171,6 +184,8 @@ impl Item for GlobalItem {
 
     ghost Takes = { TakesGlobal };
 
+    ghost Wants = { ⟦<(GlobalType, Expr) as Item>⟧.Wants };
+
     ghost unique = { global-unique };
 
     fn decode(alloc: Global, cursor: &mut Cursor) -> Result<Self, DecodeFault> {
@@ -186,6 +201,8 @@ impl Item for ElementSegment {
     ghost tree = { element_tree };
 
     ghost Takes = { TakesElement };
+
+    ghost Wants = { ⟦<(u32, (Expr, Items<u32>)) as Item>⟧.Wants };
 
     ghost unique = { element-unique };
 
@@ -206,6 +223,8 @@ impl Item for DataSegment {
     ghost tree = { data_tree };
 
     ghost Takes = { TakesData };
+
+    ghost Wants = { ⟦<(u32, (Expr, Bytes)) as Item>⟧.Wants };
 
     ghost unique = { data-unique };
 

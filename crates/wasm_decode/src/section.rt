@@ -1,11 +1,12 @@
 //! The sections of a module.
 
-ghost use Rattle.std.specs.Prelude.{◌≡◌, ◌↔◌, ◌<◌, ℕ, [], IsTrue, IfOk, map, option_map, MatchResult};
+ghost use Rattle.std.specs.Prelude.{◌≡◌, ◌↔◌, ◌<◌, ℕ, [], IsTrue, IfOk, IsErrOf, map, option_map, MatchResult};
 ghost use Rattle.wasm_spec.specs.Numbers.{TakesEach};
 ghost use Rattle.wasm_spec.specs.Grammar.{TakesSection, IsCustom, IsOrderedAbove, SpellsVec, SpellsStart, section};
 ghost use Rattle.leb_read.specs.Reading.{rest, IsRead};
 ghost use Rattle.instr_decode.specs.Decoding.{IsNone, BeginsWithNone};
-ghost use Rattle.wasm_decode.specs.Sections.{section_of};
+ghost use Rattle.instr_decode.specs.Wants.{BeginsWith};
+ghost use Rattle.wasm_decode.specs.Sections.{section_of, WantsSection};
 
 use crate::item::{Item, decode_whole, read_bytes};
 use instr_decode::DecodeFault;
@@ -24,6 +25,7 @@ pub(crate) struct Section<'a> {
 fn read_section<'a>(cursor: &mut Cursor<'a>) -> Result<Section<'a>, DecodeFault>
     ensures section { MatchResult result (λ s. IsRead TakesSection cursor.old cursor.new (section_of s)) (BeginsWithNone TakesSection (rest cursor.old)) }
     ensures forth { IfOk result (λ _. cursor.old.place < cursor.new.place) }
+    ensures wanted { IsErrOf result DecodeFault.NoMemory → ⊥ }
 {
     let id = cursor.u8()?;
     let contents = read_bytes(cursor)?;
@@ -35,7 +37,8 @@ pub(crate) fn read_sections<'a>(
     alloc: Global,
     bytes: &'a [u8],
 ) -> Result<Vec<Section<'a>>, DecodeFault>
-    ensures { MatchResult result (λ ss. TakesEach TakesSection (map section_of ss.items) bytes.now []) (IsNone (λ ss. TakesEach TakesSection ss bytes.now [])) }
+    ensures read { MatchResult result (λ ss. TakesEach TakesSection (map section_of ss.items) bytes.now []) (IsNone (λ ss. TakesEach TakesSection ss bytes.now [])) }
+    ensures wanted { IsErrOf result DecodeFault.NoMemory → BeginsWith TakesSection bytes.now }
 {
     let mut cursor = Cursor::new(bytes);
     let mut sections = Vec::new(alloc);
@@ -91,7 +94,8 @@ pub(crate) fn decode_section<T: Item>(
     sections: &[Section],
     id: u8,
 ) -> Result<Items<T>, DecodeFault>
-    ensures { MatchResult result (λ xs. SpellsVec T.Takes (map T.tree xs) (section id (map section_of sections.now))) (IsNone (λ xs. SpellsVec T.Takes xs (section id (map section_of sections.now)))) }
+    ensures read { MatchResult result (λ xs. SpellsVec T.Takes (map T.tree xs) (section id (map section_of sections.now))) (IsNone (λ xs. SpellsVec T.Takes xs (section id (map section_of sections.now)))) }
+    ensures wanted { IsErrOf result DecodeFault.NoMemory → WantsSection T.Takes T.Wants (section id (map section_of sections.now)) }
 {
     match find_contents(sections, id) {
         Some(contents) => decode_whole(alloc, contents),
@@ -101,7 +105,8 @@ pub(crate) fn decode_section<T: Item>(
 
 // The start function, if there is a start section. Source: section 5.5.11.
 pub(crate) fn decode_start(alloc: Global, sections: &[Section]) -> Result<Option<u32>, DecodeFault>
-    ensures { MatchResult result (λ x. SpellsStart x (section 8 (map section_of sections.now))) (IsNone (λ x. SpellsStart x (section 8 (map section_of sections.now)))) }
+    ensures read { MatchResult result (λ x. SpellsStart x (section 8 (map section_of sections.now))) (IsNone (λ x. SpellsStart x (section 8 (map section_of sections.now)))) }
+    ensures wanted { IsErrOf result DecodeFault.NoMemory → ⊥ }
 {
     match find_contents(sections, 8) {
         Some(contents) => {

@@ -21,6 +21,8 @@ impl Item for ValType {
 
     ghost Takes = { TakesValType };
 
+    ghost Wants = { λ _. ⊥ };
+
     ghost unique = { val_type-unique };
 
     fn decode(_: Global, cursor: &mut Cursor) -> Result<Self, DecodeFault> {
@@ -36,6 +38,8 @@ impl Item for FuncType {
     ghost tree = { λ t. t };
 
     ghost Takes = { TakesFuncType };
+
+    ghost Wants = { ⟦<(u8, (Items<ValType>, Items<ValType>)) as Item>⟧.Wants };
 
     ghost unique = { func_type-unique };
 
@@ -58,6 +62,8 @@ impl Item for Limits {
     ghost tree = { λ l. l };
 
     ghost Takes = { TakesLimits };
+
+    ghost Wants = { λ _. ⊥ };
 
     ghost unique = { limits-unique };
 
@@ -91,6 +97,8 @@ impl Item for TableType {
 
     ghost Takes = { TakesTableType };
 
+    ghost Wants = { λ _. ⊥ };
+
     ghost unique = { table_type-unique };
 
     fn decode(alloc: Global, cursor: &mut Cursor) -> Result<Self, DecodeFault> {
@@ -110,6 +118,8 @@ impl Item for GlobalType {
     ghost tree = { λ g. g };
 
     ghost Takes = { TakesGlobalType };
+
+    ghost Wants = { λ _. ⊥ };
 
     ghost unique = { global_type-unique };
 

@@ -1,6 +1,7 @@
 use Rattle.std.proofs.Common.{◌≡◌, ◌-◌, ◌≤◌, length}
 use Rattle.leb_read.specs.Reading.{rest}
 use Rattle.instr_decode.specs.Contexts.{Context, Represents}
+use Rattle.instr_decode.specs.Wants.{WantsExpr}
 use Rattle.instr_decode.proofs.Completions.{SameCompletions, start}
 use Rattle.instr_decode.proofs.expr.decode_expr.Given as goal
 
@@ -11,6 +12,7 @@ invariant-loop-builder l = record {
   context : Context;
   stands : Represents l.builder context;
   same : SameCompletions start (rest l.initial.cursor) context (rest l.cursor);
+  wants : WantsExpr (rest l.cursor) → WantsExpr (rest l.initial.cursor);
 }
 
 abbrev pub decreases-loop-builder : goal.decreases-loop-builder

@@ -5,8 +5,8 @@ use Rattle.wasm_spec.proofs.UnambiguousNumbers.{unsigned-unique}
 use Rattle.leb_read.specs.Reading.{rest}
 use Rattle.instr_decode.proofs.instr.address.Goals as goal
 
-pub returns-in_err-offset : goal.returns-in_err-offset
-returns-in_err-offset c =
+pub returns-in_err-offset-clause-read : goal.returns-in_err-offset-clause-read
+returns-in_err-offset-clause-read c =
     let p = err_from_is_err_and c.from_residual-in_err-offset.result c.from_residual-in_err-offset.ensures.1 in
     rw (p.1, p.2) (λ m after h.
     let u = unsigned-unique 32 m.align c.in_ok-align.align (rest c.args.cursor.now) h.0 (rest c.u32.new.self) h.1 c.in_ok-align.ensures.spelled in

@@ -1,17 +1,24 @@
-use Rattle.std.proofs.Common.{◌≡◌, ℕ, ◌+◌, [], ◌∷◌, ◌++◌, length, ap, ◌∙◌, arith}
+use Rattle.std.proofs.Common.{◌≡◌, ℕ, ◌+◌, inl, [], ◌∷◌, ◌++◌, length, ap, ◌∙◌, arith}
 use Rattle.std.proofs.lemmas.List.{length_push}
 use Rattle.wasm_spec.specs.Numbers.{TakesUnsigned}
 use Rattle.wasm_spec.proofs.UnambiguousNumbers.{unsigned-unique}
 use Rattle.leb_read.specs.Reading.{rest}
 use Rattle.instr_decode.specs.declared.fault.DecodeFault.TheVariants.{Malformed}
 use Rattle.instr_decode.proofs.Decoding.{exits, vec-none, each-more}
+use Rattle.instr_decode.proofs.Wants.{vec-wants}
 use Rattle.instr_decode.proofs.instr.indices.Goals as goal
 
-pub returns-in_err-index : goal.returns-in_err-index
-returns-in_err-index c =
+pub returns-in_err-index-clause-read : goal.returns-in_err-index-clause-read
+returns-in_err-index-clause-read c =
     exits c.from_residual-in_err-index.result _ _ Malformed c.from_residual-in_err-index.ensures.1
     (vec-none (TakesUnsigned 32) (unsigned-unique 32) Malformed c.loop.indices.items (rest c.args.cursor.now) (rest c.u32.new.self) (rest c.loop.cursor) c.in_ok-count.count
     c.in_ok-count.ensures.spelled c.loop.invariant.so_far (omega (arith, c.loop.invariant.long, c.loop-test.true)) c.in_err-index.ensures.none)
+
+pub returns-in_err-push-clause-wanted : goal.returns-in_err-push-clause-wanted
+returns-in_err-push-clause-wanted c = λ e.
+    vec-wants (TakesUnsigned 32) (λ _. ⊥) c.loop.indices.items (rest c.args.cursor.now) (rest c.u32.new.self) (rest c.loop.cursor) c.in_ok-count.count
+    c.in_ok-count.ensures.spelled c.loop.invariant.so_far (omega (arith, c.loop.invariant.long, c.loop-test.true))
+    (inl (record { item = c.in_ok-index.index; after = rest c.u32-in-loop.new.self; spelled = c.in_ok-index.ensures.spelled }))
 
 pub loop-preserved : goal.loop-preserved
 loop-preserved c =

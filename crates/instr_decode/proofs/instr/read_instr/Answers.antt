@@ -11,20 +11,20 @@ use Rattle.instr_decode.proofs.Decoding.{exits, begins-through}
 use Rattle.instr_decode.proofs.Shapes.{shape-is, float-bytes}
 use Rattle.instr_decode.proofs.instr.read_instr.Goals as goal
 
-pub returns-in-Nothing : goal.returns-in-Nothing
-returns-in-Nothing c =
+pub returns-in-Nothing-clause-read : goal.returns-in-Nothing-clause-read
+returns-in-Nothing-clause-read c =
     let s = shape-is (shape c.args.opcode) follows.Nothing (sym c.in-Some.ensures ∙ ap (λ (j : Immediate). Some j) c.in-Nothing.is) in
     rw (c.ok_or.ensures.value, c.alone.ensures, s.1) (record { whole = refl; forth = omega arith; within = c.requires; spelled = (refl, refl) })
 
-pub returns-in_err-arg-in-Address : goal.returns-in_err-arg-in-Address
-returns-in_err-arg-in-Address c =
+pub returns-in_err-arg-in-Address-clause-read : goal.returns-in_err-arg-in-Address-clause-read
+returns-in_err-arg-in-Address-clause-read c =
     let s = shape-is (shape c.args.opcode) follows.Address (sym c.in-Some.ensures ∙ ap (λ (j : Immediate). Some j) c.in-Address.is) in
     exits c.from_residual-in_err-arg-in-Address.result _ _ c.in_err-arg-in-Address.field-0.0 c.from_residual-in_err-arg-in-Address.ensures.1
-    (begins-through TakesAddress (TakesShape (shape c.args.opcode)) (rest c.args.cursor.now) (rest c.args.cursor.now) c.in_err-arg-in-Address.field-0.0 c.in_err-arg-in-Address.ensures
+    (begins-through TakesAddress (TakesShape (shape c.args.opcode)) (rest c.args.cursor.now) (rest c.args.cursor.now) c.in_err-arg-in-Address.field-0.0 c.in_err-arg-in-Address.ensures.read
     (λ i after h. let g = rw s.1 at h in (g.0, after, (g.1, g.3, g.4))))
 
-pub returns-in_err-take-in-Bytes : goal.returns-in_err-take-in-Bytes
-returns-in_err-take-in-Bytes c =
+pub returns-in_err-take-in-Bytes-clause-read : goal.returns-in_err-take-in-Bytes-clause-read
+returns-in_err-take-in-Bytes-clause-read c =
     let s = shape-is (shape c.args.opcode) (follows.Bytes c.in-Bytes.n) (sym c.in-Some.ensures ∙ ap (λ (j : Immediate). Some j) c.in-Bytes.is) in
     let p = err_from_is_err_and c.from_residual-in_err-take-in-Bytes.result c.from_residual-in_err-take-in-Bytes.ensures.1 in
     let bytes = rest c.args.cursor.now in
@@ -33,8 +33,8 @@ returns-in_err-take-in-Bytes c =
     c.in_err-take-in-Bytes.ensures.none (take c.in-Bytes.n bytes) after
     (length-take-le c.in-Bytes.n bytes g.1, sym (ap (λ (l : List ℕ). take c.in-Bytes.n bytes ++ l) g.2 ∙ take-append-drop c.in-Bytes.n bytes)))
 
-pub returns-in_ok-take-in-Bytes : goal.returns-in_ok-take-in-Bytes
-returns-in_ok-take-in-Bytes c =
+pub returns-in_ok-take-in-Bytes-clause-read : goal.returns-in_ok-take-in-Bytes-clause-read
+returns-in_ok-take-in-Bytes-clause-read c =
     let s = shape-is (shape c.args.opcode) (follows.Bytes c.in-Bytes.n) (sym c.in-Some.ensures ∙ ap (λ (j : Immediate). Some j) c.in-Bytes.is) in
     let float = float-bytes c.args.opcode c.in-Bytes.n s.0 s.1 in
     let r = c.in_ok-take-in-Bytes.ensures in

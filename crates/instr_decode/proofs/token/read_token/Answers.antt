@@ -9,17 +9,17 @@ use Rattle.instr_decode.proofs.token.read_token.Goals as goal
 pub returns-in_err-block_type-in-2-clause-token : goal.returns-in_err-block_type-in-2-clause-token
 returns-in_err-block_type-in-2-clause-token c =
     exits c.from_residual-in_err-block_type-in-2.result _ _ c.in_err-block_type-in-2.field-0.0 c.from_residual-in_err-block_type-in-2.ensures.1
-    (none-open block_kind.Block (rest c.args.cursor.now) (rest c.u8.new.self) c.in_err-block_type-in-2.field-0.0 (c.in_ok-opcode.ensures.spelled ∙ ap (λ (n : ℕ). n ∷ rest c.u8.new.self) (omega arith)) c.in_err-block_type-in-2.ensures)
+    (none-open block_kind.Block (rest c.args.cursor.now) (rest c.u8.new.self) c.in_err-block_type-in-2.field-0.0 (c.in_ok-opcode.ensures.spelled ∙ ap (λ (n : ℕ). n ∷ rest c.u8.new.self) (omega arith)) c.in_err-block_type-in-2.ensures.read)
 
 pub returns-in_err-block_type-in-3-clause-token : goal.returns-in_err-block_type-in-3-clause-token
 returns-in_err-block_type-in-3-clause-token c =
     exits c.from_residual-in_err-block_type-in-3.result _ _ c.in_err-block_type-in-3.field-0.0 c.from_residual-in_err-block_type-in-3.ensures.1
-    (none-open block_kind.Loop (rest c.args.cursor.now) (rest c.u8.new.self) c.in_err-block_type-in-3.field-0.0 (c.in_ok-opcode.ensures.spelled ∙ ap (λ (n : ℕ). n ∷ rest c.u8.new.self) (omega arith)) c.in_err-block_type-in-3.ensures)
+    (none-open block_kind.Loop (rest c.args.cursor.now) (rest c.u8.new.self) c.in_err-block_type-in-3.field-0.0 (c.in_ok-opcode.ensures.spelled ∙ ap (λ (n : ℕ). n ∷ rest c.u8.new.self) (omega arith)) c.in_err-block_type-in-3.ensures.read)
 
 pub returns-in_err-block_type-in-4-clause-token : goal.returns-in_err-block_type-in-4-clause-token
 returns-in_err-block_type-in-4-clause-token c =
     exits c.from_residual-in_err-block_type-in-4.result _ _ c.in_err-block_type-in-4.field-0.0 c.from_residual-in_err-block_type-in-4.ensures.1
-    (none-open block_kind.If (rest c.args.cursor.now) (rest c.u8.new.self) c.in_err-block_type-in-4.field-0.0 (c.in_ok-opcode.ensures.spelled ∙ ap (λ (n : ℕ). n ∷ rest c.u8.new.self) (omega arith)) c.in_err-block_type-in-4.ensures)
+    (none-open block_kind.If (rest c.args.cursor.now) (rest c.u8.new.self) c.in_err-block_type-in-4.field-0.0 (c.in_ok-opcode.ensures.spelled ∙ ap (λ (n : ℕ). n ∷ rest c.u8.new.self) (omega arith)) c.in_err-block_type-in-4.ensures.read)
 
 pub returns-in_err-index-in-16-clause-token : goal.returns-in_err-index-in-16-clause-token
 returns-in_err-index-in-16-clause-token c =
@@ -29,4 +29,4 @@ returns-in_err-index-in-16-clause-token c =
 pub returns-in_err-index-in-17-clause-token : goal.returns-in_err-index-in-17-clause-token
 returns-in_err-index-in-17-clause-token c =
     exits c.from_residual-in_err-index-in-17.result _ _ c.in_err-index-in-17.field-0.0 c.from_residual-in_err-index-in-17.ensures.1
-    (none-call_indirect (rest c.args.cursor.now) (rest c.u8.new.self) c.in_err-index-in-17.field-0.0 (c.in_ok-opcode.ensures.spelled ∙ ap (λ (n : ℕ). n ∷ rest c.u8.new.self) (omega arith)) c.in_err-index-in-17.ensures)
+    (none-call_indirect (rest c.args.cursor.now) (rest c.u8.new.self) c.in_err-index-in-17.field-0.0 (c.in_ok-opcode.ensures.spelled ∙ ap (λ (n : ℕ). n ∷ rest c.u8.new.self) (omega arith)) c.in_err-index-in-17.ensures.read)

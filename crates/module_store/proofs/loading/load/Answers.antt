@@ -13,7 +13,7 @@ returns-in_err-image-clause-refused c =
     let p = err_from_is_err_and c.from_residual-in_err-image.result c.from_residual-in_err-image.ensures.1 in
     let same = sym c.in_ok-valid.ensures.ok in
     rw (p.1, p.2) (IsRefusal-image c.args.bytes.now (load_limits c.args.config.now) (module_tree c.in_ok-valid.valid) c.in_err-image.field-0.0
-    (subst (λ (m : Module). Spells c.args.bytes.now (module_tree m)) same c.in_ok-module.ensures)
+    (subst (λ (m : Module). Spells c.args.bytes.now (module_tree m)) same c.in_ok-module.ensures.read)
     (subst (λ (m : Module). IsSupported (module_tree m)) same c.in_ok-valid.ensures.supported)
     (subst (λ (m : Module). IsValid (module_tree m)) same c.in_ok-valid.ensures.valid)
     c.in_ok-check.ensures.ok

@@ -13,85 +13,85 @@ use Rattle.wasm_decode.specs.Bodies.{body_tree}
 use Rattle.wasm_decode.proofs.Fields.{exits-field, same-length}
 use Rattle.wasm_decode.proofs.decoder.decode_fields.Goals as goal
 
-pub returns-in_err-types : goal.returns-in_err-types
-returns-in_err-types c =
+pub returns-in_err-types-clause-read : goal.returns-in_err-types-clause-read
+returns-in_err-types-clause-read c =
     let ss : List Section = map section_of c.args.sections.now in
-    exits-field (λ xs. SpellsVec TakesFuncType xs (section 1 ss)) ss c.from_residual.result _ c.in_err-types.field-0.0 c.from_residual.ensures.1 c.in_err-types.ensures (λ m h. (m.types, h.types))
+    exits-field (λ xs. SpellsVec TakesFuncType xs (section 1 ss)) ss c.from_residual.result _ c.in_err-types.field-0.0 c.from_residual.ensures.1 c.in_err-types.ensures.read (λ m h. (m.types, h.types))
 
-pub returns-in_err-imports : goal.returns-in_err-imports
-returns-in_err-imports c =
+pub returns-in_err-imports-clause-read : goal.returns-in_err-imports-clause-read
+returns-in_err-imports-clause-read c =
     let ss : List Section = map section_of c.args.sections.now in
-    exits-field (λ xs. SpellsVec TakesImport xs (section 2 ss)) ss c.from_residual-in_err-imports.result _ c.in_err-imports.field-0.0 c.from_residual-in_err-imports.ensures.1 c.in_err-imports.ensures (λ m h. (m.imports, h.imports))
+    exits-field (λ xs. SpellsVec TakesImport xs (section 2 ss)) ss c.from_residual-in_err-imports.result _ c.in_err-imports.field-0.0 c.from_residual-in_err-imports.ensures.1 c.in_err-imports.ensures.read (λ m h. (m.imports, h.imports))
 
-pub returns-in_err-type_indices : goal.returns-in_err-type_indices
-returns-in_err-type_indices c =
+pub returns-in_err-type_indices-clause-read : goal.returns-in_err-type_indices-clause-read
+returns-in_err-type_indices-clause-read c =
     let ss : List Section = map section_of c.args.sections.now in
-    exits-field (λ xs. SpellsVec (TakesUnsigned 32) xs (section 3 ss)) ss c.from_residual-in_err-type_indices.result _ c.in_err-type_indices.field-0.0 c.from_residual-in_err-type_indices.ensures.1 c.in_err-type_indices.ensures (λ m h. (map type_index_of m.functions, h.function_types))
+    exits-field (λ xs. SpellsVec (TakesUnsigned 32) xs (section 3 ss)) ss c.from_residual-in_err-type_indices.result _ c.in_err-type_indices.field-0.0 c.from_residual-in_err-type_indices.ensures.1 c.in_err-type_indices.ensures.read (λ m h. (map type_index_of m.functions, h.function_types))
 
-pub returns-in_err-tables : goal.returns-in_err-tables
-returns-in_err-tables c =
+pub returns-in_err-tables-clause-read : goal.returns-in_err-tables-clause-read
+returns-in_err-tables-clause-read c =
     let ss : List Section = map section_of c.args.sections.now in
-    exits-field (λ xs. SpellsVec TakesTableType xs (section 4 ss)) ss c.from_residual-in_err-tables.result _ c.in_err-tables.field-0.0 c.from_residual-in_err-tables.ensures.1 c.in_err-tables.ensures (λ m h. (m.tables, h.tables))
+    exits-field (λ xs. SpellsVec TakesTableType xs (section 4 ss)) ss c.from_residual-in_err-tables.result _ c.in_err-tables.field-0.0 c.from_residual-in_err-tables.ensures.1 c.in_err-tables.ensures.read (λ m h. (m.tables, h.tables))
 
-pub returns-in_err-memories : goal.returns-in_err-memories
-returns-in_err-memories c =
+pub returns-in_err-memories-clause-read : goal.returns-in_err-memories-clause-read
+returns-in_err-memories-clause-read c =
     let ss : List Section = map section_of c.args.sections.now in
-    exits-field (λ xs. SpellsVec TakesMemoryType xs (section 5 ss)) ss c.from_residual-in_err-memories.result _ c.in_err-memories.field-0.0 c.from_residual-in_err-memories.ensures.1 c.in_err-memories.ensures (λ m h. (m.memories, h.memories))
+    exits-field (λ xs. SpellsVec TakesMemoryType xs (section 5 ss)) ss c.from_residual-in_err-memories.result _ c.in_err-memories.field-0.0 c.from_residual-in_err-memories.ensures.1 c.in_err-memories.ensures.read (λ m h. (m.memories, h.memories))
 
-pub returns-in_err-globals : goal.returns-in_err-globals
-returns-in_err-globals c =
+pub returns-in_err-globals-clause-read : goal.returns-in_err-globals-clause-read
+returns-in_err-globals-clause-read c =
     let ss : List Section = map section_of c.args.sections.now in
-    exits-field (λ xs. SpellsVec TakesGlobal xs (section 6 ss)) ss c.from_residual-in_err-globals.result _ c.in_err-globals.field-0.0 c.from_residual-in_err-globals.ensures.1 c.in_err-globals.ensures (λ m h. (m.globals, h.globals))
+    exits-field (λ xs. SpellsVec TakesGlobal xs (section 6 ss)) ss c.from_residual-in_err-globals.result _ c.in_err-globals.field-0.0 c.from_residual-in_err-globals.ensures.1 c.in_err-globals.ensures.read (λ m h. (m.globals, h.globals))
 
-pub returns-in_err-exports : goal.returns-in_err-exports
-returns-in_err-exports c =
+pub returns-in_err-exports-clause-read : goal.returns-in_err-exports-clause-read
+returns-in_err-exports-clause-read c =
     let ss : List Section = map section_of c.args.sections.now in
-    exits-field (λ xs. SpellsVec TakesExport xs (section 7 ss)) ss c.from_residual-in_err-exports.result _ c.in_err-exports.field-0.0 c.from_residual-in_err-exports.ensures.1 c.in_err-exports.ensures (λ m h. (m.exports, h.exports))
+    exits-field (λ xs. SpellsVec TakesExport xs (section 7 ss)) ss c.from_residual-in_err-exports.result _ c.in_err-exports.field-0.0 c.from_residual-in_err-exports.ensures.1 c.in_err-exports.ensures.read (λ m h. (m.exports, h.exports))
 
-pub returns-in_err-start : goal.returns-in_err-start
-returns-in_err-start c =
+pub returns-in_err-start-clause-read : goal.returns-in_err-start-clause-read
+returns-in_err-start-clause-read c =
     let ss : List Section = map section_of c.args.sections.now in
-    exits-field (λ x. SpellsStart x (section 8 ss)) ss c.from_residual-in_err-start.result _ c.in_err-start.field-0.0 c.from_residual-in_err-start.ensures.1 c.in_err-start.ensures (λ m h. (m.start, h.start))
+    exits-field (λ x. SpellsStart x (section 8 ss)) ss c.from_residual-in_err-start.result _ c.in_err-start.field-0.0 c.from_residual-in_err-start.ensures.1 c.in_err-start.ensures.read (λ m h. (m.start, h.start))
 
-pub returns-in_err-element_segments : goal.returns-in_err-element_segments
-returns-in_err-element_segments c =
+pub returns-in_err-element_segments-clause-read : goal.returns-in_err-element_segments-clause-read
+returns-in_err-element_segments-clause-read c =
     let ss : List Section = map section_of c.args.sections.now in
-    exits-field (λ xs. SpellsVec TakesElement xs (section 9 ss)) ss c.from_residual-in_err-element_segments.result _ c.in_err-element_segments.field-0.0 c.from_residual-in_err-element_segments.ensures.1 c.in_err-element_segments.ensures (λ m h. (m.element_segments, h.element_segments))
+    exits-field (λ xs. SpellsVec TakesElement xs (section 9 ss)) ss c.from_residual-in_err-element_segments.result _ c.in_err-element_segments.field-0.0 c.from_residual-in_err-element_segments.ensures.1 c.in_err-element_segments.ensures.read (λ m h. (m.element_segments, h.element_segments))
 
-pub returns-in_err-bodies : goal.returns-in_err-bodies
-returns-in_err-bodies c =
+pub returns-in_err-bodies-clause-read : goal.returns-in_err-bodies-clause-read
+returns-in_err-bodies-clause-read c =
     let ss : List Section = map section_of c.args.sections.now in
-    exits-field (λ xs. SpellsVec TakesSizedBody xs (section 10 ss)) ss c.from_residual-in_err-bodies.result _ c.in_err-bodies.field-0.0 c.from_residual-in_err-bodies.ensures.1 c.in_err-bodies.ensures (λ m h. (map body_of m.functions, h.bodies))
+    exits-field (λ xs. SpellsVec TakesSizedBody xs (section 10 ss)) ss c.from_residual-in_err-bodies.result _ c.in_err-bodies.field-0.0 c.from_residual-in_err-bodies.ensures.1 c.in_err-bodies.ensures.read (λ m h. (map body_of m.functions, h.bodies))
 
-pub returns-in_err-data_segments : goal.returns-in_err-data_segments
-returns-in_err-data_segments c =
+pub returns-in_err-data_segments-clause-read : goal.returns-in_err-data_segments-clause-read
+returns-in_err-data_segments-clause-read c =
     let ss : List Section = map section_of c.args.sections.now in
-    exits-field (λ xs. SpellsVec TakesData xs (section 11 ss)) ss c.from_residual-in_err-data_segments.result _ c.in_err-data_segments.field-0.0 c.from_residual-in_err-data_segments.ensures.1 c.in_err-data_segments.ensures (λ m h. (m.data_segments, h.data_segments))
+    exits-field (λ xs. SpellsVec TakesData xs (section 11 ss)) ss c.from_residual-in_err-data_segments.result _ c.in_err-data_segments.field-0.0 c.from_residual-in_err-data_segments.ensures.1 c.in_err-data_segments.ensures.read (λ m h. (m.data_segments, h.data_segments))
 
-pub returns-then-len : goal.returns-then-len
-returns-then-len c = λ m h.
+pub returns-then-len-clause-read : goal.returns-then-len-clause-read
+returns-then-len-clause-read c = λ m h.
     let ss : List Section = map section_of c.args.sections.now in
     let indices : List ℕ = c.in_ok-type_indices.type_indices in
     let trees : List Body = map (λ s. body_tree s.body) c.in_ok-bodies.bodies in
-    let n = same-length ss m indices trees h (simp map-id at c.in_ok-type_indices.ensures) c.in_ok-bodies.ensures in
+    let n = same-length ss m indices trees h (simp map-id at c.in_ok-type_indices.ensures.read) c.in_ok-bodies.ensures.read in
     omega (arith, n, length-map c.in_ok-bodies.bodies (λ s. body_tree s.body), c.len.ensures, c.len-2.ensures, c.if-len.true)
 
-pub returns : goal.returns
-returns c =
+pub returns-clause-read : goal.returns-clause-read
+returns-clause-read c =
     let ss : List Section = map section_of c.args.sections.now in
     let types_are = ap (λ (fs : List Function). map type_index_of (map function_tree fs)) c.new.ensures ∙ c.in_ok-functions.ensures.types ∙ c.as_slice.ensures in
     let bodies_are = ap (λ (fs : List Function). map body_of (map function_tree fs)) c.new.ensures ∙ c.in_ok-functions.ensures.bodies ∙ ap (map (λ (s : SizedBody). body_tree s.body)) c.into_vec.ensures in
-    let tables_are = c.in_ok-tables-2.ensures ∙ ap (map (λ (t : TableType). t.limits)) c.as_slice-2.ensures in
+    let tables_are = c.in_ok-tables-2.ensures.limits ∙ ap (map (λ (t : TableType). t.limits)) c.as_slice-2.ensures in
     record {
-      types = simp map-id at c.in_ok-types.ensures;
-      imports = simp map-id at c.in_ok-imports.ensures;
-      function_types = subst (λ (l : List ℕ). SpellsVec (TakesUnsigned 32) l (section 3 ss)) (sym types_are) (simp map-id at c.in_ok-type_indices.ensures);
-      tables = subst (λ (l : List Limits). SpellsVec TakesTableType l (section 4 ss)) (sym tables_are) c.in_ok-tables.ensures;
-      memories = simp map-id at c.in_ok-memories.ensures;
-      globals = c.in_ok-globals.ensures;
-      exports = simp map-id at c.in_ok-exports.ensures;
-      start = c.in_ok-start.ensures;
-      element_segments = c.in_ok-element_segments.ensures;
-      bodies = subst (λ (l : List Body). SpellsVec TakesSizedBody l (section 10 ss)) (sym bodies_are) c.in_ok-bodies.ensures;
-      data_segments = c.in_ok-data_segments.ensures;
+      types = simp map-id at c.in_ok-types.ensures.read;
+      imports = simp map-id at c.in_ok-imports.ensures.read;
+      function_types = subst (λ (l : List ℕ). SpellsVec (TakesUnsigned 32) l (section 3 ss)) (sym types_are) (simp map-id at c.in_ok-type_indices.ensures.read);
+      tables = subst (λ (l : List Limits). SpellsVec TakesTableType l (section 4 ss)) (sym tables_are) c.in_ok-tables.ensures.read;
+      memories = simp map-id at c.in_ok-memories.ensures.read;
+      globals = c.in_ok-globals.ensures.read;
+      exports = simp map-id at c.in_ok-exports.ensures.read;
+      start = c.in_ok-start.ensures.read;
+      element_segments = c.in_ok-element_segments.ensures.read;
+      bodies = subst (λ (l : List Body). SpellsVec TakesSizedBody l (section 10 ss)) (sym bodies_are) c.in_ok-bodies.ensures.read;
+      data_segments = c.in_ok-data_segments.ensures.read;
     }

@@ -9,5 +9,5 @@ use Rattle.wasm_decode.proofs.section.read_section.Goals as goal
 pub returns-in_err-contents-clause-section : goal.returns-in_err-contents-clause-section
 returns-in_err-contents-clause-section c =
     exits c.from_residual-in_err-contents.result _ _ c.in_err-contents.field-0.0 c.from_residual-in_err-contents.ensures.1
-    (begins-through TakesBytes TakesSection (rest c.u8.new.self) (rest c.args.cursor.now) c.in_err-contents.field-0.0 c.in_err-contents.ensures
+    (begins-through TakesBytes TakesSection (rest c.u8.new.self) (rest c.args.cursor.now) c.in_err-contents.field-0.0 c.in_err-contents.ensures.read
     (λ s after h. (s.contents, after, subst (λ (l : List ℕ). TakesBytes s.contents l after) (same_others h.id c.in_ok-id.ensures.spelled) h.sized)))

@@ -12,14 +12,14 @@ use Rattle.wasm_decode.specs.Pairs.{TakesPair}
 use Rattle.instr_decode.proofs.Decoding.{exits-as}
 use Rattle.wasm_decode.proofs.function.BodyItem.decode.Goals as goal
 
-pub returns-in_err-locals : goal.returns-in_err-locals
-returns-in_err-locals c =
-    exits-as (TakesPair (TakesVec TakesLocalRun) TakesExpr) TakesBody c.from_residual.result _ (rest c.args.cursor.now) c.in_err-locals.field-0.0 c.from_residual.ensures.1 c.in_err-locals.ensures
+pub returns-in_err-locals-clause-read : goal.returns-in_err-locals-clause-read
+returns-in_err-locals-clause-read c =
+    exits-as (TakesPair (TakesVec TakesLocalRun) TakesExpr) TakesBody c.from_residual.result _ (rest c.args.cursor.now) c.in_err-locals.field-0.0 c.from_residual.ensures.1 c.in_err-locals.ensures.read
     (λ b after h. ((h.runs, b.code), (h.mid, h.spelled, h.code)))
 
-pub returns-else-are_few : goal.returns-else-are_few
-returns-else-are_few c = λ b after h.
-    let r = simp map-id at c.in_ok-locals.ensures in
+pub returns-else-are_few-clause-read : goal.returns-else-are_few-clause-read
+returns-else-are_few-clause-read c = λ b after h.
+    let r = simp map-id at c.in_ok-locals.ensures.read in
     let u = vec-unique TakesLocalRun local_run-unique h.runs c.in_ok-locals.locals (rest c.args.cursor.now) h.mid r.spelled.0 h.spelled r.spelled.1 in
     let same : c.as_slice.result.now ≡ h.runs = c.as_slice.ensures ∙ sym u.0 in
     let few : length (flat_map locals_of c.as_slice.result.now) < 2 ^ 32 =

@@ -15,12 +15,12 @@ sized-none contents bytes mid Malformed t none = λ b after h.
     none b (subst (λ (l : List ℕ). TakesBody b l []) u.0 h.body)
 sized-none contents bytes mid NoMemory t none = tt
 
-pub returns-in_err-contents : goal.returns-in_err-contents
-returns-in_err-contents c =
-    exits-as TakesBytes TakesSizedBody c.from_residual.result _ (rest c.args.cursor.now) c.in_err-contents.field-0.0 c.from_residual.ensures.1 c.in_err-contents.ensures
+pub returns-in_err-contents-clause-read : goal.returns-in_err-contents-clause-read
+returns-in_err-contents-clause-read c =
+    exits-as TakesBytes TakesSizedBody c.from_residual.result _ (rest c.args.cursor.now) c.in_err-contents.field-0.0 c.from_residual.ensures.1 c.in_err-contents.ensures.read
     (λ b after h. (h.contents, h.sized))
 
-pub returns-in_err-body : goal.returns-in_err-body
-returns-in_err-body c =
+pub returns-in_err-body-clause-read : goal.returns-in_err-body-clause-read
+returns-in_err-body-clause-read c =
     exits c.from_residual-in_err-body.result _ _ c.in_err-body.field-0.0 c.from_residual-in_err-body.ensures.1
-    (sized-none c.in_ok-contents.contents.now (rest c.args.cursor.now) (rest c.read_bytes.new.cursor) c.in_err-body.field-0.0 c.in_ok-contents.ensures.spelled c.in_err-body.ensures)
+    (sized-none c.in_ok-contents.contents.now (rest c.args.cursor.now) (rest c.read_bytes.new.cursor) c.in_err-body.field-0.0 c.in_ok-contents.ensures.read.spelled c.in_err-body.ensures.read)

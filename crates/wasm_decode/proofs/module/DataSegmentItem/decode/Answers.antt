@@ -6,7 +6,7 @@ use Rattle.wasm_decode.specs.Pairs.{TakesPair}
 use Rattle.instr_decode.proofs.Decoding.{exits-as}
 use Rattle.wasm_decode.proofs.module.DataSegmentItem.decode.Goals as goal
 
-pub returns-in_err-memory : goal.returns-in_err-memory
-returns-in_err-memory c =
-    exits-as (TakesPair (TakesUnsigned 32) (TakesPair TakesExpr TakesBytes)) TakesData c.from_residual.result _ (rest c.args.cursor.now) c.in_err-memory.field-0.0 c.from_residual.ensures.1 c.in_err-memory.ensures
+pub returns-in_err-memory-clause-read : goal.returns-in_err-memory-clause-read
+returns-in_err-memory-clause-read c =
+    exits-as (TakesPair (TakesUnsigned 32) (TakesPair TakesExpr TakesBytes)) TakesData c.from_residual.result _ (rest c.args.cursor.now) c.in_err-memory.field-0.0 c.from_residual.ensures.1 c.in_err-memory.ensures.read
     (λ d after h. ((d.memory, (d.offset, d.bytes)), (h.after_memory, h.memory, (h.after_offset, h.offset, h.contents))))

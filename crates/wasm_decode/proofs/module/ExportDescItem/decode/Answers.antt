@@ -14,7 +14,7 @@ parts (export.Table x) bytes after h = ((1, x), (h.0, h.1, h.2))
 parts (export.Memory x) bytes after h = ((2, x), (h.0, h.1, h.2))
 parts (export.Global x) bytes after h = ((3, x), (h.0, h.1, h.2))
 
-pub returns-in_err-kind : goal.returns-in_err-kind
-returns-in_err-kind c =
-    exits-as (TakesPair TakesByte (TakesUnsigned 32)) TakesExportDesc c.from_residual.result _ (rest c.args.cursor.now) c.in_err-kind.field-0.0 c.from_residual.ensures.1 c.in_err-kind.ensures
+pub returns-in_err-kind-clause-read : goal.returns-in_err-kind-clause-read
+returns-in_err-kind-clause-read c =
+    exits-as (TakesPair TakesByte (TakesUnsigned 32)) TakesExportDesc c.from_residual.result _ (rest c.args.cursor.now) c.in_err-kind.field-0.0 c.from_residual.ensures.1 c.in_err-kind.ensures.read
     (λ d after h. parts d (rest c.args.cursor.now) after h)

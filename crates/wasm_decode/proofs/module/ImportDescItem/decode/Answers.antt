@@ -15,9 +15,9 @@ table-is (import.Func x) bytes a after e h = absurd (omega (arith, same_first e 
 table-is (import.Memory m) bytes a after e h = absurd (omega (arith, same_first e h.1))
 table-is (import.Global g) bytes a after e h = absurd (omega (arith, same_first e h.1))
 
-pub returns-in_err-table-in-1 : goal.returns-in_err-table-in-1
-returns-in_err-table-in-1 c =
+pub returns-in_err-table-in-1-clause-read : goal.returns-in_err-table-in-1-clause-read
+returns-in_err-table-in-1-clause-read c =
     let e : rest c.args.cursor.now ≡ 1 ∷ rest c.u8.new.self = c.in_ok-kind.ensures.spelled ∙ ap (λ (n : ℕ). n ∷ rest c.u8.new.self) (omega arith) in
     exits c.from_residual-in_err-table-in-1.result _ _ c.in_err-table-in-1.field-0.0 c.from_residual-in_err-table-in-1.ensures.1
-    (begins-through TakesTableType TakesImportDesc (rest c.u8.new.self) (rest c.args.cursor.now) c.in_err-table-in-1.field-0.0 c.in_err-table-in-1.ensures
+    (begins-through TakesTableType TakesImportDesc (rest c.u8.new.self) (rest c.args.cursor.now) c.in_err-table-in-1.field-0.0 c.in_err-table-in-1.ensures.read
     (λ d after h. let t = table-is d (rest c.args.cursor.now) (rest c.u8.new.self) after e h in (t.0, after, t.1)))

@@ -7,14 +7,14 @@ use Rattle.wasm_decode.specs.Pairs.{TakesPair}
 use Rattle.instr_decode.proofs.Decoding.{exits-as}
 use Rattle.wasm_decode.proofs.types.FuncTypeItem.decode.Goals as goal
 
-pub returns-in_err-tag : goal.returns-in_err-tag
-returns-in_err-tag c =
-    exits-as (TakesPair TakesByte (TakesPair (TakesVec TakesValType) (TakesVec TakesValType))) TakesFuncType c.from_residual.result _ (rest c.args.cursor.now) c.in_err-tag.field-0.0 c.from_residual.ensures.1 c.in_err-tag.ensures
+pub returns-in_err-tag-clause-read : goal.returns-in_err-tag-clause-read
+returns-in_err-tag-clause-read c =
+    exits-as (TakesPair TakesByte (TakesPair (TakesVec TakesValType) (TakesVec TakesValType))) TakesFuncType c.from_residual.result _ (rest c.args.cursor.now) c.in_err-tag.field-0.0 c.from_residual.ensures.1 c.in_err-tag.ensures.read
     (λ t after h. ((0x60, (t.params, t.results)), (h.after, h.tag, (h.mid, h.params, h.results))))
 
-pub returns-then-tag-eq96 : goal.returns-then-tag-eq96
-returns-then-tag-eq96 c =
-    let r = simp map-id at c.in_ok-tag.ensures in
+pub returns-then-tag-eq96-clause-read : goal.returns-then-tag-eq96-clause-read
+returns-then-tag-eq96-clause-read c =
+    let r = simp map-id at c.in_ok-tag.ensures.read in
     let s = r.spelled in
     record {
       whole = r.whole;

@@ -14,8 +14,8 @@ most-is low n (Some x) bytes a mid after e count h =
     let u = unsigned-unique 32 low n a h.2 mid (subst (λ (l : List ℕ). TakesUnsigned 32 low l h.2) (same_others h.1 e) h.3) count in
     (x, subst (λ (l : List ℕ). TakesUnsigned 32 x l after) u.1 h.4)
 
-pub returns-in_err-max-in-1 : goal.returns-in_err-max-in-1
-returns-in_err-max-in-1 c =
+pub returns-in_err-max-in-1-clause-read : goal.returns-in_err-max-in-1-clause-read
+returns-in_err-max-in-1-clause-read c =
     let p = err_from_is_err_and c.from_residual-in_err-max-in-1.result c.from_residual-in_err-max-in-1.ensures.1 in
     rw (p.1, p.2) (λ l after h.
     let m = most-is l.min c.in_ok-min.min l.max (rest c.args.cursor.now) (rest c.u8.new.self) (rest c.u32.new.self) after
