@@ -26,6 +26,12 @@ def number(n):
     return bytes(out)
 
 
+def signed(n):
+    """Signed LEB128 of a number from 0 on."""
+    out = number(n)
+    return out if out[-1] < 64 else out[:-1] + bytes([out[-1] | 128, 0])
+
+
 def section(kind, contents):
     return bytes([kind]) + number(len(contents)) + contents
 
@@ -65,10 +71,26 @@ def calls_not_reached():
     return HEADER + kind + section(3, b"\x01\x00") + section(10, b"\x01" + number(len(code)) + code)
 
 
-def images():
-    """Modules of 32 pages, with a byte at the end of the last one, 2,097,151 as an i32.const."""
-    module = HEADER + section(5, b"\x01\x00\x20") + section(11, b"\x01\x00\x41\xff\xff\xff\x00\x0b\x01a")
-    return b"".join(b"module m%d %s\n" % (k, module.hex().encode()) for k in range(1000))
+# A function "f" that does nothing, exported, beside a memory of 32 pages.
+FUNCTION_AND_MEMORY = HEADER + VOID_FUNCTION + section(5, b"\x01\x00\x20") + section(7, b"\x01\x01f\x00\x00") + section(10, b"\x01\x02\x00\x0b")
+
+
+def with_bytes_at(places):
+    """A module of 32 pages with one byte at each of these places."""
+    segments = b"".join(b"\x00\x41" + signed(place) + b"\x0b\x01a" for place in places)
+    return FUNCTION_AND_MEMORY + section(11, number(len(places)) + segments)
+
+
+def modules(count, module):
+    return b"".join(b"module m%d %s\n" % (k, module.hex().encode()) for k in range(count))
+
+
+LAST_BYTE = [32 * 65_536 - 1]
+
+
+def calls_of_two():
+    """Calls of two modules, one after the other, each with a byte at the end of 32 pages."""
+    return modules(2, with_bytes_at(LAST_BYTE)) + b"call m0 f 1\ncall m1 f 1\n" * 50_000
 
 
 def long_names():
@@ -89,7 +111,10 @@ ROWS = [
     ("1,000,000 empty custom sections", line(HEADER + b"\x00\x01\x00" * MANY), "module m ok\n"),
     ("16 MiB of one module line", line(HEADER + section(0, b"\x00" * ((1 << 23) - 18))), "module m ok\n"),
     ("1,000,000 calls, not reached, of a function of 1,000,000 parameters", line(calls_not_reached()), "module m refused limit\n"),
-    ("1,000 images of 2 MiB each, of one byte", images(), "\nmodule m999 ok\n"),
+    ("4,096 modules with a byte at the end of 32 pages", modules(4096, with_bytes_at(LAST_BYTE)), "\nmodule m4095 ok\n"),
+    ("16 modules with a byte in each 64 of 32 pages", modules(16, with_bytes_at(range(0, 32 * 65_536, 64))), "\nmodule m15 ok\n"),
+    ("4,096 tables of 1,024 elements", modules(4096, HEADER + b"\x04\x05\x01\x70\x00\x80\x08"), "\nmodule m4095 ok\n"),
+    ("100,000 calls, one after the other of two modules with a byte at the end of 32 pages", calls_of_two(), "\n100000 ok\n"),
     ("100,000 calls of the last of 4,096 names that differ at their end", long_names(), "\n100000 refused export\n"),
     ("a count of items that are not there", line(HEADER + bytes.fromhex("0105ffffffff0f")), "module m refused malformed\n"),
     ("a count of locals past 32 bits", line(with_code(bytes.fromhex("02ffffffff0f7f017f0b"))), "module m refused malformed\n"),

@@ -1,6 +1,6 @@
 -- Where the segments of a module end, and which is the first past its table or memory (WebAssembly Core Specification
 -- 1.0, section 4.5.4).
-use Rattle.std.specs.Prelude.{◌≡◌, ◌+◌, ℕ, List, Bool, Option, Some, length, map, find, nat_lt, unwrap_or}
+use Rattle.std.specs.Prelude.{◌≡◌, Bool, Option, Some, map, find, nat_lt, unwrap_or}
 use Rattle.std.specs.List.{enumerate_from}
 use Rattle.wasm_types.specs.declared.outcome.Val.{Val}
 use Rattle.wasm_types.specs.declared.outcome.Val.TheVariants as val

@@ -1,4 +1,7 @@
 // Worked tables.
+ghost use Rattle.std.specs.Prelude.{◌≡◌, IfOk};
+ghost use Rattle.wasm_types.specs.Tree.{module_tree};
+ghost use Rattle.wasm_spec.specs.Store.{table_size};
 
 use crate::fill::write_table;
 use crate::image::build;
@@ -12,7 +15,9 @@ fn none<T>(alloc: Global) -> Items<T> {
 }
 
 // A module of nothing but a table of so many elements.
-fn module(alloc: Global, elements: u32) -> Result<Module, AllocError> {
+fn module(alloc: Global, elements: u32) -> Result<Module, AllocError>
+    ensures { IfOk result (λ m. table_size (module_tree m) ≡ elements) }
+{
     let mut tables = Vec::new(alloc);
     tables.push(Limits {
         min: elements,

@@ -50,11 +50,7 @@ fn restore_block<L: Ledger>(
         return;
     }
     let start = block * BLOCK_SIZE as usize;
-    write_block(
-        &mut bytes[start..start + BLOCK_SIZE as usize],
-        image,
-        block,
-    );
+    write_block(&mut bytes[start..start + BLOCK_SIZE as usize], image, block);
     marks[block] = false;
     steps.tick();
 }

@@ -1,9 +1,10 @@
 // Worked pools of memories. Each store has its name from the test that opens it.
-ghost use Rattle.std.specs.Prelude.{◌≡◌, ◌<◌, ◌≤◌, ℕ};
+ghost use Rattle.std.specs.Prelude.{◌≡◌, ◌<◌, ◌≤◌, ℕ, length};
+ghost use Rattle.std.specs.List.{All};
 ghost use Rattle.slot_words.specs.Passes.{IsIdle, IsSamePass};
 ghost use Rattle.module_store.specs.Names.{Bears};
 ghost use Rattle.memory_slots.specs.Lent.{IsReady};
-ghost use Rattle.memory_slots.specs.Pools.{IsMemoryPass};
+ghost use Rattle.memory_slots.specs.Pools.{IsMemoryPass, IsNewMemoryPass};
 
 use crate::{MemSlot, MemoryPool};
 use module_store::{Desk, ModuleRef, ModuleStore, Naming, Opened};
@@ -248,6 +249,21 @@ fn visit_often<N: Naming>(
     pass
 }
 
+// The two passes of a pool that was opened for two.
+fn both<N: Naming>(
+    pool: &MemoryPool<N>,
+    mut passes: Vec<Pass<MemSlot<N>>>,
+) -> (Pass<MemSlot<N>>, Pass<MemSlot<N>>)
+    requires count { length passes.items ≡ 2 }
+    requires new { All (IsNewMemoryPass pool.now) passes.items }
+    ensures own { IsMemoryPass pool.now result.0 × IsMemoryPass pool.now result.1 }
+    ensures idle { IsIdle result.0 × IsIdle result.1 }
+{
+    let first = passes.pop().unwrap();
+    let second = passes.pop().unwrap();
+    (first, second)
+}
+
 fn check_threads<N: Naming + Send + Sync, R: Abort + Threads + Wait + Sync>(
     rt: &R,
     alloc: Global,
@@ -258,9 +274,8 @@ fn check_threads<N: Naming + Send + Sync, R: Abort + Threads + Wait + Sync>(
     let (store, mut desk) = opened.named::<N>();
     let letters = registered(rt, alloc, &store, &mut desk, &LETTERS);
     let zeros = registered(rt, alloc, &store, &mut desk, &ZEROS);
-    let (pool, mut passes) = MemoryPool::open(alloc, &store, 2, 1, 2).expect(rt, "opened");
-    let first = passes.pop().unwrap();
-    let second = passes.pop().unwrap();
+    let (pool, passes) = MemoryPool::open(alloc, &store, 2, 1, 2).expect(rt, "opened");
+    let (first, second) = both(&pool, passes);
     let shared = &pool;
     let (mut first, second) = thread::join(
         rt,

@@ -189,6 +189,44 @@ fn two_modules_share_memories(rt: HostRuntime) -> Result<(), Fail> {
     Ok(())
 }
 
+// Each reads a byte of its memory, or writes 7 there. The bytes of the first are "xyz" and over it "ab", from 4,094 and 4,095 on; of
+// the second, "b" at 64.
+const TWO_IMAGES: &str =
+    "module a 0061736d01000000010a0260017f017f60017f0003030200010503010001070f02046c6f6f6b000004706f6b6500010a1302070020002d00000b0900200041073a00000b0b12020041fe1f0b0378797a0041ff1f0b026162
+module b 0061736d01000000010a0260017f017f60017f0003030200010503010001070f02046c6f6f6b000004706f6b6500010a1302070020002d00000b0900200041073a00000b0b08010041c0000b0162
+call a look 100 i32:4094
+call a look 100 i32:4095
+call a poke 100 i32:4096
+call b look 100 i32:4096
+call b look 100 i32:64
+call b poke 100 i32:4095
+call a look 100 i32:4096
+call a look 100 i32:64
+call a look 100 i32:4095
+";
+
+const FROM_TWO_IMAGES: &str = "module a ok
+module b ok
+1 ok i32:120
+2 ok i32:97
+3 ok
+4 ok i32:0
+5 ok i32:98
+6 ok
+7 ok i32:98
+8 ok i32:0
+9 ok i32:97
+";
+
+// Memories go from the one image to the other, over the edge of a block.
+#[test]
+fn two_images_are_laid_over_each_other(rt: HostRuntime) -> Result<(), Fail> {
+    for line in SHARED {
+        check(&rt, rt.alloc(), line, TWO_IMAGES, FROM_TWO_IMAGES)?;
+    }
+    Ok(())
+}
+
 // A function whose frame needs five places.
 #[test]
 fn a_frame_is_enough_or_too_small(rt: HostRuntime) -> Result<(), Fail> {

@@ -1,8 +1,4 @@
-use Rattle.std.proofs.Common.{◌≡◌, subst}
-use Rattle.std.specs.Prelude.{None}
-use Rattle.wasm_types.specs.declared.module.Module.{Module}
 use Rattle.wasm_types.specs.Tree.{module_tree}
-use Rattle.initial_image.specs.Segments.{first_element_misfit}
 use Rattle.initial_image.proofs.MisfitLemmas.{elements-fit}
 use Rattle.initial_image.proofs.fill.write_table.Goals as goal
 

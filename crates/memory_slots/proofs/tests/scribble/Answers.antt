@@ -23,5 +23,6 @@ invariant_of-slot g c =
         size = let size = after.size in let le = c.requires.1 in omega arith;
         outside = λ i q. changed.unmarked.bytes i q ∙ kept.outside i (changed.unmarked.marks i q);
       };
-      zeros = c.slot.invariant.zeros;
+      blocks = c.slot.invariant.blocks ∙ sym changed.room.marks;
+      zeros = λ i lt free. c.slot.invariant.zeros i (omega (arith, lt, changed.room.bytes)) free;
     }
