@@ -37,7 +37,7 @@ module _ (old new : SparseBytes) (number from k : ℕ) (cell piece : List ℕ)
 
   found : (q : ℕ) → HasCell new q → HasCell old q ⊎ Touches (64 * number + from) (length piece) q
   found q has = ⊎_elim
-      (λ (e : q ≡ number). inr (omega arith, omega arith))
+      (λ (e : q ≡ number). inr (record { place = 64 * number + from; from = omega arith; below = omega arith; in_cell = omega arith }))
       (λ (ne : q ≢ number). inl (ap is_some (sym (apart q ne)) ∙ has))
       (cases_eq q number)
 
@@ -91,8 +91,8 @@ written_more bytes start done count place old middle new h e first second =
       cells = λ q has. ⊎_elim
           (λ (m : HasCell middle q). ⊎_elim
           (λ (o : HasCell old q). inl o)
-          (λ (t : Touches start (length (take done bytes)) q). inr (t.0, omega arith))
+          (λ (t : Touches start (length (take done bytes)) q). inr (record { place = t.place; from = t.from; below = omega (arith, t.below); in_cell = t.in_cell }))
           (first.cells q m))
-          (λ (t : Touches place (length (between done (done + count) bytes)) q). inr (omega arith, omega arith))
+          (λ (t : Touches place (length (between done (done + count) bytes)) q). inr (record { place = t.place; from = omega (arith, t.from); below = omega (arith, t.below); in_cell = t.in_cell }))
           (second.cells q has);
     }

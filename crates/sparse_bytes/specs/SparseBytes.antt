@@ -1,5 +1,5 @@
 -- Which bytes a sparse image shows.
-use Rattle.std.specs.Prelude.{◌≡◌, ℕ, ◌+◌, ◌-◌, ◌*◌, ◌/◌, ◌%◌, ◌<◌, ◌≤◌, ◌⊎◌, List, [], IsSome, length, slice_index, unwrap_or}
+use Rattle.std.specs.Prelude.{◌≡◌, ℕ, ◌+◌, ◌-◌, ◌/◌, ◌%◌, ◌<◌, ◌≤◌, ◌⊎◌, List, [], IsSome, length, slice_index, unwrap_or}
 use Rattle.std.specs.Ordering.{nat_cmp}
 use Rattle.std.specs.BTreeMap.{get}
 use Rattle.sparse_bytes.specs.declared.bytes.SparseBytes.{SparseBytes}
@@ -17,9 +17,12 @@ byte_at bytes i = slice_index (cell_at bytes (i / CELL_SIZE)) (i % CELL_SIZE)
 abbrev pub HasCell : SparseBytes → ℕ → Type 0
 HasCell bytes number = IsSome (get nat_cmp bytes.cells number)
 
--- so many bytes from a place on have one in the cell of this number
-abbrev pub Touches : (start count number : ℕ) → Type 0
-Touches start count number = (start < CELL_SIZE * (number + 1)) × (CELL_SIZE * number < start + count)
+-- of so many bytes from a place on, one lies in the cell of this number
+pub record Touches (start count number : ℕ) : Type 0 where
+  pub place : ℕ
+  pub from : start ≤ place
+  pub below : place < start + count
+  pub in_cell : place / CELL_SIZE ≡ number
 
 -- The piece lies from a place on, and every other byte is as it was. A cell is there only if it was before or the piece touches
 -- it.
