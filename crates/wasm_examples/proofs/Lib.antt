@@ -12,3 +12,4 @@ pub mod LoadingExamples
 pub mod NeedExamples
 pub mod ValidityExamples
 pub mod TreeExamples
+pub mod WantsExamples
