@@ -1,8 +1,9 @@
 // Worked pools of tables. Each store has its name from the test that opens it.
-ghost use Rattle.std.specs.Prelude.{◌≡◌, ◌<◌};
+ghost use Rattle.std.specs.Prelude.{◌≡◌, ◌<◌, length};
+ghost use Rattle.std.specs.List.{All};
 ghost use Rattle.slot_words.specs.Passes.{IsIdle, IsSamePass};
 ghost use Rattle.module_store.specs.Names.{Bears};
-ghost use Rattle.table_slots.specs.Pools.{IsTablePass};
+ghost use Rattle.table_slots.specs.Pools.{IsTablePass, IsNewTablePass};
 
 use crate::{TablePool, TableSlot};
 use module_store::{Desk, ModuleRef, ModuleStore, Naming, Opened};
@@ -215,6 +216,21 @@ fn visit_often<N: Naming>(
     pass
 }
 
+// The two passes of a pool that was opened for two.
+fn both<N: Naming>(
+    pool: &TablePool<N>,
+    mut passes: Vec<Pass<TableSlot<N>>>,
+) -> (Pass<TableSlot<N>>, Pass<TableSlot<N>>)
+    requires count { length passes.items ≡ 2 }
+    requires new { All (IsNewTablePass pool.now) passes.items }
+    ensures own { IsTablePass pool.now result.0 × IsTablePass pool.now result.1 }
+    ensures idle { IsIdle result.0 × IsIdle result.1 }
+{
+    let first = passes.pop().unwrap();
+    let second = passes.pop().unwrap();
+    (first, second)
+}
+
 fn check_threads<N: Naming + Send + Sync, R: Abort + Threads + Wait + Sync>(
     rt: &R,
     alloc: Global,
@@ -225,9 +241,8 @@ fn check_threads<N: Naming + Send + Sync, R: Abort + Threads + Wait + Sync>(
     let (store, mut desk) = opened.named::<N>();
     let three = registered(rt, alloc, &store, &mut desk, &THREE);
     let one = registered(rt, alloc, &store, &mut desk, &ONE);
-    let (pool, mut passes) = TablePool::open(alloc, &store, 2, 1, 2).expect(rt, "opened");
-    let first = passes.pop().unwrap();
-    let second = passes.pop().unwrap();
+    let (pool, passes) = TablePool::open(alloc, &store, 2, 1, 2).expect(rt, "opened");
+    let (first, second) = both(&pool, passes);
     let shared = &pool;
     let (mut first, second) = thread::join(
         rt,
