@@ -428,6 +428,23 @@ fn long_modules_are_read(rt: HostRuntime) -> Result<(), Fail> {
     Ok(())
 }
 
+// A module with one byte, at the end of 256 pages.
+const LAST_BYTE: &str = "0061736d010000000504010080020b0a010041ffffff070b0161";
+
+// As many as a file may have: 64 GiB, if the image of each had all bytes up to its last one.
+#[test]
+fn images_are_as_large_as_their_segments(rt: HostRuntime) -> Result<(), Fail> {
+    let alloc = rt.alloc();
+    let mut text = String::new(alloc);
+    let mut written = String::new(alloc);
+    for number in 0..4_096u32 {
+        write!(text, "module m{number} {}\n", LAST_BYTE)?;
+        write!(written, "module m{number} ok\n")?;
+    }
+    let line = "poolhost run --pages 256 --memories 1";
+    check(&rt, alloc, line, text.as_str(), written.as_str())
+}
+
 // Of the 16 MiB that a file may have, 38 bytes stand around the section's bytes.
 #[test]
 fn a_file_may_be_one_line(rt: HostRuntime) -> Result<(), Fail> {
