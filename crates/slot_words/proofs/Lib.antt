@@ -4,6 +4,7 @@ mod Closings
 mod CoreLaws
 mod CountEvents
 mod HeldShares
+mod HistorySteps
 mod Holdings
 mod JoinedTrails
 mod KindSums

@@ -16,6 +16,7 @@ use Rattle.slot_words.specs.CoreLaws.{CoreLaws}
 use Rattle.slot_words.specs.declared.views.Bounds.{Bounds}
 use Rattle.slot_words.specs.Views.{first_view, no_view}
 use Rattle.slot_words.specs.Shows.{IsCounted, IsKept, Suits, view_share, view_unsplit}
+use Rattle.slot_words.proofs.HistorySteps.{history_at_opening}
 use Rattle.slot_words.proofs.AccountSteps.{accounts_at_opening}
 use Rattle.slot_words.proofs.SharedPasses.{shared_at_start}
 
@@ -61,6 +62,7 @@ module _ {V : Type 0} where
           };
         };
         accounts = accounts_at_opening laws bounds n;
+        history = history_at_opening bounds n;
       }
 
   -- the same of lists that are those

@@ -9,7 +9,7 @@ use Rattle.pool_core.specs.PoolCore.{is_live, word_at}
 use Rattle.slot_words.specs.declared.views.PassView.{PassView}
 use Rattle.slot_words.specs.CoreLaws.{CoreLaws}
 use Rattle.slot_words.specs.Views.{no_view}
-use Rattle.slot_words.specs.Rule.{AloneWithAll, ClockCountsStamps, FreeValuesFit, HeldByAnother, NoHiddenSeat, OneHolder, WithinLimit}
+use Rattle.slot_words.specs.Rule.{AloneWithAll, ClockCountsStamps, FreeValuesFit, HeldByAnother, NoHiddenSeat, OneHistory, OneHolder, WithinLimit}
 use Rattle.slot_words.specs.Shows.{Suits, shown_seat, view_share, view_unsplit}
 use Rattle.slot_words.proofs.HeldShares.{another_holds, counted_at}
 use Rattle.slot_words.proofs.Lookups.{live_not_away}
@@ -57,3 +57,6 @@ module _ (laws : CoreLaws) {V : Type 0} (fits : State → ℕ → V → Type 0) 
 
   pub clock_counts_stamps : ClockCountsStamps fits room
   clock_counts_stamps bounds s r = ap (λ (k : ℕ). get_or s.words (k + 2) 0) r.rule.shows.slots_are ∙ r.rule.shows.clock_shows ∙ r.accounts.clock_is
+
+  pub one_history : OneHistory fits room
+  one_history bounds s r = (r.rule.core, r.rule.shows, r.history)

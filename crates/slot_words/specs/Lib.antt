@@ -2,6 +2,7 @@ pub mod Accounts
 pub mod Closing
 pub mod CoreLaws
 pub mod Events
+pub mod History
 pub mod KindCounts
 pub mod Leases
 pub mod Outcomes

@@ -13,7 +13,9 @@ use Rattle.slot_words.specs.declared.views.PassView.{PassView}
 use Rattle.slot_words.specs.declared.views.Bounds.{Bounds}
 use Rattle.slot_words.specs.Accounts.{is_stamp}
 use Rattle.slot_words.specs.KindCounts.{BeginsWith}
-use Rattle.slot_words.specs.Shows.{IsKept, ShowsLawful, Suits, shown_seat}
+use Rattle.pool_core.specs.PoolCore.{PoolCore}
+use Rattle.slot_words.specs.History.{IsHistory}
+use Rattle.slot_words.specs.Shows.{IsKept, Shows, ShowsLawful, Suits, shown_seat}
 use Rattle.slot_words.specs.Views.{operations_of}
 
 module _ {V : Type 0} (fits : State → ℕ → V → Type 0) (room : V → List ℕ) where
@@ -52,3 +54,8 @@ module _ {V : Type 0} (fits : State → ℕ → V → Type 0) (room : V → List
   abbrev pub ClockCountsStamps : Type 0
   ClockCountsStamps = (bounds : Bounds) (s : TableState (Option V) PassView) → IsKept fits room bounds s
       → slice_index_or s.words (length s.homes + 2) 0 ≡ count_by is_stamp (flat_map operations_of s.views) % 2 ^ 64
+
+  -- All steps of all passes, in the order in which they came, are one list of events from the opening, none of which is refused where it comes. It leads to what is shown, and of it each pass's trail is what that pass read.
+  abbrev pub OneHistory : Type 0
+  OneHistory = (bounds : Bounds) (s : TableState (Option V) PassView) → IsKept fits room bounds s
+      → (core : PoolCore) × Shows fits room bounds core s × IsHistory bounds core s.views

@@ -12,6 +12,7 @@ use Rattle.pool_core.specs.Lawful.{Lawful}
 use Rattle.slot_words.specs.declared.views.PassView.{PassView}
 use Rattle.slot_words.specs.declared.views.Bounds.{Bounds}
 use Rattle.slot_words.specs.Accounts.{AccountsFor}
+use Rattle.slot_words.specs.History.{IsHistory}
 use Rattle.slot_words.specs.SharedPasses.{AreShared}
 use Rattle.slot_words.specs.Views.{no_view}
 
@@ -67,3 +68,4 @@ module _ {V : Type 0} (fits : State → ℕ → V → Type 0) (room : V → List
   pub record IsKept (bounds : Bounds) (s : TableState (Option V) PassView) : Type 0 where
     pub rule : ShowsLawful bounds s
     pub accounts : AccountsFor s.views rule.core.words rule.core.clock
+    pub history : IsHistory bounds rule.core s.views

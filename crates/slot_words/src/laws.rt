@@ -4,7 +4,7 @@ ghost use Rattle.slot_words.specs.declared.kinds.KindCounts.{KindCounts};
 ghost use Rattle.slot_words.specs.declared.views.Operation.{Operation};
 ghost use Rattle.slot_words.specs.Closing.{CountsLeft};
 ghost use Rattle.slot_words.specs.Events.{LoadsAreEvents, ClaimsAreEvents, ReleasesAreEvents, WarmLoadsAreEvents, WarmUpsAreEvents, WarmDownsAreEvents, StampsAreEvents, AwaitUpsAreEvents, AwaitDownsAreEvents, AwaitLoadsAreEvents, SplitsAreEvents, JoinsAreEvents, ClosesAreEvents, ExchangesAreEvents};
-ghost use Rattle.slot_words.specs.Rule.{OneHolder, HeldByAnother, NoHiddenSeat, AloneWithAll, WithinLimit, FreeValuesFit, ClockCountsStamps};
+ghost use Rattle.slot_words.specs.Rule.{OneHolder, HeldByAnother, NoHiddenSeat, AloneWithAll, WithinLimit, FreeValuesFit, ClockCountsStamps, OneHistory};
 
 use crate::cores::core_laws;
 use crate::pooled::Pooled;
@@ -38,6 +38,7 @@ pub fn passes_share_the_words<V: Pooled>()
     ensures within_limit { WithinLimit V.fits V.room }
     ensures free_values_fit { FreeValuesFit V.fits V.room }
     ensures clock { ClockCountsStamps V.fits V.room }
+    ensures history { OneHistory V.fits V.room }
 {
     core_laws();
 }
