@@ -11,6 +11,7 @@ use Rattle.slot_words.specs.CoreLaws.{CoreLaws}
 use Rattle.slot_words.specs.Views.{no_view}
 use Rattle.slot_words.specs.Rule.{AloneWithAll, ClockCountsStamps, FreeValuesFit, HeldByAnother, NoHiddenSeat, OneHistory, OneHolder, WithinLimit}
 use Rattle.slot_words.specs.Shows.{Suits, shown_seat, view_share, view_unsplit}
+use Rattle.slot_words.proofs.Holdings.{seats-are-shown}
 use Rattle.slot_words.proofs.HeldShares.{another_holds, counted_at}
 use Rattle.slot_words.proofs.Lookups.{live_not_away}
 use Rattle.slot_words.proofs.SharedPasses.{shared_beside, views_within}
@@ -45,7 +46,7 @@ module _ (laws : CoreLaws) {V : Type 0} (fits : State → ℕ → V → Type 0) 
     r.core.words,
     sym o.words_are,
     record { each = λ n h. record { packed_is = o.word_shows n h; well_formed = r.lawful.words n } },
-    (let w = r.lawful.within in let l = o.limit_is in omega arith),
+    (let w = r.lawful.within in let l = o.limit_is in let p = seats-are-shown laws fits room bounds r.core s o (λ q. bit q.permit) refl in omega arith),
   )
 
   pub free_values_fit : FreeValuesFit fits room

@@ -15,7 +15,7 @@ use Rattle.slot_words.specs.Accounts.{is_stamp}
 use Rattle.slot_words.specs.KindCounts.{BeginsWith}
 use Rattle.pool_core.specs.PoolCore.{PoolCore}
 use Rattle.slot_words.specs.History.{IsHistory}
-use Rattle.slot_words.specs.Shows.{IsKept, Shows, ShowsLawful, Suits, shown_seat}
+use Rattle.slot_words.specs.Shows.{IsKept, Shows, ShowsLawful, Suits, shown_seat, view_permit}
 use Rattle.slot_words.specs.Views.{operations_of}
 
 module _ {V : Type 0} (fits : State → ℕ → V → Type 0) (room : V → List ℕ) where
@@ -39,10 +39,10 @@ module _ {V : Type 0} (fits : State → ℕ → V → Type 0) (room : V → List
   AloneWithAll = (bounds : Bounds) (s : TableState (Option V) PassView) → ShowsLawful fits room bounds s
       → (i : ℕ) (v : PassView) → get_elem? s.views i ≡ some v → v.share ≡ bounds.passes → (j : ℕ) → ¬ (j ≡ i) → is_live (shown_seat s.views j).stage ≡ false
 
-  -- the words say at most as many free warm slots as may be warm
+  -- the free warm slots that the words say and the permits that passes have are together at most as many as may be warm
   abbrev pub WithinLimit : Type 0
   WithinLimit = (bounds : Bounds) (s : TableState (Option V) PassView) → ShowsLawful fits room bounds s
-      → (ws : List StateWord) × (length ws + 3 ≡ length s.words) × BeginsWith s.words ws × (count_by is_free_warm ws ≤ bounds.limit)
+      → (ws : List StateWord) × (length ws + 3 ≡ length s.words) × BeginsWith s.words ws × (count_by is_free_warm ws + count_by view_permit s.views ≤ bounds.limit)
 
   -- the value of a slot that is not held is at home, and fits the slot's word
   abbrev pub FreeValuesFit : Type 0

@@ -1,5 +1,5 @@
 -- The rule: what threads share shows one core, which is lawful.
-use Rattle.std.specs.Prelude.{◌≡◌, ℕ, ◌+◌, ◌*◌, ◌^◌, ◌<◌, ◌≤◌, true, false, Option, Some, List, length, slice_index_or}
+use Rattle.std.specs.Prelude.{◌≡◌, ℕ, ◌+◌, ◌*◌, ◌^◌, ◌<◌, ◌≤◌, Bool, true, false, Option, Some, List, length, slice_index_or}
 use mathlib.Core.Option.{none, some}
 use lib.ListN.{get_elem?}
 use Rattle.atomic_table.specs.Table.{State as TableState}
@@ -26,6 +26,10 @@ view_share v = v.share
 
 abbrev pub view_unsplit : PassView → ℕ
 view_unsplit v = v.unsplit
+
+-- whether the seat of a view has a permit
+abbrev pub view_permit : PassView → Bool
+view_permit v = v.seat.permit
 
 -- a seat that is neither unmade nor joined away knows the bounds, and stands for a pass at least; of none does its view say that its value is out
 pub record IsCounted (bounds : Bounds) (v : PassView) : Type 0 where
