@@ -59,5 +59,6 @@ module _ (laws : CoreLaws) {V : Type 0} (fits : State → ℕ → V → Type 0) 
   pub clock_counts_stamps : ClockCountsStamps fits room
   clock_counts_stamps bounds s r = ap (λ (k : ℕ). get_or s.words (k + 2) 0) r.rule.shows.slots_are ∙ r.rule.shows.clock_shows ∙ r.accounts.clock_is
 
+module _ {V : Type 0} (fits : State → ℕ → V → Type 0) (room : V → List ℕ) where
   pub one_history : OneHistory fits room
   one_history bounds s r = (r.rule.core, r.rule.shows, r.history)

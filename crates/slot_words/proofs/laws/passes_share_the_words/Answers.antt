@@ -1,5 +1,5 @@
 use Rattle.slot_words.proofs.CoreLaws.{laws_of}
-use Rattle.slot_words.proofs.RuleLaws.{alone_with_all, clock_counts_stamps, free_values_fit, held_by_another, no_hidden_seat, one_history, one_holder, within_limit}
+use Rattle.slot_words.proofs.RuleLaws.{alone_with_all, clock_counts_stamps, free_values_fit, held_by_another, no_hidden_seat, one_holder, within_limit}
 use Rattle.slot_words.proofs.laws.passes_share_the_words.Goals as goal
 
 pub returns : goal.returns
@@ -11,5 +11,4 @@ returns g c = let laws = laws_of c.core_laws.ensures in let fits = g.V.Pooled.fi
   within_limit = within_limit laws fits room;
   free_values_fit = free_values_fit laws fits room;
   clock = clock_counts_stamps laws fits room;
-  history = one_history laws fits room;
 }
