@@ -6,7 +6,6 @@ mod CountEvents
 mod HeldShares
 mod HistorySteps
 mod Holdings
-mod JoinedTrails
 mod KindSums
 mod Lookups
 mod OneCount

@@ -36,9 +36,3 @@ module _ {V I : Type 0} where
     pub share_is : share_of p ≡ 1
     pub trail_is : trail p ≡ []
     pub joined_is : joined_trail p ≡ []
-
-  -- an idle pass of these words that stands for itself alone
-  pub record IsLonePassOf (room : V → List ℕ) (w : Words V I) (p : Pass V) : Type 0 where
-    pub own : IsPassOf room w p
-    pub idle : IsIdle p
-    pub share_is : share_of p ≡ 1

@@ -1,10 +1,9 @@
 //! How a `Words` is closed.
-ghost use Rattle.std.specs.Prelude.{◌≡◌, ◌+◌, ◌≤◌, ◌++◌, length, flat_map, reverse};
-ghost use Rattle.std.specs.List.{All};
+ghost use Rattle.std.specs.Prelude.{◌≡◌, ◌+◌, ◌≤◌};
 ghost use Rattle.std.specs.Slots.{IsFull};
 ghost use Rattle.slot_words.specs.Closing.{ClosesAs, CountsLeft};
 ghost use Rattle.slot_words.specs.Passes.{IsIdle, operations, seat_number, share_of};
-ghost use Rattle.slot_words.specs.Owned.{IsPassOf, IsLonePassOf, slots_of, limit_of, passes_of};
+ghost use Rattle.slot_words.specs.Owned.{IsPassOf, slots_of, limit_of, passes_of};
 
 use crate::cores::core_laws;
 use crate::kinds::{KindCounts, count_kinds};
@@ -46,18 +45,5 @@ impl<V: Pooled + Drop> Words<V> {
         let counts = count_kinds(&closed, slots);
         discard(closed);
         counts
-    }
-
-    /// Joins the other passes into this one, and closes.
-    pub fn close_all(self, mut first: Pass<V>, mut others: Vec<Pass<V>>) -> KindCounts
-        requires first { IsLonePassOf V.room self first }
-        requires others { All (IsLonePassOf V.room self) others.items }
-        ensures held { result.held + length others.items + 1 ≤ passes_of self }
-        ensures joined { length others.items + 1 ≡ passes_of self → CountsLeft (slots_of self) (operations first ++ flat_map operations (reverse others.items)) result }
-    {
-        while let Some(other) = others.pop() {
-            self.join_pass(&mut first, other);
-        }
-        self.close(first)
     }
 }

@@ -344,14 +344,16 @@ impl Pooled for Ticket {
 fn a_ticket_comes_back_cold(rt: HostRuntime) -> Result<(), Fail> {
     let mut tickets = Vec::with_capacity(rt.alloc(), 1)?;
     tickets.push_reserved(Ticket { calls: 7 });
-    let (words, mut passes) = Words::open(rt.alloc(), &(), tickets, 0, 1)?;
+    let (words, mut passes) = Words::open(rt.alloc(), &(), tickets, 0, 2)?;
     let mut pass = passes.pop().unwrap();
+    let other = passes.pop().unwrap();
+    words.join_pass(&mut pass, other);
     let mut lease = words.claim_any(&mut pass).unwrap();
     words.settle(&mut pass, &lease);
     assert_eq!(rt; lease.value.calls, 7);
     lease.value.clear();
     words.release(&mut pass, lease, Target::COLD);
-    assert_eq!(rt; words.close_all(pass, passes), kinds(1, 0, 0, 0));
+    assert_eq!(rt; words.close(pass), kinds(1, 0, 0, 0));
     Ok(())
 }
 
