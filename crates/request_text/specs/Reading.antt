@@ -1,5 +1,5 @@
 -- How the reader's answers agree with the definition of the request text.
-use Rattle.std.specs.Prelude.{◌+◌, ◌&&◌, nat_lt, Bool, true, [], ◌∷◌, ◌≡◌, ◌<◌, ℕ, List, length, Result, Ok, Err, MatchResult, ⊤}
+use Rattle.std.specs.Prelude.{◌≡◌, ◌<◌, ℕ, List, length, Result, Ok, Err, MatchResult, ⊤}
 use Rattle.request_text.specs.declared.request.Directive.{Directive}
 use Rattle.request_text.specs.declared.request.Directive.TheVariants.{Module, Call}
 use Rattle.request_text.specs.declared.request.Reason.{Reason}
@@ -34,9 +34,3 @@ Reports NoMemory meaning = ⊤
 abbrev pub HasRoom : Declared → Directive → Type 0
 HasRoom before (Module name bytes) = length before.names < MOST_MODULES
 HasRoom before (Call place export fuel args) = (before.calls < MOST_CALLS) × (place < length before.names)
-
--- the test for `IsPlacedFrom`
-abbrev pub are_placed_from : ℕ → List Directive → Bool
-are_placed_from modules [] = true
-are_placed_from modules (Module name bytes ∷ rest) = are_placed_from (modules + 1) rest
-are_placed_from modules (Call place export fuel args ∷ rest) = nat_lt place modules && are_placed_from modules rest
