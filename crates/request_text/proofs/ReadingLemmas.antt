@@ -27,7 +27,7 @@ declared_by-more before (Call place export fuel args) =
     ∙ ap (declared (module_names before)) (call_count-more before d)
 
 few_names_after : (before : Declared) (directive : Directive) → HasRoom before directive → length before.names ≤ 4096 → length (declared_after before directive).names ≤ 4096
-few_names_after before (Module name bytes) room few = omega (arith, length-append before.names (name ∷ []))
+few_names_after before (Module name bytes) room few = omega (arith, room.0, length-append before.names (name ∷ []))
 few_names_after before (Call place export fuel args) room few = few
 
 few_calls_after : (before : Declared) (directive : Directive) → HasRoom before directive → before.calls ≤ 100000 → (declared_after before directive).calls ≤ 100000
