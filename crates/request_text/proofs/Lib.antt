@@ -4,3 +4,5 @@ pub mod ReadingLemmas
 pub mod WordLemmas
 pub mod SummaryLemmas
 pub mod PlaceLemmas
+pub mod LineExamples
+pub mod TextExamples

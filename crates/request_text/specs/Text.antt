@@ -15,7 +15,6 @@ use Rattle.request_text.specs.declared.request.Reason.{Reason}
 use Rattle.request_text.specs.declared.request.Reason.TheVariants.{BadByte, UnknownDirective, BadWords, BadName, BadHex, NameUsedTwice, TooManyModules, UnknownModule, BadFuel, BadArgument, TooManyCalls}
 use Rattle.request_text.specs.declared.request.ParseFault.{ParseFault}
 use Rattle.request_text.specs.declared.request.ParseFault.TheVariants.{TextFault, TooLong, NoMemory}
-use Rattle.request_text.specs.declared.request.TheConstants.{MOST_BYTES, MOST_CALLS, MOST_MODULES, MOST_NAME_BYTES}
 
 -- ---- lines and words
 
@@ -107,10 +106,10 @@ place_of names name = position (λ other. bytes_eq other name) names
 -- what the words after `module` ask for
 unfoldable pub module_directive_of : Declared → List (List ℕ) → Result Directive Reason
 module_directive_of before (name ∷ digits ∷ []) = do
-  _ ← demand (nat_le (length name) MOST_NAME_BYTES) BadName
+  _ ← demand (nat_le (length name) 64) BadName
   bytes ← ok_or (hex_bytes digits) BadHex
   _ ← demand (is_none (place_of before.names name)) NameUsedTwice
-  _ ← demand (nat_lt (length before.names) MOST_MODULES) TooManyModules
+  _ ← demand (nat_lt (length before.names) 4096) TooManyModules
   Ok (Module name bytes)
 module_directive_of before words = Err BadWords
 
@@ -120,7 +119,7 @@ call_directive_of before (name ∷ export ∷ fuel_word ∷ words) = do
   place ← ok_or (place_of before.names name) UnknownModule
   fuel ← ok_or (fuel_of fuel_word) BadFuel
   args ← ok_or (arguments_of words) BadArgument
-  _ ← demand (nat_lt before.calls MOST_CALLS) TooManyCalls
+  _ ← demand (nat_lt before.calls 100000) TooManyCalls
   Ok (Call place export fuel args)
 call_directive_of before words = Err BadWords
 
@@ -214,4 +213,4 @@ requests_from number before (line ∷ lines) = do
 
 -- what a request file of these bytes asks for, or why it is refused
 unfoldable pub requests_of : List ℕ → Result (List Directive) FileRefusal
-requests_of text = if nat_lt MOST_BYTES (length text) then Err FileTooLong else requests_from 1 [] (text_lines text)
+requests_of text = if nat_lt 16777216 (length text) then Err FileTooLong else requests_from 1 [] (text_lines text)
