@@ -4,7 +4,9 @@ use Rattle.std.specs.Prelude.{None, Vec, ◌≡◌, ◌<◌, ℕ, List, length, 
 use Rattle.request_text.specs.declared.request.Directive.{Directive}
 use Rattle.request_text.specs.declared.request.Directive.TheVariants.{Module, Call}
 use Rattle.request_text.specs.declared.request.Reason.{Reason}
-use Rattle.request_text.specs.declared.request.TheConstants.{MOST_CALLS, MOST_MODULES}
+use Rattle.request_text.specs.declared.request.Reason.TheVariants.{BadHex}
+use Rattle.hex.specs.declared.error.FromHexError.{FromHexError}
+use Rattle.hex.specs.declared.error.FromHexError.TheVariants.{OutOfMemory}
 use Rattle.request_text.specs.declared.directive.LineFault.{LineFault}
 use Rattle.request_text.specs.declared.request.ParseFault.{ParseFault}
 use Rattle.request_text.specs.declared.request.ParseFault.TheVariants.{TextFault, TooLong, NoMemory}
@@ -23,6 +25,11 @@ Explains judged.NoMemory meaning = ⊤
 abbrev pub Agrees : {A : Type 0} → Result A LineFault → Result A Reason → Type 0
 Agrees result meaning = MatchResult result (λ x. meaning ≡ Ok x) (λ fault. Explains fault meaning)
 
+-- the fault of digits that are not decoded: want of memory stays want of memory, and every other error is bad hex
+abbrev pub hex_fault : FromHexError → LineFault
+hex_fault OutOfMemory = judged.NoMemory
+hex_fault error = judged.Refused BadHex
+
 -- the parser's fault for that of the line with this number
 abbrev pub fault_at : ℕ → LineFault → ParseFault
 fault_at line (judged.Refused reason) = TextFault line reason
@@ -40,5 +47,5 @@ ArePlaces places names = (name : List ℕ) → get_by (λ key. slice_cmp nat_cmp
 
 -- one more directive keeps within the numbers of modules and calls; a module's name is new, and a call is of one of the modules
 abbrev pub HasRoom : Declared → Directive → Type 0
-HasRoom before (Module name bytes) = (length before.names < MOST_MODULES) × (place_of before.names name ≡ None)
-HasRoom before (Call place export fuel args) = (before.calls < MOST_CALLS) × (place < length before.names)
+HasRoom before (Module name bytes) = (length before.names < 4096) × (place_of before.names name ≡ None)
+HasRoom before (Call place export fuel args) = (before.calls < 100000) × (place < length before.names)
