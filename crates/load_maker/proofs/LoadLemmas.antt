@@ -3,18 +3,17 @@ use Rattle.std.proofs.Common.{◌≡◌, ℕ, zero, suc, ◌≤◌, ◌+◌, ◌
 use Rattle.std.specs.Fmt.{decimal}
 use Rattle.std.specs.List.{flat_map, range_with_len}
 use Rattle.std.proofs.lemmas.List.{flat_map_more}
-use Rattle.load_maker.specs.declared.load.TheConstants.{FUEL, LOOP_FUELS}
 use Rattle.load_maker.specs.Load.{call_text, draw_of, drawn_line, made_file, module_lines, state_after, state_at}
 
-pub bump_text : (number draw : ℕ) → draw % 4 ≡ 1 → call_text number draw ≡ codes "call bump bump " ++ decimal FUEL
+pub bump_text : (number draw : ℕ) → draw % 4 ≡ 1 → call_text number draw ≡ codes "call bump bump " ++ decimal 100
 unfolding call_text
 bump_text number draw is = rw is refl
 
-pub dirty_text : (number draw : ℕ) → draw % 4 ≡ 2 → call_text number draw ≡ codes "call g dirty " ++ decimal ((draw / 4) % LOOP_FUELS)
+pub dirty_text : (number draw : ℕ) → draw % 4 ≡ 2 → call_text number draw ≡ codes "call g dirty " ++ decimal ((draw / 4) % 50)
 unfolding call_text
 dirty_text number draw is = rw is refl
 
-pub look_text : (number draw : ℕ) → 3 ≤ draw % 4 → call_text number draw ≡ codes "call g look " ++ decimal FUEL
+pub look_text : (number draw : ℕ) → 3 ≤ draw % 4 → call_text number draw ≡ codes "call g look " ++ decimal 100
 unfolding call_text
 look_text number draw most = let is : draw % 4 ≡ 3 = omega arith in rw is refl
 

@@ -3,3 +3,6 @@ pub mod NumberLemmas
 pub mod ReadingLemmas
 pub mod WordLemmas
 pub mod SummaryLemmas
+pub mod PlaceLemmas
+pub mod LineExamples
+pub mod TextExamples

@@ -1,5 +1,6 @@
 -- The lines of a summary in turn, and what their counts add to.
-use Rattle.std.proofs.Common.{◌≡◌, ℕ, suc, ◌+◌, List, [], ◌∷◌, ◌++◌, ◌∙◌, append_assoc, length, refl, arith, cond}
+use Rattle.std.proofs.Common.{◌≡◌, ℕ, suc, ◌+◌, List, [], ◌∷◌, ◌++◌, ◌∙◌, append_assoc, length, refl, arith, cond, Result, Ok, Err}
+use Rattle.std.specs.Prelude.{OnOk}
 use Rattle.std.proofs.lemmas.List.{append-nil}
 use Rattle.std.proofs.lemmas.List.Sums.{sum_by-cons}
 use Rattle.std.specs.List.{flat_map, sum_by}
@@ -11,12 +12,13 @@ use Rattle.request_text.specs.declared.report.ReportLine.{ReportLine}
 use Rattle.request_text.specs.declared.report.ReportLine.TheVariants as report
 use Rattle.request_text.specs.Summary.{count_of, label_of, labels}
 
--- six texts, each appended to those before
-pub six_in_turn : (text : List ℕ → List ℕ) (a b c d e f : List ℕ) (t0 t1 t2 t3 t4 t5 t6 : List ℕ) → t0 ≡ [] → t1 ≡ t0 ++ text a → t2 ≡ t1 ++ text b → t3 ≡ t2 ++ text c
-    → t4 ≡ t3 ++ text d → t5 ≡ t4 ++ text e → t6 ≡ t5 ++ text f → t6 ≡ flat_map text (a ∷ b ∷ c ∷ d ∷ e ∷ f ∷ [])
-six_in_turn text a b c d e f t0 t1 t2 t3 t4 t5 t6 e0 e1 e2 e3 e4 e5 e6 =
-    let in_turn : t6 ≡ [] ++ text a ++ text b ++ text c ++ text d ++ text e ++ text f = cc in
+-- six texts, each appended to those before, the last if memory lasts
+pub six_in_turn : {E : Type 0} (text : List ℕ → List ℕ) (a b c d e f : List ℕ) (t0 t1 t2 t3 t4 t5 t6 : List ℕ) (r : Result (Unit {0}) E) → t1 ≡ t0 ++ text a → t2 ≡ t1 ++ text b
+    → t3 ≡ t2 ++ text c → t4 ≡ t3 ++ text d → t5 ≡ t4 ++ text e → OnOk r (t6 ≡ t5 ++ text f) → OnOk r (t6 ≡ t0 ++ flat_map text (a ∷ b ∷ c ∷ d ∷ e ∷ f ∷ []))
+six_in_turn text a b c d e f t0 t1 t2 t3 t4 t5 t6 (Ok u) e1 e2 e3 e4 e5 e6 =
+    let in_turn : t6 ≡ t0 ++ text a ++ text b ++ text c ++ text d ++ text e ++ text f = cc in
     in_turn ∙ simp (append_assoc, append-nil)
+six_in_turn text a b c d e f t0 t1 t2 t3 t4 t5 t6 (Err x) e1 e2 e3 e4 e5 e6 = tt
 
 -- 1 for the label under which the line counts, and 0 for another
 abbrev counts_under : ReportLine → List ℕ → ℕ

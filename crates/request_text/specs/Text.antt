@@ -1,5 +1,5 @@
 -- The request text: the lines of a file, the words of a line, and the ladder of reasons for which a line is refused.
-use Rattle.std.specs.Prelude.{◌<◌, ℕ, ◌+◌, ◌-◌, ◌%◌, ◌^◌, ◌==◌, ◌&&◌, ◌||◌, nat_lt, nat_le, Bool, true, false, not, if◌then◌else◌, List, [], ◌∷◌, ◌++◌, length, take, drop, codes, filter, filter_map, count_by, position, Option, Some, None, is_none, option_and_then, Result, Ok, Err}
+use Rattle.std.specs.Prelude.{◌<◌, ◌≤◌, ℕ, ◌+◌, ◌-◌, ◌%◌, ◌^◌, ◌==◌, ◌&&◌, ◌||◌, nat_lt, nat_le, Bool, true, false, not, if◌then◌else◌, List, [], ◌∷◌, ◌++◌, length, take, drop, codes, filter, filter_map, count_by, position, Option, Some, None, is_none, option_and_then, Result, Ok, Err}
 use Rattle.std.specs.List.{slice_split, list_all}
 use Rattle.std.specs.Option.{option_map, ok_or}
 use Rattle.std.specs.Result.{result_ok}
@@ -15,7 +15,6 @@ use Rattle.request_text.specs.declared.request.Reason.{Reason}
 use Rattle.request_text.specs.declared.request.Reason.TheVariants.{BadByte, UnknownDirective, BadWords, BadName, BadHex, NameUsedTwice, TooManyModules, UnknownModule, BadFuel, BadArgument, TooManyCalls}
 use Rattle.request_text.specs.declared.request.ParseFault.{ParseFault}
 use Rattle.request_text.specs.declared.request.ParseFault.TheVariants.{TextFault, TooLong, NoMemory}
-use Rattle.request_text.specs.declared.request.TheConstants.{MOST_BYTES, MOST_CALLS, MOST_MODULES, MOST_NAME_BYTES}
 
 -- ---- lines and words
 
@@ -107,10 +106,10 @@ place_of names name = position (λ other. bytes_eq other name) names
 -- what the words after `module` ask for
 unfoldable pub module_directive_of : Declared → List (List ℕ) → Result Directive Reason
 module_directive_of before (name ∷ digits ∷ []) = do
-  _ ← demand (nat_le (length name) MOST_NAME_BYTES) BadName
+  _ ← demand (nat_le (length name) 64) BadName
   bytes ← ok_or (hex_bytes digits) BadHex
   _ ← demand (is_none (place_of before.names name)) NameUsedTwice
-  _ ← demand (nat_lt (length before.names) MOST_MODULES) TooManyModules
+  _ ← demand (nat_lt (length before.names) 4096) TooManyModules
   Ok (Module name bytes)
 module_directive_of before words = Err BadWords
 
@@ -120,7 +119,7 @@ call_directive_of before (name ∷ export ∷ fuel_word ∷ words) = do
   place ← ok_or (place_of before.names name) UnknownModule
   fuel ← ok_or (fuel_of fuel_word) BadFuel
   args ← ok_or (arguments_of words) BadArgument
-  _ ← demand (nat_lt before.calls MOST_CALLS) TooManyCalls
+  _ ← demand (nat_lt before.calls 100000) TooManyCalls
   Ok (Call place export fuel args)
 call_directive_of before words = Err BadWords
 
@@ -168,6 +167,12 @@ IsPlacedFrom modules [] = Unit {0}
 IsPlacedFrom modules (Module name bytes ∷ rest) = IsPlacedFrom (modules + 1) rest
 IsPlacedFrom modules (Call place export fuel args ∷ rest) = (place < modules) × IsPlacedFrom modules rest
 
+-- what holds of the directives of each file that is read
+pub record AreRequests (directives : List Directive) : Type 0 where
+  pub placed : IsPlacedFrom 0 directives
+  pub few_modules : length (module_names directives) ≤ 4096
+  pub few_calls : call_count directives ≤ 100000
+
 -- what these directives declare
 abbrev pub declared_by : List Directive → Declared
 declared_by directives = record { names = module_names directives; calls = call_count directives }
@@ -208,4 +213,4 @@ requests_from number before (line ∷ lines) = do
 
 -- what a request file of these bytes asks for, or why it is refused
 unfoldable pub requests_of : List ℕ → Result (List Directive) FileRefusal
-requests_of text = if nat_lt MOST_BYTES (length text) then Err FileTooLong else requests_from 1 [] (text_lines text)
+requests_of text = if nat_lt 16777216 (length text) then Err FileTooLong else requests_from 1 [] (text_lines text)

@@ -1,14 +1,15 @@
 //! One line of a request file is read.
-ghost use Rattle.std.specs.Prelude.{◌≡◌, ◌≤◌, length, IfOk};
+ghost use Rattle.std.specs.Prelude.{◌≡◌, IfOk};
 ghost use Rattle.std.specs.List.{list_all};
 ghost use Rattle.std.specs.Option.{ok_or};
 ghost use Rattle.request_text.specs.Text.{arguments_of, call_directive_of, directive_of, directive_of_words, hex_bytes, is_printable, line_words, module_directive_of};
 ghost use Rattle.request_text.specs.Reading.{Agrees, HasRoom};
 
 use crate::numbers::{argument, fuel};
-use crate::request::{Directive, MOST_MODULES, MOST_NAME_BYTES, Reason};
+use crate::request::{Directive, MOST_NAME_BYTES, Reason};
 use crate::scope::Scope;
 use crate::words::next_word;
+use hex::FromHexError;
 use std::alloc::{AllocError, Global};
 use thiserror::Error;
 use wasm_types::{Items, Val};
@@ -42,6 +43,22 @@ impl From<Reason> for LineFault {
     }
 }
 
+// Bad digits are refused, and want of memory stays want of memory.
+impl From<FromHexError> for LineFault {
+    ghost use Rattle.request_text.specs.Reading.{hex_fault};
+
+    ghost from_gives = { λ error fault. fault ≡ hex_fault error };
+
+    fn from(error: FromHexError) -> Self {
+        match error {
+            FromHexError::OutOfMemory => LineFault::NoMemory,
+            FromHexError::InvalidHexCharacter { .. }
+            | FromHexError::OddLength
+            | FromHexError::InvalidStringLength => LineFault::Refused(Reason::BadHex),
+        }
+    }
+}
+
 // A copy of some bytes.
 fn copied(alloc: Global, bytes: &[u8]) -> Result<Items<u8>, LineFault>
     ensures { Agrees result (Ok bytes.now) }
@@ -54,17 +71,13 @@ fn copied(alloc: Global, bytes: &[u8]) -> Result<Items<u8>, LineFault>
 fn hex_bytes(alloc: Global, digits: &[u8]) -> Result<Items<u8>, LineFault>
     ensures { Agrees result (ok_or (hex_bytes digits.now) Reason.BadHex) }
 {
-    match hex::decode(alloc, digits) {
-        Ok(bytes) => Ok(Items::new(bytes)),
-        Err(hex::FromHexError::OutOfMemory) => Err(LineFault::NoMemory),
-        Err(_) => Err(LineFault::Refused(Reason::BadHex)),
-    }
+    let bytes = hex::decode(alloc, digits)?;
+    Ok(Items::new(bytes))
 }
 
 // What the words after `module` ask for.
 #[tactic(auto, unfolding(crate::specs::Text::module_directive_of))]
 fn module_directive(alloc: Global, scope: &Scope, words: &[u8]) -> Result<Directive, LineFault>
-    requires { length scope.now.names ≤ MOST_MODULES }
     ensures meaning { Agrees result (module_directive_of scope.now (line_words words.now)) }
     ensures room { IfOk result (HasRoom scope.now) }
 {
@@ -104,7 +117,6 @@ fn arguments(alloc: Global, words: &[u8]) -> Result<Items<Val>, LineFault>
 // What the words after `call` ask for.
 #[tactic(auto, unfolding(crate::specs::Text::call_directive_of))]
 fn call_directive(alloc: Global, scope: &Scope, words: &[u8]) -> Result<Directive, LineFault>
-    requires { length scope.now.names ≤ MOST_MODULES }
     ensures meaning { Agrees result (call_directive_of scope.now (line_words words.now)) }
     ensures room { IfOk result (HasRoom scope.now) }
 {
@@ -136,7 +148,6 @@ fn is_printable(line: &[u8]) -> bool
 // What the words of a line ask for.
 #[tactic(auto, unfolding(crate::specs::Text::directive_of_words))]
 fn words_directive(alloc: Global, scope: &Scope, words: &[u8]) -> Result<Directive, LineFault>
-    requires { length scope.now.names ≤ MOST_MODULES }
     ensures meaning { Agrees result (directive_of_words scope.now (line_words words.now)) }
     ensures room { IfOk result (HasRoom scope.now) }
 {
@@ -159,7 +170,6 @@ pub(crate) fn line_directive(
     scope: &Scope,
     line: &[u8],
 ) -> Result<Directive, LineFault>
-    requires { length scope.now.names ≤ MOST_MODULES }
     ensures meaning { Agrees result (directive_of scope.now line.now) }
     ensures room { IfOk result (HasRoom scope.now) }
 {

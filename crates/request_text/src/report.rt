@@ -1,5 +1,5 @@
 //! The lines that a run writes.
-ghost use Rattle.std.specs.Prelude.{◌≡◌, ◌++◌, OnOk, OnErr, IfOk, IsOkAnd};
+ghost use Rattle.std.specs.Prelude.{◌≡◌, ◌++◌, OnOk, OnErr, IfOk, IsOk};
 ghost use Rattle.request_text.specs.Lines.{call_line, call_text, line_text, loading_text, module_line, outcome_text, refusal_line, report_text, trap_text, value_text};
 ghost use Rattle.request_text.specs.Text.{BadLine};
 
@@ -116,49 +116,63 @@ fn push_call(line: &mut Vec<u8>, call: CallLine) -> Result<(), AllocError>
     }
 }
 
+// Appends the line of the module of this name.
 #[tactic(auto, unfolding(crate::specs::Lines::module_line))]
-fn module_line(alloc: Global, name: &[u8], line: ModuleLine) -> Result<Vec<u8>, AllocError>
-    ensures { IfOk result (λ text. text.items ≡ module_line name.now line) }
+fn push_module_line(text: &mut Vec<u8>, name: &[u8], line: ModuleLine) -> Result<(), AllocError>
+    ensures { OnOk result (text.new.items ≡ text.old.items ++ module_line name.now line) }
 {
-    let mut text = Vec::from_slice(alloc, b"module ")?;
+    text.extend_from_slice(b"module ")?;
     text.extend_from_slice(name)?;
     text.extend_from_slice(b" ")?;
     text.extend_from_slice(loading_text(line))?;
-    text.extend_from_slice(b"\n")?;
-    Ok(text)
+    text.extend_from_slice(b"\n")
 }
 
+// Appends the line of the `k`-th call.
 #[tactic(auto, unfolding(crate::specs::Lines::call_line))]
-fn call_line(alloc: Global, k: u32, line: CallLine) -> Result<Vec<u8>, AllocError>
-    ensures { IfOk result (λ text. text.items ≡ call_line k line) }
+fn push_call_line(text: &mut Vec<u8>, k: u32, line: CallLine) -> Result<(), AllocError>
+    ensures { OnOk result (text.new.items ≡ text.old.items ++ call_line k line) }
 {
     let mut number = Buffer::new();
-    let mut text = Vec::from_slice(alloc, number.format(k).as_bytes())?;
+    text.extend_from_slice(number.format(k).as_bytes())?;
     text.extend_from_slice(b" ")?;
-    push_call(&mut text, line)?;
-    text.push(b'\n')?;
-    Ok(text)
+    push_call(text, line)?;
+    text.extend_from_slice(b"\n")
 }
 
-fn text_fault_line(alloc: Global, line: u32, reason: Reason) -> Result<Vec<u8>, AllocError>
-    ensures { IfOk result (λ text. text.items ≡ refusal_line (BadLine line reason)) }
+// Appends the line that tells which line of a request file is refused, and why.
+fn push_text_fault(text: &mut Vec<u8>, line: u32, reason: Reason) -> Result<(), AllocError>
+    ensures { OnOk result (text.new.items ≡ text.old.items ++ refusal_line (BadLine line reason)) }
 {
     let mut number = Buffer::new();
-    let mut text = Vec::from_slice(alloc, b"line ")?;
+    text.extend_from_slice(b"line ")?;
     text.extend_from_slice(number.format(line).as_bytes())?;
     text.extend_from_slice(b": ")?;
     text.extend_from_slice(reason.text().as_bytes())?;
-    text.extend_from_slice(b"\n")?;
-    Ok(text)
+    text.extend_from_slice(b"\n")
 }
 
-// Appends a text that was made before, if it was.
-pub(crate) fn append(out: &mut Vec<u8>, text: Result<Vec<u8>, AllocError>) -> Result<(), NoMemory>
-    ensures text { OnOk result (IsOkAnd text (λ t. out.new.items ≡ out.old.items ++ t.items)) }
+// Appends one line of a report.
+fn push_line(text: &mut Vec<u8>, line: &ReportLine) -> Result<(), AllocError>
+    ensures { OnOk result (text.new.items ≡ text.old.items ++ line_text line.now) }
+{
+    match line {
+        ReportLine::Module { name, line } => push_module_line(text, name.as_slice(), *line),
+        ReportLine::Call { number, line } => push_call_line(text, *number, *line),
+    }
+}
+
+// Appends a text, if it was made whole.
+pub(crate) fn append(
+    out: &mut Vec<u8>,
+    text: &[u8],
+    made: Result<(), AllocError>,
+) -> Result<(), NoMemory>
+    ensures text { OnOk result (IsOk made × (out.new.items ≡ out.old.items ++ text.now)) }
     ensures memory { OnErr result (out.new.items ≡ out.old.items) }
 {
-    let text = text.map_err(|_| NoMemory)?;
-    out.extend_from_slice(text.as_slice()).map_err(|_| NoMemory)
+    made.map_err(|_| NoMemory)?;
+    out.extend_from_slice(text).map_err(|_| NoMemory)
 }
 
 /// Appends the report's line of the module of this name. Source: `specs/Lines.antt`, `module_line`.
@@ -175,7 +189,9 @@ pub fn write_module(
     ensures line { OnOk result (out.new.items ≡ out.old.items ++ module_line name.now line) }
     ensures memory { OnErr result (out.new.items ≡ out.old.items) }
 {
-    append(out, module_line(alloc, name, line))
+    let mut text = Vec::new(alloc);
+    let made = push_module_line(&mut text, name, line);
+    append(out, &text, made)
 }
 
 /// Appends the report's line of the `k`-th call of the file, from 1. Source: `specs/Lines.antt`, `call_line`.
@@ -187,7 +203,9 @@ pub fn write_call(alloc: Global, out: &mut Vec<u8>, k: u32, line: CallLine) -> R
     ensures line { OnOk result (out.new.items ≡ out.old.items ++ call_line k line) }
     ensures memory { OnErr result (out.new.items ≡ out.old.items) }
 {
-    append(out, call_line(alloc, k, line))
+    let mut text = Vec::new(alloc);
+    let made = push_call_line(&mut text, k, line);
+    append(out, &text, made)
 }
 
 /// Appends the line that tells which line of a request file is refused, from 1, and why. Source: `specs/Lines.antt`,
@@ -205,17 +223,9 @@ pub fn write_text_fault(
     ensures line { OnOk result (out.new.items ≡ out.old.items ++ refusal_line (BadLine line reason)) }
     ensures memory { OnErr result (out.new.items ≡ out.old.items) }
 {
-    append(out, text_fault_line(alloc, line, reason))
-}
-
-// Appends one line of a report.
-fn write_line(alloc: Global, out: &mut Vec<u8>, line: &ReportLine) -> Result<(), NoMemory>
-    ensures { OnOk result (out.new.items ≡ out.old.items ++ line_text line.now) }
-{
-    match line {
-        ReportLine::Module { name, line } => write_module(alloc, out, name.as_slice(), *line),
-        ReportLine::Call { number, line } => write_call(alloc, out, *number, *line),
-    }
+    let mut text = Vec::new(alloc);
+    let made = push_text_fault(&mut text, line, reason);
+    append(out, &text, made)
 }
 
 /// The text of a report: its lines one after the other. Source: `specs/Lines.antt`, `report_text`.
@@ -228,7 +238,7 @@ pub fn report_text(alloc: Global, lines: &[ReportLine]) -> Result<Vec<u8>, NoMem
 {
     let mut text = Vec::new(alloc);
     for line in lines {
-        write_line(alloc, &mut text, line)?;
+        push_line(&mut text, line).map_err(|_| NoMemory)?;
     }
     Ok(text)
 }

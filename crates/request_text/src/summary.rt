@@ -1,5 +1,5 @@
 //! The summary of a report: how many of its lines tell of each end.
-ghost use Rattle.std.specs.Prelude.{◌≡◌, ◌++◌, IfOk, OnErr, OnOk};
+ghost use Rattle.std.specs.Prelude.{◌≡◌, ◌++◌, OnErr, OnOk};
 ghost use Rattle.request_text.specs.Summary.{call_label, count_line, count_of, label_of, module_label, summary_text};
 
 use crate::report::{CallLine, ModuleLine, ReportLine, append};
@@ -63,18 +63,16 @@ fn push_count(text: &mut Vec<u8>, lines: &[ReportLine], label: &[u8]) -> Result<
     text.extend_from_slice(b"\n")
 }
 
-// The summary of a report of these lines.
-fn summary_text(alloc: Global, lines: &[ReportLine]) -> Result<Vec<u8>, AllocError>
-    ensures { IfOk result (λ text. text.items ≡ summary_text lines.now) }
+// Appends the summary of a report of these lines.
+fn push_summary(text: &mut Vec<u8>, lines: &[ReportLine]) -> Result<(), AllocError>
+    ensures { OnOk result (text.new.items ≡ text.old.items ++ summary_text lines.now) }
 {
-    let mut text = Vec::new(alloc);
-    push_count(&mut text, lines, b"modules ok")?;
-    push_count(&mut text, lines, b"modules refused")?;
-    push_count(&mut text, lines, b"calls ok")?;
-    push_count(&mut text, lines, b"calls trap")?;
-    push_count(&mut text, lines, b"calls fuel")?;
-    push_count(&mut text, lines, b"calls refused")?;
-    Ok(text)
+    push_count(text, lines, b"modules ok")?;
+    push_count(text, lines, b"modules refused")?;
+    push_count(text, lines, b"calls ok")?;
+    push_count(text, lines, b"calls trap")?;
+    push_count(text, lines, b"calls fuel")?;
+    push_count(text, lines, b"calls refused")
 }
 
 /// Appends the summary of a report of these lines: six lines, each a label, a space and how many lines count under it.
@@ -87,5 +85,7 @@ pub fn write_summary(alloc: Global, out: &mut Vec<u8>, lines: &[ReportLine]) -> 
     ensures summary { OnOk result (out.new.items ≡ out.old.items ++ summary_text lines.now) }
     ensures memory { OnErr result (out.new.items ≡ out.old.items) }
 {
-    append(out, summary_text(alloc, lines))
+    let mut text = Vec::new(alloc);
+    let made = push_summary(&mut text, lines);
+    append(out, &text, made)
 }

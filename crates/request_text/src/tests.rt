@@ -1,7 +1,7 @@
 //! Texts and what is read from them, and lines of the report.
 use crate::{
-    CallLine, Directive, MOST_BYTES, MOST_CALLS, MOST_MODULES, ModuleLine, ParseFault, Reason,
-    ReportLine, Requests, parse, write_call, write_module, write_summary, write_text_fault,
+    CallLine, Directive, ModuleLine, ParseFault, Reason, ReportLine, Requests, parse, report_text,
+    write_call, write_module, write_summary, write_text_fault,
 };
 use std::alloc::{AllocError, Global};
 use std::test::Fail;
@@ -44,7 +44,7 @@ fn described(alloc: Global, parsed: &Result<Requests, ParseFault>) -> Result<Str
     let mut text = String::new(alloc);
     match parsed {
         Ok(requests) => {
-            for directive in requests.as_slice() {
+            for directive in requests.directives() {
                 push_directive(&mut text, directive)?;
             }
         }
@@ -121,38 +121,86 @@ fn texts_are_read_or_refused_at_their_first_bad_line(rt: HostRuntime) -> Result<
     Ok(())
 }
 
+// A file of 4,096 modules, `m0` to `m4095`.
+fn most_modules(alloc: Global) -> Result<String, AllocError> {
+    let mut text = String::new(alloc);
+    for k in 0..4_096 {
+        write!(text, "module m{k} 00\n")?;
+    }
+    Ok(text)
+}
+
 #[test]
 fn the_limits_are_exact(rt: HostRuntime) -> Result<(), Fail> {
     let alloc = rt.alloc();
     let long = "n".repeat(alloc, 64)?;
     let text = format!(in alloc; "module {long} 00")?;
     assert!(rt; parse(alloc, text.as_bytes()).is_ok(), "a name of 64 bytes");
-    let text = format!(in alloc; "module n{long} 00")?;
+    let text = format!(in alloc; "module n{long} 0")?;
     let got = described(alloc, &parse(alloc, text.as_bytes()))?;
     assert_eq!(rt; got.as_str(), "line 1: bad name");
 
-    let mut modules = String::new(alloc);
-    for k in 0..MOST_MODULES {
-        write!(modules, "module m{k} 00\n")?;
-    }
-    assert!(rt; parse(alloc, modules.as_bytes()).is_ok(), "4096 modules");
-    modules.push_str("module m 00")?;
-    let got = described(alloc, &parse(alloc, modules.as_bytes()))?;
-    assert_eq!(rt; got.as_str(), "line 4097: too many modules");
-
-    let mut calls = String::from_str(alloc, "module a 00\n")?;
-    for _ in 0..MOST_CALLS {
-        calls.push_str("call a f 1\n")?;
-    }
-    assert!(rt; parse(alloc, calls.as_bytes()).is_ok(), "100000 calls");
-    calls.push_str("call a f 1")?;
-    let got = described(alloc, &parse(alloc, calls.as_bytes()))?;
-    assert_eq!(rt; got.as_str(), "line 100002: too many calls");
-
-    let mut comment = vec![in alloc; b'#'; MOST_BYTES]?;
+    let mut comment = vec![in alloc; b'#'; 16_777_216]?;
+    assert!(rt; parse(alloc, comment.as_slice()).is_ok(), "16777216 bytes");
     comment.push(b'#')?;
     let got = described(alloc, &parse(alloc, comment.as_slice()))?;
     assert_eq!(rt; got.as_str(), "file too long");
+    Ok(())
+}
+
+#[test]
+fn one_module_more_is_refused(rt: HostRuntime) -> Result<(), Fail> {
+    let alloc = rt.alloc();
+    let mut text = most_modules(alloc)?;
+    text.push_str("module m 00")?;
+    let got = described(alloc, &parse(alloc, text.as_bytes()))?;
+    assert_eq!(rt; got.as_str(), "line 4097: too many modules");
+    Ok(())
+}
+
+#[test]
+fn as_many_modules_and_calls_as_a_file_may_have_are_read(rt: HostRuntime) -> Result<(), Fail> {
+    let alloc = rt.alloc();
+    let mut text = most_modules(alloc)?;
+    for _ in 0..100_000 {
+        text.push_str("call m4095 f 1\n")?;
+    }
+    let mut places = 0u64;
+    for directive in parse(alloc, text.as_bytes())?.directives() {
+        if let Directive::Call { module, .. } = directive {
+            places = places.saturating_add(u64::from(*module));
+        }
+    }
+    assert_eq!(rt; places, 409_500_000);
+    Ok(())
+}
+
+#[test]
+fn one_call_more_is_refused(rt: HostRuntime) -> Result<(), Fail> {
+    let alloc = rt.alloc();
+    let mut text = String::from_str(alloc, "module a 00\n")?;
+    for _ in 0..100_001 {
+        text.push_str("call a f 1\n")?;
+    }
+    let got = described(alloc, &parse(alloc, text.as_bytes()))?;
+    assert_eq!(rt; got.as_str(), "line 100002: too many calls");
+    Ok(())
+}
+
+#[test]
+fn a_large_module_and_many_arguments_are_read(rt: HostRuntime) -> Result<(), Fail> {
+    let alloc = rt.alloc();
+    let digits = "0a".repeat(alloc, 1_000_000)?;
+    let words = " i64:-1".repeat(alloc, 20_000)?;
+    let text = format!(in alloc; "module a {digits}\ncall a f 1{words}\n")?;
+    let mut sizes = (0, 0);
+    for directive in parse(alloc, text.as_bytes())?.directives() {
+        match directive {
+            Directive::Module { bytes, .. } => sizes.0 = bytes.len(),
+            Directive::Call { args, .. } => sizes.1 = args.len(),
+        }
+    }
+    assert_eq!(rt; sizes, (1_000_000, 20_000));
     Ok(())
 }
 
@@ -176,7 +224,14 @@ fn lines_are_appended(rt: HostRuntime) -> Result<(), Fail> {
         CallLine::Done(Outcome::Done(Some(Val::I32(5)))),
         CallLine::Done(Outcome::Done(Some(Val::I32(2147483648)))),
         CallLine::Done(Outcome::Done(Some(Val::I64(18446744073709551615)))),
+        CallLine::Done(Outcome::Trap(TrapKind::Unreachable)),
+        CallLine::Done(Outcome::Trap(TrapKind::Memory)),
+        CallLine::Done(Outcome::Trap(TrapKind::Element)),
         CallLine::Done(Outcome::Trap(TrapKind::Uninit)),
+        CallLine::Done(Outcome::Trap(TrapKind::Signature)),
+        CallLine::Done(Outcome::Trap(TrapKind::Divide)),
+        CallLine::Done(Outcome::Trap(TrapKind::Overflow)),
+        CallLine::Done(Outcome::Trap(TrapKind::Exhausted)),
         CallLine::Done(Outcome::Fuel),
         CallLine::NoModule,
         CallLine::NoExport,
@@ -191,13 +246,15 @@ fn lines_are_appended(rt: HostRuntime) -> Result<(), Fail> {
     let want =
         "module e ok\nmodule e refused malformed\nmodule e refused unsupported\nmodule e refused invalid\n\
         module e refused limit\nmodule e refused segment\n1 ok\n2 ok i32:5\n3 ok i32:-2147483648\n4 ok i64:-1\n\
-        5 trap uninit\n6 fuel\n7 refused module\n8 refused export\n9 refused args\nline 2: bad argument\n";
+        5 trap unreachable\n6 trap memory\n7 trap element\n8 trap uninit\n9 trap signature\n10 trap divide\n\
+        11 trap overflow\n12 trap exhausted\n13 fuel\n14 refused module\n15 refused export\n16 refused args\n\
+        line 2: bad argument\n";
     assert_eq!(rt; out.as_slice(), want.as_bytes());
     Ok(())
 }
 
 #[test]
-fn a_summary_counts_lines(rt: HostRuntime) -> Result<(), Fail> {
+fn a_report_has_its_text_and_its_summary(rt: HostRuntime) -> Result<(), Fail> {
     let alloc = rt.alloc();
     let mut lines = Vec::new(alloc);
     let modules = [
@@ -231,5 +288,11 @@ fn a_summary_counts_lines(rt: HostRuntime) -> Result<(), Fail> {
     let want =
         "before\nmodules ok 2\nmodules refused 3\ncalls ok 2\ncalls trap 1\ncalls fuel 3\ncalls refused 4\n";
     assert_eq!(rt; out.as_slice(), want.as_bytes());
+    let want =
+        "module calls ok\nmodule calls refused malformed\nmodule calls ok\nmodule calls refused segment\n\
+        module calls refused limit\n1 ok\n1 ok i32:5\n1 trap uninit\n1 fuel\n1 fuel\n1 fuel\n1 refused module\n\
+        1 refused export\n1 refused args\n1 refused args\n";
+    let text = report_text(alloc, &lines)?;
+    assert_eq!(rt; text.as_slice(), want.as_bytes());
     Ok(())
 }
