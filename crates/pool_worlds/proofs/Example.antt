@@ -67,11 +67,11 @@ all-happen = (
     (
       (refl, elim [ Ticket ↦ λ h. record { number = 0; holds = refl; out = refl } | Memory ↦ λ h. absurd (true≢false (sym h)) | Table ↦ λ h. absurd (true≢false (sym h)) ], is-module, callable),
       (
-        (_, refl, record { fuel = omega arith; unfinished = refl; next = refl }, λ h. absurd (true≢false (sym h))),
+        (_, refl, record { fuel = omega arith; unfinished = refl }, λ h. absurd (true≢false (sym h))),
         (
-          (_, refl, record { fuel = omega arith; unfinished = refl; next = refl }, λ h. absurd (true≢false (sym h))),
+          (_, refl, record { fuel = omega arith; unfinished = refl }, λ h. absurd (true≢false (sym h))),
           (
-            (_, refl, record { fuel = omega arith; unfinished = refl; next = refl }, λ h. absurd (true≢false (sym h))),
+            (_, refl, record { fuel = omega arith; unfinished = refl }, λ h. absurd (true≢false (sym h))),
             ((_, refl, λ can. done-ends _ can.unfinished), tt),
           ),
         ),

@@ -5,4 +5,5 @@ pub mod Shadows
 pub mod Turns
 pub mod Images
 pub mod Fitting
+pub mod Histories
 mod Example

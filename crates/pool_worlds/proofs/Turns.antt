@@ -122,11 +122,10 @@ module _ (w : World) (r : Running) (given : is_some (result w r r.request.fuel) 
 abbrev at_turn : Running → ℕ → Running
 at_turn r t = record r { turns = t }
 
-can-turn : (w : World) (r : Running) (l : Lasts w r r.request.fuel) → is_some (result w r r.request.fuel) ≡ true → (t : ℕ) → t < l.count → CanTurn w (at_turn r t)
-can-turn w r l given t lt = record {
+can-turn : (w : World) (r : Running) (l : Lasts w r r.request.fuel) (t : ℕ) → t < l.count → CanTurn w (at_turn r t)
+can-turn w r l t lt = record {
   fuel = let le = l.within in omega arith;
   unfinished = out_of_fuel (result w r t) (l.before t lt);
-  next = all-given w r given l (t + 1) (omega arith);
 }
 
 cannot-turn : (w : World) (r : Running) (l : Lasts w r r.request.fuel) (t : ℕ) → t ≡ l.count → CanTurn w (at_turn r t) → ⊥
@@ -170,7 +169,7 @@ module _ (w : World) (i : ℕ) (r : Running) (marks : List Bool) (base : (k : Ki
     (
       at_turn r t,
       at.calls,
-      can-turn w r l given t lt,
+      can-turn w r l t lt,
       λ need. let le = l.within in
           let x : MemoryContents = slots_of w p i Memory in
           let is : x ≡ turned w.limits.pages (store_after w r t) marks Memory (base Memory) = at.contents Memory need in
@@ -196,7 +195,7 @@ module _ (w : World) (i : ℕ) (r : Running) (marks : List Bool) (base : (k : Ki
     (
       at_turn r 0,
       e,
-      can-turn w r l given 0 lt,
+      can-turn w r l 0 lt,
       λ need. let le = l.within in
           let is : slots_of w p i Memory ≡ base Memory = begins Memory in
           let first = marked need 1 (omega arith) in record {

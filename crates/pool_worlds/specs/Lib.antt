@@ -5,3 +5,4 @@ pub mod FreshMachine
 pub mod Runs
 pub mod Worlds
 pub mod Fitting
+pub mod Histories

@@ -132,11 +132,10 @@ store_after w r turns = store_or r.begun (result w r turns)
 abbrev pub answer : World → Running → Option Outcome
 answer w r = outcome_of (result w r r.request.fuel)
 
--- it has fuel, and so far ends for want of it; on one unit more it gives a result
+-- it has fuel left, and on what it used so far ends for want of it
 pub record CanTurn (w : World) (r : Running) : Type 0 where
   pub fuel : r.turns < r.request.fuel
   pub unfinished : IsFuelEnd (result w r r.turns)
-  pub next : is_some (result w r (r.turns + 1)) ≡ true
 
 -- ---- what each event changes
 

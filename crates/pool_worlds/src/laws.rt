@@ -1,5 +1,6 @@
 //! What holds of every pool in use. Each function does nothing: its contract is the law.
 ghost use Rattle.pool_worlds.specs.Worlds.{AlwaysShadow, TwoWorldsAgree, AnswersAgree, RunsAreTurns, PreparingTwiceIsOnce};
+ghost use Rattle.pool_worlds.specs.Histories.{StepsAreHistories};
 ghost use Rattle.pool_worlds.specs.Fitting.{FreeSlotsFit, ClearedFitsCold, RestoredFitsWarm, UsedFitsAwaiting, TablesFitWarm};
 
 /// Whatever events came since the opening, each running call has the store of a fresh instance after as many turns, with nothing past the memory's size, and will be answered as that is.
@@ -30,4 +31,9 @@ pub fn contents_fit_their_words()
     ensures restored { RestoredFitsWarm }
     ensures used { UsedFitsAwaiting }
     ensures tables { TablesFitWarm }
+{}
+
+/// Whatever events came since the opening, those of one kind's pool among them are a history of that pool: a list of its own events from its opening, none of which it refuses, that leads to it as it stands.
+pub fn steps_are_histories()
+    ensures { StepsAreHistories }
 {}
