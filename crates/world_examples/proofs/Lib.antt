@@ -1,0 +1,5 @@
+pub mod Keeper
+pub mod Scenes
+pub mod Story
+mod Refusals
+mod Addition
