@@ -5,7 +5,7 @@ With no names all wrong lines are tried: the files scripts/wrong_lines/CRATE/NAM
 
     file: PATH          the file of definitions, from the top of the repository
     old: TEXT           stands once in it
-    new: TEXT           the wrong line; nothing for a line that goes
+    new: TEXT           the wrong line; nothing for a line that goes (in both \\n is a line break)
     check: CRATE WHAT.. the files of examples or lemmas in CRATE/proofs (as TypingExamples) or its functions (as laws::shadow)
                         of which one is to refuse it; there may be several such lines
     because: TEXT       what the line says wrongly, in plain words
@@ -45,9 +45,9 @@ class WrongLine:
             if key == "file":
                 self.file = text.strip()
             elif key == "old":
-                old = text
+                old = text.replace("\\n", "\n")
             elif key == "new":
-                self.pairs.append((old, text))
+                self.pairs.append((old, text.replace("\\n", "\n")))
             elif key == "check":
                 crate, *what = text.split()
                 self.checks.append((crate, tuple(what)))
