@@ -1,5 +1,5 @@
 -- One call of `add`, which has no memory and no table: it needs a ticket alone.
-use Rattle.std.proofs.Common.{◌≡◌, true≢false, List, [], ◌∷◌, refl, sym, arith}
+use Rattle.std.proofs.Common.{◌≡◌, true, true≢false, List, [], ◌∷◌, refl, sym, arith}
 use Rattle.std.specs.Prelude.{Option, Some, None}
 use Rattle.wasm_types.specs.declared.outcome.Val.{Val}
 use Rattle.wasm_types.specs.declared.outcome.Val.TheVariants.{I32}
@@ -10,8 +10,8 @@ use Rattle.wasm_spec.specs.Store.{fresh_store}
 use Rattle.wasm_spec.proofs.AddModule.{add, add_bytes, add_loads, add_type}
 use Rattle.pool_core.specs.declared.events.Event.TheVariants.{Claim, Out}
 use Rattle.pool_core.specs.PoolCore.{opening_core}
-use Rattle.pool_worlds.specs.Contents.{Named, Kind, Ticket, Memory, Table, Contents, memory_image, IsCold}
-use Rattle.pool_worlds.specs.PoolMachine.{World, Request, Machine, WorldEvent, Step, Begin, Turn, End, IsModule, IsCallable, AllMayHappen, answer, IsOpening}
+use Rattle.pool_worlds.specs.Contents.{Named, Kind, Ticket, Memory, Table, Contents, memory_image, needs, IsCold}
+use Rattle.pool_worlds.specs.PoolMachine.{World, Request, Machine, WorldEvent, Step, Begin, Turn, End, IsModule, IsCallable, HasOut, after_all, AllMayHappen, answer, IsOpening}
 
 abbrev named : Named
 named = record { number = 0; tag = 0; tree = add }
@@ -51,10 +51,24 @@ is_module : IsModule world named
 is_module = record { on_shelf = refl; bytes = add_bytes; loads = add_loads }
 
 callable : IsCallable request
-callable = record { export = 0x61 ∷ 0x64 ∷ 0x64 ∷ []; exported = record { place = 0; export = _; there = refl; named = refl; function = refl }; type = add_type; typed = refl; fitting = refl }
+callable = record {
+  export = 0x61 ∷ 0x64 ∷ 0x64 ∷ [];
+  exported = record { place = 0; export = _; there = refl; named = refl; function = refl };
+  type = add_type;
+  typed = refl;
+  fitting = refl;
+}
 
 done : (v : Option Val) → ◌≡◌ {A = Option Outcome} (Some (outcome.Done v)) (Some outcome.Fuel) → ⊥
 done v h = cc
+
+abbrev ready : Machine
+ready = after_all world opened (Step Ticket (Claim 0 0) ∷ Step Ticket (Out 0 0) ∷ [])
+
+its_slots : (k : Kind) → needs k add ≡ true → HasOut ready k 0
+its_slots Ticket h = record { number = 0; holds = refl; out = refl }
+its_slots Memory h = absurd (true≢false (sym h))
+its_slots Table h = absurd (true≢false (sym h))
 
 all_happen : AllMayHappen world opened events
 unfolding exec
@@ -63,7 +77,7 @@ all_happen = (
   (
     (refl, λ i e. refl),
     (
-      (refl, elim [ Ticket ↦ λ h. record { number = 0; holds = refl; out = refl } | Memory ↦ λ h. absurd (true≢false (sym h)) | Table ↦ λ h. absurd (true≢false (sym h)) ], is_module, callable),
+      (refl, its_slots, is_module, callable),
       (
         (_, refl, record { fuel = omega arith; unfinished = refl }, λ h. absurd (true≢false (sym h))),
         (

@@ -319,6 +319,9 @@ one P x p = All-cons P x [] p (All-nil P)
 one_pair : {X : Type 0} (R : X → X → Type 0) (x : X) → AllPairs R (x ∷ [])
 one_pair R x i j d lt le = absurd (omega arith)
 
+element_segment : IsElementSegment keeper elements
+element_segment = record { table = refl; offset = refl; functions = one (λ x. IsSome (slice_get keeper.functions x)) 0 refl }
+
 valid : IsValid keeper
 valid = record {
   function_types = one (λ (t : FuncType). length t.results ≤ 1) f_type (omega arith);
@@ -328,7 +331,7 @@ valid = record {
   one_memory = omega arith;
   memory_types = one IsMemoryType one_or_more (record { least = omega arith; most = tt; ordered = tt });
   globals = All-nil _;
-  element_segments = one (IsElementSegment keeper) elements (record { table = refl; offset = refl; functions = one (λ x. IsSome (slice_get keeper.functions x)) 0 refl });
+  element_segments = one (IsElementSegment keeper) elements element_segment;
   data_segments = All-nil _;
   start = tt;
   exports = one (λ (e : Export). IsDefined keeper e.desc) f_export refl;

@@ -1,6 +1,6 @@
 -- A world of two callers, and its lists of events scene by scene.
 use Rattle.std.proofs.Common.{◌≡◌, ℕ, zero, suc, Bool, true, false, ◌&&◌, List, [], ◌∷◌, ◌++◌, refl, sym, subst, true≢false}
-use Rattle.std.specs.Prelude.{Option, Some, None, is_none, ◌==◌, slice_index}
+use Rattle.std.specs.Prelude.{Option, Some, None, is_none, ◌==◌, slice_index, slice_index_or}
 use Rattle.std.specs.List.{list_any}
 use Rattle.std.proofs.lemmas.Bool.{and_parts, or_parts, eqb-true}
 use Rattle.wasm_types.specs.declared.outcome.Val.TheVariants.{I32}
@@ -35,7 +35,13 @@ abbrev pub request_of : Named → ℕ → Request
 request_of m fuel = record { named = m; function = 0; arguments = []; fuel = fuel }
 
 pub callable : (n fuel : ℕ) → IsCallable (request_of (module_at n) fuel)
-callable n fuel = record { export = 0x66 ∷ []; exported = record { place = 0; export = f_export; there = refl; named = refl; function = refl }; type = f_type; typed = refl; fitting = refl }
+callable n fuel = record {
+  export = 0x66 ∷ [];
+  exported = record { place = 0; export = f_export; there = refl; named = refl; function = refl };
+  type = f_type;
+  typed = refl;
+  fitting = refl;
+}
 
 -- ---- the opening: two slots of each kind, of which one may be warm, and two passes
 
@@ -103,10 +109,15 @@ pub nothing_released : (p : Machine) (es : List WorldEvent) → releases es ≡ 
 nothing_released p [] h = tt
 nothing_released p (e ∷ es) h = let both = or_parts (is_release e) (releases es) h in (none_here p e both.0, nothing_released (after world p e) es both.1)
 
--- ---- the four bytes that the module writes
+-- ---- marks, and the four bytes that the module writes
+
+pub unmarked : (i : ℕ) → slice_index_or (false ∷ []) i false ≡ false
+unmarked zero = refl
+unmarked (suc i) = refl
 
 -- in a memory whose first block is marked, they alone may differ
-pub beyond_four : (a b c d e f g h : ℕ) (rest : List ℕ) (i : ℕ) → is_marked (true ∷ []) i ≡ false → slice_index (a ∷ b ∷ c ∷ d ∷ rest) i ≡ slice_index (e ∷ f ∷ g ∷ h ∷ rest) i
+pub beyond_four : (a b c d e f g h : ℕ) (rest : List ℕ) (i : ℕ)
+    → is_marked (true ∷ []) i ≡ false → slice_index (a ∷ b ∷ c ∷ d ∷ rest) i ≡ slice_index (e ∷ f ∷ g ∷ h ∷ rest) i
 beyond_four a b c d e f g h rest zero m = absurd (true≢false m)
 beyond_four a b c d e f g h rest (suc zero) m = absurd (true≢false m)
 beyond_four a b c d e f g h rest (suc (suc zero)) m = absurd (true≢false m)
@@ -120,11 +131,13 @@ pub record Plays (p : Machine) (es : List WorldEvent) : Type 0 where
   pub happen : AllMayHappen world p es
   pub fit : AllReleasesFit world p es
 
-both_happen : (p : Machine) (es ds : List WorldEvent) → AllMayHappen world p es → AllMayHappen world (after_all world p es) ds → AllMayHappen world p (es ++ ds)
+both_happen : (p : Machine) (es ds : List WorldEvent) → AllMayHappen world p es
+    → AllMayHappen world (after_all world p es) ds → AllMayHappen world p (es ++ ds)
 both_happen p [] ds h k = k
 both_happen p (e ∷ es) ds h k = (h.0, both_happen (after world p e) es ds h.1 k)
 
-both_fit : (p : Machine) (es ds : List WorldEvent) → AllReleasesFit world p es → AllReleasesFit world (after_all world p es) ds → AllReleasesFit world p (es ++ ds)
+both_fit : (p : Machine) (es ds : List WorldEvent) → AllReleasesFit world p es
+    → AllReleasesFit world (after_all world p es) ds → AllReleasesFit world p (es ++ ds)
 both_fit p [] ds h k = k
 both_fit p (e ∷ es) ds h k = (h.0, both_fit (after world p e) es ds h.1 k)
 

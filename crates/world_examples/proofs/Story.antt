@@ -1,7 +1,7 @@
 -- Two callers share two slots of each kind, of which one may be warm. Their modules are equal, under two tags. Each call gives what stood
 -- at address 0, and writes 7 there: so it gives 0 wherever no other's byte is left.
-use Rattle.std.proofs.Common.{◌≡◌, ℕ, zero, suc, Bool, true, false, List, [], ◌∷◌, ◌++◌, refl, sym, ap, ◌∙◌, subst, cond, arith}
-use Rattle.std.specs.Prelude.{Option, Some, replicate, slice_index_or, ◌==◌, ◌/◌}
+use Rattle.std.proofs.Common.{◌≡◌, ℕ, Bool, true, false, List, [], ◌∷◌, ◌++◌, refl, sym, ap, ◌∙◌, subst, cond, arith}
+use Rattle.std.specs.Prelude.{Option, Some, replicate, ◌==◌, ◌/◌}
 use Rattle.wasm_types.specs.declared.outcome.Val.{Val}
 use Rattle.wasm_types.specs.declared.outcome.Val.TheVariants.{I32}
 use Rattle.wasm_types.specs.declared.outcome.Outcome.{Outcome}
@@ -11,12 +11,12 @@ use Rattle.pool_core.specs.declared.words.State.TheVariants.{Awaiting, Warm}
 use Rattle.pool_core.specs.declared.words.Target.{Target}
 use Rattle.pool_core.specs.declared.events.Event.TheVariants.{AwaitDown, AwaitUp, Claim, Home, Out, Release, Split, Stamp, WarmDown, WarmUp}
 use Rattle.pool_core.specs.StateWords.{cold_target}
-use Rattle.pool_worlds.specs.Contents.{Ticket, Memory, Table, MemoryContents, memory_image, is_marked, rewritten_from, restored as restored_contents, Marks, Matches}
-use Rattle.pool_worlds.specs.PoolMachine.{Machine, WorldEvent, Step, Prepare, Restore, Clear, Begin, Turn, End, held_by, after_all, AllMayHappen}
+use Rattle.pool_worlds.specs.Contents.{Kind, Ticket, Memory, Table, MemoryContents, memory_image, is_marked, rewritten_from, restored as restored_contents, Marks, Matches}
+use Rattle.pool_worlds.specs.PoolMachine.{Machine, WorldEvent, Step, Prepare, Restore, Clear, Begin, Turn, End, HasOut, held_by, after, after_all, AllMayHappen}
 use Rattle.pool_worlds.specs.Fitting.{AllReleasesFit}
 use Rattle.pool_worlds.specs.Worlds.{IsSameRequest, answers}
 use Rattle.pool_worlds.proofs.Bytes.{rewritten-is}
-use Rattle.world_examples.proofs.Scenes.{first, second, world, is_module, request_of, callable, cold, cold_is, opened, is_free, steps_happen, Plays, plays, plays_on, and_then, beyond_four}
+use Rattle.world_examples.proofs.Scenes.{first, second, world, is_module, request_of, callable, cold, cold_is, opened, is_free, unmarked, steps_happen, Plays, plays, plays_on, and_then, beyond_four}
 
 abbrev awaiting : (tag stamp : ℕ) → Target
 awaiting tag stamp = record { state = Awaiting; tag = tag; stamp = stamp }
@@ -33,7 +33,8 @@ zeros = replicate 65532 0
 abbrev takes : List WorldEvent
 takes = Step Ticket (Split 0 1) ∷ Step Memory (Split 0 1) ∷ Step Table (Split 0 1)
     ∷ Step Ticket (Claim 0 0) ∷ Step Ticket (Out 0 0) ∷ Step Memory (Claim 0 0) ∷ Step Memory (Out 0 0) ∷ Step Table (Claim 0 0) ∷ Step Table (Out 0 0)
-    ∷ Step Ticket (Claim 1 1) ∷ Step Ticket (Out 1 1) ∷ Step Memory (Claim 1 1) ∷ Step Memory (Out 1 1) ∷ Step Table (Claim 1 0) ∷ Step Table (Claim 1 1) ∷ Step Table (Out 1 1) ∷ []
+    ∷ Step Ticket (Claim 1 1) ∷ Step Ticket (Out 1 1) ∷ Step Memory (Claim 1 1) ∷ Step Memory (Out 1 1)
+    ∷ Step Table (Claim 1 0) ∷ Step Table (Claim 1 1) ∷ Step Table (Out 1 1) ∷ []
 
 abbrev pub taken : Machine
 taken = after_all world opened takes
@@ -49,11 +50,21 @@ begins = Begin 0 (request_of first 5) ∷ Begin 1 (request_of second 5) ∷ []
 abbrev pub begun : Machine
 begun = after_all world taken begins
 
+first_slots : (k : Kind) → HasOut taken k 0
+first_slots Ticket = record { number = 0; holds = refl; out = refl }
+first_slots Memory = record { number = 0; holds = refl; out = refl }
+first_slots Table = record { number = 0; holds = refl; out = refl }
+
+second_slots : (k : Kind) → HasOut (after world taken (Begin 0 (request_of first 5))) k 1
+second_slots Ticket = record { number = 1; holds = refl; out = refl }
+second_slots Memory = record { number = 1; holds = refl; out = refl }
+second_slots Table = record { number = 1; holds = refl; out = refl }
+
 begins_happen : AllMayHappen world taken begins
 begins_happen = (
-  (refl, elim [ Ticket ↦ λ h. record { number = 0; holds = refl; out = refl } | Memory ↦ λ h. record { number = 0; holds = refl; out = refl } | Table ↦ λ h. record { number = 0; holds = refl; out = refl } ], is_module 0, callable 0 5),
+  (refl, λ k needed. first_slots k, is_module 0, callable 0 5),
   (
-    (refl, elim [ Ticket ↦ λ h. record { number = 1; holds = refl; out = refl } | Memory ↦ λ h. record { number = 1; holds = refl; out = refl } | Table ↦ λ h. record { number = 1; holds = refl; out = refl } ], is_module 1, callable 1 5),
+    (refl, λ k needed. second_slots k, is_module 1, callable 1 5),
     tt,
   ),
 )
@@ -64,10 +75,6 @@ reads = Turn 0 [] ∷ Turn 1 [] ∷ Turn 0 [] ∷ Turn 1 [] ∷ Turn 0 [] ∷ Tu
 
 abbrev pub read : Machine
 read = after_all world begun reads
-
-pub unmarked : (i : ℕ) → slice_index_or (false ∷ []) i false ≡ false
-unmarked zero = refl
-unmarked (suc i) = refl
 
 none_marked : (i : ℕ) → is_marked (false ∷ []) i ≡ false
 none_marked i = unmarked (i / 4096)
@@ -196,7 +203,11 @@ fresh_bytes = memory_image 1 (Some first)
 abbrev used : MemoryContents
 used = record { bytes = 7 ∷ 0 ∷ 0 ∷ 0 ∷ zeros; pages = 1; marks = true ∷ []; holds = Some first }
 
-fits_restored : (x : MemoryContents) → x ≡ record { bytes = fresh_bytes; pages = 1; marks = false ∷ []; holds = Some first } → Matches 1 Memory Warm 0 x
+-- and what a restore makes of that
+abbrev clean_with : List ℕ → MemoryContents
+clean_with bytes = record { bytes = bytes; pages = 1; marks = false ∷ []; holds = Some first }
+
+fits_restored : (x : MemoryContents) → x ≡ clean_with fresh_bytes → Matches 1 Memory Warm 0 x
 fits_restored x is = subst (Matches 1 Memory Warm 0) (sym is) (first, record { holds = refl; size = refl; bytes = refl; clean = unmarked }, refl)
 
 rewritten : rewritten_from 0 (true ∷ []) fresh_bytes (7 ∷ 0 ∷ 0 ∷ 0 ∷ zeros) ≡ fresh_bytes
@@ -205,10 +216,10 @@ rewritten = rewritten-is (true ∷ []) fresh_bytes (7 ∷ 0 ∷ 0 ∷ 0 ∷ zero
 -- so the slot that is restored fits what it is released to
 restored_fits : (p : Machine) → p.contents Memory 0 ≡ used → held_by p Memory 0 ≡ 0 → AllReleasesFit world (after_all world p restores) returns
 restored_fits p lies holds =
-    let now : (n : ℕ) (x : MemoryContents) → n ≡ 0 → x ≡ used → cond (0 == n) (restored_contents 1 Memory x) x ≡ record { bytes = fresh_bytes; pages = 1; marks = false ∷ []; holds = Some first } =
+    let now : (n : ℕ) (x : MemoryContents) → n ≡ 0 → x ≡ used → cond (0 == n) (restored_contents 1 Memory x) x ≡ clean_with fresh_bytes =
     λ n x zero_is used_is. ap (λ (m : ℕ). cond (0 == m) (restored_contents 1 Memory x) x) zero_is
     ∙ ap (restored_contents 1 Memory) used_is
-    ∙ ap (λ (bytes : List ℕ). record { bytes = bytes; pages = 1; marks = false ∷ []; holds = Some first }) rewritten in
+    ∙ ap clean_with rewritten in
     (tt, (fits_restored _ (now (held_by p Memory 0) (p.contents Memory 0) holds lies), tt))
 
 returns_fit : AllReleasesFit world restored returns
@@ -286,11 +297,16 @@ calls_again = Prepare Table 0 first ∷ Begin 0 (request_of first 9) ∷ []
 abbrev called_again : Machine
 called_again = after_all world taken_again calls_again
 
+slots_again : (k : Kind) → HasOut (after world taken_again (Prepare Table 0 first)) k 0
+slots_again Ticket = record { number = 0; holds = refl; out = refl }
+slots_again Memory = record { number = 1; holds = refl; out = refl }
+slots_again Table = record { number = 0; holds = refl; out = refl }
+
 calls_again_happen : AllMayHappen world taken_again calls_again
 calls_again_happen = (
   (record { number = 0; holds = refl; out = refl }, is_free taken_again Table 0 refl, is_module 0),
   (
-    (refl, elim [ Ticket ↦ λ h. record { number = 0; holds = refl; out = refl } | Memory ↦ λ h. record { number = 1; holds = refl; out = refl } | Table ↦ λ h. record { number = 0; holds = refl; out = refl } ], is_module 0, callable 0 9),
+    (refl, λ k needed. slots_again k, is_module 0, callable 0 9),
     tt,
   ),
 )
@@ -324,7 +340,8 @@ ends_again_happen = (
 -- ---- all of it
 
 abbrev pub story : List WorldEvent
-story = takes ++ begins ++ reads ++ writes ++ gives ++ finds ++ restores ++ returns ++ asks ++ clears ++ leaves ++ takes_again ++ calls_again ++ ends_again
+story = takes ++ begins ++ reads ++ writes ++ gives ++ finds ++ restores ++ returns
+    ++ asks ++ clears ++ leaves ++ takes_again ++ calls_again ++ ends_again
 
 pub story_plays : Plays opened story
 story_plays =
