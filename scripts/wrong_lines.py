@@ -5,7 +5,7 @@ With no names all wrong lines are tried: the files scripts/wrong_lines/CRATE/NAM
 
     file: PATH          the file of definitions, from the top of the repository
     old: TEXT           stands once in it
-    new: TEXT           the wrong line; nothing for a line that goes
+    new: TEXT           the wrong line; nothing for a line that goes (in both \\n is a line break)
     check: CRATE WHAT.. the files of examples or lemmas in CRATE/proofs (as TypingExamples) or its functions (as laws::shadow)
                         of which one is to refuse it; there may be several such lines
     because: TEXT       what the line says wrongly, in plain words
@@ -27,7 +27,10 @@ TOP = Path(__file__).resolve().parent.parent
 LINES = TOP / "scripts" / "wrong_lines"
 CITED = re.compile(r"\bRattle\.(\w+)\.(specs|proofs)((?:\.[^\s.{,;()]+)+)")
 ERROR = re.compile(r"(?:note: )?(?:\./)?((?:specs|proofs|src)/\S+?):(\d+):\d+: error: (.*)")
+MERGED = re.compile(r"\bRattle\.definitions\.(specs|proofs)\.(\w+?)__")
 NAME_GONE = re.compile(r"is not in scope|has no field|has no `|is no name|was not admitted|was rejected|is not a field|unknown field")
+# the one crate of all definitions and examples that need no code
+ONE = "definitions"
 EMPTY_SOURCE = "//! Definitions and examples.\n#![tactic(auto)]\n"
 
 
@@ -45,9 +48,9 @@ class WrongLine:
             if key == "file":
                 self.file = text.strip()
             elif key == "old":
-                old = text
+                old = text.replace("\\n", "\n")
             elif key == "new":
-                self.pairs.append((old, text))
+                self.pairs.append((old, text.replace("\\n", "\n")))
             elif key == "check":
                 crate, *what = text.split()
                 self.checks.append((crate, tuple(what)))
@@ -101,7 +104,9 @@ class Part:
             self.files.setdefault(crate, set())
             for name in what:
                 self.name(crate, name)
-        self.tops = [crate for crate in self.files if not any(crate in self.below(other) for other in self.files if other != crate)]
+        merged = [it for it in self.files if self.is_merged(it)]
+        used = {below for it in [*merged, *self.whole] for below in self.below(it)}
+        self.tops = [*([ONE] if merged else []), *(it for it in self.files if it not in merged and it not in used)]
 
     def name(self, crate, name):
         file = TOP / "crates" / crate / "proofs" / f"{name}.antt"
@@ -146,31 +151,44 @@ class Part:
             elif part == "specs" and names.split(".")[1] in ("declared", "contracts"):
                 self.take_whole(cited)
 
+    def is_merged(self, crate):
+        """Whether what is taken of the crate stands in the one crate of definitions and examples: nothing that is taken whole uses it."""
+        return crate in self.files and crate not in self.whole and not any(crate in self.below(it) for it in self.whole)
+
+    def place_of(self, room, file):
+        """Where a file of the repository stands in the scratch copy."""
+        inside = file.relative_to(TOP)
+        _, crate, part, *names = inside.parts
+        return room / "crates" / ONE / part / "__".join([crate, *names]) if self.is_merged(crate) else room / inside
+
+    def text_of(self, text):
+        """The text, in which the modules of merged crates have the names that they have there."""
+        return CITED.sub(lambda it: f"Rattle.{ONE}.{it[2]}.{it[1]}__{it[3][1:]}" if self.is_merged(it[1]) else it[0], text)
+
     def write(self, room):
         """Writes this part of the repository, as it stands."""
         room.mkdir(parents=True)
-        used = [crate for crate in self.crates if crate in self.files]
-        rows = [f"{crate}: {' '.join(it for it in self.crates[crate] if it not in self.crates or it in used)}" for crate in used]
-        (room / "crates.txt").write_text("\n".join(rows) + "\n")
+        own = [crate for crate in self.crates if crate in self.files and not self.is_merged(crate)]
+        rows = [f"{crate}: {' '.join(it for it in self.crates[crate] if it not in self.crates or it in own)}" for crate in own]
+        below = {it for crate in self.files if self.is_merged(crate) for it in self.crates[crate] if it not in self.crates or it in own}
+        (room / "crates.txt").write_text("\n".join([*rows, f"{ONE}: {' '.join(sorted(below))}"]) + "\n")
         shutil.copy(TOP / "HANDLES", room)
-        for crate in used:
+        for crate in self.files:
             for file in self.files[crate]:
-                place = room / file.relative_to(TOP)
+                place = self.place_of(room, file)
                 place.parent.mkdir(parents=True, exist_ok=True)
-                shutil.copy(file, place)
-            self.write_frame(room / "crates" / crate, crate)
+                place.write_text(self.text_of(file.read_text(encoding="utf-8")), encoding="utf-8")
+        for crate in [ONE, *(it for it in own if it not in self.whole)]:
+            self.write_frame(room / "crates" / crate)
 
-    def write_frame(self, folder, crate):
+    def write_frame(self, folder):
         """An empty source, and the lists of the modules that are there."""
-        if crate in self.whole:
-            return
         (folder / "src").mkdir(parents=True, exist_ok=True)
         (folder / "src" / "lib.rt").write_text(EMPTY_SOURCE)
         for part in ("specs", "proofs"):
             if (folder / part).is_dir():
-                rows = (TOP / "crates" / crate / part / "Lib.antt").read_text(encoding="utf-8").splitlines()
-                here = [row for row in rows if (folder / part / f"{row.split()[-1]}.antt").is_file()]
-                (folder / part / "Lib.antt").write_text("\n".join(here) + "\n", encoding="utf-8")
+                rows = sorted(f"pub mod {it.stem}" for it in (folder / part).glob("*.antt"))
+                (folder / part / "Lib.antt").write_text("\n".join(rows) + "\n", encoding="utf-8")
 
     def check(self, room):
         """The status of the checks, and what they wrote, for each crate that no other of them uses."""
@@ -183,15 +201,30 @@ class Part:
         return max(status for status, _ in said), "\n".join(text for _, text in said)
 
 
+def origin(place):
+    """The crate of a file of the scratch copy, where its name tells it, and the names of the file below specs/ or proofs/."""
+    names = place.removesuffix(".antt").split("/")[1:]
+    crate, *rest = names[-1].split("__")
+    return (crate, rest) if rest else (None, names)
+
+
 def is_named(place, checks):
     """Whether an error stands in a file, or in the proof of a function, that `check:` names."""
-    path = place.removesuffix(".antt").split("/")[1:]
-    for _, what in checks:
+    crate, path = origin(place)
+    for named, what in checks:
         for name in what:
             parts = name.split("::" if "::" in name else "/")
-            if path[: len(parts)] == parts:
+            if crate in (None, named) and path[: len(parts)] == parts:
                 return True
     return False
+
+
+def told(error):
+    """An error in one line, with the repository's own names."""
+    place, at, message = error
+    crate, path = origin(place)
+    file = f"{crate}/{place.split('/')[0]}/{'/'.join(path)}.antt" if crate else place
+    return f"{file}:{at}: {MERGED.sub(lambda it: f'Rattle.{it[2]}.{it[1]}.', message)[:160]}"
 
 
 def judged(line, status, said):
@@ -199,19 +232,18 @@ def judged(line, status, said):
     errors = [found.groups() for found in map(ERROR.match, said.splitlines()) if found]
     unread = [it for it in errors if not it[0].startswith("proofs/")]
     if unread:
-        return False, f"BAD LINE, it does not compile: {unread[0][0]}:{unread[0][1]}: {unread[0][2][:160]}"
+        return False, f"BAD LINE, it does not compile: {told(unread[0])}"
     if status == 0:
         return False, f"PASSES: {line.because}"
     errors = [it for it in errors if not NAME_GONE.search(re.sub(r"^`[^`]*`: ", "", it[2]))] or errors
     errors.sort(key=lambda it: not is_named(it[0], line.checks))
     if not errors:
         return False, f"NO VERDICT, the check ended with status {status}: {said.strip().splitlines()[-1][:160] if said.strip() else 'nothing'}"
-    place, at, message = errors[0]
-    if NAME_GONE.search(message):
-        return False, f"BAD LINE, a name is gone: {place}:{at}: {message[:160]}"
-    if not is_named(place, line.checks):
-        return False, f"REFUSED ELSEWHERE, which may show only that a proof no longer fits: {place}:{at}: {message[:160]}"
-    return True, f"refused by {place}:{at}: {message[:160]}"
+    if NAME_GONE.search(errors[0][2]):
+        return False, f"BAD LINE, a name is gone: {told(errors[0])}"
+    if not is_named(errors[0][0], line.checks):
+        return False, f"REFUSED ELSEWHERE, which may show only that a proof no longer fits: {told(errors[0])}"
+    return True, f"refused by {told(errors[0])}"
 
 
 class Scratch:
@@ -234,11 +266,11 @@ class Scratch:
     def tried(self, line):
         text = line.changed()
         part, room = self.part(line)
-        place = room / line.file
+        place = part.place_of(room, TOP / line.file)
         if not place.is_file():
             raise BadLine(f"nothing that `check:` names cites {line.file}")
         stood = place.read_text(encoding="utf-8")
-        place.write_text(text, encoding="utf-8")
+        place.write_text(part.text_of(text), encoding="utf-8")
         try:
             return judged(line, *part.check(room))
         finally:

@@ -1,3 +1,4 @@
+pub mod Bytes
 pub mod Parts
 pub mod Seats
 pub mod Steps
@@ -6,4 +7,3 @@ pub mod Turns
 pub mod Images
 pub mod Fitting
 pub mod Histories
-mod Example

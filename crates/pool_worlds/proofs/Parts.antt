@@ -1,7 +1,7 @@
 -- What every slot keeps, and what preparing, clearing and a turn make of it.
-use Rattle.std.proofs.Common.{◌≡◌, ℕ, zero, suc, ◌+◌, ◌-◌, ◌*◌, ◌/◌, ◌<◌, ◌≤◌, Bool, true, false, cond, List, [], ◌∷◌, ◌++◌, length, take, drop, refl, sym, ap, ◌∙◌, subst, arith, length-append, true≢false, inl, inr}
+use Rattle.std.proofs.Common.{◌≡◌, ℕ, ◌-◌, ◌*◌, ◌/◌, ◌≤◌, Bool, true, false, cond, List, [], ◌∷◌, ◌++◌, length, take, drop, refl, sym, ap, ◌∙◌, subst, arith, true≢false, inl, inr}
 use Rattle.std.specs.Prelude.{Option, Some, None, ltb, map, replicate, slice_index}
-use Rattle.std.proofs.lemmas.List.{length-map, length-replicate, get_or_append_left, get_or-append_right, ext_get_or, length-take-le, get_or-take, take-append-drop, drop_at, take_at, nil_from_length}
+use Rattle.std.proofs.lemmas.List.{length-map, get_or_append_left, ext_get_or, length-take-le, get_or-take, take-append-drop, drop_at, take_at, nil_from_length}
 use Rattle.std.proofs.lemmas.Bool.{ltb-false, eqb-true, cases_lt}
 use Rattle.wasm_types.specs.declared.outcome.Val.{Val}
 use Rattle.wasm_types.specs.declared.types.Limits.{Limits}
@@ -12,9 +12,10 @@ use Rattle.wasm_spec.specs.Instances.{IsInstance, room_for}
 use Rattle.wasm_spec.proofs.StoreSizes.{whole_pages, pages_within, minimum_within}
 use Rattle.wasm_spec.proofs.Loading.{no_refusal, first_keeps}
 use Rattle.wasm_spec.proofs.ResultLaws.{length-fresh_memory, length-fresh_table, fresh-instance}
-use Rattle.pool_worlds.specs.Contents.{Named, Kind, Ticket, Memory, Table, MemoryContents, TableContents, Contents, owner, belongs_to, filled, memory_image, table_image, is_marked, rewritten_from, prepared, restored_for, restored, replaced, needs, shown_memory, shown_table, shown, turned, Marks, IsCold, HasImageOutside}
+use Rattle.pool_worlds.specs.Contents.{Named, Kind, Ticket, Memory, Table, MemoryContents, TableContents, Contents, owner, belongs_to, filled, memory_image, table_image, rewritten_from, prepared, restored_for, restored, replaced, needs, shown_memory, shown_table, shown, turned, Marks, IsCold, HasImageOutside}
 use Rattle.pool_worlds.specs.PoolMachine.{World, IsModule, load_limits}
 use Rattle.pool_worlds.specs.Worlds.{IsZeroPast}
+pub use Rattle.pool_worlds.proofs.Bytes.{length-filled, filled-past, rewritten-is}
 
 -- ---- modules that were loaded
 
@@ -29,41 +30,6 @@ fits w m is = let l = is.loads in let tree : ModuleTree = l.tree in
     let n = no_refusal (first_over (load_limits w.limits) tree) (first_misfit tree) l.answers.0.late_is in
     let le : minimum_of tree.memories ≤ w.limits.pages = (first_keeps w.limits.pages (minimum_of tree.memories) _ _ n.0).0 in
     subst (Fits w.limits.pages) (sym same) (record { misfit = n.1; size = le })
-
--- ---- bytes
-
-pub length-filled : (pages : ℕ) (bytes : List ℕ) → length bytes ≤ pages * page_size → length (filled pages bytes) ≡ pages * page_size
-length-filled pages bytes le = length-append bytes (replicate (pages * page_size - length bytes) 0) ∙ ap (λ (k : ℕ). length bytes + k) (length-replicate (pages * page_size - length bytes) 0) ∙ omega arith
-
-zeros-at : (n i : ℕ) → slice_index (replicate n 0) i ≡ 0
-zeros-at zero i = refl
-zeros-at (suc n) zero = refl
-zeros-at (suc n) (suc i) = zeros-at n i
-
-pub filled-past : (pages : ℕ) (bytes : List ℕ) (i : ℕ) → length bytes ≤ i → slice_index (filled pages bytes) i ≡ 0
-filled-past pages bytes i le = get_or-append_right bytes (replicate (pages * page_size - length bytes) 0) (length bytes) i 0 refl le ∙ zeros-at (pages * page_size - length bytes) (i - length bytes)
-
-length-rewritten : (i : ℕ) (marks : List Bool) (image bytes : List ℕ) → length (rewritten_from i marks image bytes) ≡ length bytes
-length-rewritten i marks image [] = refl
-length-rewritten i marks image (b ∷ bs) = ap suc (length-rewritten (i + 1) marks image bs)
-
-rewritten-at : (i : ℕ) (marks : List Bool) (image bytes : List ℕ) → ((j : ℕ) → is_marked marks (i + j) ≡ false → slice_index bytes j ≡ slice_index image (i + j))
-    → (j : ℕ) → j < length bytes → slice_index (rewritten_from i marks image bytes) j ≡ slice_index image (i + j)
-rewritten-at i marks image [] h j lt = absurd (omega arith)
-rewritten-at i marks image (b ∷ bs) h zero lt = let here : i + 0 ≡ i = omega arith in
-    let split : (t : Bool) → is_marked marks i ≡ t → cond t (slice_index image i) b ≡ slice_index image i = elim [
-      | true ↦ λ q. refl
-      | false ↦ λ q. h 0 (ap (is_marked marks) here ∙ q) ∙ ap (slice_index image) here
-    ] in split (is_marked marks i) refl ∙ ap (slice_index image) (sym here)
-rewritten-at i marks image (b ∷ bs) h (suc j) lt = let on : (k : ℕ) → i + 1 + k ≡ i + suc k = λ k. omega arith in
-    rewritten-at (i + 1) marks image bs (λ k q. h (suc k) (ap (is_marked marks) (sym (on k)) ∙ q) ∙ ap (slice_index image) (sym (on k))) j (omega arith) ∙ ap (slice_index image) (on j)
-
--- outside the marked blocks bytes are the image's: so to write the marked ones anew gives the image
-pub rewritten-is : (marks : List Bool) (image bytes : List ℕ) → length bytes ≡ length image → HasImageOutside image bytes marks → rewritten_from 0 marks image bytes ≡ image
-rewritten-is marks image bytes long outside =
-    let none : (k : ℕ) → 0 + k ≡ k = λ k. omega arith in
-    ext_get_or 0 (rewritten_from 0 marks image bytes) image (length-rewritten 0 marks image bytes ∙ long) (λ j lt. let l = length-rewritten 0 marks image bytes in
-    rewritten-at 0 marks image bytes (λ k q. outside k (ap (is_marked marks) (sym (none k)) ∙ q) ∙ ap (slice_index image) (sym (none k))) j (omega arith) ∙ ap (slice_index image) (none j))
 
 -- ---- what every slot keeps
 

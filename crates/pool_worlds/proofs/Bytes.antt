@@ -1,0 +1,39 @@
+-- What the bytes of a memory are: filled with zeros, and written anew from an image.
+use Rattle.std.proofs.Common.{◌≡◌, ℕ, zero, suc, ◌+◌, ◌-◌, ◌*◌, ◌<◌, ◌≤◌, Bool, true, false, cond, List, [], ◌∷◌, length, refl, sym, ap, ◌∙◌, arith, length-append}
+use Rattle.std.specs.Prelude.{replicate, slice_index}
+use Rattle.std.proofs.lemmas.List.{length-replicate, get_or-append_right, ext_get_or}
+use Rattle.wasm_spec.specs.Store.{page_size}
+use Rattle.pool_worlds.specs.Contents.{filled, is_marked, rewritten_from, HasImageOutside}
+
+pub length-filled : (pages : ℕ) (bytes : List ℕ) → length bytes ≤ pages * page_size → length (filled pages bytes) ≡ pages * page_size
+length-filled pages bytes le = length-append bytes (replicate (pages * page_size - length bytes) 0) ∙ ap (λ (k : ℕ). length bytes + k) (length-replicate (pages * page_size - length bytes) 0) ∙ omega arith
+
+zeros-at : (n i : ℕ) → slice_index (replicate n 0) i ≡ 0
+zeros-at zero i = refl
+zeros-at (suc n) zero = refl
+zeros-at (suc n) (suc i) = zeros-at n i
+
+pub filled-past : (pages : ℕ) (bytes : List ℕ) (i : ℕ) → length bytes ≤ i → slice_index (filled pages bytes) i ≡ 0
+filled-past pages bytes i le = get_or-append_right bytes (replicate (pages * page_size - length bytes) 0) (length bytes) i 0 refl le ∙ zeros-at (pages * page_size - length bytes) (i - length bytes)
+
+length-rewritten : (i : ℕ) (marks : List Bool) (image bytes : List ℕ) → length (rewritten_from i marks image bytes) ≡ length bytes
+length-rewritten i marks image [] = refl
+length-rewritten i marks image (b ∷ bs) = ap suc (length-rewritten (i + 1) marks image bs)
+
+rewritten-at : (i : ℕ) (marks : List Bool) (image bytes : List ℕ) → ((j : ℕ) → is_marked marks (i + j) ≡ false → slice_index bytes j ≡ slice_index image (i + j))
+    → (j : ℕ) → j < length bytes → slice_index (rewritten_from i marks image bytes) j ≡ slice_index image (i + j)
+rewritten-at i marks image [] h j lt = absurd (omega arith)
+rewritten-at i marks image (b ∷ bs) h zero lt = let here : i + 0 ≡ i = omega arith in
+    let split : (t : Bool) → is_marked marks i ≡ t → cond t (slice_index image i) b ≡ slice_index image i = elim [
+      | true ↦ λ q. refl
+      | false ↦ λ q. h 0 (ap (is_marked marks) here ∙ q) ∙ ap (slice_index image) here
+    ] in split (is_marked marks i) refl ∙ ap (slice_index image) (sym here)
+rewritten-at i marks image (b ∷ bs) h (suc j) lt = let on : (k : ℕ) → i + 1 + k ≡ i + suc k = λ k. omega arith in
+    rewritten-at (i + 1) marks image bs (λ k q. h (suc k) (ap (is_marked marks) (sym (on k)) ∙ q) ∙ ap (slice_index image) (sym (on k))) j (omega arith) ∙ ap (slice_index image) (on j)
+
+-- outside the marked blocks bytes are the image's: so to write the marked ones anew gives the image
+pub rewritten-is : (marks : List Bool) (image bytes : List ℕ) → length bytes ≡ length image → HasImageOutside image bytes marks → rewritten_from 0 marks image bytes ≡ image
+rewritten-is marks image bytes long outside =
+    let none : (k : ℕ) → 0 + k ≡ k = λ k. omega arith in
+    ext_get_or 0 (rewritten_from 0 marks image bytes) image (length-rewritten 0 marks image bytes ∙ long) (λ j lt. let l = length-rewritten 0 marks image bytes in
+    rewritten-at 0 marks image bytes (λ k q. outside k (ap (is_marked marks) (sym (none k)) ∙ q) ∙ ap (slice_index image) (sym (none k))) j (omega arith) ∙ ap (slice_index image) (none j))

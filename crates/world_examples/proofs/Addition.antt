@@ -1,0 +1,98 @@
+-- One call of `add`, which has no memory and no table: it needs a ticket alone.
+use Rattle.std.proofs.Common.{◌≡◌, true, true≢false, List, [], ◌∷◌, refl, sym, arith}
+use Rattle.std.specs.Prelude.{Option, Some, None}
+use Rattle.wasm_types.specs.declared.outcome.Val.{Val}
+use Rattle.wasm_types.specs.declared.outcome.Val.TheVariants.{I32}
+use Rattle.wasm_types.specs.declared.outcome.Outcome.{Outcome}
+use Rattle.wasm_types.specs.declared.outcome.Outcome.TheVariants as outcome
+use Rattle.wasm_spec.specs.Execution.{exec}
+use Rattle.wasm_spec.specs.Store.{fresh_store}
+use Rattle.wasm_spec.proofs.AddModule.{add, add_bytes, add_loads, add_type}
+use Rattle.pool_core.specs.declared.events.Event.TheVariants.{Claim, Out}
+use Rattle.pool_core.specs.PoolCore.{opening_core}
+use Rattle.pool_worlds.specs.Contents.{Named, Kind, Ticket, Memory, Table, Contents, memory_image, needs, IsCold}
+use Rattle.pool_worlds.specs.PoolMachine.{World, Request, Machine, WorldEvent, Step, Begin, Turn, End, IsModule, IsCallable, HasOut, after_all, AllMayHappen, answer, IsOpening}
+
+abbrev named : Named
+named = record { number = 0; tag = 0; tree = add }
+
+abbrev world : World
+world = record { limits = record { pages = 1; elements = 0; frame = 8; depth = 4 }; shelf = λ n. named; seats = λ k i. i; apart = λ k i j e. e }
+
+abbrev cold : (k : Kind) → Contents k
+cold Ticket = I32 7 ∷ []
+cold Memory = record { bytes = memory_image 1 None; pages = 0; marks = []; holds = None }
+cold Table = record { entries = []; holds = None }
+
+abbrev opened : Machine
+opened = record { core = λ k. opening_core 1 0 1; contents = λ k n. cold k; calls = λ i. None }
+
+opens : IsOpening world opened
+opens = record {
+  slots = λ k. 1;
+  limit = λ k. 0;
+  passes = λ k. 1;
+  core = λ k. refl;
+  cold = λ k n. cold_is k;
+  calls = λ i. refl;
+} where
+  cold_is : (k : Kind) → IsCold 1 k (cold k)
+  cold_is Ticket = tt
+  cold_is Memory = record { holds = refl; size = refl; bytes = refl; clean = λ i. refl }
+  cold_is Table = (refl, refl)
+
+abbrev request : Request
+request = record { named = named; function = 0; arguments = I32 2 ∷ I32 3 ∷ []; fuel = 100 }
+
+abbrev events : List WorldEvent
+events = Step Ticket (Claim 0 0) ∷ Step Ticket (Out 0 0) ∷ Begin 0 request ∷ Turn 0 [] ∷ Turn 0 [] ∷ Turn 0 [] ∷ End 0 ∷ []
+
+is_module : IsModule world named
+is_module = record { on_shelf = refl; bytes = add_bytes; loads = add_loads }
+
+callable : IsCallable request
+callable = record {
+  export = 0x61 ∷ 0x64 ∷ 0x64 ∷ [];
+  exported = record { place = 0; export = _; there = refl; named = refl; function = refl };
+  type = add_type;
+  typed = refl;
+  fitting = refl;
+}
+
+done : (v : Option Val) → ◌≡◌ {A = Option Outcome} (Some (outcome.Done v)) (Some outcome.Fuel) → ⊥
+done v h = cc
+
+abbrev ready : Machine
+ready = after_all world opened (Step Ticket (Claim 0 0) ∷ Step Ticket (Out 0 0) ∷ [])
+
+its_slots : (k : Kind) → needs k add ≡ true → HasOut ready k 0
+its_slots Ticket h = record { number = 0; holds = refl; out = refl }
+its_slots Memory h = absurd (true≢false (sym h))
+its_slots Table h = absurd (true≢false (sym h))
+
+all_happen : AllMayHappen world opened events
+unfolding exec
+all_happen = (
+  (refl, λ i e. refl),
+  (
+    (refl, λ i e. refl),
+    (
+      (refl, its_slots, is_module, callable),
+      (
+        (_, refl, record { fuel = omega arith; unfinished = refl }, λ h. absurd (true≢false (sym h))),
+        (
+          (_, refl, record { fuel = omega arith; unfinished = refl }, λ h. absurd (true≢false (sym h))),
+          (
+            (_, refl, record { fuel = omega arith; unfinished = refl }, λ h. absurd (true≢false (sym h))),
+            ((_, refl, λ can. done _ can.unfinished), tt),
+          ),
+        ),
+      ),
+    ),
+  ),
+)
+
+-- and it is answered that the sum is 5
+answered : answer world (record { request = request; begun = fresh_store add; turns = 3 }) ≡ Some (outcome.Done (Some (I32 5)))
+unfolding exec
+answered = refl
