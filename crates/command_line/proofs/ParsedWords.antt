@@ -1,6 +1,7 @@
 -- From the clauses of a parse to the command.
-use Rattle.std.proofs.Common.{◌≡◌, ◌≢◌, ◌∙◌, ◌==◌, true, false, List, [], ◌∷◌, Option, Some, None, refl, ap, subst, arith, length, inl, inr}
-use Rattle.std.specs.Prelude.{IsSomeAnd, option_and_then, option_map}
+use Rattle.std.proofs.Common.{◌≡◌, ◌≢◌, ◌≤◌, ◌∙◌, ◌==◌, ℕ, true, false, List, [], ◌∷◌, Option, Some, None, refl, ap, subst, arith, length, inl, inr}
+use Rattle.std.specs.Prelude.{IfOk, IsErrOf, IsSomeAnd, Result}
+use Rattle.std.specs.Option.{ok_or}
 use Rattle.std.proofs.lemmas.Bool.{ne_eqb}
 use Rattle.clap.specs.Kinds.{HasKind, IsAmong, Kinds}
 use Rattle.clap.specs.Words.{App, HasMatchesOf, Row, Shape, Text, built, fault_of, found_of, is_simple, is_simple_and_free, kind_of, matches_of, rows_of, subcommand_of, subcommand_rows_of}
@@ -12,8 +13,11 @@ use Rattle.clap.specs.declared.error.kind.ErrorKind.TheVariants.{OutOfMemory}
 use Rattle.clap.specs.declared.parser.matches.ArgMatches.{ArgMatches}
 use Rattle.command_line.specs.Command.{poolhost_command}
 use Rattle.command_line.specs.Matches.{IsComplete}
-use Rattle.command_line.specs.Words.{command_in, command_of, entered_by, if_allowed, is_allowed}
+use Rattle.command_line.specs.Words.{asked_in, command_of, entered_by}
 use Rattle.command_line.specs.declared.words.Command.{Command}
+use Rattle.command_line.specs.declared.words.Command.TheVariants.{Make}
+use Rattle.command_line.specs.declared.words.WordsFault.{WordsFault}
+use Rattle.command_line.specs.declared.words.WordsFault.TheVariants.{Refused}
 use Rattle.command_line.proofs.CommandLevels.{make_complete, make_level, run_complete, run_level}
 use Rattle.command_line.proofs.SubcommandFacts.{IsOneOf, enters}
 
@@ -40,7 +44,7 @@ no_command words e (inr among) other =
 -- the words have no fault, and their command is that of the matches
 pub record IsParsed (words : List Text) (m : ArgMatches) : Type 0 where
   pub complete : IsSomeAnd (subcommand_rows_of m) IsComplete
-  pub command : (command : Command) → option_map command_in (subcommand_rows_of m) ≡ Some command → command_of words ≡ if_allowed command
+  pub command : command_of words ≡ asked_in (subcommand_rows_of m)
 
 entered_complete : (sub : Shape) (rest : List Text) → IsOneOf sub (built poolhost_command).subs → level_fault sub [] nothing_held rest false [] ≡ []
     → IsComplete (sub.name, rows_after sub.rules [] rest)
@@ -52,17 +56,12 @@ entered_complete sub rest (inr (inl is)) none =
     rw is (inr (refl, make_complete rest quiet))
 entered_complete sub rest (inr (inr other)) none = absurd other
 
-at_entered : (o : Option (Text × List Row)) (command : Command) → option_map command_in o ≡ Some command
-    → option_and_then (λ entered. if_allowed (command_in entered)) o ≡ if_allowed command
-at_entered None command e = cc
-at_entered (Some entered) command e = let same : command_in entered ≡ command = cc in ap if_allowed same
-
 command_when_free : (words : List Text) (o : Option (Text × List Row)) → fault_of poolhost_command words ≡ [] → o ≡ subcommand_of poolhost_command words
-    → (command : Command) → option_map command_in o ≡ Some command → command_of words ≡ if_allowed command
+    → command_of words ≡ asked_in o
 unfolding command_of entered_by
-command_when_free words o none same command is =
+command_when_free words o none same =
     let free : (length (fault_of poolhost_command words) == 0) ≡ true = rw none refl in
-    rw (free, ← same) (at_entered o command is)
+    rw (free, ← same) refl
 
 -- by the clauses of a parse
 pub parsed : (words : List Text) (a : App) (m : ArgMatches) → a ≡ poolhost_command → (is_simple_and_free a ≡ true → fault_of a words ≡ [])
@@ -77,8 +76,17 @@ parsed words a m is kinds rows =
       command = command_when_free words (subcommand_rows_of m) none same;
     }
 
-pub refused : (command : Command) → is_allowed command ≡ false → if_allowed command ≡ None
-refused command not_allowed = rw not_allowed refl
+-- ---- what is answered for what the matches ask for, or a refusal where they ask for nothing
 
-pub taken : (command : Command) → is_allowed command ≡ true → if_allowed command ≡ Some command
-taken command allowed = rw allowed refl
+pub taken : (words : List Text) (asked : Option Command) (result : Result Command WordsFault) → command_of words ≡ asked → result ≡ ok_or asked Refused → IfOk result (λ c. command_of words ≡ Some c)
+taken words None result is answered = rw answered tt
+taken words (Some c) result is answered = rw answered is
+
+pub refused : (words : List Text) (asked : Option Command) (result : Result Command WordsFault) → command_of words ≡ asked → result ≡ ok_or asked Refused → IsErrOf result Refused → command_of words ≡ None
+refused words None result is answered refusal = is
+refused words (Some c) result is answered refusal = cc
+
+pub few_calls : (asked : Option Command) (result : Result Command WordsFault) → result ≡ ok_or asked Refused
+    → ((seed count : ℕ) → asked ≡ Some (Make seed count) → (1 ≤ count) × (count ≤ 100000)) → IfOk result (λ c. (seed count : ℕ) → c ≡ Make seed count → (1 ≤ count) × (count ≤ 100000))
+few_calls None result answered few = rw answered tt
+few_calls (Some c) result answered few = rw answered (λ seed count is. few seed count (ap Some is))

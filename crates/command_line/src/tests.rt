@@ -1,6 +1,6 @@
 //! Words that are taken, and words that are refused.
 use crate::{Command, WordsFault, read_command};
-use pool_limits::Numbers;
+use pool_limits::{Numbers, PoolConfig};
 use std::test::Fail;
 
 const REFUSED: Result<Command, WordsFault> = Err(WordsFault::Refused);
@@ -20,7 +20,7 @@ fn run(numbers: [u32; 10], summary: bool) -> Result<Command, WordsFault> {
         depth,
         frame,
     ] = numbers;
-    let numbers = Numbers {
+    let config = PoolConfig::new(Numbers {
         workers,
         instances,
         memories,
@@ -31,8 +31,11 @@ fn run(numbers: [u32; 10], summary: bool) -> Result<Command, WordsFault> {
         elements,
         depth,
         frame,
-    };
-    Ok(Command::Run { numbers, summary })
+    });
+    match config {
+        Ok(config) => Ok(Command::Run { config, summary }),
+        Err(_) => REFUSED,
+    }
 }
 
 fn make(seed: u64, count: u32) -> Result<Command, WordsFault> {

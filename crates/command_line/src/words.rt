@@ -1,37 +1,25 @@
 //! The words of a command line, read as a command.
-ghost use Rattle.std.specs.Prelude.{◌≡◌, ◌↔◌, Some, None, IfOk, IsErrOf, IsSomeAnd, map, option_map, true};
-ghost use Rattle.clap.specs.Words.{subcommand_rows_of};
-ghost use Rattle.command_line.specs.Matches.{IsComplete};
-ghost use Rattle.command_line.specs.Words.{IsWithin, command_in, command_of, is_allowed};
+ghost use Rattle.std.specs.Prelude.{◌≡◌, ◌↔◌, ◌≤◌, ℕ, None, Some, IfOk, IsErrOf, IsSomeAnd, map};
+ghost use Rattle.clap.specs.Words.{found_of, rows_of, subcommand_rows_of};
+ghost use Rattle.command_line.specs.Matches.{HasRun, IsComplete};
+ghost use Rattle.command_line.specs.Words.{asked_in, command_of, if_allowed, run_in};
+ghost use Rattle.command_line.specs.declared.words.Command.TheVariants.{Make};
 
 use crate::numbers::{flag_at, long_number_at, number_at, numbers_at};
 use crate::syntax::poolhost_command;
 use clap::ArgMatches;
 use clap::error::ErrorKind;
-use pool_limits::laws::numbers_are_in_range_or_one_is_bad;
-use pool_limits::{Numbers, PoolConfig};
+use pool_limits::PoolConfig;
 use std::alloc::{AllocError, Global};
 use thiserror::Error;
 
 /// What the words of a command line ask for.
 #[derive(Clone, Copy, Debug, PartialEq, Eq)]
 pub enum Command {
-    /// `run`: answer a request file under a configuration of these numbers, by a report or by its summary.
-    Run { numbers: Numbers, summary: bool },
+    /// `run`: answer a request file under a configuration, by a report or by its summary.
+    Run { config: PoolConfig, summary: bool },
     /// `make`: write a request file of so many calls, from 1 to 100,000, that are drawn from a seed.
     Make { seed: u64, count: u32 },
-}
-
-impl Command {
-    // Whether the numbers of a run are those of a configuration.
-    fn is_allowed(&self) -> bool
-        ensures { result ≡ is_allowed self.now }
-    {
-        match self {
-            Command::Run { numbers, .. } => PoolConfig::new(*numbers).is_ok(),
-            Command::Make { .. } => true,
-        }
-    }
 }
 
 /// Why words give no command.
@@ -63,40 +51,45 @@ impl From<AllocError> for WordsFault {
 /// `Refused` comes only for words that give no command, and `NoMemory` for want of memory alone.
 pub fn read_command(alloc: Global, words: &[&str]) -> Result<Command, WordsFault>
     ensures command { IfOk result (λ c. command_of (map (λ w. w.now) words.now) ≡ Some c) }
-    ensures within { IfOk result IsWithin }
+    ensures count { IfOk result (λ c. (seed count : ℕ) → c ≡ Make seed count → (1 ≤ count) × (count ≤ 100000)) }
     ensures refused { IsErrOf result WordsFault.Refused → command_of (map (λ w. w.now) words.now) ≡ None }
 {
     let syntax = poolhost_command(alloc)?;
-    let matches = match syntax.try_get_matches_from(words) {
-        Ok(matches) => matches,
-        Err(error) => return Err(fault_of_kind(error.kind())),
-    };
-    let command = command_at(&matches);
-    if command.is_allowed() {
-        Ok(command)
-    } else {
-        Err(WordsFault::Refused)
+    match syntax.try_get_matches_from(words) {
+        Ok(matches) => command_at(&matches).ok_or(WordsFault::Refused),
+        Err(error) => Err(fault_of_kind(error.kind())),
     }
 }
 
-// What the matches of a command line ask for.
-fn command_at(matches: &ArgMatches<'_>) -> Command
+// What the matches of a command line ask for, or none where no configuration has the numbers of a run.
+fn command_at(matches: &ArgMatches<'_>) -> Option<Command>
     requires { IsSomeAnd (subcommand_rows_of matches.now) IsComplete }
-    ensures command { option_map command_in (subcommand_rows_of matches.now) ≡ Some result }
-    ensures within { is_allowed result ≡ true → IsWithin result }
+    ensures command { result ≡ asked_in (subcommand_rows_of matches.now) }
+    ensures count { (seed count : ℕ) → result ≡ Some (Make seed count) → (1 ≤ count) × (count ≤ 100000) }
 {
-    numbers_are_in_range_or_one_is_bad();
     if let Some(make) = matches.subcommand_matches("make") {
         let seed = long_number_at(make, "seed");
         let count = number_at(make, "count");
-        return Command::Make { seed, count };
+        return Some(Command::Make { seed, count });
     }
     let Some(run) = matches.subcommand_matches("run") else {
         unreachable!()
     };
-    let numbers = numbers_at(run);
-    let summary = flag_at(run, "summary");
-    Command::Run { numbers, summary }
+    run_at(run)
+}
+
+// The run that these matches ask for, or none where no configuration has its numbers.
+fn run_at(run: &ArgMatches<'_>) -> Option<Command>
+    requires { HasRun (rows_of (found_of run.now)) }
+    ensures { result ≡ if_allowed (run_in (rows_of (found_of run.now))) }
+{
+    match PoolConfig::new(numbers_at(run)) {
+        Ok(config) => Some(Command::Run {
+            config,
+            summary: flag_at(run, "summary"),
+        }),
+        Err(_) => None,
+    }
 }
 
 // Whether a parse failed for want of memory, or by its words.

@@ -1,6 +1,5 @@
 //! The report on what a request file asks for.
 ghost use Rattle.std.specs.Prelude.{◌≡◌, ◌≤◌, IfOk, length};
-ghost use Rattle.pool_limits.specs.Ranges.{AreInRange};
 ghost use Rattle.module_store.specs.Names.{Bears};
 ghost use Rattle.request_text.specs.Text.{IsPlacedFrom, call_count, module_names, modules_of};
 ghost use Rattle.host_report.specs.Answers.{AreAnswers};
@@ -9,15 +8,14 @@ ghost use Rattle.host_report.specs.Lines.{HasSource, ShowsNext, counts_after};
 ghost use Rattle.host_report.specs.Report.{AreLines, IsReport, limits_in};
 
 use crate::calls::answers;
-use crate::config::config_of;
 use crate::modules::{Entry, entry_line};
 use crate::shares::lane_share;
 use crate::sharing::{Collected, gather};
 use host_edge::Gate;
 use module_store::{Naming, Opened};
 use pool_host::LaneHost;
-use pool_limits::Numbers;
-use request_text::{CallLine, Directive, MOST_CALLS, MOST_MODULES, ReportLine};
+use pool_limits::PoolConfig;
+use request_text::{CallLine, Directive, MOST_CALLS, MOST_MODULES, ReportLine, Requests};
 use std::alloc::Global;
 use std::marker::Brand;
 use std::sync::Wait;
@@ -108,7 +106,7 @@ fn report_in<N: Naming + Send + Sync, R: Threads + Wait + Sync, G: Gate>(
     lines(alloc, requests, &entries, &answers)
 }
 
-/// The report on what a request file asks for, under the numbers of a configuration. `gate` is told of each call.
+/// The report on what a request file asks for, under a configuration. `gate` is told of each call.
 ///
 /// # Errors
 ///
@@ -116,16 +114,13 @@ fn report_in<N: Naming + Send + Sync, R: Threads + Wait + Sync, G: Gate>(
 pub fn report<R: Threads + Wait + Sync, G: Gate>(
     rt: &R,
     alloc: Global,
-    numbers: Numbers,
-    requests: &[Directive],
+    config: PoolConfig,
+    requests: &Requests,
     gate: &G,
 ) -> Result<Vec<ReportLine>, NoMemory>
-    requires range { AreInRange numbers }
-    requires placed { IsPlacedFrom 0 requests.now }
-    requires few_modules { length (module_names requests.now) ≤ MOST_MODULES }
-    requires few_calls { call_count requests.now ≤ MOST_CALLS }
-    ensures { IfOk result (λ lines. IsReport numbers requests.now lines.items) }
+    ensures { IfOk result (λ lines. IsReport config requests.now lines.items) }
 {
-    let opened = Opened::open(alloc, config_of(numbers))?;
-    report_in::<Brand, R, G>(rt, alloc, opened, requests, gate)
+    let opened = Opened::open(alloc, config)?;
+    let directives = requests.directives();
+    report_in::<Brand, R, G>(rt, alloc, opened, directives, gate)
 }

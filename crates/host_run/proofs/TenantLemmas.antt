@@ -1,15 +1,17 @@
 -- The line of a call in two reports.
-use Rattle.std.proofs.Common.{◌≡◌, ℕ, List, Some, subst}
+use Rattle.std.proofs.Common.{◌≡◌, ◌∙◌, ◌++◌, ℕ, zero, suc, List, [], ◌∷◌, Some, ap, subst, take, drop, append_assoc, add-one, arith}
 use Rattle.std.specs.Prelude.{slice_get}
+use Rattle.std.specs.List.{flat_map}
 use Rattle.wasm_types.specs.declared.outcome.Val.{Val}
 use Rattle.pool_limits.specs.declared.numbers.Numbers.{Numbers}
 use Rattle.request_text.specs.declared.request.Directive.{Directive}
 use Rattle.request_text.specs.declared.request.Directive.TheVariants.{Call}
 use Rattle.request_text.specs.declared.report.CallLine.{CallLine}
 use Rattle.request_text.specs.declared.report.ReportLine.{ReportLine}
+use Rattle.request_text.specs.Lines.{call_line, call_text, line_text}
 use Rattle.request_text.specs.Text.{modules_of}
 use Rattle.host_report.specs.Report.{IsCallLine, IsReport, Limits, limits_in}
-use Rattle.host_run.specs.Tenants.{CallsAt, HasReport, TellsAt}
+use Rattle.host_run.specs.Tenants.{CallsAt, HasReport, TellsAt, WritesAt}
 
 -- a call has its line in a report, and one line only
 abbrev pub CallsTold : Type 0
@@ -32,3 +34,27 @@ same_told call_told one_call words words' numbers numbers' bytes bytes' requests
     let same : how' ≡ how = one_call (limits_in numbers') module_bytes export fuel args how' how told'
     (subst (λ (l : Limits). IsCallLine l module_bytes export fuel args how) limits told) in
     (how, is, subst (λ (l : CallLine). TellsAt requests' lines' at' l) same is')
+
+-- ---- the bytes of a line
+
+-- the texts of a list are those before a place, that of the item there, and the rest
+texts-at : {X A : Type 0} (text : X → List A) (xs : List X) (at : ℕ) (x : X) → slice_get xs at ≡ Some x
+    → flat_map text xs ≡ flat_map text (take at xs) ++ text x ++ flat_map text (drop (suc at) xs)
+texts-at text [] at x is = absurd (cc)
+texts-at text (y ∷ ys) zero x is = let same : y ≡ x = cc in ap (λ z. text z ++ flat_map text ys) same
+texts-at text (y ∷ ys) (suc at) x is =
+    let more = texts-at text ys at x is in
+    ap (λ l. text y ++ l) more ∙ grind (arith, append_assoc)
+
+pub written : (requests : List Directive) (lines : List ReportLine) (at : ℕ) (how : CallLine) → TellsAt requests lines at how → WritesAt requests lines at (call_text how)
+unfolding call_line
+written requests lines at how is = rw (add-one at) (texts-at line_text lines at _ is)
+
+pub same_written : CallsTold → CallsOnce → (words words' : List (List ℕ)) (numbers numbers' : Numbers) (bytes bytes' : List ℕ) (requests requests' : List Directive) (lines lines' : List ReportLine)
+    (at at' : ℕ) (module_bytes export : List ℕ) (fuel : ℕ) (args : List Val) → limits_in numbers ≡ limits_in numbers'
+    → HasReport words numbers bytes requests lines → HasReport words' numbers' bytes' requests' lines'
+    → CallsAt requests at module_bytes export fuel args → CallsAt requests' at' module_bytes export fuel args
+    → (told : List ℕ) × WritesAt requests lines at told × WritesAt requests' lines' at' told
+same_written call_told one_call words words' numbers numbers' bytes bytes' requests requests' lines lines' at at' module_bytes export fuel args limits r r' c c' =
+    let (how, is, is') = same_told call_told one_call words words' numbers numbers' bytes bytes' requests requests' lines lines' at at' module_bytes export fuel args limits r r' c c' in
+    (call_text how, written requests lines at how is, written requests' lines' at' how is')

@@ -17,6 +17,7 @@ use Rattle.command_line.specs.Words.{command_of}
 use Rattle.command_line.specs.declared.words.Command.{Command}
 use Rattle.command_line.specs.declared.words.Command.TheVariants.{Make, Run}
 use Rattle.host_run.specs.declared.due.Due.{Due}
+use Rattle.host_run.specs.Text.{bytes_of}
 
 -- the texts of the words of a command line
 abbrev pub texts_of : List (Bor (List ℕ)) → List (List ℕ)
@@ -60,21 +61,28 @@ abbrev pub IsCommandAnswer : Command → List ℕ → Answer → Type 0
 IsCommandAnswer (Run numbers summary) bytes answer = IsFileAnswer numbers summary bytes answer
 IsCommandAnswer (Make seed count) bytes answer = answer ≡ load_of seed count
 
+-- what is due for a command, if there is one, and all bytes of the source
+abbrev pub IsOwed : Option Command → List ℕ → Answer → Type 0
+IsOwed asked bytes answer = MatchOption asked (answer ≡ refused_words) (λ command. IsCommandAnswer command bytes answer)
+
 -- what is due for the words of the command line and all bytes of the source
 abbrev pub IsDue : List (List ℕ) → List ℕ → Answer → Type 0
-IsDue words bytes answer =
-    MatchOption (command_of words) (answer ≡ refused_words) (λ command. IsCommandAnswer command bytes answer)
+IsDue words bytes answer = IsOwed (command_of words) bytes answer
 
 abbrev pub is_run : Command → Bool
 is_run (Run numbers summary) = true
 is_run (Make seed count) = false
 
--- the words are those of a run: no others have the source read
+-- a run is asked for: nothing else has the source read
+abbrev pub reads_source : Option Command → Bool
+reads_source asked = option_map_or is_run asked false
+
+-- the words are those of a run
 abbrev pub reads : List (List ℕ) → Bool
-reads words = option_map_or is_run (command_of words) false
+reads words = reads_source (command_of words)
 
 abbrev pub shown : Due → Answer
-shown due = record { status = due.status; text = due.text.items }
+shown due = record { status = due.status; text = bytes_of due.text }
 
 -- Where a run ends with 0 or 2, that is the status of a due answer whose whole text was written; where it ends with 4,
 -- a first part of a due text was written.

@@ -1,14 +1,13 @@
 -- What reading an input and writing a text do to a source and a sink.
-use Rattle.std.specs.Prelude.{◌≤◌, ◌<◌, ◌+◌, ℕ, List, length, take}
+use Rattle.std.specs.Prelude.{◌≤◌, ◌<◌, ℕ, List, length, take}
 use Rattle.std.specs.declared.option.Option.{Option}
 use Rattle.std.specs.Io.KnownBytes.{Appends, Consumes, IsAtEnd}
-use Rattle.request_text.specs.declared.request.TheConstants.{MOST_BYTES}
 
--- these bytes were taken: all that were left, or one more than the most of a file
+-- these bytes were taken: all that were left, or one more than the 16 MiB of the longest file
 pub record ReadsInput (left_before left_after : Option (List ℕ)) (bytes : List ℕ) : Type 0 where
   pub taken : Consumes left_before left_after bytes
-  pub size : length bytes ≤ MOST_BYTES + 1
-  pub end : length bytes ≤ MOST_BYTES → IsAtEnd left_after
+  pub size : length bytes ≤ 16777217
+  pub end : length bytes ≤ 16777216 → IsAtEnd left_after
 
 -- the first bytes of the text were appended, and not all of them
 abbrev pub AppendsPart : Option (List ℕ) → Option (List ℕ) → List ℕ → Type 0

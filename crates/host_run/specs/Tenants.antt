@@ -1,16 +1,19 @@
 -- Request files that have a call in common, and differ in anything else.
-use Rattle.std.specs.Prelude.{◌≡◌, ℕ, ◌+◌, false, List, Ok, Some, slice_get, take}
+use Rattle.std.specs.Prelude.{◌≡◌, ℕ, ◌+◌, ◌++◌, false, List, Ok, Some, codes, drop, slice_get, take}
+use Rattle.std.specs.Fmt.{decimal}
 use Rattle.wasm_types.specs.declared.outcome.Val.{Val}
 use Rattle.request_text.specs.declared.request.Directive.{Directive}
 use Rattle.request_text.specs.declared.request.Directive.TheVariants.{Call}
 use Rattle.request_text.specs.declared.report.CallLine.{CallLine}
 use Rattle.request_text.specs.declared.report.ReportLine.{ReportLine}
 use Rattle.request_text.specs.declared.report.ReportLine.TheVariants as report
+use Rattle.request_text.specs.Lines.{report_text}
 use Rattle.request_text.specs.Text.{call_count, modules_of, requests_of}
 use Rattle.pool_limits.specs.declared.numbers.Numbers.{Numbers}
 use Rattle.command_line.specs.Words.{command_of}
 use Rattle.command_line.specs.declared.words.Command.TheVariants.{Run}
 use Rattle.host_report.specs.Report.{IsReport}
+use Rattle.host_run.specs.Serving.{lines_text}
 
 -- the words ask for a report under a configuration of these numbers, a request file of these bytes asks for this, and this
 -- is the report on it
@@ -28,3 +31,12 @@ pub record CallsAt (requests : List Directive) (at : ℕ) (bytes export : List �
 -- the line at this place tells how the call went, after the call's number: one more than the calls before it
 abbrev pub TellsAt : List Directive → List ReportLine → ℕ → CallLine → Type 0
 TellsAt requests lines at how = slice_get lines at ≡ Some (report.Call (1 + call_count (take at requests)) how)
+
+-- the line of the call at this place, before whose end the number is followed by a space and these bytes
+abbrev pub call_line_at : List Directive → ℕ → (told : List ℕ) → List ℕ
+call_line_at requests at told = decimal (1 + call_count (take at requests)) ++ codes " " ++ told ++ codes "\n"
+
+-- what is written on these lines is the text of those before this place, the line of the call, and the text of the rest
+abbrev pub WritesAt : List Directive → List ReportLine → ℕ → (told : List ℕ) → Type 0
+WritesAt requests lines at told =
+    lines_text false lines ≡ report_text (take at lines) ++ call_line_at requests at told ++ report_text (drop (at + 1) lines)

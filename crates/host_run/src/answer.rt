@@ -1,20 +1,27 @@
 //! What a request file is answered.
-ghost use Rattle.std.specs.Prelude.{◌≡◌, ◌⊎◌, IfOk, IsSomeAnd};
-ghost use Rattle.pool_limits.specs.Ranges.{AreInRange};
-ghost use Rattle.host_run.specs.Serving.{IsFileAnswer, lines_text, refused, shown};
+ghost use Rattle.std.specs.Prelude.{◌≡◌, ◌⊎◌, ◌<◌, IfOk, IsOk, IsSomeAnd, length, option_map};
+ghost use Rattle.std.specs.Result.{result_ok};
+ghost use Rattle.host_run.specs.Refusal.{told};
+ghost use Rattle.host_run.specs.Serving.{IsFileAnswer, IsReported, lines_text, refused, shown};
 ghost use Rattle.request_text.specs.Lines.{refusal_line};
-ghost use Rattle.request_text.specs.Text.{file_refusal_of};
+ghost use Rattle.request_text.specs.Text.{BadLine, file_refusal_of};
 
-use crate::due::{Due, refusal};
+use crate::due::{Due, Text, refusal};
 use crate::status::Status;
 use host_edge::Gate;
 use host_report::report;
-use pool_limits::Numbers;
-use request_text::{ParseFault, ReportLine, parse, report_text, write_summary, write_text_fault};
+use pool_limits::PoolConfig;
+use request_text::{
+    MOST_BYTES, ParseFault, Reason, ReportLine, Requests, parse, report_text, write_summary,
+    write_text_fault,
+};
 use std::alloc::Global;
 use std::sync::Wait;
 use std::thread::Threads;
 use wasm_types::NoMemory;
+
+// What is written where the file is too long.
+const FILE_TOO_LONG: &[u8] = b"file too long\n";
 
 // What a run writes on the lines of a report.
 fn lines_text(alloc: Global, lines: &[ReportLine], summary: bool) -> Result<Vec<u8>, NoMemory>
@@ -29,46 +36,81 @@ fn lines_text(alloc: Global, lines: &[ReportLine], summary: bool) -> Result<Vec<
     }
 }
 
-// What a request file of these bytes is answered, once its calls are made.
+// What a request file is answered that asks for this, once its calls are made.
+fn reported<R: Threads + Wait + Sync, G: Gate>(
+    rt: &R,
+    alloc: Global,
+    config: PoolConfig,
+    summary: bool,
+    requests: &Requests,
+    gate: &G,
+) -> Result<Due, NoMemory>
+    ensures { IfOk result (λ due. IsReported config summary requests.now (shown due)) }
+{
+    let lines = report(rt, alloc, config, requests, gate)?;
+    let text = lines_text(alloc, &lines, summary)?;
+    Ok(Due {
+        status: Status::Reported.code(),
+        text: Text::Made(text),
+    })
+}
+
+// What a request file of these bytes is answered, once its calls are made. One that is too long is answered without memory.
 pub(crate) fn answer<R: Threads + Wait + Sync, G: Gate>(
     rt: &R,
     alloc: Global,
-    numbers: Numbers,
+    config: PoolConfig,
     summary: bool,
     bytes: &[u8],
     gate: &G,
 ) -> Result<Due, NoMemory>
-    requires { AreInRange numbers }
-    ensures answer { IfOk result (λ due. IsFileAnswer numbers summary bytes.now (shown due)) }
+    ensures answer { IfOk result (λ due. IsFileAnswer config summary bytes.now (shown due)) }
     ensures status { IfOk result (λ due. (due.status ≡ 0) ⊎ (due.status ≡ 2)) }
+    ensures too_long { MOST_BYTES < length bytes.now → IsOk result }
 {
     match parse(alloc, bytes) {
-        Ok(requests) => {
-            let lines = report(rt, alloc, numbers, requests.as_slice(), gate)?;
-            let text = lines_text(alloc, &lines, summary)?;
-            Ok(Due {
-                status: Status::Reported.code(),
-                text,
-            })
-        }
+        Ok(requests) => reported(rt, alloc, config, summary, &requests, gate),
         Err(fault) => refused_file(alloc, fault),
+    }
+}
+
+// Why a request file is refused.
+#[derive(Clone, Copy)]
+enum Refusal {
+    TooLong,
+    Line { line: u32, reason: Reason },
+}
+
+// The refusal that the parser tells of, unless it tells of want of memory.
+fn refusal_of(fault: ParseFault) -> Result<Refusal, NoMemory>
+    ensures { option_map told (result_ok result) ≡ file_refusal_of fault }
+{
+    match fault {
+        ParseFault::TextFault { line, reason } => Ok(Refusal::Line { line, reason }),
+        ParseFault::TooLong => Ok(Refusal::TooLong),
+        ParseFault::NoMemory => Err(NoMemory),
     }
 }
 
 // What is due for a request file that is refused, unless the fault was want of memory.
 fn refused_file(alloc: Global, fault: ParseFault) -> Result<Due, NoMemory>
-    ensures { IfOk result (λ due. IsSomeAnd (file_refusal_of fault) (λ why. shown due ≡ refused (refusal_line why))) }
+    ensures due { IfOk result (λ due. IsSomeAnd (file_refusal_of fault) (λ why. shown due ≡ refused (refusal_line why))) }
+    ensures too_long { fault ≡ ParseFault.TooLong → IsOk result }
 {
-    match fault {
-        ParseFault::TextFault { line, reason } => {
-            let mut text = Vec::new(alloc);
-            write_text_fault(alloc, &mut text, line, reason)?;
-            Ok(Due {
-                status: Status::Refused.code(),
-                text,
-            })
-        }
-        ParseFault::TooLong => refusal(alloc, b"file too long\n"),
-        ParseFault::NoMemory => Err(NoMemory),
+    match refusal_of(fault)? {
+        Refusal::TooLong => Ok(refusal(FILE_TOO_LONG)),
+        Refusal::Line { line, reason } => line_due(alloc, line, reason),
     }
+}
+
+// What is due for a request file of which this line is refused.
+fn line_due(alloc: Global, line: u32, reason: Reason) -> Result<Due, NoMemory>
+    ensures { IfOk result (λ due. shown due ≡ refused (refusal_line (BadLine line reason))) }
+{
+    let mut text = Vec::new(alloc);
+    write_text_fault(alloc, &mut text, line, reason)?;
+    Ok(Due {
+        status: Status::Refused.code(),
+        text: Text::Made(text),
+    })
 }

@@ -1,12 +1,9 @@
 //! What a run owes: a status, and the text that is due before it.
-ghost use Rattle.std.specs.Prelude.{◌≡◌, ◌⊎◌, ◌+◌, ◌≤◌, ℕ, List, Some, None, IfOk, IfSome, IsErrOf, OnOk, false, length, true};
-ghost use Rattle.std.specs.Io.KnownBytes.{Consumes, IsAtEnd};
-ghost use Rattle.host_edge.specs.Streams.{Rose};
-ghost use Rattle.host_run.specs.Serving.{IsDue, IsFileAnswer, load_of, reads, refused, refused_words, shown, texts_of};
-ghost use Rattle.host_run.specs.Streams.{TakesAtMost};
-ghost use Rattle.pool_limits.specs.Ranges.{AreInRange};
-ghost use Rattle.command_line.specs.Words.{command_of, is_accepted};
-ghost use Rattle.command_line.specs.declared.words.Command.TheVariants.{Make};
+ghost use Rattle.std.specs.Prelude.{◌≡◌, IfOk, MatchResult, Some};
+ghost use Rattle.host_run.specs.Owed.{Owes};
+ghost use Rattle.host_run.specs.Serving.{load_of, refused, refused_words, shown, texts_of};
+ghost use Rattle.command_line.specs.Words.{command_of};
+ghost use Rattle.command_line.specs.declared.words.Command.TheVariants.{Run};
 
 use crate::answer::answer;
 use crate::status::Status;
@@ -14,8 +11,7 @@ use crate::streams::{InputFault, read_input};
 use command_line::{Command, WordsFault, read_command};
 use host_edge::{Gate, Source};
 use load_maker::make;
-use pool_limits::Numbers;
-use request_text::MOST_BYTES;
+use pool_limits::PoolConfig;
 use std::alloc::Global;
 use std::sync::Wait;
 use std::thread::Threads;
@@ -24,37 +20,56 @@ use wasm_types::NoMemory;
 // What is written where the words are refused.
 pub(crate) const REFUSED_WORDS: &[u8] = b"refused words\n";
 
+// A text that a run has made, or one that is always the same.
+#[derive(Drop)]
+pub(crate) enum Text {
+    Made(Vec<u8>),
+    Fixed(&'static [u8]),
+}
+
+impl Text {
+    ghost use Rattle.host_run.specs.Text.{bytes_of};
+
+    pub(crate) fn bytes(&self) -> &[u8]
+        ensures { result.now ≡ bytes_of self.now }
+    {
+        match self {
+            Text::Made(text) => text.as_slice(),
+            Text::Fixed(text) => text,
+        }
+    }
+}
+
 // A status, and the text that is due before it.
 #[derive(Drop)]
 pub(crate) struct Due {
     pub(crate) status: u8,
-    pub(crate) text: Vec<u8>,
+    pub(crate) text: Text,
 }
 
-// What is due for a run under a configuration of these numbers, once all bytes of the source are read.
+// What is due for a refusal: this line, with status 2.
+pub(crate) fn refusal(line: &'static [u8]) -> Due
+    ensures { shown result ≡ refused line.now }
+{
+    Due {
+        status: Status::Refused.code(),
+        text: Text::Fixed(line),
+    }
+}
+
+// What is due for a run under a configuration, once all bytes of the source are read.
 fn run_due<R: Threads + Wait + Sync, S: Source, G: Gate>(
     rt: &R,
     alloc: Global,
-    numbers: Numbers,
+    config: PoolConfig,
     summary: bool,
     source: &mut S,
     gate: &G,
 ) -> Result<Due, InputFault>
-    requires { AreInRange numbers }
-    ensures due { IfOk result (λ due. IfSome (S.left source.old) (λ bytes. IsFileAnswer numbers summary bytes (shown due))) }
-    ensures taken { IfOk result (λ due. (bytes : List ℕ)
-        × Consumes (S.left source.old) (S.left source.new) bytes × IsFileAnswer numbers summary bytes (shown due)) }
-    ensures status { IfOk result (λ due. (due.status ≡ 0) ⊎ (due.status ≡ 2)) }
-    ensures end { IfOk result (λ due. due.status ≡ 0 → IsAtEnd (S.left source.new)) }
-    ensures all_read { IfOk result (λ _. IfSome (S.left source.old) (λ bytes. length bytes ≤ MOST_BYTES
-        → IsAtEnd (S.left source.new))) }
-    ensures failed { IsErrOf result InputFault.Failed → Rose (S.faults source.old) (S.faults source.new) }
-    ensures at_most { TakesAtMost (S.left source.old) (S.left source.new) (MOST_BYTES + 1) }
-    ensures later { S.faults source.old ≤ S.faults source.new }
-    ensures quiet { OnOk result (S.faults source.new ≡ S.faults source.old) }
+    ensures { Owes S.left S.faults (Some (Run config summary)) source.old source.new result }
 {
     let bytes = read_input(alloc, source)?;
-    Ok(answer(rt, alloc, numbers, summary, &bytes, gate)?)
+    Ok(answer(rt, alloc, config, summary, &bytes, gate)?)
 }
 
 // What is due for a load: its text, with status 0.
@@ -64,8 +79,20 @@ fn load_due(alloc: Global, seed: u64, count: u32) -> Result<Due, NoMemory>
     let text = make(alloc, seed, count)?;
     Ok(Due {
         status: Status::Reported.code(),
-        text,
+        text: Text::Made(text),
     })
+}
+
+// What is due where the words give no command, unless that is for want of memory.
+fn words_due(fault: WordsFault) -> Result<Due, InputFault>
+    ensures { MatchResult result
+        (λ due. (fault ≡ WordsFault.Refused) × (shown due ≡ refused_words))
+        (λ error. (fault ≡ WordsFault.NoMemory) × (error ≡ InputFault.NoMemory)) }
+{
+    match fault {
+        WordsFault::Refused => Ok(refusal(REFUSED_WORDS)),
+        WordsFault::NoMemory => Err(InputFault::NoMemory),
+    }
 }
 
 // What is due for the words and all bytes of the source. Only the words of a run have the source read.
@@ -76,41 +103,26 @@ pub(crate) fn due_text<R: Threads + Wait + Sync, S: Source, G: Gate>(
     source: &mut S,
     gate: &G,
 ) -> Result<Due, InputFault>
-    ensures due { IfOk result (λ due. IfSome (S.left source.old) (λ bytes. IsDue (texts_of words.now) bytes (shown due))) }
-    ensures taken { IfOk result (λ due. (bytes : List ℕ)
-        × Consumes (S.left source.old) (S.left source.new) bytes × IsDue (texts_of words.now) bytes (shown due)) }
-    ensures refused { IfOk result (λ due. command_of (texts_of words.now) ≡ None → shown due ≡ refused_words) }
-    ensures load { IfOk result (λ due. (seed count : ℕ) → command_of (texts_of words.now) ≡ Some (Make seed count)
-        → shown due ≡ load_of seed count) }
-    ensures unread { reads (texts_of words.now) ≡ false → source.new ≡ source.old }
-    ensures status { IfOk result (λ due. (due.status ≡ 0) ⊎ (due.status ≡ 2)) }
-    ensures accepted { IfOk result (λ due. due.status ≡ 0 → is_accepted (texts_of words.now) ≡ true) }
-    ensures end { IfOk result (λ due. due.status ≡ 0 → reads (texts_of words.now) ≡ true → IsAtEnd (S.left source.new)) }
-    ensures all_read { IfOk result (λ _. reads (texts_of words.now) ≡ true
-        → IfSome (S.left source.old) (λ bytes. length bytes ≤ MOST_BYTES → IsAtEnd (S.left source.new))) }
-    ensures failed { IsErrOf result InputFault.Failed → Rose (S.faults source.old) (S.faults source.new)
-        × (reads (texts_of words.now) ≡ true) }
-    ensures at_most { TakesAtMost (S.left source.old) (S.left source.new) (MOST_BYTES + 1) }
-    ensures later { S.faults source.old ≤ S.faults source.new }
-    ensures quiet { OnOk result (S.faults source.new ≡ S.faults source.old) }
+    ensures { Owes S.left S.faults (command_of (texts_of words.now)) source.old source.new result }
 {
     match read_command(alloc, words) {
-        Ok(Command::Run { numbers, summary }) => {
-            Ok(run_due(rt, alloc, numbers, summary, source, gate)?)
-        }
-        Ok(Command::Make { seed, count }) => Ok(load_due(alloc, seed, count)?),
-        Err(WordsFault::Refused) => Ok(refusal(alloc, REFUSED_WORDS)?),
-        Err(WordsFault::NoMemory) => Err(InputFault::NoMemory),
+        Ok(command) => command_due(rt, alloc, command, source, gate),
+        Err(fault) => words_due(fault),
     }
 }
 
-// What is due for a refusal: this line, with status 2.
-pub(crate) fn refusal(alloc: Global, line: &[u8]) -> Result<Due, NoMemory>
-    ensures { IfOk result (λ due. shown due ≡ refused line.now) }
+// What is due for a command.
+fn command_due<R: Threads + Wait + Sync, S: Source, G: Gate>(
+    rt: &R,
+    alloc: Global,
+    command: Command,
+    source: &mut S,
+    gate: &G,
+) -> Result<Due, InputFault>
+    ensures { Owes S.left S.faults (Some command) source.old source.new result }
 {
-    let text = line.to_vec(alloc).map_err(|_| NoMemory)?;
-    Ok(Due {
-        status: Status::Refused.code(),
-        text,
-    })
+    match command {
+        Command::Run { config, summary } => run_due(rt, alloc, config, summary, source, gate),
+        Command::Make { seed, count } => Ok(load_due(alloc, seed, count)?),
+    }
 }

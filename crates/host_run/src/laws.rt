@@ -6,7 +6,7 @@ ghost use Rattle.request_text.specs.declared.report.ReportLine.{ReportLine};
 ghost use Rattle.request_text.specs.declared.request.Directive.{Directive};
 ghost use Rattle.pool_limits.specs.declared.numbers.Numbers.{Numbers};
 ghost use Rattle.host_report.specs.Report.{limits_in};
-ghost use Rattle.host_run.specs.Tenants.{CallsAt, HasReport, TellsAt};
+ghost use Rattle.host_run.specs.Tenants.{CallsAt, HasReport, TellsAt, WritesAt};
 ghost use Rattle.host_run.specs.Serving.{Answer, IsDue};
 
 use host_report::laws::{a_call_has_one_line, at_most_one_report, each_call_has_its_line};
@@ -21,6 +21,20 @@ pub fn same_line()
         → HasReport words numbers bytes requests lines → HasReport words' numbers' bytes' requests' lines'
         → CallsAt requests at module_bytes export fuel args → CallsAt requests' at' module_bytes export fuel args
         → (how : CallLine) × TellsAt requests lines at how × TellsAt requests' lines' at' how }
+{
+    each_call_has_its_line();
+    a_call_has_one_line();
+}
+
+/// The same of the bytes that are written: the line of the call is its number, a space, the same bytes for both files, and
+/// LF. It stands behind the text of the lines before it.
+pub fn same_bytes()
+    ensures { (words words' : List (List ℕ)) (numbers numbers' : Numbers) (bytes bytes' : List ℕ) (requests requests' : List Directive)
+        (lines lines' : List ReportLine) (at at' : ℕ) (module_bytes export : List ℕ) (fuel : ℕ) (args : List Val)
+        → limits_in numbers ≡ limits_in numbers'
+        → HasReport words numbers bytes requests lines → HasReport words' numbers' bytes' requests' lines'
+        → CallsAt requests at module_bytes export fuel args → CallsAt requests' at' module_bytes export fuel args
+        → (told : List ℕ) × WritesAt requests lines at told × WritesAt requests' lines' at' told }
 {
     each_call_has_its_line();
     a_call_has_one_line();

@@ -60,7 +60,8 @@ pub fn serve<S: Source, K: Sink, G: Gate>(
     ensures source_failed { result ≡ 3
         → Rose (S.faults source.old) (S.faults source.new) × (sink.new ≡ sink.old) }
     ensures sink_failed { result ≡ 4 → Rose (K.faults sink.old) (K.faults sink.new) }
-    ensures no_memory { result ≡ 5 → sink.new ≡ sink.old }
+    ensures no_memory { result ≡ 5 → (sink.new ≡ sink.old) × (S.faults source.new ≡ S.faults source.old) }
+    ensures short { (result ≡ 3) ⊎ (result ≡ 5) → TakesAtMost (S.left source.old) (S.left source.new) MOST_BYTES }
     ensures quiet { (result ≡ 0) ⊎ (result ≡ 2)
         → (S.faults source.new ≡ S.faults source.old) × (K.faults sink.new ≡ K.faults sink.old) }
     ensures later { (S.faults source.old ≤ S.faults source.new) × (K.faults sink.old ≤ K.faults sink.new) }
@@ -83,7 +84,7 @@ pub fn serve<S: Source, K: Sink, G: Gate>(
         → (Rose (K.faults sink.old) (K.faults sink.new) → ⊥) → (result ≡ 0) ⊎ (result ≡ 5) }
 {
     match due_text(rt, alloc, words, source, gate) {
-        Ok(due) => match write_text(sink, &due.text) {
+        Ok(due) => match write_text(sink, due.text.bytes()) {
             Ok(()) => due.status,
             Err(Failed) => Status::SinkFailed.code(),
         },

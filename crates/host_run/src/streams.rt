@@ -1,5 +1,5 @@
 //! Reading a whole input, and writing a whole text.
-ghost use Rattle.std.specs.Prelude.{◌≡◌, ◌+◌, ◌≤◌, IfOk, IsErrOf, OnErr, OnOk};
+ghost use Rattle.std.specs.Prelude.{◌≡◌, ◌+◌, ◌<◌, ◌≤◌, IfOk, IsErrOf, OnErr, OnOk, length};
 ghost use Rattle.std.specs.Io.KnownBytes.{Appends};
 ghost use Rattle.host_edge.specs.Streams.{HasCause, Rose};
 ghost use Rattle.host_run.specs.Streams.{AppendsPart, ReadsInput, TakesAtMost};
@@ -51,23 +51,48 @@ impl From<Failed> for InputFault {
     }
 }
 
+// How many bytes one read has room for.
+const PIECE: usize = 65_536;
+
 // All bytes that the source has left, or one more than a file may have.
 pub(crate) fn read_input<S: Source>(alloc: Global, source: &mut S) -> Result<Vec<u8>, InputFault>
     ensures bytes { IfOk result (λ v. ReadsInput (S.left source.old) (S.left source.new) v.items) }
     ensures at_most { TakesAtMost (S.left source.old) (S.left source.new) (MOST_BYTES + 1) }
+    ensures short { OnErr result (TakesAtMost (S.left source.old) (S.left source.new) MOST_BYTES) }
     ensures later { S.faults source.old ≤ S.faults source.new }
     ensures quiet { OnOk result (S.faults source.new ≡ S.faults source.old) }
     ensures failed { IsErrOf result InputFault.Failed → Rose (S.faults source.old) (S.faults source.new) }
+    ensures spared { IsErrOf result InputFault.NoMemory → S.faults source.new ≡ S.faults source.old }
+{
+    let mut buffer = vec![in alloc; 0; PIECE]?;
+    read_pieces(alloc, source, &mut buffer)
+}
+
+// The same, in pieces no longer than a buffer. Room for a piece is found before it is read.
+fn read_pieces<S: Source>(
+    alloc: Global,
+    source: &mut S,
+    buffer: &mut [u8],
+) -> Result<Vec<u8>, InputFault>
+    requires { 0 < length buffer.old }
+    ensures bytes { IfOk result (λ v. ReadsInput (S.left source.old) (S.left source.new) v.items) }
+    ensures at_most { TakesAtMost (S.left source.old) (S.left source.new) (MOST_BYTES + 1) }
+    ensures short { OnErr result (TakesAtMost (S.left source.old) (S.left source.new) MOST_BYTES) }
+    ensures later { S.faults source.old ≤ S.faults source.new }
+    ensures quiet { OnOk result (S.faults source.new ≡ S.faults source.old) }
+    ensures failed { IsErrOf result InputFault.Failed → Rose (S.faults source.old) (S.faults source.new) }
+    ensures spared { IsErrOf result InputFault.NoMemory → S.faults source.new ≡ S.faults source.old }
 {
     let mut bytes = Vec::new(alloc);
-    let mut buffer = [0; 4096];
-    while bytes.len() <= MOST_BYTES {
+    'pieces: while bytes.len() <= MOST_BYTES {
         let room = (MOST_BYTES + 1 - bytes.len()).min(buffer.len());
+        bytes.reserve(room)?;
         let count = source.read(&mut buffer[..room])?;
         if count == 0 {
             return Ok(bytes);
         }
-        bytes.extend_from_slice(&buffer[..count])?;
+        let appended = bytes.extend_from_slice(&buffer[..count]);
+        prove!(appended.is_ok());
     }
     Ok(bytes)
 }

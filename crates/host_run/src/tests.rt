@@ -556,6 +556,19 @@ fn each_call_runs_on_a_fresh_instance(rt: HostRuntime) -> Result<(), Fail> {
     check_runs(&rt, rt.alloc(), &ONE_SLOT, &[])
 }
 
+// A stream gives 4,096 bytes at a time, and would fail behind the byte past 16 MiB, which is the last that is read.
+#[test]
+fn a_file_of_more_than_16_mib_is_refused_with_ample_memory(rt: HostRuntime) -> Result<(), Fail> {
+    let alloc = rt.alloc();
+    let bytes = vec![in alloc; b'#'; 16_777_217]?;
+    let mut source = MemSource::new(bytes, 4096, vec![in alloc; 4_098]?);
+    let mut sink = MemSink::new(alloc, 4096, Vec::new(alloc));
+    let status = serve(&rt, alloc, RUN, &mut source, &mut sink, &OpenGate);
+    assert_eq!(rt; status, 2);
+    assert_eq!(rt; sink.bytes(), b"file too long\n".as_slice());
+    Ok(())
+}
+
 const FOUR_WORKERS: &[&str] = &["--workers", "4"];
 
 #[test]

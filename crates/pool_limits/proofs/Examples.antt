@@ -1,5 +1,5 @@
 -- Worked numbers: the first that is out of its range, and who has which slots.
-use Rattle.std.proofs.Common.{◌≡◌, ℕ, refl}
+use Rattle.std.proofs.Common.{◌≡◌, ℕ, arith, refl}
 use Rattle.std.specs.Prelude.{Option, Some, None}
 use Rattle.pool_limits.specs.declared.numbers.Numbers.{Numbers}
 use Rattle.pool_limits.specs.declared.numbers.BadNumber.{BadNumber}
@@ -7,7 +7,7 @@ use Rattle.pool_limits.specs.declared.numbers.Setting.{Setting}
 use Rattle.pool_limits.specs.declared.numbers.Setting.TheVariants.{Workers, Instances, Memories, Tables, Warm, Batch, Pages, Elements, Depth, Frame}
 use Rattle.pool_limits.specs.declared.share.Share.{Share}
 use Rattle.pool_limits.specs.Ranges.{bad_number}
-use Rattle.pool_limits.specs.Shares.{lane_share, shared_share}
+use Rattle.pool_limits.specs.Shares.{AreAllSlots, lane_share, shared_share}
 
 abbrev usual : Numbers
 usual = record { workers = 1; instances = 4; memories = 4; tables = 4; warm = 2; batch = 4; pages = 32; elements = 1024; depth = 128; frame = 1024 }
@@ -90,3 +90,13 @@ lane_has_all = refl
 
 nothing_is_shared : shared_share (record several { workers = 1 }) ≡ share_of 0 0 0
 nothing_is_shared = refl
+
+-- two shares that leave one slot out are not all
+one_instance_left : AreAllSlots several (share_of 1 1 1) (share_of 3 5 6) → ⊥
+one_instance_left h = let left = h.instances in omega arith
+
+one_memory_left : AreAllSlots several (share_of 1 1 1) (share_of 4 4 6) → ⊥
+one_memory_left h = let left = h.memories in omega arith
+
+one_table_left : AreAllSlots several (share_of 1 1 1) (share_of 4 5 5) → ⊥
+one_table_left h = let left = h.tables in omega arith

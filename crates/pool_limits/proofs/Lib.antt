@@ -1,3 +1,4 @@
 pub mod RangeLemmas
 pub mod LimitLemmas
+pub mod ShareLemmas
 mod Examples

@@ -1,9 +1,8 @@
 -- What the ranges of a configuration's numbers come to.
-use Rattle.std.proofs.Common.{◌≡◌, ℕ, ◌<◌, ◌≤◌, Bool, true, false, cond, List, [], ◌∷◌, refl, sym, ap, ◌∙◌, arith}
+use Rattle.std.proofs.Common.{◌≡◌, ℕ, ◌≤◌, Bool, true, false, cond, List, [], ◌∷◌, refl, ap, ◌∙◌, arith}
 use Rattle.std.specs.Prelude.{Option, Some, None, find, nat_lt, option_map}
-use Rattle.std.proofs.lemmas.Bool.{cond_both, cond-true, cond-false, le-ltb, ltb-false, or_from, or_parts}
+use Rattle.std.proofs.lemmas.Bool.{cond_both, cond-false, le-ltb, ltb-false, or_from, or_parts}
 use Rattle.pool_limits.specs.declared.numbers.Numbers.{Numbers}
-use Rattle.pool_limits.specs.declared.numbers.BadNumber.{BadNumber}
 use Rattle.pool_limits.specs.declared.numbers.Ranged.{Ranged}
 use Rattle.pool_limits.specs.declared.numbers.Setting.{Setting}
 use Rattle.pool_limits.specs.declared.numbers.Setting.TheVariants.{Workers, Instances, Memories, Tables, Warm, Batch, Pages, Elements, Depth, Frame}

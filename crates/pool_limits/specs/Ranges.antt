@@ -1,5 +1,5 @@
 -- Which numbers a configuration may have.
-use Rattle.std.specs.Prelude.{◌≡◌, ◌≤◌, ◌||◌, ℕ, List, [], ◌∷◌, Bool, Option, find, nat_lt, if◌then◌else◌, option_map}
+use Rattle.std.specs.Prelude.{◌≤◌, ◌||◌, ℕ, List, [], ◌∷◌, Bool, Option, find, nat_lt, if◌then◌else◌, option_map}
 use Rattle.pool_limits.specs.declared.numbers.Numbers.{Numbers}
 use Rattle.pool_limits.specs.declared.numbers.BadNumber.{BadNumber}
 use Rattle.pool_limits.specs.declared.numbers.Ranged.{Ranged}

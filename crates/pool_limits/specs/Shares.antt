@@ -1,5 +1,5 @@
 -- Which slots the lane has, and which are shared.
-use Rattle.std.specs.Prelude.{◌-◌, ◌==◌, if◌then◌else◌}
+use Rattle.std.specs.Prelude.{◌≡◌, ◌+◌, ◌-◌, ◌==◌, if◌then◌else◌}
 use Rattle.pool_limits.specs.declared.numbers.Numbers.{Numbers}
 use Rattle.pool_limits.specs.declared.share.Share.{Share}
 
@@ -16,3 +16,9 @@ shared_share n = record {
   memories = n.memories - (lane_share n).memories;
   tables = n.tables - (lane_share n).tables;
 }
+
+-- two shares are all slots, of each kind
+pub record AreAllSlots (n : Numbers) (one other : Share) : Type 0 where
+  pub instances : one.instances + other.instances ≡ n.instances
+  pub memories : one.memories + other.memories ≡ n.memories
+  pub tables : one.tables + other.tables ≡ n.tables

@@ -15,7 +15,7 @@ use wasm_types::Limits;
 use wasm_validate::Valid;
 
 /// A configuration of the pools. Contracts see its numbers.
-#[derive(Drop)]
+#[derive(Clone, Copy, Debug, PartialEq, Eq)]
 pub struct PoolConfig {
     numbers: Numbers,
 }
@@ -29,6 +29,8 @@ impl Model for PoolConfig {
     ghost view = { λ c. c.numbers };
 
     ghost invariant = { λ c. AreInRange c.numbers };
+
+    ghost inverse = { λ numbers. record { numbers = numbers } };
 }
 
 impl PoolConfig {

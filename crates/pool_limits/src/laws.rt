@@ -2,8 +2,14 @@
 ghost use Rattle.std.specs.Prelude.{◌≡◌, ◌↔◌, None};
 ghost use Rattle.pool_limits.specs.declared.numbers.Numbers.{Numbers};
 ghost use Rattle.pool_limits.specs.Ranges.{AreInRange, bad_number};
+ghost use Rattle.pool_limits.specs.Shares.{AreAllSlots, lane_share, shared_share};
 
 /// A number is out of its range exactly where not all are in range.
 pub fn numbers_are_in_range_or_one_is_bad()
     ensures { (n : Numbers) → (bad_number n ≡ None) ↔ AreInRange n }
+{}
+
+/// The lane and the workers have all slots of each kind between them.
+pub fn lane_and_workers_have_all_slots()
+    ensures { (n : Numbers) → AreInRange n → AreAllSlots n (lane_share n) (shared_share n) }
 {}

@@ -1,8 +1,7 @@
-use Rattle.host_run.proofs.DueLemmas.{at_end_of_report, due_of_all}
+use Rattle.host_run.proofs.OwedLemmas.{owes_file}
 use Rattle.host_run.proofs.due.run_due.Goals as goal
 
-pub returns-clause-due : goal.returns-clause-due
-returns-clause-due g c = due_of_all c.args.numbers c.args.summary _ _ _ _ _ c.in_ok-bytes.ensures.bytes c.deref.ensures.value c.in_ok-answer.ensures.answer
-
-pub returns-clause-end : goal.returns-clause-end
-returns-clause-end g c = at_end_of_report c.args.numbers c.args.summary _ _ _ _ _ c.in_ok-bytes.ensures.bytes c.deref.ensures.value c.in_ok-answer.ensures.answer
+pub returns : goal.returns
+returns g c =
+    owes_file g.S.Source.left g.S.Source.faults c.args.config c.args.summary c.args.source.now c.read_input.new.source _ _ c.in_ok-answer.field-0
+    c.in_ok-bytes.ensures.bytes c.in_ok-bytes.ensures.quiet c.deref.ensures.value c.in_ok-answer.ensures.answer

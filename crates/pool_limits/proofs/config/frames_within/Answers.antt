@@ -1,5 +1,5 @@
 use Rattle.std.proofs.Common.{arith, sym, ◌∙◌}
-use Rattle.pool_limits.proofs.LimitLemmas.{over_from-within, over_from-here, over_from-end}
+use Rattle.pool_limits.proofs.LimitLemmas.{over_from-within, over_from-end}
 use Rattle.pool_limits.proofs.config.frames_within.Goals as goal
 
 pub loop-function-preserved : goal.loop-function-preserved

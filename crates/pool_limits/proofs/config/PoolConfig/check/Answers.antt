@@ -1,9 +1,6 @@
-use Rattle.std.proofs.Common.{◌≡◌, ◌≤◌, length, map, rules, sym, ap, ◌∙◌}
+use Rattle.std.proofs.Common.{◌≡◌, ◌≤◌, length, rules, ◌∙◌}
 use Rattle.std.proofs.lemmas.Result.{on_ok_weaker, MatchResult-weaker}
-use Rattle.wasm_types.specs.Tree.{module_tree}
-use Rattle.wasm_spec.specs.Need.{need}
 use Rattle.wasm_spec.specs.Store.{minimum_of}
-use Rattle.pool_limits.specs.Limits.{demand_of}
 use Rattle.pool_limits.proofs.LimitLemmas.{first_over-frames}
 use Rattle.pool_limits.proofs.config.PoolConfig.check.Goals as goal
 
