@@ -1,8 +1,8 @@
 //! How a host is closed.
 ghost use Rattle.std.specs.Prelude.{◌≡◌, ◌+◌, ◌≤◌, ◌++◌, length};
 ghost use Rattle.std.specs.List.{All};
-ghost use Rattle.slot_words.specs.Passes.{operations, share_of};
-ghost use Rattle.pool_host.specs.Closing.{ArePoolCounts, HaveJoined, HaveShares, memory_operations, table_operations, ticket_operations};
+ghost use Rattle.slot_words.specs.Passes.{share_of, trails};
+ghost use Rattle.pool_host.specs.Closing.{ArePoolCounts, HaveJoined, HaveShares, memory_trails, table_trails, ticket_trails};
 ghost use Rattle.pool_host.specs.Hosts.{AreIdle, ArePassesOf, IsHostPass};
 
 use crate::host::Host;
@@ -35,10 +35,13 @@ impl<N: Naming> Host<N> {
             memories,
             tables,
         } = self;
+        let instance = tickets.close(ticket);
+        let memory = memories.close(memory);
+        let table = tables.close(table);
         PoolCounts {
-            instance: tickets.close(ticket),
-            memory: memories.close(memory),
-            table: tables.close(table),
+            instance,
+            memory,
+            table,
         }
     }
 }
@@ -50,9 +53,9 @@ fn join_all<N: Naming>(host: &Host<N>, mut passes: Vec<HostPass<N>>) -> Passes<N
     ensures own { ArePassesOf host.now result }
     ensures idle { AreIdle result }
     ensures shares { HaveShares (length passes.items) result }
-    ensures ticket { operations result.ticket ≡ ticket_operations passes.items }
-    ensures memory { operations result.memory ≡ memory_operations passes.items }
-    ensures table { operations result.table ≡ table_operations passes.items }
+    ensures ticket { trails result.ticket ≡ ticket_trails passes.items }
+    ensures memory { trails result.memory ≡ memory_trails passes.items }
+    ensures table { trails result.table ≡ table_trails passes.items }
 {
     let HostPass { passes: mut joined } = passes.pop().unwrap();
     while let Some(other) = passes.pop() {

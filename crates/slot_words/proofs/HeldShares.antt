@@ -1,5 +1,5 @@
 -- Beside a held word of another pass, no pass stands for all.
-use Rattle.std.proofs.Common.{◌≡◌, ◌≢◌, ℕ, ◌+◌, ◌<◌, ◌≤◌, Bool, true, false, List, length, get_or, refl, sym, ap, ◌∙◌, arith, lt_of_not-le}
+use Rattle.std.proofs.Common.{◌≡◌, ◌≢◌, ℕ, ◌<◌, ◌≤◌, Bool, true, false, List, length, get_or, refl, sym, ap, ◌∙◌, arith, lt_of_not-le}
 use mathlib.Core.Option.{some}
 use mathlib.Core.Logic.{dite}
 use lib.ListN.{get_elem?}
@@ -10,13 +10,13 @@ use Rattle.atomic_table.specs.Table.{State as TableState}
 use Rattle.atomic_table.proofs.Lists.{at_index}
 use Rattle.pool_core.specs.declared.words.State.{State}
 use Rattle.pool_core.specs.declared.seats.Seat.{Seat}
-use Rattle.pool_core.specs.PoolCore.{PoolCore, word_at, seat_at, is_away}
+use Rattle.pool_core.specs.PoolCore.{PoolCore, word_at, is_away}
 use Rattle.pool_core.specs.Lawful.{Lawful}
 use Rattle.slot_words.specs.declared.views.PassView.{PassView}
 use Rattle.slot_words.specs.declared.views.Bounds.{Bounds}
 use Rattle.slot_words.specs.CoreLaws.{CoreLaws}
 use Rattle.slot_words.specs.Views.{no_view}
-use Rattle.slot_words.specs.Shows.{IsCounted, Shows, shown_seat, view_share, view_unsplit}
+use Rattle.slot_words.specs.Shows.{Shows, shown_seat, view_share, view_unsplit}
 use Rattle.slot_words.proofs.Lookups.{found}
 use Rattle.slot_words.proofs.SharedPasses.{shared_beside}
 
@@ -30,7 +30,7 @@ module _ {V : Type 0} (fits : State → ℕ → V → Type 0) (room : V → List
   counted_at c s o j here = let y : PassView = get_or s.views j no_view in
       dite (dec_le (length s.views) j)
       (λ past. let gone : true ≡ false = sym (ap (λ (k : PassView). is_away k.seat.stage) (get_or_past s.views j no_view past)) ∙ here in cc)
-      (λ within. (o.each j y (at_index s.views j y (lt_of_not-le within) (get_or_default s.views j no_view y (lt_of_not-le within)))).share_is here)
+      (λ within. let all = (o.each j y (at_index s.views j y (lt_of_not-le within) (get_or_default s.views j no_view y (lt_of_not-le within)))).share_is here in omega arith)
 
 module _ (laws : CoreLaws) {V : Type 0} (fits : State → ℕ → V → Type 0) (room : V → List ℕ) (bounds : Bounds) where
   -- a held word has a holder, and it is another than a pass that holds nothing

@@ -4,10 +4,12 @@ mod Closings
 mod CoreLaws
 mod CountEvents
 mod HeldShares
+mod HistoryAccounts
 mod HistorySteps
 mod Holdings
 mod KindSums
 mod Lookups
+mod NotedSums
 mod OneCount
 mod Openings
 pub mod Parts

@@ -9,7 +9,7 @@ use Rattle.std.proofs.lemmas.List.{get_or_past, length-replicate}
 use Rattle.std.proofs.lemmas.List.Folds.{sum_by-replicate}
 use Rattle.std.proofs.lemmas.List.Sums.{sum_by-cons}
 use Rattle.pool_core.specs.declared.words.StateWord.{StateWord}
-use Rattle.pool_core.specs.StateWords.{bit, cold_word, packed, is_well_formed, IsWordOf}
+use Rattle.pool_core.specs.StateWords.{bit, cold_word, packed, is_well_formed}
 use Rattle.pool_core.specs.Lawful.{is_free_warm, is_free_awaiting}
 use Rattle.slot_words.specs.declared.kinds.KindCounts.{KindCounts}
 use Rattle.slot_words.specs.declared.views.Operation.{Operation}

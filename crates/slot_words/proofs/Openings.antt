@@ -15,9 +15,9 @@ use Rattle.pool_core.specs.PoolCore.{PoolCore, opening_core, idle_seat}
 use Rattle.slot_words.specs.CoreLaws.{CoreLaws}
 use Rattle.slot_words.specs.declared.views.Bounds.{Bounds}
 use Rattle.slot_words.specs.Views.{first_view, no_view}
+use Rattle.slot_words.specs.History.{IsHistory}
 use Rattle.slot_words.specs.Shows.{IsCounted, IsKept, Suits, view_share, view_unsplit}
 use Rattle.slot_words.proofs.HistorySteps.{history_at_opening}
-use Rattle.slot_words.proofs.AccountSteps.{accounts_at_opening}
 use Rattle.slot_words.proofs.SharedPasses.{shared_at_start}
 
 zero_at : (m k : ℕ) → k < m → ◌≡◌ {A = ℕ} (get_or (replicate m 0) k 0) 0
@@ -56,13 +56,12 @@ module _ {V : Type 0} where
             away = λ m h held. absurd (true≢false (sym held ∙ ap (λ (w : StateWord). w.held) (cold m)));
             shared = shared_at_start no_view view_share view_unsplit passes (first_view bounds) refl (omega arith);
             each = elim [
-              | zero ↦ λ v e. subst (IsCounted bounds) (some-injective _ v e) record { inside = refl; bounds_is = λ _. refl; share_is = λ _. some_pass }
+              | zero ↦ λ v e. subst (IsCounted bounds) (some-injective _ v e) record { inside = refl; bounds_is = λ _. refl; share_is = λ _. omega arith }
               | suc j ↦ λ v e. absurd (some-ne-none v (sym e))
             ];
           };
         };
-        accounts = accounts_at_opening laws bounds n;
-        history = history_at_opening bounds n;
+        history = subst (λ (k : ℕ). IsHistory (opening_core k bounds.limit passes) c (first_view bounds ∷ [])) (sym lw) (history_at_opening bounds c);
       }
 
   -- the same of lists that are those

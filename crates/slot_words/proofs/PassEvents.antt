@@ -1,5 +1,5 @@
 -- Splits, joins, closes and exchanges are events.
-use Rattle.std.proofs.Common.{◌≡◌, ◌≢◌, ℕ, zero, suc, ◌+◌, ◌<◌, ◌≤◌, ⊎_elim, Bool, false, true, true≢false, cond, List, [], ◌∷◌, ◌++◌, map, length, get_or, set, refl, sym, ap, ◌∙◌, subst, arith, length-set, length-append, get_or-set_same, get_or-set_other}
+use Rattle.std.proofs.Common.{◌≡◌, ◌≢◌, ℕ, zero, suc, ◌+◌, ◌<◌, ◌≤◌, ⊎_elim, Bool, false, true, true≢false, List, [], ◌∷◌, ◌++◌, length, get_or, set, refl, sym, ap, ◌∙◌, subst, arith, length-set, length-append, get_or-set_same, get_or-set_other}
 use mathlib.Core.Logic.{dite}
 use mathlib.Core.Option.{some}
 use native.Mathlib.Decide.{ℕ_discrete}
@@ -12,17 +12,17 @@ use Rattle.std.proofs.lemmas.List.Sums.{get_or-le-sum_by}
 use Rattle.atomic_table.proofs.Lists.{at_set, at_snoc}
 use Rattle.pool_core.specs.declared.words.State.{State}
 use Rattle.pool_core.specs.declared.seats.Seat.{Seat}
-use Rattle.pool_core.specs.declared.seats.Stage.TheVariants.{Unmade, Live, Joined, Closed}
+use Rattle.pool_core.specs.declared.seats.Stage.TheVariants.{Unmade, Live, Joined}
 use Rattle.pool_core.specs.declared.events.Event.TheVariants.{Out, Home, Split, Join, Close}
 use Rattle.pool_core.specs.PoolCore.{PoolCore, seat_at, is_away, is_live, idle_seat}
 use Rattle.pool_core.specs.EventEffects.{core_after}
 use Rattle.pool_core.specs.RefusalRules.{refusal_of}
 use Rattle.slot_words.specs.declared.views.PassView.{PassView}
-use Rattle.slot_words.specs.Views.{no_view, view_left, view_given, view_joined, spent_view}
+use Rattle.slot_words.specs.Views.{no_view, trails_of, view_left, view_given, view_joined, spent_view}
 use Rattle.slot_words.specs.CoreLaws.{CoreLaws}
 use Rattle.slot_words.specs.Shows.{IsCounted, view_share, view_unsplit}
 use Rattle.slot_words.specs.Events.{SplitsAreEvents, JoinsAreEvents, ClosesAreEvents, ExchangesAreEvents}
-use Rattle.slot_words.proofs.Lookups.{found, live_not_away}
+use Rattle.slot_words.proofs.Lookups.{found}
 use Rattle.slot_words.proofs.SharedPasses.{shared_after_join, shared_after_split}
 use Rattle.slot_words.proofs.ShownChanges.{seat_here, seat_within}
 
@@ -81,12 +81,12 @@ module _ (laws : CoreLaws) {V : Type 0} (fits : State → ℕ → V → Type 0) 
               (λ other. ap (λ (k : PassView). k.seat) (get_or-set_other vs id j l no_view other))));
           at_home = o.at_home;
           away = o.away;
-          shared = shared_after_split no_view view_share view_unsplit bounds.passes vs id v l g at (omega arith) (omega arith) o.shared;
+          shared = shared_after_split no_view view_share view_unsplit bounds.passes vs id v l g at (omega arith) (omega arith) refl refl o.shared;
           each = λ j u e. ⊎_elim
               (λ (h : get_elem? ls j ≡ some u). ⊎_elim
-              (λ (y : (j ≡ id) × (l ≡ u)). subst (IsCounted bounds) y.1 record { inside = ap (λ (p : Seat). p.out) rest; bounds_is = (o.each id v at).bounds_is; share_is = λ _. omega arith })
+              (λ (y : (j ≡ id) × (l ≡ u)). subst (IsCounted bounds) y.1 record { inside = ap (λ (p : Seat). p.out) rest; bounds_is = (o.each id v at).bounds_is; share_is = λ lives. let own = (o.each id v at).share_is lives in omega arith })
               (λ (y : (j ≢ id) × (get_elem? vs j ≡ some u)). o.each j u y.1) (at_set vs id j l u h))
-              (λ (h : g ≡ u). subst (IsCounted bounds) h record { inside = refl; bounds_is = λ _. (o.each id v at).bounds_is (ap (λ (p : Seat). is_away p.stage) rest); share_is = λ _. omega arith })
+              (λ (h : g ≡ u). subst (IsCounted bounds) h record { inside = refl; bounds_is = λ _. (o.each id v at).bounds_is (ap (λ (p : Seat). is_away p.stage) rest); share_is = λ _. refl })
               (at_snoc ls g u j e);
         },
       )
@@ -124,11 +124,12 @@ module _ (laws : CoreLaws) {V : Type 0} (fits : State → ℕ → V → Type 0) 
               (λ ne'. ap (λ (k : PassView). k.seat) (get_or-set_other vs id j b no_view ne'))));
           at_home = o.at_home;
           away = o.away;
-          shared = shared_after_join no_view view_share view_unsplit bounds.passes vs id other v w b spent_view at at' (omega arith) (omega arith) o.shared;
+          shared = shared_after_join no_view view_share view_unsplit bounds.passes vs id other v w b spent_view at at' was' apart (omega arith) refl refl refl o.shared;
           each = λ j u e. ⊎_elim
               (λ (h : (j ≡ other) × (spent_view ≡ u)). subst (IsCounted bounds) h.1 record { inside = refl; bounds_is = λ l. absurd (true≢false l); share_is = λ l. absurd (true≢false l) })
               (λ (h : (j ≢ other) × (get_elem? bs j ≡ some u)). ⊎_elim
-              (λ (y : (j ≡ id) × (b ≡ u)). let p = (o.each id v at).share_is (ap (λ (p : Seat). is_away p.stage) mine) in subst (IsCounted bounds) y.1 record { inside = ap (λ (p : Seat). p.out) mine; bounds_is = (o.each id v at).bounds_is; share_is = λ _. omega arith })
+              (λ (y : (j ≡ id) × (b ≡ u)). let p = (o.each id v at).share_is (ap (λ (p : Seat). is_away p.stage) mine) in let q = (o.each other w was').share_is (ap (λ (p : Seat). is_away p.stage) rest) in let l = length-append v.joined (trails_of w) in
+              subst (IsCounted bounds) y.1 record { inside = ap (λ (p : Seat). p.out) mine; bounds_is = (o.each id v at).bounds_is; share_is = λ _. omega arith })
               (λ (y : (j ≢ id) × (get_elem? vs j ≡ some u)). o.each j u y.1) (at_set vs id j b u h.1))
               (at_set bs other j spent_view u e);
         },

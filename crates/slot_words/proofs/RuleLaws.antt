@@ -1,17 +1,19 @@
 -- What the rule says of any moment.
-use Rattle.std.proofs.Common.{◌≡◌, ℕ, ◌+◌, ◌%◌, ◌<◌, ◌≤◌, Bool, true, false, List, length, get_or, refl, sym, ap, ◌∙◌, subst, arith}
-use Rattle.std.specs.Prelude.{Option, Some, None}
+use Rattle.std.proofs.Common.{◌≡◌, ℕ, ◌+◌, ◌%◌, ◌^◌, ◌<◌, Bool, true, false, List, length, get_or, refl, sym, ap, ◌∙◌, subst, arith}
 use Rattle.pool_core.specs.declared.words.State.{State}
 use Rattle.pool_core.specs.declared.words.StateWord.{StateWord}
 use Rattle.pool_core.specs.declared.seats.Seat.{Seat}
 use Rattle.pool_core.specs.StateWords.{bit}
-use Rattle.pool_core.specs.PoolCore.{is_live, word_at}
-use Rattle.slot_words.specs.declared.views.PassView.{PassView}
+use Rattle.pool_core.specs.PoolCore.{PoolCore, is_live, word_at}
 use Rattle.slot_words.specs.CoreLaws.{CoreLaws}
+use Rattle.slot_words.specs.Accounts.{is_stamp}
+use Rattle.slot_words.specs.History.{opening_of}
 use Rattle.slot_words.specs.Views.{no_view}
 use Rattle.slot_words.specs.Rule.{AloneWithAll, ClockCountsStamps, FreeValuesFit, HeldByAnother, NoHiddenSeat, OneHistory, OneHolder, WithinLimit}
 use Rattle.slot_words.specs.Shows.{Suits, shown_seat, view_share, view_unsplit}
 use Rattle.slot_words.proofs.Holdings.{seats-are-shown}
+use Rattle.slot_words.proofs.HistoryAccounts.{histories_account}
+use Rattle.slot_words.proofs.NotedSums.{operations_are_noted}
 use Rattle.slot_words.proofs.HeldShares.{another_holds, counted_at}
 use Rattle.slot_words.proofs.Lookups.{live_not_away}
 use Rattle.slot_words.proofs.SharedPasses.{shared_beside, views_within}
@@ -57,7 +59,9 @@ module _ (laws : CoreLaws) {V : Type 0} (fits : State → ℕ → V → Type 0) 
       (h.0, h.1, subst (λ (u : StateWord). Suits fits room bounds.room u.target h.0) same h.2)
 
   pub clock_counts_stamps : ClockCountsStamps fits room
-  clock_counts_stamps bounds s r = ap (λ (k : ℕ). get_or s.words (k + 2) 0) r.rule.shows.slots_are ∙ r.rule.shows.clock_shows ∙ r.accounts.clock_is
+  clock_counts_stamps bounds s r = let c = r.rule.core in let h = r.history in let opening = opening_of bounds c in
+      ap (λ (k : ℕ). get_or s.words (k + 2) 0) r.rule.shows.slots_are ∙ r.rule.shows.clock_shows ∙ ap (λ (k : PoolCore). k.clock) h.leads
+      ∙ (histories_account laws (length c.words) bounds.limit bounds.passes h.events h.allowed).clock_is ∙ ap (λ (k : ℕ). k % 2 ^ 64) (sym (operations_are_noted opening c s.views h is_stamp))
 
 module _ {V : Type 0} (fits : State → ℕ → V → Type 0) (room : V → List ℕ) where
   pub one_history : OneHistory fits room

@@ -35,6 +35,7 @@ pub record IsSameView (v w : PassView) : Type 0 where
   pub bounds_is : w.bounds ≡ v.bounds
   pub unsplit_is : w.unsplit ≡ v.unsplit
   pub share_is : w.share ≡ v.share
+  pub joined_is : w.joined ≡ v.joined
   pub stage_is : w.seat.stage ≡ v.seat.stage
   pub inside : v.seat.out ≡ false → w.seat.out ≡ false
 
@@ -56,7 +57,7 @@ module _ {V : Type 0} (fits : State → ℕ → V → Type 0) (room : V → List
       (λ (t : (j ≡ id) × (w ≡ u)). let v = o.each id me at in subst (IsCounted bounds) t.1 record {
         inside = same.inside v.inside;
         bounds_is = λ l. same.bounds_is ∙ v.bounds_is (sym (ap is_away same.stage_is) ∙ l);
-        share_is = λ l. subst (λ (k : ℕ). 1 ≤ k) (sym same.share_is) (v.share_is (sym (ap is_away same.stage_is) ∙ l));
+        share_is = λ l. let own = v.share_is (sym (ap is_away same.stage_is) ∙ l) in let joined : length w.joined ≡ length me.joined = ap length same.joined_is in let a = same.share_is in let b = same.unsplit_is in omega arith;
       })
       (λ (t : (j ≢ id) × (get_elem? s.views j ≡ some u)). o.each j u t.1) (at_set s.views id j w u e)
 

@@ -52,7 +52,7 @@ may_release c s n to holds h well = let self : (n == n) ≡ true = eq-eqb n n re
 
 -- an operation leaves the rest of the view
 pub same_view : (v : PassView) (p : Seat) (o : _) → p.stage ≡ v.seat.stage → (v.seat.out ≡ false → p.out ≡ false) → IsSameView v (view_after v p o)
-same_view v p o e inside = record { bounds_is = refl; unsplit_is = refl; share_is = refl; stage_is = e; inside = inside }
+same_view v p o e inside = record { bounds_is = refl; unsplit_is = refl; share_is = refl; joined_is = refl; stage_is = e; inside = inside }
 
 module _ (laws : CoreLaws) {V : Type 0} (fits : State → ℕ → V → Type 0) (room : V → List ℕ) where
   pub loads_are_events : LoadsAreEvents fits room

@@ -1,15 +1,15 @@
--- What the operations of passes account for, in whatever order they came: the slots' words, the clock, and what each pass holds.
-use Rattle.std.specs.Prelude.{◌≡◌, ℕ, ◌+◌, ◌%◌, ◌^◌, ◌<◌, ◌≤◌, ◌==◌, ◌&&◌, Bool, true, false, is_some, List, [], length, flat_map, slice_index_or}
+-- What operations account for, in whatever order they came: the slots' words, what is held, and the clock.
+use Rattle.std.specs.Prelude.{◌≡◌, ℕ, ◌+◌, ◌%◌, ◌^◌, ◌<◌, ◌==◌, ◌&&◌, Bool, true, false, List, length, slice_index_or}
 use Rattle.std.specs.List.{count_by}
-use mathlib.Core.Option.{some}
-use lib.ListN.{get_elem?}
 use Rattle.pool_core.specs.declared.words.StateWord.{StateWord}
 use Rattle.pool_core.specs.StateWords.{bit, cold_word, packed}
-use Rattle.pool_core.specs.PoolCore.{is_away}
-use Rattle.slot_words.specs.declared.views.PassView.{PassView}
+use Rattle.pool_core.specs.PoolCore.{PoolCore, opening_core}
+use Rattle.pool_core.specs.declared.events.Event.{Event}
+use Rattle.pool_core.specs.Runs.{core_after_all, AllAllowed}
 use Rattle.slot_words.specs.declared.views.Operation.{Operation}
 use Rattle.slot_words.specs.declared.views.Operation.TheVariants.{Claim, Release, Stamp}
-use Rattle.slot_words.specs.Views.{operations_of}
+use Rattle.slot_words.specs.History.{all_noted}
+use Rattle.slot_words.specs.KindCounts.{is_held}
 
 -- a release that gives slot n the word of these bits
 abbrev pub gives_word : ℕ → ℕ → Operation → Bool
@@ -39,26 +39,17 @@ is_won_claim o = false
 abbrev pub AreKept : List Operation → ℕ → Type 0
 AreKept done kept = count_by is_won_claim done ≡ count_by is_release done + kept
 
--- one of them at most was not given back
-abbrev pub KeepsOneAtMost : List Operation → Type 0
-KeepsOneAtMost done = (kept : ℕ) × AreKept done kept × (kept ≤ 1)
-
 abbrev pub is_stamp : Operation → Bool
 is_stamp (Stamp r) = true
 is_stamp o = false
 
--- one trail after another
-abbrev pub in_one : List (List Operation) → List Operation
-in_one trails = flat_map (λ trail. trail) trails
+-- operations account for a pool: they left its words, what they claimed and did not give back is held, and its clock went on once for each stamp
+pub record AreAccounts (done : List Operation) (c : PoolCore) : Type 0 where
+  pub left : AreLeft done c.words
+  pub kept : AreKept done (count_by is_held c.words)
+  pub clock_is : c.clock ≡ count_by is_stamp done % 2 ^ 64
 
-pub record IsAccounted (v : PassView) : Type 0 where
-  -- what it claimed and did not give back is what it holds
-  pub held : AreKept (operations_of v) (bit (is_some v.seat.holds))
-  -- a seat that is not made yet, or was joined away, has no operations
-  pub away : is_away v.seat.stage ≡ true → operations_of v ≡ []
-
--- the operations of all passes left the words, the clock went on once for each stamp, and the operations of each pass left it what it holds
-pub record AccountsFor (views : List PassView) (words : List StateWord) (clock : ℕ) : Type 0 where
-  pub left : AreLeft (flat_map operations_of views) words
-  pub clock_is : clock ≡ count_by is_stamp (flat_map operations_of views) % 2 ^ 64
-  pub each : (j : ℕ) (v : PassView) → get_elem? views j ≡ some v → IsAccounted v
+-- what all seats noted of any list of events from an opening, none of which is refused where it comes, accounts for the pool that it leads to
+abbrev pub HistoriesAccount : Type 0
+HistoriesAccount = (slots limit passes : ℕ) (es : List Event) → AllAllowed (opening_core slots limit passes) es
+    → AreAccounts (all_noted (opening_core slots limit passes) es) (core_after_all (opening_core slots limit passes) es)

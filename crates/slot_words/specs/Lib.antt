@@ -16,3 +16,4 @@ pub mod SharedPasses
 pub mod Shows
 pub mod Trails
 pub mod Views
+pub mod WorkedHistories

@@ -2,7 +2,7 @@
 use Rattle.std.specs.Prelude.{◌≡◌, ℕ, List, []}
 use Rattle.pool_core.specs.declared.seats.Stage.TheVariants.{Live}
 use Rattle.slot_words.specs.declared.words.Words.{Words}
-use Rattle.slot_words.specs.Passes.{Pass, Home, IsIdle, home, share_of, trail, joined_trail}
+use Rattle.slot_words.specs.Passes.{Pass, Home, IsIdle, home, share_of, trail, joined_trails}
 use Rattle.slot_words.specs.Setups.{bounds_at}
 
 module _ {V I : Type 0} where
@@ -21,9 +21,9 @@ module _ {V I : Type 0} where
   abbrev pub room_of : (V → List ℕ) → Words V I → List ℕ
   room_of room w = room w.table.shared.key.sample.value
 
-  -- what a live pass of these words has as its home
+  -- what a live pass of these words has as its home; no seat is split off from it
   abbrev pub home_of : (V → List ℕ) → Words V I → Home
-  home_of room w = record { table = w.table.shared.table_id; bounds = bounds_at room w.table.shared.key; stage = Live }
+  home_of room w = record { table = w.table.shared.table_id; bounds = bounds_at room w.table.shared.key; stage = Live; unsplit = 0 }
 
   -- the pass is a live seat of these words
   abbrev pub IsPassOf : (V → List ℕ) → Words V I → Pass V → Type 0
@@ -35,4 +35,4 @@ module _ {V I : Type 0} where
     pub idle : IsIdle p
     pub share_is : share_of p ≡ 1
     pub trail_is : trail p ≡ []
-    pub joined_is : joined_trail p ≡ []
+    pub joined_is : joined_trails p ≡ []

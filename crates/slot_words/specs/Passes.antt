@@ -8,26 +8,32 @@ use Rattle.pool_core.specs.PoolCore.{idle_seat, holding_seat}
 use Rattle.slot_words.specs.declared.views.Bounds.{Bounds}
 use Rattle.slot_words.specs.declared.views.PassView.{PassView}
 use Rattle.slot_words.specs.declared.views.Operation.{Operation}
-use Rattle.slot_words.specs.Views.{operations_of}
+use Rattle.slot_words.specs.declared.views.SeatTrail.{SeatTrail}
+use Rattle.slot_words.specs.Views.{operations_of, trails_of}
 
 -- a seat at values of this type; antt has no name for a Rust alias
 abbrev pub Pass : Type 0 → Type 0
 Pass V = TableSeat (Option V) PassView
 
--- of which words a pass is, and the stage of its seat
+-- of which words a pass is, the stage of its seat, and how many seats may still be split off from it
 pub record Home : Type 0 where
   pub table : TableId
   pub bounds : Bounds
   pub stage : Stage
+  pub unsplit : ℕ
 
 module _ {V : Type 0} where
   -- the pass's operations on words so far, each with what it read or stored
   abbrev pub trail : Pass V → List Operation
   trail p = p.me.0.trail
 
-  -- the operations of the passes that were joined into it, one trail after another
-  abbrev pub joined_trail : Pass V → List Operation
-  joined_trail p = p.me.0.joined_trail
+  -- the trails of the passes that were joined into it
+  abbrev pub joined_trails : Pass V → List SeatTrail
+  joined_trails p = p.me.0.joined
+
+  -- the trails of the passes that it stands for: its own, and those that were joined into it
+  abbrev pub trails : Pass V → List SeatTrail
+  trails p = trails_of p.me.0
 
   -- all that it did, and the passes that were joined into it
   abbrev pub operations : Pass V → List Operation
@@ -39,7 +45,7 @@ module _ {V : Type 0} where
 
   -- its number among the core's seats
   abbrev pub seat_number : Pass V → ℕ
-  seat_number p = p.id
+  seat_number p = p.me.0.number
 
   -- whether it has a permit, a refusal and an await mark
   abbrev pub pass_permit : Pass V → Bool
@@ -53,7 +59,7 @@ module _ {V : Type 0} where
 
   -- whose pass it is, and in which stage its seat is
   abbrev pub home : Pass V → Home
-  home p = record { table = p.table_id; bounds = p.me.0.bounds; stage = p.me.0.seat.stage }
+  home p = record { table = p.table_id; bounds = p.me.0.bounds; stage = p.me.0.seat.stage; unsplit = p.me.0.unsplit }
 
   -- it holds nothing, and has no permit, refusal or await mark
   abbrev pub IsIdle : Pass V → Type 0
@@ -71,9 +77,8 @@ module _ {V : Type 0} where
   pub record IsSamePass (p q : Pass V) : Type 0 where
     pub home_is : home q ≡ home p
     pub number_is : seat_number q ≡ seat_number p
-    pub unsplit_is : q.me.0.unsplit ≡ p.me.0.unsplit
     pub share_is : share_of q ≡ share_of p
-    pub joined_is : joined_trail q ≡ joined_trail p
+    pub joined_is : joined_trails q ≡ joined_trails p
 
   -- it holds what it did, and has these of permit, refusal and await mark
   abbrev pub KeepsWith : Pass V → Pass V → Bool → Bool → Bool → Type 0

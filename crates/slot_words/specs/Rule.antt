@@ -1,5 +1,5 @@
 -- What the rule says of any moment, in plain words.
-use Rattle.std.specs.Prelude.{◌≡◌, ℕ, ◌+◌, ◌%◌, ◌^◌, ◌<◌, ◌≤◌, false, Option, Some, None, List, length, flat_map, slice_index_or}
+use Rattle.std.specs.Prelude.{◌≡◌, ℕ, ◌+◌, ◌%◌, ◌^◌, ◌<◌, ◌≤◌, false, Option, Some, None, List, length, slice_index_or}
 use Rattle.std.specs.List.{count_by}
 use mathlib.Core.Option.{some}
 use lib.ListN.{get_elem?}
@@ -14,9 +14,8 @@ use Rattle.slot_words.specs.declared.views.Bounds.{Bounds}
 use Rattle.slot_words.specs.Accounts.{is_stamp}
 use Rattle.slot_words.specs.KindCounts.{BeginsWith}
 use Rattle.pool_core.specs.PoolCore.{PoolCore}
-use Rattle.slot_words.specs.History.{IsHistory}
+use Rattle.slot_words.specs.History.{IsHistory, all_operations, opening_of}
 use Rattle.slot_words.specs.Shows.{IsKept, Shows, ShowsLawful, Suits, shown_seat, view_permit}
-use Rattle.slot_words.specs.Views.{operations_of}
 
 module _ {V : Type 0} (fits : State → ℕ → V → Type 0) (room : V → List ℕ) where
   -- no two passes hold one number
@@ -53,9 +52,9 @@ module _ {V : Type 0} (fits : State → ℕ → V → Type 0) (room : V → List
   -- the clock word has gone on once for each stamp of all passes, round 2^64
   abbrev pub ClockCountsStamps : Type 0
   ClockCountsStamps = (bounds : Bounds) (s : TableState (Option V) PassView) → IsKept fits room bounds s
-      → slice_index_or s.words (length s.homes + 2) 0 ≡ count_by is_stamp (flat_map operations_of s.views) % 2 ^ 64
+      → slice_index_or s.words (length s.homes + 2) 0 ≡ count_by is_stamp (all_operations s.views) % 2 ^ 64
 
-  -- All steps of all passes, in the order in which they came, are one list of events from the opening, none of which is refused where it comes. It leads to what is shown, and of it each pass's trail is what that pass read.
+  -- All steps of all passes, in the order in which they came, are one list of events from the opening, none of which is refused where it comes. It leads to what is shown. Each pass's trail, and each trail that was joined into it, is what that trail's seat noted of it.
   abbrev pub OneHistory : Type 0
   OneHistory = (bounds : Bounds) (s : TableState (Option V) PassView) → IsKept fits room bounds s
-      → (core : PoolCore) × Shows fits room bounds core s × IsHistory bounds core s.views
+      → (core : PoolCore) × Shows fits room bounds core s × IsHistory (opening_of bounds core) core s.views

@@ -1,5 +1,5 @@
 -- The rule: what threads share shows one core, which is lawful.
-use Rattle.std.specs.Prelude.{◌≡◌, ℕ, ◌+◌, ◌*◌, ◌^◌, ◌<◌, ◌≤◌, Bool, true, false, Option, Some, List, length, slice_index_or}
+use Rattle.std.specs.Prelude.{◌≡◌, ℕ, ◌+◌, ◌*◌, ◌^◌, ◌<◌, Bool, true, false, Option, Some, List, length, slice_index_or}
 use mathlib.Core.Option.{none, some}
 use lib.ListN.{get_elem?}
 use Rattle.atomic_table.specs.Table.{State as TableState}
@@ -11,10 +11,9 @@ use Rattle.pool_core.specs.PoolCore.{PoolCore, word_at, seat_at, is_away}
 use Rattle.pool_core.specs.Lawful.{Lawful}
 use Rattle.slot_words.specs.declared.views.PassView.{PassView}
 use Rattle.slot_words.specs.declared.views.Bounds.{Bounds}
-use Rattle.slot_words.specs.Accounts.{AccountsFor}
-use Rattle.slot_words.specs.History.{IsHistory}
+use Rattle.slot_words.specs.History.{IsHistory, opening_of}
 use Rattle.slot_words.specs.SharedPasses.{AreShared}
-use Rattle.slot_words.specs.Views.{no_view}
+use Rattle.slot_words.specs.Views.{no_view, trails_of}
 
 -- the seat whose view is the j-th; a number that no view has is of a seat that is not made
 abbrev pub shown_seat : List PassView → ℕ → Seat
@@ -31,11 +30,11 @@ view_unsplit v = v.unsplit
 abbrev pub view_permit : PassView → Bool
 view_permit v = v.seat.permit
 
--- a seat that is neither unmade nor joined away knows the bounds, and stands for a pass at least; of none does its view say that its value is out
+-- A seat that is neither unmade nor joined away knows the bounds, and stands for the seats whose trails it has and for those that may be split off from it. Of none does its view say that its value is out.
 pub record IsCounted (bounds : Bounds) (v : PassView) : Type 0 where
   pub inside : v.seat.out ≡ false
   pub bounds_is : is_away v.seat.stage ≡ false → v.bounds ≡ bounds
-  pub share_is : is_away v.seat.stage ≡ false → 1 ≤ v.share
+  pub share_is : is_away v.seat.stage ≡ false → v.share ≡ v.unsplit + length (trails_of v)
 
 module _ {V : Type 0} (fits : State → ℕ → V → Type 0) (room : V → List ℕ) where
   -- the value may lie in a slot whose word says this
@@ -68,8 +67,7 @@ module _ {V : Type 0} (fits : State → ℕ → V → Type 0) (room : V → List
     pub lawful : Lawful core
     pub shows : Shows bounds core s
 
-  -- What the table keeps: they show one lawful core, and the operations of the passes account for it.
+  -- What the table keeps: they show one lawful core, and one history leads to it.
   pub record IsKept (bounds : Bounds) (s : TableState (Option V) PassView) : Type 0 where
     pub rule : ShowsLawful bounds s
-    pub accounts : AccountsFor s.views rule.core.words rule.core.clock
-    pub history : IsHistory bounds rule.core s.views
+    pub history : IsHistory (opening_of bounds rule.core) rule.core s.views

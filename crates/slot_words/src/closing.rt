@@ -2,7 +2,7 @@
 ghost use Rattle.std.specs.Prelude.{◌≡◌, ◌+◌, ◌≤◌};
 ghost use Rattle.std.specs.Slots.{IsFull};
 ghost use Rattle.slot_words.specs.Closing.{ClosesAs, CountsLeft};
-ghost use Rattle.slot_words.specs.Passes.{IsIdle, operations, seat_number, share_of};
+ghost use Rattle.slot_words.specs.Passes.{IsIdle, operations, share_of, trails};
 ghost use Rattle.slot_words.specs.Owned.{IsPassOf, slots_of, limit_of, passes_of};
 
 use crate::cores::core_laws;
@@ -27,11 +27,11 @@ fn discard<S: Drop>(mut closed: Closed<S, Global>)
 impl<V: Pooled + Drop> Words<V> {
     /// Ends all seats and counts the state words as they stand. The values are dropped.
     ///
-    /// With all passes joined into this one, the words are those that their operations left, and none is held. Else they are those that its operations left together with those of the other passes, and the held ones are what these kept, each one slot at most.
+    /// The words are those at the end of one list of events from the opening, of which this pass's trail, and each that was joined into it, is what its seat noted. The held ones are what the other passes kept, each one slot at most. With all passes joined into this one, the words are those that their operations left, and none is held.
     pub fn close(self, pass: Pass<V>) -> KindCounts
         requires own { IsPassOf V.room self pass }
         requires idle { IsIdle pass }
-        ensures counts { ClosesAs (slots_of self) (limit_of self) (passes_of self) (seat_number pass) (share_of pass) (operations pass) result }
+        ensures counts { ClosesAs (slots_of self) (limit_of self) (passes_of self) (share_of pass) (trails pass) result }
         ensures joined { share_of pass ≡ passes_of self → CountsLeft (slots_of self) (operations pass) result }
         ensures held { result.held + share_of pass ≤ passes_of self }
     {

@@ -2,8 +2,10 @@
 ghost use Rattle.std.specs.Prelude.{◌≡◌, ℕ, List, []};
 ghost use Rattle.slot_words.specs.declared.kinds.KindCounts.{KindCounts};
 ghost use Rattle.slot_words.specs.declared.views.Operation.{Operation};
+ghost use Rattle.slot_words.specs.Accounts.{HistoriesAccount};
 ghost use Rattle.slot_words.specs.Closing.{CountsLeft};
 ghost use Rattle.slot_words.specs.Events.{LoadsAreEvents, ClaimsAreEvents, ReleasesAreEvents, WarmLoadsAreEvents, WarmUpsAreEvents, WarmDownsAreEvents, StampsAreEvents, AwaitUpsAreEvents, AwaitDownsAreEvents, AwaitLoadsAreEvents, SplitsAreEvents, JoinsAreEvents, ClosesAreEvents, ExchangesAreEvents};
+ghost use Rattle.slot_words.specs.WorkedHistories.{AreWorked};
 ghost use Rattle.slot_words.specs.Rule.{OneHolder, HeldByAnother, NoHiddenSeat, AloneWithAll, WithinLimit, FreeValuesFit, ClockCountsStamps, OneHistory};
 
 use crate::cores::core_laws;
@@ -47,6 +49,13 @@ pub fn passes_make_one_history<V: Pooled>()
     ensures { OneHistory V.fits V.room }
 {}
 
+/// What the seats noted of a list of events accounts for the pool that it leads to: for its words, for what is held, and for its clock.
+pub fn histories_account()
+    ensures { HistoriesAccount }
+{
+    core_laws();
+}
+
 /// Operations leave one count of the words alone, in whatever order they came.
 pub fn one_count_is_left()
     ensures { (slots : ℕ) (done : List Operation) (k l : KindCounts) → CountsLeft slots done k → CountsLeft slots done l → k ≡ l }
@@ -60,3 +69,8 @@ pub fn nothing_done_leaves_all_cold()
 {
     core_laws();
 }
+
+/// Histories worked by hand: each operation once, a pass that is dropped with a slot, and one that is joined.
+pub fn worked_histories()
+    ensures { AreWorked }
+{}

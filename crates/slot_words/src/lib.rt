@@ -31,7 +31,7 @@ pub use rows::AllHeld;
 pub use rule::Ruled;
 pub use seen::Seen;
 pub use setup::Setup;
-pub use views::{Bounds, Operation, Pass, PassView};
+pub use views::{Bounds, Operation, Pass, PassView, SeatTrail};
 pub use words::Words;
 
 #[cfg(test)]

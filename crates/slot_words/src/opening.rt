@@ -2,7 +2,7 @@
 ghost use Rattle.std.specs.Prelude.{◌≡◌, ℕ, List, ◌+◌, ◌-◌, ◌^◌, ◌<◌, ◌≤◌, Some, [], map, length, vec_capacity, IfOk};
 ghost use Rattle.std.specs.List.{All};
 ghost use Rattle.pool_core.specs.declared.words.State.TheVariants.{Cold};
-ghost use Rattle.slot_words.specs.Views.{new_view, first_view};
+ghost use Rattle.slot_words.specs.Views.{first_view};
 ghost use Rattle.slot_words.specs.Setups.{bounds_at};
 ghost use Rattle.slot_words.specs.Owned.{IsNewPassOf, slots_of, limit_of, passes_of, room_of};
 

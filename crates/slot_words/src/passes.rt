@@ -1,7 +1,7 @@
 //! Seats are split off and joined.
 ghost use Rattle.std.specs.Prelude.{◌≡◌, ◌+◌, ◌++◌, ◌≤◌, []};
 ghost use Rattle.slot_words.specs.Views.{view_left, view_given, view_joined, spent_view};
-ghost use Rattle.slot_words.specs.Passes.{IsIdle, trail, joined_trail, operations, share_of, seat_number};
+ghost use Rattle.slot_words.specs.Passes.{IsIdle, trail, joined_trails, trails, share_of, seat_number};
 ghost use Rattle.slot_words.specs.Owned.{IsPassOf};
 
 use crate::cores::core_laws;
@@ -28,7 +28,7 @@ impl Join<PassView> for Joining {
 
 impl<V: Pooled> Words<V> {
     pub(crate) fn split_pass(&self, pass: &mut Pass<V>) -> Pass<V>
-        requires own { IsPassOf V.room self.now pass.old }
+        requires own { pass.old.table_id ≡ self.now.table.shared.table_id }
         requires idle { IsIdle pass.old }
         requires parts { (1 ≤ pass.old.me.0.unsplit) × (2 ≤ pass.old.me.0.share) }
         ensures left { (pass.new.table_id ≡ pass.old.table_id) × (pass.new.me ≡ (view_left pass.old.me.0, pass.old.me.1)) }
@@ -48,7 +48,7 @@ impl<V: Pooled> Words<V> {
         ensures share { share_of pass.new ≡ share_of pass.old + share_of other }
         ensures number { seat_number pass.new ≡ seat_number pass.old }
         ensures trail { trail pass.new ≡ trail pass.old }
-        ensures joined { joined_trail pass.new ≡ joined_trail pass.old ++ operations other }
+        ensures joined { joined_trails pass.new ≡ joined_trails pass.old ++ trails other }
     {
         core_laws();
         self.table.shared.join_seat::<Joining>(pass, other);

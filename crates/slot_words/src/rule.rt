@@ -9,7 +9,7 @@ use crate::views::PassView;
 use atomic_table::TableRule;
 use std::marker::PhantomData;
 
-/// At each moment the words, the values at home and the passes show one core, that core is lawful, and the passes' operations account for it.
+/// At each moment the words, the values at home and the passes show one core, that core is lawful, and one list of events from the opening, of which the passes' trails are what their seats noted, leads to it.
 pub struct Ruled<V> {
     marker: PhantomData<V>,
 }

@@ -17,6 +17,12 @@ pub enum Operation {
     AwaitLoad(u64),
 }
 
+/// What one pass did: the number of its seat, and its operations on words so far.
+pub struct SeatTrail {
+    pub seat: u64,
+    pub trail: LinkedList<Operation>,
+}
+
 /// What holds of one `Words` for good: the room of its values, the most slots that may be warm, and how many passes were handed out.
 pub struct Bounds {
     pub room: LinkedList<u64>,
@@ -26,6 +32,8 @@ pub struct Bounds {
 
 /// What a pass knows.
 pub struct PassView {
+    /// The number of its seat.
+    pub number: u64,
     /// Its seat in the core. The seat's `out` stays false: whether the value is out is seen in the pass's slot.
     pub seat: Seat,
     pub bounds: Bounds,
@@ -35,11 +43,11 @@ pub struct PassView {
     pub share: u64,
     /// Its operations on words so far.
     pub trail: LinkedList<Operation>,
-    /// The operations of the passes that were joined into it, one trail after another.
-    pub joined_trail: LinkedList<Operation>,
+    /// The trails of the passes that were joined into it.
+    pub joined: LinkedList<SeatTrail>,
 }
 
 /// One seat at a [`Words`](crate::Words) of values `V`. It has no bytes.
 ///
-/// An idle pass that is needed no more is joined into another: what a dropped one did, `Words::close` can't know.
+/// An idle pass that is needed no more is joined into another: `Words::close` then knows its trail.
 pub type Pass<V> = TableSeat<Option<V>, PassView>;

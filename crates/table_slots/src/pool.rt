@@ -7,7 +7,7 @@ ghost use Rattle.slot_words.specs.Closing.{ClosesAs, CountsLeft};
 ghost use Rattle.slot_words.specs.Leases.{lease_number, lease_word};
 ghost use Rattle.slot_words.specs.Owned.{slots_of, limit_of, passes_of};
 ghost use Rattle.slot_words.specs.Parts.{Grew};
-ghost use Rattle.slot_words.specs.Passes.{Holds, IsIdle, IsSamePass, joined_trail, operations, seat_number, share_of, trail};
+ghost use Rattle.slot_words.specs.Passes.{Holds, IsIdle, IsSamePass, joined_trails, operations, seat_number, share_of, trail, trails};
 ghost use Rattle.slot_pools.specs.Gives.{IsWarmGive};
 ghost use Rattle.slot_pools.specs.Takes.{IsAffineTake, IsFullAffineTake};
 ghost use Rattle.pool_worlds.specs.Contents.{Table, IsCold, IsTableOf, Matches};
@@ -134,7 +134,7 @@ impl<N: Naming> TablePool<N> {
         ensures share { share_of pass.new ≡ share_of pass.old + share_of other }
         ensures number { seat_number pass.new ≡ seat_number pass.old }
         ensures trail { trail pass.new ≡ trail pass.old }
-        ensures joined { joined_trail pass.new ≡ joined_trail pass.old ++ operations other }
+        ensures joined { joined_trails pass.new ≡ joined_trails pass.old ++ trails other }
     {
         self.words.join_pass(pass, other);
     }
@@ -144,7 +144,7 @@ impl<N: Naming> TablePool<N> {
     pub fn close(self, pass: Pass<TableSlot<N>>) -> KindCounts
         requires own { IsTablePass self pass }
         requires idle { IsIdle pass }
-        ensures counts { ClosesAs (slots_of (words_of self)) (limit_of (words_of self)) (passes_of (words_of self)) (seat_number pass) (share_of pass) (operations pass) result }
+        ensures counts { ClosesAs (slots_of (words_of self)) (limit_of (words_of self)) (passes_of (words_of self)) (share_of pass) (trails pass) result }
         ensures joined { share_of pass ≡ passes_of (words_of self) → CountsLeft (slots_of (words_of self)) (operations pass) result }
         ensures held { result.held + share_of pass ≤ passes_of (words_of self) }
     {

@@ -1,6 +1,7 @@
 use Rattle.std.proofs.Common.{◌≡◌, ◌∷◌, ◌++◌, [], rules}
 use Rattle.std.proofs.lemmas.List.Elements.{All-pop}
-use Rattle.pool_host.specs.Closing.{memory_done, table_done, ticket_done}
+use Rattle.slot_words.specs.Passes.{trails}
+use Rattle.pool_host.specs.Closing.{memory_done, memory_trails, table_done, table_trails, ticket_done, ticket_trails}
 use Rattle.pool_host.specs.Hosts.{IsHostPass}
 use Rattle.pool_host.proofs.ClosingLemmas.{joined_next, last_first}
 use Rattle.pool_host.proofs.IdleLemmas.{rests_idle}
@@ -50,7 +51,7 @@ loop-other-preserved g c =
       ticket_share = search rules;
       memory_share = search rules;
       table_share = search rules;
-      ticket = joined_next ticket_done items left other _ _ _ last joined.ticket.done i.ticket;
-      memory = joined_next memory_done items left other _ _ _ last joined.memory.done i.memory;
-      table = joined_next table_done items left other _ _ _ last joined.table.done i.table;
+      ticket = joined_next ticket_done items left other (trails c.loop-other.joined.ticket) (trails c.join.new.joined.ticket) (ticket_trails c.args.passes.items) last joined.ticket.done i.ticket;
+      memory = joined_next memory_done items left other (trails c.loop-other.joined.memory) (trails c.join.new.joined.memory) (memory_trails c.args.passes.items) last joined.memory.done i.memory;
+      table = joined_next table_done items left other (trails c.loop-other.joined.table) (trails c.join.new.joined.table) (table_trails c.args.passes.items) last joined.table.done i.table;
     }

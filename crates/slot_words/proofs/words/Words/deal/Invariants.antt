@@ -8,7 +8,7 @@ use Rattle.slot_words.proofs.words.Words.deal.Given as goal
 abbrev pub invariant-loop : goal.invariant-loop
 invariant-loop g l = record {
   own : l.first.table_id ≡ l.self.table.shared.table_id;
-  first : l.first.me ≡ (new_view (bounds_at g.V.Pooled.room l.self.table.shared.key) (l.passes - l.counter) (l.passes + 1 - l.counter), []);
+  first : l.first.me ≡ (new_view (bounds_at g.V.Pooled.room l.self.table.shared.key) 0 (l.passes - l.counter) (l.passes + 1 - l.counter), []);
   len : vec_len l.all + 1 ≡ l.counter;
   room : l.passes ≤ vec_capacity l.all;
   each : All (IsNewPassOf g.V.Pooled.room l.self) l.all.items;
