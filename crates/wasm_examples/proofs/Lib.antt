@@ -2,6 +2,8 @@ pub mod Modules
 pub mod SequenceExamples
 pub mod CallExamples
 pub mod NumberExamples
+pub mod WidthExamples
+pub mod LocalsExamples
 pub mod GrammarExamples
 pub mod SpelledModule
 pub mod OperatorExamples
