@@ -13,5 +13,5 @@ pub mod TypingRows
 pub mod LoadingExamples
 pub mod NeedExamples
 pub mod ValidityExamples
-pub mod TreeExamples
+pub mod WorkedModules
 pub mod WantsExamples
