@@ -14,4 +14,3 @@ pub mod LoadingExamples
 pub mod NeedExamples
 pub mod ValidityExamples
 pub mod WorkedModules
-pub mod WantsExamples
