@@ -4,7 +4,7 @@
 With no names all wrong lines are tried: the files scripts/wrong_lines/CRATE/NAME.line, which hold, one line each,
 
     file: PATH          the file of definitions, from the top of the repository
-    old: TEXT           stands once in it
+    old: TEXT           stands once in it, where \\n is the end of a line
     new: TEXT           the wrong line; nothing for a line that goes
     check: CRATE WHAT.. the files of examples or lemmas in CRATE/proofs (as TypingExamples) or its functions (as laws::shadow)
                         of which one is to refuse it; there may be several such lines
@@ -41,7 +41,7 @@ class WrongLine:
         self.file, self.because, self.pairs, self.checks, old = None, "", [], [], None
         for line in path.read_text(encoding="utf-8").splitlines():
             key, _, text = line.partition(":")
-            text = text.removeprefix(" ")
+            text = text.removeprefix(" ").replace("\\n", "\n")
             if key == "file":
                 self.file = text.strip()
             elif key == "old":
