@@ -1,15 +1,12 @@
 #!/usr/bin/env python3
 """Runs poolhost on large and hostile request files: hostile_files.py PROGRAM
 
-Prints what each run wrote, its seconds and the most memory that it had. The status is 1 where a run wrote anything but
-what its row says, or took more than ten seconds.
+Prints what each run wrote, its seconds and the most memory that it had, of which a small process that starts it counts some
+9 MiB at least. The status is 1 where a run wrote anything but what its row says, or took more than ten seconds.
 """
-import os
-import resource
 import subprocess
 import sys
 import tempfile
-import time
 
 HEADER = bytes.fromhex("0061736d01000000")
 VOID_FUNCTION = bytes.fromhex("01040160000003020100")
@@ -64,6 +61,29 @@ def many_calls():
 
 MANY = 1_000_000
 
+NO_LOCALS = b"\x00\x0b"
+
+
+def empty_runs(count):
+    """A body of so many runs of no locals. No file holds more than some 4,190,000."""
+    return number(count) + b"\x00\x7f" * count + b"\x0b"
+
+
+def two_bodies(first, second):
+    """Two functions of no parameters and no results, the first of them under the name f."""
+    bodies = b"".join(number(len(body)) + body for body in (first, second))
+    return HEADER + bytes.fromhex("010401600000030302000007050101660000") + section(10, b"\x02" + bodies)
+
+
+def calls_of(callee):
+    """A call of a function that calls this one until its 10,000 fuel is used up."""
+    return line(two_bodies(bytes.fromhex("00034010010c000b0b"), callee)) + b"call m f 10000\n"
+
+
+def calls_from_outside(body):
+    """100,000 calls of a function with this body."""
+    return line(two_bodies(body, NO_LOCALS)) + b"call m f 100\n" * 100_000
+
 
 def calls_not_reached():
     kind = section(1, b"\x01\x60" + number(MANY) + b"\x7f" * MANY + b"\x00")
@@ -101,6 +121,10 @@ def long_names():
 ROWS = [
     ("1,000,000 nested blocks", nested_blocks(MANY), "module m refused limit\n"),
     ("1,000,000 runs of no locals", line(with_code(number(MANY) + b"\x00\x7f" * MANY + b"\x0b")), "module m ok\n"),
+    ("10,000 fuel on calls of a function without locals", calls_of(NO_LOCALS), "\n1 fuel\n"),
+    ("10,000 fuel on calls of a function of 4,000,000 runs of no locals", calls_of(empty_runs(4 * MANY)), "\n1 fuel\n"),
+    ("100,000 calls of a function without locals", calls_from_outside(NO_LOCALS), "\n100000 ok\n"),
+    ("100,000 calls of a function of 1,000,000 runs of no locals", calls_from_outside(empty_runs(MANY)), "\n100000 ok\n"),
     ("1,000,000 runs of one local", line(with_code(number(MANY) + b"\x01\x7f" * MANY + b"\x0b")), "module m refused limit\n"),
     ("1,000,000 branches of a table", line(with_code(b"\x00\x02\x40\x41\x00\x0e" + number(MANY) + b"\x00" * (MANY + 1) + b"\x0b\x0b")), "module m ok\n"),
     ("1,000,000 functions without a body", line(HEADER + b"\x01\x04\x01\x60\x00\x00" + section(3, number(MANY) + b"\x00" * MANY)), "module m refused malformed\n"),
@@ -122,17 +146,27 @@ ROWS = [
 ]
 
 
+# Starts a program and prints its status, its seconds and the most KiB that it had. What a process has had begins at what its
+# parent has, so a small process starts the program, and not this one, which holds the rows.
+STARTER = """
+import os, sys, time
+began = time.time()
+child = os.posix_spawn(sys.argv[1], [sys.argv[1], "run"], os.environ)
+_, status, usage = os.wait4(child, 0)
+print(status, time.time() - began, usage.ru_maxrss, file=sys.stderr)
+"""
+
+
 def run(program, text):
-    """What the program writes, its seconds and its most memory in MiB."""
+    """What the program writes, its status, its seconds and its most memory in MiB."""
     with tempfile.TemporaryFile() as given, tempfile.TemporaryFile() as written:
         given.write(text)
         given.seek(0)
-        began = time.time()
-        child = subprocess.Popen([program, "run"], stdin=given, stdout=written)
-        _, status, usage = os.wait4(child.pid, 0)
-        seconds = time.time() - began
+        started = [sys.executable, "-I", "-S", "-c", STARTER, program]
+        told = subprocess.run(started, stdin=given, stdout=written, stderr=subprocess.PIPE, check=True).stderr
+        status, seconds, most = told.split()[-3:]
         written.seek(0)
-        return written.read().decode(), status, seconds, usage.ru_maxrss / 1024
+        return written.read().decode(), int(status), float(seconds), int(most) / 1024
 
 
 def main(program):

@@ -5,3 +5,4 @@ pub mod Completions
 pub mod Opcodes
 pub mod Shapes
 pub mod Wants
+pub mod WantsExamples

@@ -6,11 +6,16 @@ use Rattle.wasm_types.specs.declared.outcome.Val.TheVariants.{I32, I64}
 use Rattle.wasm_types.specs.declared.outcome.TrapKind.TheVariants as trap
 use Rattle.wasm_types.specs.declared.outcome.Outcome.{Outcome}
 use Rattle.wasm_types.specs.declared.outcome.Outcome.TheVariants.{Done, Trap, Fuel}
-use Rattle.wasm_types.specs.declared.instr.Width.TheVariants.{W32}
+use Rattle.wasm_types.specs.declared.types.FuncType.{FuncType}
+use Rattle.wasm_types.specs.declared.instr.Width.TheVariants.{W32, W64}
+use Rattle.wasm_types.specs.declared.instr.UnaryOp.TheVariants as unary_op
+use Rattle.wasm_types.specs.declared.instr.CompareOp.TheVariants as compare_op
+use Rattle.wasm_types.specs.declared.instr.Instr.{Instr}
 use Rattle.wasm_types.specs.declared.instr.PackSize.TheVariants.{Pack8}
 use Rattle.wasm_types.specs.declared.instr.Instr.TheVariants as instr
-use Rattle.wasm_types.specs.Tree.{Code, End, Block, Loop, Call, CallIndirect, ModuleTree}
+use Rattle.wasm_types.specs.Tree.{Code, End, Block, Loop, If, Call, CallIndirect, GlobalTree, ModuleTree}
 use Rattle.wasm_spec.specs.Store.{Store, Data, first_misfit, fresh_store}
+use Rattle.wasm_spec.specs.Operators.{binary_digits}
 use Rattle.wasm_spec.specs.Execution.{most_pages, exec}
 use Rattle.wasm_spec.specs.Result.{CallResult, call_result}
 use Rattle.wasm_examples.proofs.Modules.{straight, i32_const, i32_add, i32_sub, i32_load, function_type, function_of, at_least, bare, paged, empty_type, unary_type, binary_type, constant_type, add_module, bump_module, poke_module, wrap_module, grown_module, grow_module, div_module, indirect_module, recursive_module, count_module, next_module, start_module, spin_module, misfit_module, overlap_module}
@@ -447,3 +452,79 @@ globals_begin_as_they_say = refl
 
 fresh_memory_has_its_minimum : length (fresh_store overlap_module).memory ≡ 65536
 fresh_memory_has_its_minimum = refl
+
+-- ---- each instruction on its own width, and each global by its number
+
+abbrev a_global : ℕ → GlobalTree
+a_global n = record { global_type = record { value = type.I32; mutable = true }; init = straight (i32_const n ∷ []) End }
+
+abbrev gives_of : FuncType → Code → Option (Outcome × ℕ)
+gives_of t body = called (record (paged (t ∷ []) (function_of 0 body ∷ []) []) { globals = a_global 7 ∷ a_global 8 ∷ [] }) 0 [] 100
+
+abbrev from_64 : List Instr → Option (Outcome × ℕ)
+from_64 is = gives_of constant_type (straight is End)
+
+nop-goes_on : from_64 (instr.Nop ∷ i32_const 4 ∷ []) ≡ gives 4 98
+unfolding exec
+nop-goes_on = refl
+
+zeros_of_64_bits : gives_of (function_type [] (type.I64 ∷ [])) (straight (instr.Const (I64 1) ∷ instr.Unary W64 unary_op.Clz ∷ []) End) ≡ Some (Done (Some (I64 63)), 98)
+unfolding binary_digits exec
+zeros_of_64_bits = refl
+
+comparison_of_64_bits : from_64 (instr.Const (I64 4294967296) ∷ instr.Const (I64 1) ∷ instr.Compare W64 compare_op.LtS ∷ []) ≡ gives 0 97
+unfolding exec
+comparison_of_64_bits = refl
+
+zero_of_64_bits : from_64 (instr.Const (I64 4294967296) ∷ instr.Eqz W64 ∷ []) ≡ gives 0 98
+unfolding exec
+zero_of_64_bits = refl
+
+second_global : from_64 (i32_const 5 ∷ instr.GlobalSet 1 ∷ instr.GlobalGet 0 ∷ instr.GlobalGet 1 ∷ i32_sub ∷ []) ≡ gives 2 95
+unfolding exec
+second_global = refl
+
+-- ---- accesses of 8 bytes at the end of memory
+
+abbrev load_64_at : ℕ → Option (Outcome × ℕ)
+load_64_at n = gives_of (function_type [] (type.I64 ∷ [])) (straight (i32_const n ∷ instr.Load W64 (record { align = 0; offset = 0 }) ∷ []) End)
+
+abbrev store_64_at : ℕ → Option (Outcome × ℕ)
+store_64_at n = gives_of empty_type (straight (i32_const n ∷ instr.Const (I64 1) ∷ instr.Store W64 (record { align = 0; offset = 0 }) ∷ []) End)
+
+load_64-at_the_end : load_64_at 65528 ≡ Some (Done (Some (I64 0)), 98)
+unfolding exec
+load_64-at_the_end = refl
+
+load_64-past_the_end : load_64_at 65529 ≡ Some (Trap trap.Memory, 98)
+unfolding exec
+load_64-past_the_end = refl
+
+store_64-at_the_end : store_64_at 65528 ≡ Some (Done None, 97)
+unfolding exec
+store_64-at_the_end = refl
+
+store_64-past_the_end : store_64_at 65529 ≡ Some (Trap trap.Memory, 97)
+unfolding exec
+store_64-past_the_end = refl
+
+-- what was stored stays where it is when the memory grows
+growth_keeps_what_was_stored : from_64 (i32_const 1 ∷ i32_const 77 ∷ instr.StorePacked W32 Pack8 (record { align = 0; offset = 0 }) ∷ i32_const 1 ∷ instr.MemoryGrow ∷ instr.Drop ∷ i32_const 0 ∷ i32_load 1 ∷ []) ≡ gives 77 92
+unfolding exec
+growth_keeps_what_was_stored = refl
+
+-- ---- what lies below an `if` and a loop
+
+-- an arm that ends, one that branches with a value above another, and what stands behind
+below_an_if : gives_of constant_type (straight (i32_const 100 ∷ i32_const 1 ∷ []) (If (Some type.I32) (straight (i32_const 5 ∷ []) End) (straight (i32_const 6 ∷ []) End) (straight (i32_sub ∷ []) End))) ≡ gives 95 95
+unfolding exec
+below_an_if = refl
+
+branch_out_of_an_arm : gives_of constant_type (straight (i32_const 100 ∷ i32_const 0 ∷ []) (If (Some type.I32) (straight (i32_const 5 ∷ []) End) (straight (i32_const 3 ∷ i32_const 6 ∷ instr.Br 0 ∷ []) End) (straight (i32_sub ∷ []) End))) ≡ gives 94 93
+unfolding exec
+branch_out_of_an_arm = refl
+
+-- a loop that is executed once more
+below_a_loop : called (bare (unary_type ∷ []) (function_of 0 (straight (i32_const 100 ∷ []) (Loop (Some type.I32) (straight (instr.LocalGet 0 ∷ i32_const 1 ∷ i32_sub ∷ instr.LocalTee 0 ∷ instr.BrIf 0 ∷ i32_const 9 ∷ []) End) (straight (i32_sub ∷ []) End))) ∷ []) []) 0 (I32 2 ∷ []) 100 ≡ gives 91 85
+unfolding exec
+below_a_loop = refl

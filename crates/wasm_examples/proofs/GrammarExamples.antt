@@ -1,8 +1,16 @@
 -- Bytes that spell a module.
-use Rattle.std.proofs.Common.{ℕ, inl, inr, [], ◌∷◌, refl, arith}
-use Rattle.std.specs.Prelude.{None}
-use Rattle.wasm_types.specs.Tree.{ModuleTree}
-use Rattle.wasm_spec.specs.Grammar.{Section, IsOrderedAbove, Spells}
+use Rattle.std.proofs.Common.{◌≡◌, ℕ, inl, inr, List, [], ◌∷◌, length, false, refl, ap, ◌∙◌, subst, arith}
+use Rattle.std.specs.Prelude.{Option, Some, None, IsUtf8}
+use Rattle.std.proofs.lemmas.List.{length-append}
+use Rattle.std.specs.Str.{is_utf8, chars}
+use Rattle.std.proofs.lemmas.Str.{is_utf8-from_IsUtf8}
+use Rattle.wasm_types.specs.declared.instr.Instr.{Instr}
+use Rattle.wasm_types.specs.declared.module.LocalRun.{LocalRun}
+use Rattle.wasm_types.specs.Tree.{Code, End, Plain, Block, Loop, If, Call, CallIndirect, ModuleTree}
+use Rattle.wasm_spec.specs.Numbers.{TakesUnsigned, TakesVec, TakesBytes, TakesName}
+use Rattle.wasm_spec.specs.InstrGrammar.{shape, TakesShape, TakesInstr, TakesCode, ByEnd}
+use Rattle.wasm_spec.specs.Grammar.{Section, TakesSection, TakesLocalRun, Body, TakesBody, TakesSizedBody, SpellsVec, SpellsStart, IsOrderedAbove, Spells}
+use Rattle.wasm_spec.proofs.UnambiguousNumbers.{unsigned-unique, bytes-unique, vec-unique}
 
 abbrev nothing : ModuleTree
 nothing = record {
@@ -68,3 +76,108 @@ no_falling_section (inr a) = elim (a.2) [ inl b ↦ absurd (omega (arith, b.0)) 
 no_custom_section_without_a_name : IsOrderedAbove 0 (record { id = 0; contents = [] } ∷ []) → ⊥
 no_custom_section_without_a_name (inl a) = a.1.spelled.spelled.count
 no_custom_section_without_a_name (inr a) = absurd (omega (arith, a.0))
+
+-- ---- names, sizes and zeros
+
+-- the byte begins no character
+no_text : IsUtf8 (0xFF ∷ []) → ⊥
+unfolding is_utf8 chars
+no_text utf8 = let e = is_utf8-from_IsUtf8 (0xFF ∷ []) utf8 in let no : is_utf8 (0xFF ∷ []) ≡ false = refl in cc (e, no)
+
+name_that_is_no_text : (name rest : List ℕ) → TakesName name (1 ∷ 0xFF ∷ []) rest → ⊥
+name_that_is_no_text name rest h =
+    let spelled : TakesBytes (0xFF ∷ []) (1 ∷ 0xFF ∷ []) [] = record { mid = 0xFF ∷ []; count = inl (omega arith, omega arith, refl, refl); items = refl } in
+    let same = bytes-unique name (0xFF ∷ []) (1 ∷ 0xFF ∷ []) rest [] h.spelled spelled in
+    no_text (subst IsUtf8 same.0 h.utf8)
+
+-- a byte behind the one index of a section, and behind the start function
+more_in_a_section : (xs : List ℕ) → SpellsVec (TakesUnsigned 32) xs (Some (record { id = 3; contents = 1 ∷ 5 ∷ 6 ∷ [] })) → ⊥
+more_in_a_section xs h =
+    let five : TakesVec (TakesUnsigned 32) (5 ∷ []) (1 ∷ 5 ∷ 6 ∷ []) (6 ∷ []) = record { mid = 5 ∷ 6 ∷ []; count = inl (omega arith, omega arith, refl, refl); items = (6 ∷ [], inl (omega arith, omega arith, refl, refl), refl) } in
+    let e = (vec-unique (TakesUnsigned 32) (unsigned-unique 32) xs (5 ∷ []) (1 ∷ 5 ∷ 6 ∷ []) [] (6 ∷ []) h five).1 in cc (e)
+
+more_in_the_start_section : (start : Option ℕ) → SpellsStart start (Some (record { id = 8; contents = 5 ∷ 6 ∷ [] })) → ⊥
+more_in_the_start_section start h =
+    let e = (unsigned-unique 32 h.0 5 (5 ∷ 6 ∷ []) [] (6 ∷ []) h.2 (inl (omega arith, omega arith, refl, refl))).1 in cc (e)
+
+-- a size of two, and one byte
+section_cut_off : (s : Section) (rest : List ℕ) → TakesSection s (1 ∷ 2 ∷ 0 ∷ []) rest → ⊥
+section_cut_off s rest h =
+    let after : h.after ≡ 2 ∷ 0 ∷ [] = let e = h.id in cc (e) in
+    let sized = subst (λ (l : List ℕ). TakesBytes s.contents l rest) after h.sized in
+    let two = unsigned-unique 32 (length s.contents) 2 (2 ∷ 0 ∷ []) sized.mid (0 ∷ []) sized.count (inl (omega arith, omega arith, refl, refl)) in
+    let one = ap length sized.items in
+    let left = ap length two.1 in
+    omega (arith, two.0, one, left, length-append s.contents rest)
+
+-- no runs of locals, and what stands behind their count
+no_runs : (runs : List LocalRun) (bytes mid : List ℕ) → TakesVec TakesLocalRun runs (0 ∷ bytes) mid → mid ≡ bytes
+no_runs [] bytes mid v =
+    let none = unsigned-unique 32 0 0 (0 ∷ bytes) v.mid bytes v.count (inl (omega arith, omega arith, refl, refl)) in
+    v.items ∙ none.1
+no_runs (run ∷ runs) bytes mid v =
+    let none = unsigned-unique 32 (length (run ∷ runs)) 0 (0 ∷ bytes) v.mid bytes v.count (inl (omega arith, omega arith, refl, refl)) in
+    absurd (omega (arith, none.0))
+
+-- no opcode is that of an end
+no_instruction : (i : Instr) (after rest : List ℕ) → TakesInstr i (0x0B ∷ after) rest → ⊥
+unfolding shape
+no_instruction i after rest h =
+    let is : h.opcode ≡ 0x0B = let e = h.leads in cc (e) in
+    subst (λ (opcode : ℕ). TakesShape (shape opcode) i h.after rest) is h.follows
+
+-- code ends at its first end
+ends_once : (c : Code) → TakesCode ByEnd c (0x0B ∷ 0x0B ∷ []) [] → ⊥
+ends_once End h = cc (h)
+ends_once (Plain i more) h = no_instruction i (0x0B ∷ []) h.0 h.1
+ends_once (Block t body more) h = let e = h.1 in cc (e)
+ends_once (Loop t body more) h = let e = h.1 in cc (e)
+ends_once (If t first second more) h = let e = h.1 in cc (e)
+ends_once (Call x more) h = let e = h.1 in cc (e)
+ends_once (CallIndirect x more) h = let e = h.1 in cc (e)
+
+-- a byte behind the end of a body, within its size
+more_in_a_body : (b : Body) (rest : List ℕ) → TakesSizedBody b (3 ∷ 0 ∷ 0x0B ∷ 0x0B ∷ []) rest → ⊥
+more_in_a_body b rest h =
+    let three : TakesBytes (0 ∷ 0x0B ∷ 0x0B ∷ []) (3 ∷ 0 ∷ 0x0B ∷ 0x0B ∷ []) [] = record { mid = 0 ∷ 0x0B ∷ 0x0B ∷ []; count = inl (omega arith, omega arith, refl, refl); items = refl } in
+    let contents = bytes-unique h.contents (0 ∷ 0x0B ∷ 0x0B ∷ []) (3 ∷ 0 ∷ 0x0B ∷ 0x0B ∷ []) rest [] h.sized three in
+    let body = subst (λ (l : List ℕ). TakesBody b l []) contents.0 h.body in
+    ends_once b.code (subst (λ (l : List ℕ). TakesCode ByEnd b.code l []) (no_runs body.runs (0x0B ∷ 0x0B ∷ []) body.mid body.spelled) body.code)
+
+-- no code is spelled by no bytes
+no_code : (c : Code) (rest : List ℕ) → TakesCode ByEnd c [] rest → ⊥
+no_code End rest h = cc (h)
+no_code (Plain i more) rest h = let e = h.1.leads in cc (e)
+no_code (Block t body more) rest h = let e = h.1 in cc (e)
+no_code (Loop t body more) rest h = let e = h.1 in cc (e)
+no_code (If t first second more) rest h = let e = h.1 in cc (e)
+no_code (Call x more) rest h = let e = h.1 in cc (e)
+no_code (CallIndirect x more) rest h = let e = h.1 in cc (e)
+
+-- a size of one, and the body ends behind it
+body_cut_off : (b : Body) (rest : List ℕ) → TakesSizedBody b (1 ∷ 0 ∷ 0x0B ∷ []) rest → ⊥
+body_cut_off b rest h =
+    let one : TakesBytes (0 ∷ []) (1 ∷ 0 ∷ 0x0B ∷ []) (0x0B ∷ []) = record { mid = 0 ∷ 0x0B ∷ []; count = inl (omega arith, omega arith, refl, refl); items = refl } in
+    let contents = bytes-unique h.contents (0 ∷ []) (1 ∷ 0 ∷ 0x0B ∷ []) rest (0x0B ∷ []) h.sized one in
+    let body = subst (λ (l : List ℕ). TakesBody b l []) contents.0 h.body in
+    no_code b.code [] (subst (λ (l : List ℕ). TakesCode ByEnd b.code l []) (no_runs body.runs [] body.mid body.spelled) body.code)
+
+abbrev first_of_bytes : List ℕ → ℕ
+first_of_bytes [] = 0
+first_of_bytes (b ∷ bytes) = b
+
+-- the zeros behind memory.size, memory.grow and call_indirect are a byte each, and no numbers
+padded_zero_behind_memory_size : (i : Instr) (rest : List ℕ) → TakesShape (shape 0x3F) i (0x80 ∷ 0x00 ∷ []) rest → ⊥
+unfolding shape
+padded_zero_behind_memory_size i rest h = let e = h.1 in absurd (omega (arith, ap (λ (l : List ℕ). first_of_bytes l) e))
+
+padded_zero_behind_memory_grow : (i : Instr) (rest : List ℕ) → TakesShape (shape 0x40) i (0x80 ∷ 0x00 ∷ []) rest → ⊥
+unfolding shape
+padded_zero_behind_memory_grow i rest h = let e = h.1 in absurd (omega (arith, ap (λ (l : List ℕ). first_of_bytes l) e))
+
+padded_zero_behind_call_indirect : (x : ℕ) (rest : List ℕ) → TakesCode ByEnd (CallIndirect x End) (0x11 ∷ 5 ∷ 0x80 ∷ 0x00 ∷ 0x0B ∷ []) rest → ⊥
+padded_zero_behind_call_indirect x rest h =
+    let after : h.0 ≡ 5 ∷ 0x80 ∷ 0x00 ∷ 0x0B ∷ [] = let e = h.1 in cc (e) in
+    let taken = subst (λ (l : List ℕ). TakesUnsigned 32 x l (0 ∷ h.2)) after h.3 in
+    let e = (unsigned-unique 32 x 5 (5 ∷ 0x80 ∷ 0x00 ∷ 0x0B ∷ []) (0 ∷ h.2) (0x80 ∷ 0x00 ∷ 0x0B ∷ []) taken (inl (omega arith, omega arith, refl, refl))).1 in
+    absurd (omega (arith, ap (λ (l : List ℕ). first_of_bytes l) e))

@@ -2,6 +2,8 @@ pub mod Modules
 pub mod SequenceExamples
 pub mod CallExamples
 pub mod NumberExamples
+pub mod WidthExamples
+pub mod LocalsExamples
 pub mod GrammarExamples
 pub mod SpelledModule
 pub mod OperatorExamples
@@ -11,5 +13,4 @@ pub mod TypingRows
 pub mod LoadingExamples
 pub mod NeedExamples
 pub mod ValidityExamples
-pub mod TreeExamples
-pub mod WantsExamples
+pub mod WorkedModules

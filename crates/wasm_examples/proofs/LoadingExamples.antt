@@ -111,6 +111,9 @@ offset_past_the_globals = refl
 offset_of_64 : offset_value (global_of 1) (straight (instr.Const (I64 1) ∷ []) End) ≡ None
 offset_of_64 = refl
 
+offset_of_a_global_of_64 : offset_value (record (bare [] [] []) { globals = record { global_type = record { value = type.I64; mutable = false }; init = straight (instr.Const (I64 7) ∷ []) End } ∷ [] }) (straight (instr.GlobalGet 0 ∷ []) End) ≡ None
+offset_of_a_global_of_64 = refl
+
 offset_of_two : offset_value (global_of 1) (straight (i32_const 1 ∷ instr.Nop ∷ []) End) ≡ None
 offset_of_two = refl
 
@@ -162,6 +165,24 @@ float_init_of_a_global = refl
 
 float_offset_of_elements : uses_floats (record (bare [] [] []) { element_segments = record { table = 0; offset = straight (instr.Float ∷ []) End; functions = [] } ∷ [] }) ≡ true
 float_offset_of_elements = refl
+
+float_behind_an_instruction : uses_floats (bare [] (function_of 0 (straight (instr.Nop ∷ instr.Float ∷ []) End) ∷ []) []) ≡ true
+float_behind_an_instruction = refl
+
+float_in_a_block : uses_floats (bare [] (function_of 0 (Block None (straight (instr.Float ∷ []) End) End) ∷ []) []) ≡ true
+float_in_a_block = refl
+
+float_behind_a_block : uses_floats (bare [] (function_of 0 (Block None End (straight (instr.Float ∷ []) End)) ∷ []) []) ≡ true
+float_behind_a_block = refl
+
+float_behind_a_loop : uses_floats (bare [] (function_of 0 (Loop None End (straight (instr.Float ∷ []) End)) ∷ []) []) ≡ true
+float_behind_a_loop = refl
+
+float_behind_an_if : uses_floats (bare [] (function_of 0 (If None End End (straight (instr.Float ∷ []) End)) ∷ []) []) ≡ true
+float_behind_an_if = refl
+
+no_float_of_64_bits : uses_floats (bare (function_type (type.I64 ∷ []) (type.I64 ∷ []) ∷ []) [] []) ≡ false
+no_float_of_64_bits = refl
 
 -- ---- what loading answers
 

@@ -83,3 +83,23 @@ behind_a_branch = refl
 -- select takes three and leaves one, drop takes one
 behind_a_select : need_of 2 [] (straight (i32_const 1 ∷ i32_const 2 ∷ i32_const 3 ∷ instr.Select ∷ i32_const 4 ∷ i32_const 5 ∷ instr.Select ∷ instr.Drop ∷ []) End) ≡ 4
 behind_a_select = refl
+
+-- an operand that was dropped counts no more
+after_a_drop : need_of 2 [] (straight (i32_const 1 ∷ instr.Drop ∷ i32_const 2 ∷ instr.Drop ∷ []) End) ≡ 2
+after_a_drop = refl
+
+first_arm_is_deeper : need_of 2 [] (straight (i32_const 0 ∷ []) (If None (Block None (Block None End End) End) End End)) ≡ 5
+first_arm_is_deeper = refl
+
+-- the deepest place may stand behind a loop, an `if` and a call
+label_behind_a_loop : need_of 2 [] (Loop None End (Block None (Block None End End) End)) ≡ 3
+label_behind_a_loop = refl
+
+label_behind_an_if : need_of 2 [] (straight (i32_const 0 ∷ []) (If None End End (Block None (Block None End End) End))) ≡ 4
+label_behind_an_if = refl
+
+label_behind_a_call : need_of 2 [] (Call 1 (straight (instr.Drop ∷ []) (Block None (Block None End End) End))) ≡ 4
+label_behind_a_call = refl
+
+label_behind_a_call_of_an_element : need_of 2 [] (straight (i32_const 0 ∷ []) (CallIndirect 2 (Block None (Block None End End) End))) ≡ 4
+label_behind_a_call_of_an_element = refl

@@ -27,7 +27,7 @@ goes_on n x b bytes rest h (inl a) = absurd (omega (arith, h, a.0))
 goes_on n x b bytes rest h (inr a) = (a.2, a.1, a.3)
 
 -- a bit past the 32nd is set
-unused_bits_are_not_zero : (x : ℕ) (rest : List ℕ) → TakesUnsigned 32 x (0x80 ∷ 0x80 ∷ 0x80 ∷ 0x80 ∷ 0x10 ∷ []) rest → ⊥
+pub unused_bits_are_not_zero : (x : ℕ) (rest : List ℕ) → TakesUnsigned 32 x (0x80 ∷ 0x80 ∷ 0x80 ∷ 0x80 ∷ 0x10 ∷ []) rest → ⊥
 unused_bits_are_not_zero x rest h =
     let a0 = goes_on 32 x 128 (0x80 ∷ 0x80 ∷ 0x80 ∷ 0x10 ∷ []) rest (omega arith) h in
     let a1 = goes_on 25 a0.0 128 (0x80 ∷ 0x80 ∷ 0x10 ∷ []) rest (omega arith) a0.2 in
@@ -94,7 +94,7 @@ signed_goes_on n x b bytes rest h (inr (inl a)) = absurd (omega (arith, h, a.1))
 signed_goes_on n x b bytes rest h (inr (inr a)) = (a.2, a.1, a.3)
 
 -- the 32nd bit is set, and what lies above it is not
-sign_is_not_copied : (x : ℤ) (rest : List ℕ) → TakesSigned 32 x (0x80 ∷ 0x80 ∷ 0x80 ∷ 0x80 ∷ 0x08 ∷ []) rest → ⊥
+pub sign_is_not_copied : (x : ℤ) (rest : List ℕ) → TakesSigned 32 x (0x80 ∷ 0x80 ∷ 0x80 ∷ 0x80 ∷ 0x08 ∷ []) rest → ⊥
 sign_is_not_copied x rest h =
     let a0 = signed_goes_on 32 x 128 (0x80 ∷ 0x80 ∷ 0x80 ∷ 0x08 ∷ []) rest (omega arith) h in
     let a1 = signed_goes_on 25 a0.0 128 (0x80 ∷ 0x80 ∷ 0x08 ∷ []) rest (omega arith) a0.2 in
@@ -112,7 +112,7 @@ sign_is_copied_in_part x rest h =
     elim (a3.2) [ inl b ↦ absurd (omega (arith, b.0, b.1)) | inr b ↦ elim b [ inl d ↦ absurd (omega (arith, d.0, d.1, d.2)) | inr d ↦ absurd (omega (arith, d.0, d.1)) ] ]
 
 -- the 64th bit is set, and what lies above it is not
-sign_of_64_is_not_copied : (x : ℤ) (rest : List ℕ) → TakesSigned 64 x (0x80 ∷ 0x80 ∷ 0x80 ∷ 0x80 ∷ 0x80 ∷ 0x80 ∷ 0x80 ∷ 0x80 ∷ 0x80 ∷ 0x01 ∷ []) rest → ⊥
+pub sign_of_64_is_not_copied : (x : ℤ) (rest : List ℕ) → TakesSigned 64 x (0x80 ∷ 0x80 ∷ 0x80 ∷ 0x80 ∷ 0x80 ∷ 0x80 ∷ 0x80 ∷ 0x80 ∷ 0x80 ∷ 0x01 ∷ []) rest → ⊥
 sign_of_64_is_not_copied x rest h =
     let a0 = signed_goes_on 64 x 128 (0x80 ∷ 0x80 ∷ 0x80 ∷ 0x80 ∷ 0x80 ∷ 0x80 ∷ 0x80 ∷ 0x80 ∷ 0x01 ∷ []) rest (omega arith) h in
     let a1 = signed_goes_on 57 a0.0 128 (0x80 ∷ 0x80 ∷ 0x80 ∷ 0x80 ∷ 0x80 ∷ 0x80 ∷ 0x80 ∷ 0x01 ∷ []) rest (omega arith) a0.2 in

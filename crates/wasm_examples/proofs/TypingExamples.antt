@@ -1,5 +1,5 @@
 -- Worked examples of typing, validity, floats and frame needs.
-use Rattle.std.proofs.Common.{◌≡◌, List, [], ◌∷◌, true, Some, None, refl, arith}
+use Rattle.std.proofs.Common.{◌≡◌, ℕ, List, [], ◌∷◌, true, Some, None, refl, arith}
 use Rattle.wasm_types.specs.declared.types.ValType.TheVariants.{I32, I64, F32}
 use Rattle.wasm_types.specs.declared.types.FuncType.{FuncType}
 use Rattle.wasm_types.specs.declared.outcome.Val.TheVariants as val
@@ -7,8 +7,8 @@ use Rattle.wasm_types.specs.declared.instr.Width.TheVariants.{W32}
 use Rattle.wasm_types.specs.declared.instr.BinaryOp.TheVariants.{Add, Sub}
 use Rattle.wasm_types.specs.declared.instr.Instr.TheVariants as instr
 use Rattle.wasm_types.specs.declared.module.Export.{Export}
-use Rattle.wasm_types.specs.Tree.{Code, End, Plain, If, Call, FunctionTree, ModuleTree}
-use Rattle.wasm_spec.specs.Typing.{IsTypedFunction}
+use Rattle.wasm_types.specs.Tree.{Code, End, Plain, Block, Loop, If, Call, FunctionTree, ModuleTree}
+use Rattle.wasm_spec.specs.Typing.{IsTypedFunction, Typed, body_context}
 use Rattle.wasm_spec.specs.Validity.{IsValid, uses_floats}
 use Rattle.wasm_spec.specs.Need.{need}
 use Rattle.wasm_spec.proofs.AddModule.{add, add_function}
@@ -89,3 +89,57 @@ last_local = record { type_index = 0; locals = I64 ∷ []; body = Plain (instr.L
 
 last_local_typed : IsTypedFunction (module_of (record { params = I32 ∷ []; results = I64 ∷ [] }) last_local []) last_local
 last_local_typed = (refl, (I64 ∷ [], ([], refl, refl), refl))
+
+-- ---- blocks, in the words of the relation
+
+-- code of a function that takes and gives nothing
+abbrev IsTyped : Code → Type 0
+IsTyped code = Typed (body_context (module_of nothing_to_nothing (function_of code) []) (function_of code)) code [] []
+
+abbrev constant : Code → Code
+constant rest = Plain (instr.Const (val.I32 0)) rest
+
+abbrev branch : ℕ → Code
+branch label = Plain (instr.Br label) End
+
+abbrev drop : Code
+drop = Plain instr.Drop End
+
+-- a branch out of either arm and of the function: the arm's own label is the innermost
+branches_out_of_arms : IsTyped (constant (If None (branch 1) (branch 1) End))
+branches_out_of_arms = (I32 ∷ [], ([], refl, refl), ([], refl, ([], ([], refl), refl), ([], ([], refl), refl), refl))
+
+-- a branch to a loop takes nothing, one out of a block or an arm takes its result
+branch_to_a_loop : IsTyped (Loop (Some I32) (branch 0) drop)
+branch_to_a_loop = ((I32 ∷ [], ([], refl), refl), ([], (I32, refl), refl))
+
+branch_out_of_a_block_without_its_value : IsTyped (Block (Some I32) (branch 0) drop) → ⊥
+branch_out_of_a_block_without_its_value h = let e = h.0.1.1 in cc (e)
+
+branch_out_of_the_first_arm_without_its_value : IsTyped (constant (If (Some I32) (branch 0) (constant End) drop)) → ⊥
+branch_out_of_the_first_arm_without_its_value h = let e = h.2.2.1.1 in cc (e)
+
+branch_out_of_the_second_arm_without_its_value : IsTyped (constant (If (Some I32) (constant End) (branch 0) drop)) → ⊥
+branch_out_of_the_second_arm_without_its_value h = let e = h.2.3.1.1 in cc (e)
+
+-- what lies below a block, a loop and an `if` is there behind it, and not in it
+operand_below_a_block : IsTyped (constant (Block None End drop))
+operand_below_a_block = (I32 ∷ [], ([], refl, refl), (refl, ([], (I32, refl), refl)))
+
+operand_below_a_loop : IsTyped (constant (Loop None End drop))
+operand_below_a_loop = (I32 ∷ [], ([], refl, refl), (refl, ([], (I32, refl), refl)))
+
+operand_below_an_if : IsTyped (constant (constant (If None End End drop)))
+operand_below_an_if = (I32 ∷ [], ([], refl, refl), (I32 ∷ I32 ∷ [], (I32 ∷ [], refl, refl), (I32 ∷ [], refl, refl, refl, ([], (I32, refl), refl))))
+
+block_drops_what_lies_below : IsTyped (constant (Block None drop End)) → ⊥
+block_drops_what_lies_below h = let e = h.2.0.1.1 in cc (e)
+
+loop_drops_what_lies_below : IsTyped (constant (Loop None drop End)) → ⊥
+loop_drops_what_lies_below h = let e = h.2.0.1.1 in cc (e)
+
+first_arm_drops_what_lies_below : IsTyped (constant (constant (If None drop End End))) → ⊥
+first_arm_drops_what_lies_below h = let e = h.2.2.2.1.1 in cc (e)
+
+second_arm_drops_what_lies_below : IsTyped (constant (constant (If None End drop End))) → ⊥
+second_arm_drops_what_lies_below h = let e = h.2.2.3.1.1 in cc (e)

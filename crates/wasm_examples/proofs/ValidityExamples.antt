@@ -14,7 +14,7 @@ use Rattle.wasm_types.specs.declared.module.ExportDesc.TheVariants as desc
 use Rattle.wasm_types.specs.declared.module.ImportDesc.TheVariants as import
 use Rattle.wasm_types.specs.Tree.{Code, End, FunctionTree, GlobalTree, ElementTree, DataTree, ModuleTree}
 use Rattle.wasm_spec.specs.Typing.{IsTypedFunction}
-use Rattle.wasm_spec.specs.Validity.{IsValid, IsSupported, IsDefined, IsInitialised, IsElementSegment, IsDataSegment, IsMemoryType, AreOrdered}
+use Rattle.wasm_spec.specs.Validity.{IsValid, IsSupported, IsDefined, IsInitialised, IsElementSegment, IsDataSegment, IsMemoryType, AreOrdered, Exports}
 use Rattle.wasm_examples.proofs.Modules.{straight, i32_const, function_type, function_of, empty_type, unary_type}
 
 -- ---- a valid module with every part
@@ -235,3 +235,15 @@ no_such_exported_global v = let e = v.exports 0 (exports_as [] (desc.Func 1)) (o
 -- also where they are of two kinds
 two_exports_of_one_name : IsValid (record whole { exports = exports_as (codes "a") (desc.Func 0) ∷ exports_as (codes "b") (desc.Func 0) ∷ exports_as (codes "a") (desc.Memory 0) ∷ [] }) → ⊥
 two_exports_of_one_name v = v.names_differ 0 2 (exports_as [] (desc.Func 0)) (omega arith) (omega arith) refl
+
+-- ---- exports by name: the function, and not the table of that name
+
+function_of_its_name : Exports (exports_as (codes "t") (desc.Table 1) ∷ exports_as (codes "f") (desc.Func 7) ∷ []) (codes "f") 7
+function_of_its_name = record { place = 1; export = exports_as (codes "f") (desc.Func 7); there = refl; named = refl; function = refl }
+
+table_at : (x place : ℕ) (e : Export) → slice_get (exports_as (codes "t") (desc.Table 1) ∷ []) place ≡ Some e → e.desc ≡ desc.Func x → ⊥
+table_at x zero e there function = cc (there, function)
+table_at x (suc place) e there function = cc (there)
+
+table_is_no_function : (x : ℕ) → Exports (exports_as (codes "t") (desc.Table 1) ∷ []) (codes "t") x → ⊥
+table_is_no_function x e = table_at x e.place e.export e.there e.function

@@ -8,6 +8,7 @@ use Rattle.wasm_spec.specs.Need.{highest, deepest, need}
 use Rattle.wasm_spec.specs.Store.{Store}
 use Rattle.wasm_spec.specs.Validity.{IsSupported, IsValid}
 use Rattle.wasm_types.specs.Sequences.{code_at}
+use Rattle.wasm_validate.specs.Locals.{HaveNoEmptyRun}
 use Rattle.machine_steps.specs.Configuration.{OpenBlock, Activation, Configuration}
 use Rattle.wasm_machine.specs.Remaining.{function_of, results}
 
@@ -16,11 +17,12 @@ abbrev pub operand_count : List OpenBlock → ℕ
 operand_count [] = 0
 operand_count (o ∷ os) = operand_count os + length o.below
 
--- a valid module, whose functions fit a frame of this size
+-- a valid module, whose functions fit a frame of this size and have no runs of no locals, over which a call would walk
 pub record IsRunnable (m : Module) (frame : ℕ) : Type 0 where
   pub supported : IsSupported (module_tree m)
   pub valid : IsValid (module_tree m)
   pub needs : (x : ℕ) (f : FunctionTree) → slice_get (module_tree m).functions x ≡ Some f → need (module_tree m) f ≤ frame
+  pub locals : HaveNoEmptyRun m
 
 module _ (m : Module) (frame : ℕ) where
   abbrev pub local_types : ℕ → List ValType

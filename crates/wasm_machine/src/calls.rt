@@ -1,11 +1,12 @@
 //! Calls, from outside and of one function by another.
-ghost use Rattle.std.specs.Prelude.{◌≡◌, ℕ, ◌+◌, ◌-◌, ◌<◌, ◌≤◌, ◌++◌, length, map, replicate, slice_get, vec_len, vec_capacity};
+ghost use Rattle.std.specs.Prelude.{◌≡◌, ℕ, ◌+◌, ◌-◌, ◌<◌, ◌≤◌, ◌++◌, All, length, map, replicate, slice_get, vec_len, vec_capacity};
 ghost use Rattle.std.specs.List.{flat_map};
 ghost use Rattle.wasm_types.specs.declared.limits.RunLimits.{RunLimits as Limits};
 ghost use Rattle.wasm_types.specs.Tree.{function_tree, locals_of, module_tree};
 ghost use Rattle.wasm_spec.specs.Execution.{Ended, zero_of};
 ghost use Rattle.wasm_spec.specs.Store.{Store};
 ghost use Rattle.wasm_spec.specs.Result.{run_function};
+ghost use Rattle.wasm_validate.specs.Locals.{HasLocals, HasNoEmptyRun};
 ghost use Rattle.wasm_machine.specs.Calls.{IsCall};
 ghost use Rattle.machine_steps.specs.Configuration.{Configuration};
 ghost use Rattle.wasm_machine.specs.Remaining.{function_of};
@@ -41,9 +42,10 @@ fn fill(values: &mut Vec<Val>, count: usize, value: Val)
     }
 }
 
-// Puts the declared locals' zeros on the top.
+// Puts the declared locals' zeros on the top. No run is empty, so that there are no more turns than locals.
 pub(crate) fn push_zeros(values: &mut Vec<Val>, runs: &[LocalRun])
-    requires { vec_len values.old + length (flat_map locals_of runs.now) ≤ vec_capacity values.old }
+    requires room { vec_len values.old + length (flat_map locals_of runs.now) ≤ vec_capacity values.old }
+    requires turns { All HasLocals runs.now }
     ensures items { values.new.items ≡ values.old.items ++ map zero_of (flat_map locals_of runs.now) }
     ensures capacity { vec_capacity values.old ≤ vec_capacity values.new }
 {
@@ -67,6 +69,7 @@ fn enter_function(machine: &mut Machine, m: &Module, x: usize, count: usize)
     requires arguments { count ≤ length machine.old.values.items }
     requires values { length machine.old.values.items + length (function_tree (function_of m.now x)).locals ≤ vec_capacity machine.old.values }
     requires frames { vec_len machine.old.frames < vec_capacity machine.old.frames }
+    requires turns { HasNoEmptyRun (function_of m.now x) }
     ensures represents { (k : Configuration) → Represents k machine.old → count ≤ length k.operands → Represents (in_function m.now k x count) machine.new }
     ensures room { KeepsRoom machine.old machine.new }
 {
@@ -126,7 +129,8 @@ pub(crate) fn invoke_indirect(
 
 // Stands at the beginning of a function that is called with these arguments from outside.
 pub(crate) fn begin(machine: &mut Machine, m: &Module, x: usize, args: &[Val])
-    requires { length args.now + length (function_tree (function_of m.now x)).locals ≤ vec_capacity machine.old.values }
+    requires room { length args.now + length (function_tree (function_of m.now x)).locals ≤ vec_capacity machine.old.values }
+    requires turns { HasNoEmptyRun (function_of m.now x) }
     ensures simulates { (limits : Limits) (frame : ℕ) (store : Store) → IsRunnable m.now frame → IsCall m.now x args.now → 0 < limits.depth
         → IsTypedStore m.now store → HasRoom limits.depth frame machine.old
         → Simulates m.now limits frame machine.new store (run_function (module_tree m.now) limits x args.now store) }

@@ -4,6 +4,7 @@ use Rattle.wasm_types.specs.declared.module.Module.{Module}
 use Rattle.wasm_types.specs.Tree.{module_tree, global_tree, element_tree, data_tree}
 use Rattle.wasm_spec.specs.Need.{need}
 use Rattle.wasm_validate.specs.ByName.{AreByName}
+use Rattle.wasm_validate.specs.Locals.{HaveNoEmptyRun}
 use Rattle.wasm_spec.specs.Validity.{IsSupported, IsValid, AreOrdered, IsMemoryType, IsInitialised, IsElementSegment, IsDataSegment, IsStart, IsDefined}
 
 -- valid, but for the functions' code and the names of the exports
@@ -21,5 +22,6 @@ pub record HasValidParts (m : Module) : Type 0 where
 pub record IsValidated (m : Module) (by_name needs : List ℕ) : Type 0 where
   pub supported : IsSupported (module_tree m)
   pub valid : IsValid (module_tree m)
+  pub locals : HaveNoEmptyRun m
   pub exports_are : AreByName m.exports by_name
   pub needs_are : needs ≡ map (need (module_tree m)) (module_tree m).functions

@@ -2,3 +2,4 @@ pub mod ByName
 pub mod Checked
 pub mod Fault
 pub mod Floats
+pub mod Locals

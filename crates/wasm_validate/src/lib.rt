@@ -6,6 +6,7 @@
 mod constant;
 mod floats;
 mod functions;
+mod locals;
 mod module;
 mod names;
 #[cfg(test)]

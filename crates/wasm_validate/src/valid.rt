@@ -7,10 +7,12 @@ ghost use Rattle.wasm_spec.specs.Validity.{IsSupported, IsValid, Exports};
 ghost use Rattle.wasm_validate.specs.Checked.{IsValidated};
 ghost use Rattle.wasm_validate.specs.ByName.{AreByName};
 ghost use Rattle.wasm_validate.specs.Fault.{valid_fault};
+ghost use Rattle.wasm_validate.specs.Locals.{HaveNoEmptyRun};
 ghost use Rattle.wasm_validate.specs.declared.valid.ValidFault.TheVariants.{NoMemory};
 
 use crate::floats::uses_floats;
 use crate::functions::frame_needs;
+use crate::locals::without_empty_runs;
 use crate::module::has_valid_parts;
 use crate::names::{exported, exports_by_name};
 use std::alloc::{AllocError, Global};
@@ -94,7 +96,7 @@ fn check_module(alloc: Global, m: &Module) -> Result<(Vec<u32>, Vec<u64>), Check
     Ok((by_name, needs))
 }
 
-/// The module, where this host runs it and it is valid.
+/// The module, where this host runs it and it is valid, without the runs of no locals that its functions may have.
 ///
 /// Source: Core Specification 1.0, section 3.4.10.
 ///
@@ -103,7 +105,7 @@ fn check_module(alloc: Global, m: &Module) -> Result<(Vec<u32>, Vec<u64>), Check
 /// `Unsupported` exactly where the module uses floats or has an import, `Invalid` exactly where it has neither and is
 /// not valid. `NoMemory` in place of any answer.
 pub fn validate(alloc: Global, m: Module) -> Result<Valid, ValidFault>
-    ensures ok { IfOk result (λ v. v ≡ m) }
+    ensures tree { IfOk result (λ v. module_tree v ≡ module_tree m) }
     ensures supported { OnOk result (IsSupported (module_tree m)) }
     ensures valid { OnOk result (IsValid (module_tree m)) }
     ensures unsupported { IsErrOf result ValidFault.Unsupported → ¬ (IsSupported (module_tree m)) }
@@ -114,7 +116,7 @@ pub fn validate(alloc: Global, m: Module) -> Result<Valid, ValidFault>
     }
     let (by_name, needs) = check_module(alloc, &m)?;
     Ok(Valid {
-        module: m,
+        module: without_empty_runs(alloc, m),
         by_name,
         needs,
     })
@@ -126,6 +128,7 @@ impl Valid {
         ensures same { result.now ≡ self.now }
         ensures supported { IsSupported (module_tree self.now) }
         ensures valid { IsValid (module_tree self.now) }
+        ensures locals { HaveNoEmptyRun self.now }
     {
         &self.module
     }

@@ -15,6 +15,7 @@ run_machine-requires-clause-runs c =
       supported = c.module-m.ensures.supported;
       valid = c.module-m.ensures.valid;
       needs = subst (FitsFrame m) frame c.requires.frame;
+      locals = c.module-m.ensures.locals;
     } in (
       c.stacks.inside.frame,
       subst (λ (n : Module). IsRunnable n c.stacks.inside.frame) (sym c.module-m.ensures.same) run,

@@ -7,8 +7,8 @@ use Rattle.machine_steps.specs.Lent.{store_of}
 use Rattle.wasm_machine.proofs.ResultLemmas.{first_frame, done_result, trap_result, fuel_result}
 use Rattle.wasm_machine.proofs.invocation.run_machine.Goals as goal
 
-pub begin-requires : goal.begin-requires
-begin-requires c =
+pub begin-requires-clause-room : goal.begin-requires-clause-room
+begin-requires-clause-room c =
     let (frame, run, room) = c.requires.runs in
     first_frame c.args.m.now c.args.limits frame c.args.function c.args.args.now c.args.machine.now run c.requires.call c.requires.depth room
 
