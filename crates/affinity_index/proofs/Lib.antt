@@ -1,4 +1,5 @@
 mod Sorting
 mod Preferring
-mod UnheldLists
-mod UnheldNumbers
+mod Existing
+mod Leasts
+pub mod UnheldLists

@@ -1,5 +1,5 @@
 -- The slots that are warm for a module come first.
-use Rattle.std.proofs.Common.{◌≡◌, ⊎_elim, inl, inr, ℕ, zero, suc, [], ◌∷◌, sym, ◌∙◌, true≢false,  ◌+◌, ◌-◌, ◌*◌, ◌<◌, ◌≤◌, ◌==◌, Bool, true, false, cond, Option, Some, None, is_some, unwrap_or, List, length, refl, ap, subst, arith}
+use Rattle.std.proofs.Common.{◌≡◌, ⊎_elim, inl, inr, ℕ, zero, suc, [], ◌∷◌, sym, ◌∙◌, true≢false, ◌+◌, ◌-◌, ◌*◌, ◌<◌, ◌≤◌, ◌==◌, Bool, true, false, cond, Option, Some, None, is_some, unwrap_or, List, length, refl, ap, subst, arith}
 use Rattle.std.specs.Prelude.{slice_index_or}
 use Rattle.std.specs.List.{count_by}
 use Rattle.std.proofs.lemmas.Bool.{eqb-true, eq-eqb}
@@ -53,7 +53,7 @@ some_of None h = absurd (omega arith)
 some_of (Some r) h = (r, refl)
 
 -- each number of the order has a rank
-has_rank : (seen : List ℕ) (tag : ℕ) (full : Bool) (order : List ℕ) → IsOrder seen tag full order → (j : ℕ) → j < length order → (r : ℕ) × (seen_rank seen tag full (slice_index_or order j 0) ≡ Some r)
+pub has_rank : (seen : List ℕ) (tag : ℕ) (full : Bool) (order : List ℕ) → IsOrder seen tag full order → (j : ℕ) → j < length order → (r : ℕ) × (seen_rank seen tag full (slice_index_or order j 0) ≡ Some r)
 has_rank seen tag full order is j within =
     let n = slice_index_or order j 0 in
     let self : (n == n) ≡ true = eq-eqb n n refl in
@@ -73,7 +73,7 @@ own_is_ranked : (tag : ℕ) (full : Bool) (w : StateWord) → IsOwnWarm tag w �
 own_is_ranked tag full w own = rw (own.free, own.warm) refl
 
 -- what is counted stands at some place
-place_of : (n : ℕ) (xs : List ℕ) → 1 ≤ count_by (λ (m : ℕ). m == n) xs → (k : ℕ) × (k < length xs) × (slice_index_or xs k 0 ≡ n)
+pub place_of : (n : ℕ) (xs : List ℕ) → 1 ≤ count_by (λ (m : ℕ). m == n) xs → (k : ℕ) × (k < length xs) × (slice_index_or xs k 0 ≡ n)
 place_of n [] h = absurd (omega arith)
 place_of n (x ∷ xs) h =
     let more : count_by (λ (m : ℕ). m == n) (x ∷ xs) ≡ bit (x == n) + count_by (λ (m : ℕ). m == n) xs = sum_by-cons (λ (m : ℕ). bit (m == n)) x xs in

@@ -78,7 +78,7 @@ sorted_is_order seen tag full es fs same sorted each once =
 not_seen : (tag : ℕ) (full : Bool) (word r : ℕ) → word ≡ 1 → rank_of tag full (unpacked word) ≡ Some r → ⊥
 not_seen tag full word r past has = let e : None ≡ Some r = ap (λ (x : ℕ). rank_of tag full (unpacked x)) (sym past) ∙ has in cc
 
-ranked_is_within : (seen : List ℕ) (tag : ℕ) (full : Bool) (n r : ℕ) → seen_rank seen tag full n ≡ Some r → n < length seen
+pub ranked_is_within : (seen : List ℕ) (tag : ℕ) (full : Bool) (n r : ℕ) → seen_rank seen tag full n ≡ Some r → n < length seen
 ranked_is_within seen tag full n r has = ⊎_elim (λ h. h) (λ past. absurd (not_seen tag full (slice_index_or seen n 1) r (get_or_past seen n 1 past) has)) (cases_lt n (length seen))
 
 pub sorted_is_within : (seen : List ℕ) (tag : ℕ) (full : Bool) (es fs : List Ranked) → IsPermutation es fs → All (λ e. seen_rank seen tag full e.number ≡ Some e.rank) es → All (λ n. n < length seen) (map number_of fs)

@@ -9,3 +9,8 @@ pub fn own_warm_slots_come_first()
     ensures listed { (seen : List ℕ) (tag : ℕ) (full : Bool) (order : List ℕ) → IsOrder seen tag full order → OwnAreListed tag seen order }
     ensures before { (seen : List ℕ) (tag : ℕ) (full : Bool) (order : List ℕ) → IsOrder seen tag full order → OwnOrAllBefore tag seen order }
 {}
+
+/// Whatever was seen, the slots have an order.
+pub fn each_scan_has_its_order()
+    ensures { (seen : List ℕ) (tag : ℕ) (full : Bool) → (order : List ℕ) × IsOrder seen tag full order }
+{}

@@ -2,14 +2,14 @@
 #![tactic(auto)]
 
 pub mod laws;
+mod least;
 mod orders;
 mod ranking;
 mod ranks;
-mod unheld;
 
+pub use least::first_in_order;
 pub use orders::Order;
 pub use ranking::order;
-pub use unheld::unheld_numbers;
 
 #[cfg(test)]
 mod tests;

@@ -1,7 +1,7 @@
 ghost use Rattle.std.specs.Prelude.{◌≡◌, true, false};
 ghost use Rattle.pool_core.specs.StateWords.{is_well_formed, IsWordOf};
 
-use crate::order;
+use crate::{first_in_order, order};
 use pool_core::{State, Target, pack};
 use std::test::Fail;
 
@@ -25,5 +25,9 @@ fn its_own_come_first_and_cold_ones_by_the_limit(rt: HostRuntime) -> Result<(), 
     assert_eq!(rt; full.numbers(), [3, 0, 2, 1].as_slice());
     let room = order(&seen, 7, 2, 3);
     assert_eq!(rt; room.numbers(), [3, 0, 1, 2].as_slice());
+    assert_eq!(rt; first_in_order(&seen, 7, 2, 3), Some(3));
+    assert_eq!(rt; first_in_order(&seen, 8, 3, 3), Some(2));
+    assert_eq!(rt; first_in_order(&seen, 8, 2, 3), Some(1));
+    assert_eq!(rt; first_in_order(&[], 8, 2, 3), None);
     Ok(())
 }

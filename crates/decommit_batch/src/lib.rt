@@ -3,6 +3,7 @@
 
 mod flushing;
 mod handing;
+pub mod laws;
 
 pub use flushing::flush;
 pub use handing::hand_in;

@@ -5,7 +5,7 @@ ghost use Rattle.slot_words.specs.Passes.{IsIdle, IsSamePass, share_of};
 ghost use Rattle.slot_words.specs.Owned.{IsPassOf, IsNewPassOf, slots_of, passes_of};
 
 use crate::hand_in;
-use pool_core::TAG_LIMIT;
+use pool_core::{State, TAG_LIMIT, unpack};
 use slot_words::{Held, KindCounts, NoMemory, Pass, Pooled, Words};
 use std::alloc::Global;
 use std::test::Fail;
@@ -71,7 +71,12 @@ fn visit(words: &Words<Cell>, pass: &mut Pass<Cell>, n: u32, batch: u32) -> Resu
     ensures idle { IsIdle pass.new }
 {
     let mut lease = words.claim(pass, n)?;
-    words.settle(pass, &lease);
+    let (found, _) = unpack(lease.word());
+    match found.state {
+        State::Cold => {}
+        State::Warm => words.warm_down(pass),
+        State::Awaiting => words.await_down(pass),
+    }
     lease.value.used = true;
     lease.value.tag = 5;
     hand_in(words, pass, lease, &(), batch);

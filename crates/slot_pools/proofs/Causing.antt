@@ -7,7 +7,8 @@ use Rattle.pool_core.specs.StateWords.{IsWordOf, bit}
 use Rattle.pool_core.specs.Laws.{LowestBitSaysHeld}
 use Rattle.slot_words.specs.declared.views.Operation.{Operation}
 use Rattle.slot_words.specs.declared.views.Operation.TheVariants.{Claim}
-use Rattle.slot_words.specs.Rows.{AreLost, IsLost}
+use Rattle.slot_words.specs.Rows.{IsLost}
+use Rattle.slot_pools.specs.Rows.{AreLost}
 use Rattle.slot_words.specs.Rule.{HeldByAnother}
 use Rattle.slot_words.proofs.Parts.{number_at}
 use Rattle.slot_pools.specs.Wins.{all_numbers}

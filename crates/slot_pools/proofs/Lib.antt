@@ -2,3 +2,5 @@ mod Causing
 mod Filling
 mod LastClaiming
 mod Preferring
+mod WonRows
+mod UnheldRows

@@ -6,7 +6,8 @@ use Rattle.slot_words.specs.declared.views.Operation.{Operation}
 use Rattle.slot_words.specs.declared.views.Operation.TheVariants.{Claim, WarmLoad}
 use Rattle.slot_words.specs.Trails.{loads_from}
 use Rattle.slot_words.specs.Parts.{Then}
-use Rattle.slot_words.specs.Rows.{AreLost, IsLost, IsSettled, IsWonAlong}
+use Rattle.slot_words.specs.Rows.{IsLost}
+use Rattle.slot_pools.specs.Rows.{AreLost, IsSettled, IsWonAlong}
 use Rattle.slot_words.proofs.Parts.{part_at}
 use Rattle.affinity_index.specs.Orders.{IsOrder}
 use Rattle.affinity_index.specs.Preference.{IsOwnSeen, OwnAreListed, OwnOrAllBefore}

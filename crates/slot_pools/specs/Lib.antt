@@ -1,5 +1,7 @@
+pub mod Rows
 pub mod Looks
 pub mod Wins
+pub mod LookWins
 pub mod Takes
 pub mod Gives
 pub mod Causes

@@ -1,5 +1,9 @@
 -- What a take reads before it claims, and in which order it then claims.
-use Rattle.std.specs.Prelude.{◌≡◌, ℕ, leb, List, ◌∷◌, length}
+use Rattle.std.specs.Prelude.{◌≡◌, ℕ, ◌≤◌, leb, List, ◌∷◌, length}
+use Rattle.std.specs.List.{All}
+use Rattle.pool_core.specs.declared.limits.TheConstants.{MOST_SLOTS}
+use Rattle.pool_core.specs.declared.words.StateWord.{StateWord}
+use Rattle.pool_core.specs.StateWords.{IsWordOf}
 use Rattle.slot_words.specs.declared.views.Operation.{Operation}
 use Rattle.slot_words.specs.declared.views.Operation.TheVariants.{WarmLoad}
 use Rattle.slot_words.specs.Trails.{loads_from}
@@ -20,3 +24,9 @@ pub record IsScan (slots : ℕ) (order : List ℕ) (done : List Operation) : Typ
   pub all_seen : length seen ≡ slots
   pub order_is : order ≡ unheld seen
   pub done_is : done ≡ loads_from 0 seen
+
+-- these are state words, one for each slot
+pub record AreWords (slots : ℕ) (seen : List ℕ) : Type 0 where
+  pub all_seen : length seen ≡ slots
+  pub few : length seen ≤ MOST_SLOTS
+  pub words : All (λ r. (w : StateWord) × IsWordOf r w) seen

@@ -4,7 +4,7 @@ use Rattle.std.specs.List.{range_with_len}
 use Rattle.slot_words.specs.declared.views.Operation.{Operation}
 use Rattle.slot_words.specs.declared.views.Operation.TheVariants.{AwaitLoad}
 use Rattle.slot_words.specs.Parts.{Then}
-use Rattle.slot_words.specs.Rows.{AreLost, IsWonAlong}
+use Rattle.slot_pools.specs.Rows.{AreLost, IsWonAlong}
 use Rattle.decommit_batch.specs.Flush.{IsFlush}
 
 -- 0, 1, .. up to the last slot

@@ -1,5 +1,5 @@
 //! What a take answers that won nothing.
-use slot_words::AllHeld;
+use crate::rows::AllHeld;
 use thiserror::Error;
 
 /// Each slot of the pool is held.

@@ -4,9 +4,11 @@
 #![tactic(auto)]
 
 mod answers;
+mod claiming;
 mod giving;
 pub mod laws;
 mod looking;
+mod rows;
 mod taking;
 mod winning;
 

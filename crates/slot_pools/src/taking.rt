@@ -8,9 +8,10 @@ ghost use Rattle.slot_words.specs.Rows.{HasTaken};
 ghost use Rattle.slot_pools.specs.Takes.{IsBatchedTake, IsFullBatchedTake, IsAffineTake, IsFullAffineTake, IsAnyTake, IsFullAnyTake};
 
 use crate::answers::Full;
-use crate::looking::{look, scan_unheld};
-use crate::winning::{win, win_after_flush};
-use slot_words::{Lease, Pass, Pooled, Words};
+use crate::looking::look;
+use crate::rows::settle;
+use crate::winning::{win, win_after_flush, win_any};
+use slot_words::{Lease, Pass, Pooled, Seen, Words};
 
 /// Takes a slot for the module of this tag, out of a pool in which slots may await their decommit: along the order, and else, after a flush, whichever is won first.
 ///
@@ -35,9 +36,9 @@ pub fn take_batched<V: Pooled>(
     ensures full { OnErr result (IsIdle pass.new × Grew (IsFullBatchedTake (limit_of words.now) (slots_of words.now) tag) (trail pass.old) (trail pass.new)) }
     ensures another { OnErr result (share_of pass.old < passes_of words.now) }
 {
-    let order = look(words, pass, tag);
-    let lease = win_after_flush(words, pass, images, &order)?;
-    words.settle(pass, &lease);
+    let look = look(words, pass);
+    let lease = win_after_flush(words, pass, images, &look, tag)?;
+    settle(words, pass, &lease);
     Ok(lease)
 }
 
@@ -63,9 +64,9 @@ pub fn take_affine<V: Pooled>(
     ensures full { OnErr result (IsIdle pass.new × Grew (IsFullAffineTake (limit_of words.now) (slots_of words.now) tag) (trail pass.old) (trail pass.new)) }
     ensures another { OnErr result (share_of pass.old < passes_of words.now) }
 {
-    let order = look(words, pass, tag);
-    let lease = win(words, pass, &order)?;
-    words.settle(pass, &lease);
+    let look = look(words, pass);
+    let lease = win(words, pass, &look, tag)?;
+    settle(words, pass, &lease);
     Ok(lease)
 }
 
@@ -87,8 +88,9 @@ pub fn take_any<V: Pooled>(words: &Words<V>, pass: &mut Pass<V>) -> Result<Lease
     ensures full { OnErr result (IsIdle pass.new × Grew (IsFullAnyTake (slots_of words.now)) (trail pass.old) (trail pass.new)) }
     ensures another { OnErr result (share_of pass.old < passes_of words.now) }
 {
-    let unheld = scan_unheld(words, pass);
-    let lease = win(words, pass, &unheld)?;
-    words.settle(pass, &lease);
+    let mut seen = Seen::new();
+    words.scan(pass, &mut seen);
+    let lease = win_any(words, pass, seen.words())?;
+    settle(words, pass, &lease);
     Ok(lease)
 }

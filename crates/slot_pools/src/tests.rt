@@ -7,6 +7,7 @@ ghost use Rattle.slot_words.specs.Leases.{lease_number};
 ghost use Rattle.slot_words.specs.Passes.{IsIdle, IsSamePass, Holds};
 ghost use Rattle.slot_words.specs.Owned.{IsPassOf, IsNewPassOf, slots_of};
 
+use crate::rows::{claim_any, claim_first, settle};
 use crate::{Full, give_cold, give_warm, take_affine, take_any, take_batched};
 use decommit_batch::hand_in;
 use pool_core::TAG_LIMIT;
@@ -120,7 +121,8 @@ fn opened(
 ) -> Result<(Words<Cell>, Vec<Pass<Cell>>), NoMemory>
     requires slots { (1 ≤ slots) × (slots ≤ 3) }
     requires passes { 1 ≤ passes }
-    ensures { IfOk result (λ o. (length o.1.items ≡ passes) × All (IsNewPassOf (λ x. []) o.0) o.1.items) }
+    ensures slots { IfOk result (λ o. slots_of o.0 ≡ slots) }
+    ensures passes { IfOk result (λ o. (length o.1.items ≡ passes) × All (IsNewPassOf (λ x. []) o.0) o.1.items) }
 {
     let cells = cells(alloc, slots)?;
     Words::open(alloc, &(), cells, warm, passes)
@@ -249,6 +251,34 @@ fn a_held_pool_is_full_until_its_slot_is_given_back(rt: HostRuntime) -> Result<(
     for kind in [Batched(1), Batched(2), Affine, Any] {
         assert_eq!(rt; beside(rt.alloc(), kind)?, [false, true]);
     }
+    Ok(())
+}
+
+// Which slots the second pass wins while the first has slot 0: in the order 0, 1, and in any order.
+fn won_beside(alloc: Global) -> Result<[u32; 2], NoMemory> {
+    let (words, mut passes) = opened(alloc, 2, 1, 2)?;
+    let mut first = passes.pop().unwrap();
+    let mut second = passes.pop().unwrap();
+    let mut won = [9; 2];
+    if let Ok(lease) = take(&words, &mut first, Affine, Module::A) {
+        if let Ok(other) = claim_first(&words, &mut second, &[0, 1]) {
+            won[0] = other.number();
+            settle(&words, &mut second, &other);
+            give(&words, &mut second, other, Affine, Module::A);
+        }
+        if let Ok(other) = claim_any(&words, &mut second) {
+            won[1] = other.number();
+            settle(&words, &mut second, &other);
+            give(&words, &mut second, other, Affine, Module::A);
+        }
+        give(&words, &mut first, lease, Affine, Module::A);
+    }
+    Ok(won)
+}
+
+#[test]
+fn rows_of_claims_pass_over_a_held_slot(rt: HostRuntime) -> Result<(), Fail> {
+    assert_eq!(rt; won_beside(rt.alloc())?, [1, 1]);
     Ok(())
 }
 

@@ -1,16 +1,21 @@
 //! Claims of slots until one is won.
-ghost use Rattle.std.specs.Prelude.{◌<◌, IfOk, OnErr};
-ghost use Rattle.std.specs.List.{All};
+ghost use Rattle.std.specs.Prelude.{◌≡◌, ◌<◌, length, IfOk, OnErr};
 ghost use Rattle.slot_words.specs.Leases.{lease_number, lease_word};
 ghost use Rattle.slot_words.specs.Parts.{Grew};
 ghost use Rattle.slot_words.specs.Passes.{IsIdle, IsSamePass, share_of, trail};
 ghost use Rattle.slot_words.specs.Owned.{IsPassOf, slots_of, limit_of, passes_of};
-ghost use Rattle.slot_words.specs.Rows.{AreLost, IsWonAlong, HasWon};
-ghost use Rattle.slot_pools.specs.Wins.{all_numbers, IsAfterFlush, IsFlushWin, IsFlushLoss, IsDirectWin, IsDirectLoss};
+ghost use Rattle.slot_words.specs.Rows.{HasWon};
+ghost use Rattle.affinity_index.specs.Unheld.{unheld};
+ghost use Rattle.slot_pools.specs.Rows.{AreLost, IsWonAlong};
+ghost use Rattle.slot_pools.specs.Looks.{AreWords};
+ghost use Rattle.slot_pools.specs.Wins.{all_numbers, IsAfterFlush, IsFlushLoss, IsDirectLoss};
+ghost use Rattle.slot_pools.specs.LookWins.{AlongOrder, WinsByFlush, WinsDirectly};
 
-use affinity_index::Order;
+use crate::claiming::{claim_first_unheld, claim_in_order};
+use crate::looking::Looked;
+use crate::rows::{AllHeld, claim_any};
 use decommit_batch::flush;
-use slot_words::{AllHeld, Lease, Pass, Pooled, Words};
+use slot_words::{Lease, Pass, Pooled, Words};
 
 // Sets the flush mark, flushes, and claims each number until one is won.
 fn claim_after_flush<V: Pooled>(
@@ -28,48 +33,74 @@ fn claim_after_flush<V: Pooled>(
 {
     words.await_load(pass);
     flush(words, pass, images);
-    words.claim_any(pass)
+    claim_any(words, pass)
 }
 
-// Claims along the order, and then, after a flush, along all numbers, until one is won.
+// Claims along the order for the module of this tag, and then, after a flush, along all numbers, until one is won.
 pub(crate) fn win_after_flush<V: Pooled>(
     words: &Words<V>,
     pass: &mut Pass<V>,
     images: &V::Images,
-    order: &Order,
+    look: &Looked,
+    tag: u32,
 ) -> Result<Lease<V>, AllHeld>
     requires own { IsPassOf V.room words.now pass.old }
     requires idle { IsIdle pass.old }
-    requires numbers { All (λ n. n < slots_of words.now) order.now }
+    requires words { AreWords (slots_of words.now) look.now.seen }
     ensures same { IsSamePass pass.old pass.new }
     ensures won { IfOk result (HasWon V.fits V.room words.now pass.new) }
-    ensures trail { IfOk result (λ l. Grew (IsFlushWin (limit_of words.now) (slots_of words.now) order.now (lease_number l) (lease_word l)) (trail pass.old) (trail pass.new)) }
-    ensures held { OnErr result (IsIdle pass.new × Grew (IsFlushLoss (limit_of words.now) (slots_of words.now) order.now) (trail pass.old) (trail pass.new)) }
+    ensures trail { IfOk result (λ l. Grew (AlongOrder words.now tag look.now (WinsByFlush words.now l)) (trail pass.old) (trail pass.new)) }
+    ensures idle { OnErr result (IsIdle pass.new) }
+    ensures held { OnErr result (Grew (AlongOrder words.now tag look.now (IsFlushLoss (limit_of words.now) (slots_of words.now))) (trail pass.old) (trail pass.new)) }
     ensures another { OnErr result (share_of pass.old < passes_of words.now) }
 {
-    if let Ok(lease) = words.claim_first(pass, order.numbers()) {
+    if let Ok(lease) = claim_in_order(words, pass, look, tag) {
         return Ok(lease);
     }
     claim_after_flush(words, pass, images)
 }
 
-// Claims along the order, and then along all numbers, until one is won.
+// Claims along the order for the module of this tag, and then along all numbers, until one is won.
 pub(crate) fn win<V: Pooled>(
     words: &Words<V>,
     pass: &mut Pass<V>,
-    order: &Order,
+    look: &Looked,
+    tag: u32,
 ) -> Result<Lease<V>, AllHeld>
     requires own { IsPassOf V.room words.now pass.old }
     requires idle { IsIdle pass.old }
-    requires numbers { All (λ n. n < slots_of words.now) order.now }
+    requires words { AreWords (slots_of words.now) look.now.seen }
     ensures same { IsSamePass pass.old pass.new }
     ensures won { IfOk result (HasWon V.fits V.room words.now pass.new) }
-    ensures trail { IfOk result (λ l. Grew (IsDirectWin (slots_of words.now) order.now (lease_number l) (lease_word l)) (trail pass.old) (trail pass.new)) }
-    ensures held { OnErr result (IsIdle pass.new × Grew (IsDirectLoss (slots_of words.now) order.now) (trail pass.old) (trail pass.new)) }
+    ensures trail { IfOk result (λ l. Grew (AlongOrder words.now tag look.now (WinsDirectly words.now l)) (trail pass.old) (trail pass.new)) }
+    ensures idle { OnErr result (IsIdle pass.new) }
+    ensures held { OnErr result (Grew (AlongOrder words.now tag look.now (IsDirectLoss (slots_of words.now))) (trail pass.old) (trail pass.new)) }
     ensures another { OnErr result (share_of pass.old < passes_of words.now) }
 {
-    if let Ok(lease) = words.claim_first(pass, order.numbers()) {
+    if let Ok(lease) = claim_in_order(words, pass, look, tag) {
         return Ok(lease);
     }
-    words.claim_any(pass)
+    claim_any(words, pass)
+}
+
+// Claims the numbers that were seen not held, and then all numbers, until one is won.
+pub(crate) fn win_any<V: Pooled>(
+    words: &Words<V>,
+    pass: &mut Pass<V>,
+    seen: &[u64],
+) -> Result<Lease<V>, AllHeld>
+    requires own { IsPassOf V.room words.now pass.old }
+    requires idle { IsIdle pass.old }
+    requires seen { length seen.now ≡ slots_of words.now }
+    ensures same { IsSamePass pass.old pass.new }
+    ensures won { IfOk result (HasWon V.fits V.room words.now pass.new) }
+    ensures trail { IfOk result (λ l. Grew (WinsDirectly words.now l (unheld seen.now)) (trail pass.old) (trail pass.new)) }
+    ensures idle { OnErr result (IsIdle pass.new) }
+    ensures held { OnErr result (Grew (IsDirectLoss (slots_of words.now) (unheld seen.now)) (trail pass.old) (trail pass.new)) }
+    ensures another { OnErr result (share_of pass.old < passes_of words.now) }
+{
+    if let Ok(lease) = claim_first_unheld(words, pass, seen) {
+        return Ok(lease);
+    }
+    claim_any(words, pass)
 }

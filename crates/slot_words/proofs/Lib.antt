@@ -14,7 +14,6 @@ mod OneCount
 mod Openings
 pub mod Parts
 mod PassEvents
-mod WonRows
 mod RuleLaws
 mod ScanTrails
 pub mod SharedPasses

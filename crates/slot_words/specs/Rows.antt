@@ -1,18 +1,16 @@
--- Claims of some numbers, one after another, and what a pass has that won one.
-use Rattle.std.specs.Prelude.{◌≡◌, ℕ, ◌<◌, Bool, true, false, List, [], ◌∷◌, ◌++◌, length, take, slice_index_or}
+-- What a claim leaves the pass that made it.
+use Rattle.std.specs.Prelude.{◌≡◌, ℕ, ◌<◌, Bool, true, false, List, [], ◌∷◌}
 use Rattle.pool_core.specs.declared.words.State.{State}
-use Rattle.pool_core.specs.declared.words.State.TheVariants.{Cold, Warm, Awaiting}
 use Rattle.pool_core.specs.declared.words.StateWord.{StateWord}
 use Rattle.pool_core.specs.StateWords.{is_warm, is_awaiting, IsWordOf}
 use Rattle.slot_words.specs.declared.leases.Lease.{Lease}
 use Rattle.slot_words.specs.declared.words.Words.{Words}
 use Rattle.slot_words.specs.declared.views.Operation.{Operation}
-use Rattle.slot_words.specs.declared.views.Operation.TheVariants.{Claim, WarmDown, AwaitDown}
+use Rattle.slot_words.specs.declared.views.Operation.TheVariants.{Claim}
 use Rattle.slot_words.specs.Shows.{Suits}
 use Rattle.slot_words.specs.Leases.{lease_number, lease_word}
 use Rattle.slot_words.specs.Passes.{Pass, Holds}
 use Rattle.slot_words.specs.Owned.{slots_of, room_of}
-use Rattle.slot_words.specs.Parts.{Parts}
 
 -- a claim that read a held word
 pub record IsLost (n : ℕ) (done : List Operation) : Type 0 where
@@ -21,19 +19,6 @@ pub record IsLost (n : ℕ) (done : List Operation) : Type 0 where
   pub is_word : IsWordOf read word
   pub held : word.held ≡ true
   pub done_is : done ≡ Claim n read ∷ []
-
--- each of these numbers was claimed, and each was held
-abbrev pub AreLost : List ℕ → List Operation → Type 0
-AreLost ns done = Parts IsLost ns done
-
--- these numbers were claimed in order until one was won: number n, where this was read
-pub record IsWonAlong (ns : List ℕ) (n read : ℕ) (done : List Operation) : Type 0 where
-  pub place : ℕ
-  pub within : place < length ns
-  pub number_is : n ≡ slice_index_or ns place 0
-  pub lost : List Operation
-  pub are_lost : AreLost (take place ns) lost
-  pub done_is : done ≡ lost ++ Claim n read ∷ []
 
 -- The pass has the slot of this lease: the word that its claim read was not held, and its value fits that word. Beside the number it has a permit and a mark as this says of the word.
 pub record HasSlot {V I : Type 0} (fits : State → ℕ → V → Type 0) (room : V → List ℕ) (words : Words V I) (permit mark : State → Bool) (pass : Pass V) (lease : Lease V) : Type 0 where
@@ -52,12 +37,3 @@ module _ {V I : Type 0} (fits : State → ℕ → V → Type 0) (room : V → Li
   -- with neither any more
   abbrev pub HasTaken : Pass V → Lease V → Type 0
   HasTaken = HasSlot fits room words (λ s. false) (λ s. false)
-
-abbrev pub IsSettledFrom : State → List Operation → Type 0
-IsSettledFrom Cold done = done ≡ []
-IsSettledFrom Warm done = (r : ℕ) × (done ≡ WarmDown r ∷ [])
-IsSettledFrom Awaiting done = (r : ℕ) × (done ≡ AwaitDown r ∷ [])
-
--- A slot that was won warm gives its permit back, and one that was won awaiting its mark.
-abbrev pub IsSettled : ℕ → List Operation → Type 0
-IsSettled read done = (w : StateWord) × IsWordOf read w × IsSettledFrom w.target.state done

@@ -2,13 +2,13 @@ ghost use Rattle.std.specs.Prelude.{◌≡◌, ◌<◌, [], true, false, IfOk, O
 ghost use Rattle.std.proofs.lemmas.Bool.{both_ways};
 ghost use Rattle.pool_core.specs.declared.limits.TheConstants.{TAG_LIMIT};
 ghost use Rattle.pool_core.specs.StateWords.{is_cold, is_awaiting};
-ghost use Rattle.slot_words.specs.Passes.{IsIdle, Holds};
+ghost use Rattle.slot_words.specs.Passes.{IsIdle, Holds, share_of};
 ghost use Rattle.slot_words.specs.Leases.{lease_number};
 ghost use Rattle.slot_words.specs.Owned.{IsPassOf, IsNewPassOf, slots_of, passes_of};
 
 use crate::laws::nothing_done_leaves_all_cold;
 use crate::{Held, KindCounts, Lease, NoMemory, Pass, Pooled, Seen, Words};
-use pool_core::{State, TAG_LIMIT, Target};
+use pool_core::{State, TAG_LIMIT, Target, unpack};
 use std::alloc::Global;
 use std::test::Fail;
 use std::thread;
@@ -76,16 +76,22 @@ fn opened(alloc: Global, warm: u32) -> Result<(Words<Cell>, Pass<Cell>, Pass<Cel
 }
 
 // Claims a slot, and gives back the permit or the mark that came with it.
-fn take(words: &Words<Cell>, pass: &mut Pass<Cell>, n: u32) -> Result<Lease<Cell>, Held>
-    requires own { IsPassOf (λ x. []) words.now pass.old }
+fn take<V: Pooled>(words: &Words<V>, pass: &mut Pass<V>, n: u32) -> Result<Lease<V>, Held>
+    requires own { IsPassOf V.room words.now pass.old }
     requires idle { IsIdle pass.old }
     requires number { n < slots_of words.now }
-    ensures own { IsPassOf (λ x. []) words.now pass.new }
+    ensures own { IsPassOf V.room words.now pass.new }
     ensures won { IfOk result (λ l. Holds pass.new n false false false × (lease_number l ≡ n)) }
     ensures held { OnErr result (IsIdle pass.new) }
+    ensures another { OnErr result (share_of pass.old < passes_of words.now) }
 {
     let lease = words.claim(pass, n)?;
-    words.settle(pass, &lease);
+    let (found, _) = unpack(lease.word());
+    match found.state {
+        State::Cold => {}
+        State::Warm => words.warm_down(pass),
+        State::Awaiting => words.await_down(pass),
+    }
     Ok(lease)
 }
 
@@ -282,32 +288,6 @@ fn a_second_pass_gets_the_next_stamp(rt: HostRuntime) -> Result<(), Fail> {
     Ok(())
 }
 
-// Which slots the second pass wins while the first has slot 0: in the order 0, 1, and in any order.
-fn won_beside(alloc: Global) -> Result<[u32; 2], NoMemory> {
-    let (words, mut first, mut second) = opened(alloc, 0)?;
-    let mut won = [9; 2];
-    if let Ok(lease) = take(&words, &mut first, 0) {
-        if let Ok(other) = words.claim_first(&mut second, &[0, 1]) {
-            won[0] = other.number();
-            words.settle(&mut second, &other);
-            give(&words, &mut second, other);
-        }
-        if let Ok(other) = words.claim_any(&mut second) {
-            won[1] = other.number();
-            words.settle(&mut second, &other);
-            give(&words, &mut second, other);
-        }
-        give(&words, &mut first, lease);
-    }
-    Ok(won)
-}
-
-#[test]
-fn rows_of_claims_pass_over_a_held_slot(rt: HostRuntime) -> Result<(), Fail> {
-    assert_eq!(rt; won_beside(rt.alloc())?, [1, 1]);
-    Ok(())
-}
-
 /// A value of no module, which is cold whenever nobody holds it.
 #[derive(Drop)]
 struct Ticket {
@@ -348,8 +328,7 @@ fn a_ticket_comes_back_cold(rt: HostRuntime) -> Result<(), Fail> {
     let mut pass = passes.pop().unwrap();
     let other = passes.pop().unwrap();
     words.join_pass(&mut pass, other);
-    let mut lease = words.claim_any(&mut pass).unwrap();
-    words.settle(&mut pass, &lease);
+    let mut lease = take(&words, &mut pass, 0).unwrap();
     assert_eq!(rt; lease.value.calls, 7);
     lease.value.clear();
     words.release(&mut pass, lease, Target::COLD);

@@ -16,3 +16,12 @@ order-full-requires-clause-words g c = five _ _ _ _ _ (_, c.free.ensures) (_, c.
 
 pub order-room-requires-clause-words : goal.order-room-requires-clause-words
 order-room-requires-clause-words g c = five _ _ _ _ _ (_, c.free.ensures) (_, c.free-2.ensures) (_, c.free-3.ensures) (_, c.free-4.ensures) (_, c.free-5.ensures)
+
+pub first_in_order-requires-clause-words : goal.first_in_order-requires-clause-words
+first_in_order-requires-clause-words g c = five _ _ _ _ _ (_, c.free.ensures) (_, c.free-2.ensures) (_, c.free-3.ensures) (_, c.free-4.ensures) (_, c.free-5.ensures)
+
+pub first_in_order-requires-2-clause-words : goal.first_in_order-requires-2-clause-words
+first_in_order-requires-2-clause-words g c = five _ _ _ _ _ (_, c.free.ensures) (_, c.free-2.ensures) (_, c.free-3.ensures) (_, c.free-4.ensures) (_, c.free-5.ensures)
+
+pub first_in_order-requires-3-clause-words : goal.first_in_order-requires-3-clause-words
+first_in_order-requires-3-clause-words g c = five _ _ _ _ _ (_, c.free.ensures) (_, c.free-2.ensures) (_, c.free-3.ensures) (_, c.free-4.ensures) (_, c.free-5.ensures)

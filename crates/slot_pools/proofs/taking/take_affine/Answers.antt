@@ -1,10 +1,16 @@
 use Rattle.slot_words.specs.Owned.{slots_of, limit_of}
-use Rattle.slot_pools.specs.Looks.{IsLook}
+use Rattle.slot_pools.specs.Rows.{IsSettled}
 use Rattle.slot_pools.specs.Wins.{IsDirectLoss}
-use Rattle.slot_pools.proofs.Filling.{full_grew}
+use Rattle.slot_pools.specs.LookWins.{WinsDirectly}
+use Rattle.slot_pools.proofs.Filling.{full_by_look, won_by_look}
 use Rattle.slot_pools.proofs.taking.take_affine.Goals as goal
 
 pub returns-in_err-lease-clause-full : goal.returns-in_err-lease-clause-full
 returns-in_err-lease-clause-full g c =
-    let words = c.args.words.now in let lost = c.in_err-lease.ensures.held in
-    full_grew (IsLook (limit_of words) (slots_of words) c.args.tag) (IsDirectLoss (slots_of words)) c.look-order.result _ _ _ c.from_residual.result c.look-order.ensures.trail lost.0 lost.1
+    let words = c.args.words.now in let look = c.look-look in let lost = c.in_err-lease.ensures in
+    full_by_look (limit_of words) (slots_of words) c.args.tag look.result _ _ look.ensures.words look.ensures.trail (IsDirectLoss (slots_of words)) _ c.from_residual.result lost.idle lost.held
+
+pub returns-clause-trail : goal.returns-clause-trail
+returns-clause-trail g c =
+    let words = c.args.words.now in let look = c.look-look in let l = c.in_ok-lease.lease in
+    won_by_look (limit_of words) (slots_of words) c.args.tag look.result _ _ look.ensures.words look.ensures.trail (WinsDirectly words l) (IsSettled l.word) _ _ c.in_ok-lease.ensures.trail c.settle.ensures.trail

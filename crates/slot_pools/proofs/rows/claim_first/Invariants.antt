@@ -1,8 +1,8 @@
 use Rattle.std.proofs.Common.{take}
 use Rattle.slot_words.specs.Parts.{Grew}
 use Rattle.slot_words.specs.Passes.{IsIdle, IsSamePass, trail}
-use Rattle.slot_words.specs.Rows.{AreLost}
-use Rattle.slot_words.proofs.words.Words.claim_first.Given as goal
+use Rattle.slot_pools.specs.Rows.{AreLost}
+use Rattle.slot_pools.proofs.rows.claim_first.Given as goal
 
 abbrev pub invariant-loop-n : goal.invariant-loop-n
 invariant-loop-n g l = record {

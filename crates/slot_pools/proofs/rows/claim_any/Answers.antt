@@ -1,8 +1,8 @@
 use Rattle.std.proofs.Common.{rules, arith}
 use Rattle.slot_words.specs.Rows.{IsLost}
 use Rattle.slot_words.proofs.Parts.{one_number_more}
-use Rattle.slot_words.proofs.WonRows.{won_at_number}
-use Rattle.slot_words.proofs.words.Words.claim_any.Goals as goal
+use Rattle.slot_pools.proofs.WonRows.{won_at_number}
+use Rattle.slot_pools.proofs.rows.claim_any.Goals as goal
 
 pub loop-n-preserved : goal.loop-n-preserved
 loop-n-preserved g c = let h = c.in_default.ensures.held in record {

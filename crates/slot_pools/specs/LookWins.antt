@@ -1,0 +1,29 @@
+-- Claims along the order of what a look read.
+use Rattle.std.specs.Prelude.{ℕ, List, leb}
+use Rattle.slot_words.specs.declared.leases.Lease.{Lease}
+use Rattle.slot_words.specs.declared.words.Words.{Words}
+use Rattle.slot_words.specs.declared.views.Operation.{Operation}
+use Rattle.slot_words.specs.Leases.{lease_number, lease_word}
+use Rattle.slot_words.specs.Owned.{slots_of, limit_of}
+use Rattle.affinity_index.specs.Orders.{IsOrder}
+use Rattle.slot_pools.specs.declared.looking.Looked.{Looked}
+use Rattle.slot_pools.specs.Rows.{IsWonAlong}
+use Rattle.slot_pools.specs.Wins.{IsFlushWin, IsDirectWin}
+
+module _ {V : Type 0} where
+  -- the slot of this lease is won along these numbers
+  abbrev pub WinsAlong : Lease V → List ℕ → List Operation → Type 0
+  WinsAlong l ns = IsWonAlong ns (lease_number l) (lease_word l)
+
+module _ {V I : Type 0} (words : Words V I) where
+  -- claims of this kind along the order for the module of this tag, by what the look read
+  abbrev pub AlongOrder : ℕ → Looked → (List ℕ → List Operation → Type 0) → List Operation → Type 0
+  AlongOrder tag look Claims done = (order : List ℕ) × IsOrder look.seen tag (leb (limit_of words) look.warm) order × Claims order done
+
+  -- the slot of this lease is won along these numbers, or else along all
+  abbrev pub WinsDirectly : Lease V → List ℕ → List Operation → Type 0
+  WinsDirectly l ns = IsDirectWin (slots_of words) ns (lease_number l) (lease_word l)
+
+  -- the slot of this lease is won along these numbers, or else, after a flush, along all
+  abbrev pub WinsByFlush : Lease V → List ℕ → List Operation → Type 0
+  WinsByFlush l ns = IsFlushWin (limit_of words) (slots_of words) ns (lease_number l) (lease_word l)

@@ -1,0 +1,75 @@
+//! Claims of some numbers, one after another.
+ghost use Rattle.std.specs.Prelude.{◌<◌, IfOk, OnErr};
+ghost use Rattle.std.specs.List.{All, range_with_len};
+ghost use Rattle.slot_words.specs.Leases.{lease_number, lease_word};
+ghost use Rattle.slot_words.specs.Parts.{Grew};
+ghost use Rattle.slot_words.specs.Passes.{IsIdle, IsSamePass, share_of, trail};
+ghost use Rattle.slot_words.specs.Owned.{IsPassOf, slots_of, passes_of};
+ghost use Rattle.slot_words.specs.Rows.{HasWon, HasTaken};
+ghost use Rattle.slot_pools.specs.Rows.{AreLost, IsWonAlong, IsSettled};
+
+use pool_core::{State, unpack};
+use slot_words::{Lease, Pass, Pooled, Words};
+
+// Each slot was held as it was claimed.
+#[derive(Drop)]
+pub(crate) struct AllHeld;
+
+// Claims these numbers in order until one is won: `AllHeld` exactly where each of them was claimed and each claim read a held word.
+pub(crate) fn claim_first<V: Pooled>(
+    words: &Words<V>,
+    pass: &mut Pass<V>,
+    numbers: &[u32],
+) -> Result<Lease<V>, AllHeld>
+    requires own { IsPassOf V.room words.now pass.old }
+    requires idle { IsIdle pass.old }
+    requires numbers { All (λ n. n < slots_of words.now) numbers.now }
+    ensures same { IsSamePass pass.old pass.new }
+    ensures won { IfOk result (HasWon V.fits V.room words.now pass.new) }
+    ensures trail { IfOk result (λ l. Grew (IsWonAlong numbers.now (lease_number l) (lease_word l)) (trail pass.old) (trail pass.new)) }
+    ensures held { OnErr result (IsIdle pass.new × Grew (AreLost numbers.now) (trail pass.old) (trail pass.new)) }
+{
+    for n in numbers {
+        if let Ok(lease) = words.claim(pass, *n) {
+            return Ok(lease);
+        }
+    }
+    Err(AllHeld)
+}
+
+// Claims 0, 1, .. until one is won: `AllHeld` exactly where each number was claimed and each claim read a held word. A pass that stands for all never meets it.
+pub(crate) fn claim_any<V: Pooled>(
+    words: &Words<V>,
+    pass: &mut Pass<V>,
+) -> Result<Lease<V>, AllHeld>
+    requires own { IsPassOf V.room words.now pass.old }
+    requires idle { IsIdle pass.old }
+    ensures same { IsSamePass pass.old pass.new }
+    ensures won { IfOk result (HasWon V.fits V.room words.now pass.new) }
+    ensures trail { IfOk result (λ l. Grew (IsWonAlong (range_with_len 0 (slots_of words.now)) (lease_number l) (lease_word l)) (trail pass.old) (trail pass.new)) }
+    ensures held { OnErr result (IsIdle pass.new × Grew (AreLost (range_with_len 0 (slots_of words.now))) (trail pass.old) (trail pass.new)) }
+    ensures another { OnErr result (share_of pass.old < passes_of words.now) }
+{
+    for n in 0..words.slots() {
+        if let Ok(lease) = words.claim(pass, n) {
+            return Ok(lease);
+        }
+    }
+    Err(AllHeld)
+}
+
+// Gives back the permit or the mark that came with a slot that was won.
+pub(crate) fn settle<V: Pooled>(words: &Words<V>, pass: &mut Pass<V>, lease: &Lease<V>)
+    requires own { IsPassOf V.room words.now pass.old }
+    requires won { HasWon V.fits V.room words.now pass.old lease.now }
+    ensures same { IsSamePass pass.old pass.new }
+    ensures taken { HasTaken V.fits V.room words.now pass.new lease.now }
+    ensures trail { Grew (IsSettled (lease_word lease.now)) (trail pass.old) (trail pass.new) }
+{
+    let (found, _) = unpack(lease.word());
+    match found.state {
+        State::Cold => {}
+        State::Warm => words.warm_down(pass),
+        State::Awaiting => words.await_down(pass),
+    }
+}
