@@ -1,5 +1,5 @@
 -- The slots that are warm for a module come first.
-use Rattle.std.proofs.Common.{◌≡◌, ⊎_elim, ℕ, ◌+◌, ◌-◌, ◌*◌, ◌<◌, ◌≤◌, ◌==◌, Bool, true, false, cond, Option, Some, None, is_some, unwrap_or, List, length, refl, ap, subst, arith}
+use Rattle.std.proofs.Common.{◌≡◌, ⊎_elim, inl, inr, ℕ, zero, suc, [], ◌∷◌, sym, ◌∙◌, true≢false,  ◌+◌, ◌-◌, ◌*◌, ◌<◌, ◌≤◌, ◌==◌, Bool, true, false, cond, Option, Some, None, is_some, unwrap_or, List, length, refl, ap, subst, arith}
 use Rattle.std.specs.Prelude.{slice_index_or}
 use Rattle.std.specs.List.{count_by}
 use Rattle.std.proofs.lemmas.Bool.{eqb-true, eq-eqb}
@@ -11,7 +11,11 @@ use Rattle.pool_core.specs.declared.words.StateWord.{StateWord}
 use Rattle.pool_core.specs.declared.limits.TheConstants.{STAMP_LIMIT}
 use Rattle.pool_core.specs.StateWords.{bit}
 use Rattle.affinity_index.specs.Orders.{IsOrder, seen_rank, rank_of, free_rank}
-use Rattle.affinity_index.specs.Preference.{IsOwnWarm, OwnComeFirst, word_seen_at}
+use mathlib.Core.Logic.{dite}
+use native.Mathlib.Decide.{dec_le}
+use Rattle.std.proofs.lemmas.List.Sums.{sum_by-cons}
+use Rattle.pool_core.specs.StateWords.{unpacked}
+use Rattle.affinity_index.specs.Preference.{IsOwnWarm, OwnComeFirst, IsOwnSeen, OwnAreListed, OwnOrAllBefore, word_seen_at}
 
 -- slots of this rank or a later one are not the module's own
 not_less : (full : Bool) → (STAMP_LIMIT ≤ cond full (2 * STAMP_LIMIT) STAMP_LIMIT) × (STAMP_LIMIT ≤ cond full STAMP_LIMIT (2 * STAMP_LIMIT))
@@ -64,3 +68,39 @@ own_come_first seen tag full order is j k less within own =
     let rank_is : rank j ≡ has.0 = ap (λ o. unwrap_or o 0) has.1 in
     let small : has.0 < STAMP_LIMIT = ⊎_elim (λ h. omega (arith, h, last, rank_is)) (λ h. omega (arith, h.0, last, rank_is)) (is.ranked j k less within) in
     own_by_rank tag full (word_seen_at seen order j) (word_seen_at seen order j).held refl has.0 has.1 small
+
+own_is_ranked : (tag : ℕ) (full : Bool) (w : StateWord) → IsOwnWarm tag w → is_some (rank_of tag full w) ≡ true
+own_is_ranked tag full w own = rw (own.free, own.warm) refl
+
+-- what is counted stands at some place
+place_of : (n : ℕ) (xs : List ℕ) → 1 ≤ count_by (λ (m : ℕ). m == n) xs → (k : ℕ) × (k < length xs) × (slice_index_or xs k 0 ≡ n)
+place_of n [] h = absurd (omega arith)
+place_of n (x ∷ xs) h =
+    let more : count_by (λ (m : ℕ). m == n) (x ∷ xs) ≡ bit (x == n) + count_by (λ (m : ℕ). m == n) xs = sum_by-cons (λ (m : ℕ). bit (m == n)) x xs in
+    let split : (b : Bool) → (x == n) ≡ b → (k : ℕ) × (k < length (x ∷ xs)) × (slice_index_or (x ∷ xs) k 0 ≡ n) = elim [
+      | true ↦ λ e. (0, omega arith, eqb-true x n e)
+      | false ↦ λ e.
+          let z : bit (x == n) ≡ 0 = ap bit e in let at = place_of n xs (omega (arith, more, z, h)) in let l = at.1 in (suc at.0, omega arith, at.2)
+    ] in split (x == n) refl
+
+pub own_are_listed : (seen : List ℕ) (tag : ℕ) (full : Bool) (order : List ℕ) → IsOrder seen tag full order → OwnAreListed tag seen order
+own_are_listed seen tag full order is m own =
+    let one : bit (is_some (seen_rank seen tag full m)) ≡ 1 = ap bit (own_is_ranked tag full (unpacked (slice_index_or seen m 1)) own) in
+    let c = is.once m in place_of m order (omega arith)
+
+pub own_or_all_before : (seen : List ℕ) (tag : ℕ) (full : Bool) (order : List ℕ) → IsOrder seen tag full order → OwnOrAllBefore tag seen order
+own_or_all_before seen tag full order is j within =
+    let rank : ℕ → ℕ = λ i. unwrap_or (seen_rank seen tag full (slice_index_or order i 0)) 0 in
+    let has = has_rank seen tag full order is j within in
+    let rank_is : rank j ≡ has.0 = ap (λ o. unwrap_or o 0) has.1 in
+    dite (dec_le STAMP_LIMIT has.0)
+    (λ late. inr (λ m own.
+    let at = own_are_listed seen tag full order is m own in
+    let early : unwrap_or (seen_rank seen tag full m) 0 < STAMP_LIMIT = own_is_early tag full (unpacked (slice_index_or seen m 1)) own in
+    let rank_k : rank at.0 ≡ unwrap_or (seen_rank seen tag full m) 0 = ap (λ (n : ℕ). unwrap_or (seen_rank seen tag full n) 0) at.2 in
+    dite (dec_le j at.0)
+    (λ past. dite (dec_le at.0 j)
+    (λ same. let e : rank j ≡ rank at.0 = ap rank (let z : j ≡ at.0 = omega arith in z) in absurd (omega (arith, late, early, rank_k, rank_is, e)))
+    (λ apart. absurd (⊎_elim (λ h. omega (arith, h, late, early, rank_k, rank_is)) (λ h. omega (arith, h.0, late, early, rank_k, rank_is)) (is.ranked j at.0 (omega arith) at.1))))
+    (λ before. (at.0, omega arith, at.2))))
+    (λ early. inl (own_by_rank tag full (word_seen_at seen order j) (word_seen_at seen order j).held refl has.0 has.1 (omega arith)))

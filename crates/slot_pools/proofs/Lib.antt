@@ -1,3 +1,4 @@
 mod Causing
 mod Filling
 mod LastClaiming
+mod Preferring

@@ -4,3 +4,4 @@ pub mod Takes
 pub mod Gives
 pub mod Causes
 pub mod LastClaims
+pub mod Preferring

@@ -6,6 +6,7 @@ ghost use Rattle.slot_pools.specs.Looks.{IsLook};
 ghost use Rattle.slot_pools.specs.Takes.{IsBatchedTake, IsFullBatchedTake, IsAffineTake, IsFullAffineTake, IsAnyTake, IsFullAnyTake};
 ghost use Rattle.slot_pools.specs.Causes.{FullAfterMark, FullAfterLook, FullAfterScan, LostToAnother};
 ghost use Rattle.slot_pools.specs.LastClaims.{EndsWithClaim};
+ghost use Rattle.slot_pools.specs.Preferring.{PrefersOwn};
 
 use affinity_index::laws::own_warm_slots_come_first as own_come_first;
 use pool_core::laws::the_lowest_bit_says_held;
@@ -37,6 +38,14 @@ pub fn the_last_claim_names_the_slot()
 /// The slots that a take's scan saw free and warm for its module come first in its order.
 pub fn own_warm_slots_come_first()
     ensures { (limit slots tag : ℕ) (order : List ℕ) (done : List Operation) → (look : IsLook limit slots tag order done) → OwnComeFirst tag look.seen order }
+{
+    own_come_first();
+}
+
+/// A take hands out a slot that its scan saw free and warm for its module, unless the claim of each such slot was lost.
+pub fn takes_prefer_their_own()
+    ensures batched { (limit slots tag n read : ℕ) (done : List Operation) → IsBatchedTake limit slots tag n read done → PrefersOwn tag n done }
+    ensures affine { (limit slots tag n read : ℕ) (done : List Operation) → IsAffineTake limit slots tag n read done → PrefersOwn tag n done }
 {
     own_come_first();
 }
