@@ -4,7 +4,7 @@ use Rattle.pool_limits.specs.declared.numbers.Numbers.{Numbers}
 use Rattle.wasm_types.specs.declared.outcome.Val.{Val}
 use Rattle.slot_words.specs.declared.words.Words.{Words}
 use Rattle.slot_words.specs.Passes.{Pass}
-use Rattle.slot_words.specs.Owned.{IsPassOf, IsNewPassOf, IsLonePassOf}
+use Rattle.slot_words.specs.Owned.{IsPassOf, IsNewPassOf}
 use Rattle.instance_slots.specs.declared.pool.TicketPool.{TicketPool}
 use Rattle.instance_slots.specs.Fits.{room}
 
@@ -20,7 +20,3 @@ module _ {N : Type 0} where
   -- one as it is handed out
   abbrev pub IsNewTicketPass : TicketPool N → Pass (List Val) → Type 0
   IsNewTicketPass pool pass = IsNewPassOf room (words_of pool) pass
-
-  -- an idle one that stands for itself alone
-  abbrev pub IsLoneTicketPass : TicketPool N → Pass (List Val) → Type 0
-  IsLoneTicketPass pool pass = IsLonePassOf room (words_of pool) pass

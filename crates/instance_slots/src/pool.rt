@@ -1,5 +1,5 @@
 //! Pools of tickets.
-ghost use Rattle.std.specs.Prelude.{◌≡◌, ◌+◌, ◌<◌, ◌≤◌, ◌++◌, false, take, length, flat_map, reverse, IfOk, OnErr};
+ghost use Rattle.std.specs.Prelude.{◌≡◌, ◌+◌, ◌<◌, ◌≤◌, ◌++◌, false, take, length, IfOk, OnErr};
 ghost use Rattle.std.specs.List.{All};
 ghost use Rattle.pool_core.specs.declared.limits.TheConstants.{MOST_SLOTS};
 ghost use Rattle.slot_words.specs.Closing.{ClosesAs, CountsLeft};
@@ -11,7 +11,7 @@ ghost use Rattle.slot_pools.specs.Gives.{IsColdGive};
 ghost use Rattle.slot_pools.specs.Takes.{IsAnyTake, IsFullAnyTake};
 ghost use Rattle.wasm_spec.specs.Store.{fresh_store};
 ghost use Rattle.instance_slots.specs.Handed.{IsHandedOut};
-ghost use Rattle.instance_slots.specs.Pools.{IsTicketPass, IsNewTicketPass, IsLoneTicketPass, words_of};
+ghost use Rattle.instance_slots.specs.Pools.{IsTicketPass, IsNewTicketPass, words_of};
 
 use crate::ticket::Ticket;
 use module_store::{ModuleRef, ModuleStore, Naming};
@@ -141,16 +141,5 @@ impl<N: Naming> TicketPool<N> {
     {
         let TicketPool { words } = self;
         words.close(pass)
-    }
-
-    /// Joins the other passes into this one, and closes.
-    pub fn close_all(self, first: Pass<Ticket<N>>, others: Vec<Pass<Ticket<N>>>) -> KindCounts
-        requires first { IsLoneTicketPass self first }
-        requires others { All (IsLoneTicketPass self) others.items }
-        ensures held { result.held + length others.items + 1 ≤ passes_of (words_of self) }
-        ensures joined { length others.items + 1 ≡ passes_of (words_of self) → CountsLeft (slots_of (words_of self)) (operations first ++ flat_map operations (reverse others.items)) result }
-    {
-        let TicketPool { words } = self;
-        words.close_all(first, others)
     }
 }

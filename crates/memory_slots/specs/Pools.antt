@@ -3,7 +3,7 @@ use Rattle.pool_limits.specs.declared.numbers.Numbers.{Numbers}
 use Rattle.pool_worlds.specs.Contents.{MemoryContents}
 use Rattle.slot_words.specs.declared.words.Words.{Words}
 use Rattle.slot_words.specs.Passes.{Pass}
-use Rattle.slot_words.specs.Owned.{IsPassOf, IsNewPassOf, IsLonePassOf}
+use Rattle.slot_words.specs.Owned.{IsPassOf, IsNewPassOf}
 use Rattle.memory_slots.specs.declared.pool.MemoryPool.{MemoryPool}
 use Rattle.memory_slots.specs.Fits.{room}
 
@@ -19,7 +19,3 @@ module _ {N : Type 0} where
   -- one as it is handed out
   abbrev pub IsNewMemoryPass : MemoryPool N → Pass MemoryContents → Type 0
   IsNewMemoryPass pool pass = IsNewPassOf room (words_of pool) pass
-
-  -- an idle one that stands for itself alone
-  abbrev pub IsLoneMemoryPass : MemoryPool N → Pass MemoryContents → Type 0
-  IsLoneMemoryPass pool pass = IsLonePassOf room (words_of pool) pass

@@ -1,5 +1,5 @@
 //! Pools of memories.
-ghost use Rattle.std.specs.Prelude.{◌≡◌, ◌+◌, ◌<◌, ◌≤◌, ◌++◌, true, false, is_some, length, flat_map, reverse, IfOk, OnErr};
+ghost use Rattle.std.specs.Prelude.{◌≡◌, ◌+◌, ◌<◌, ◌≤◌, ◌++◌, true, false, is_some, length, IfOk, OnErr};
 ghost use Rattle.std.specs.List.{All};
 ghost use Rattle.pool_core.specs.declared.limits.TheConstants.{MOST_SLOTS};
 ghost use Rattle.pool_core.specs.declared.words.State.TheVariants.{Awaiting};
@@ -17,7 +17,7 @@ ghost use Rattle.pool_worlds.specs.Contents.{shown_memory, IsCold, IsFreshMemory
 ghost use Rattle.memory_slots.specs.Fits.{own_tag};
 ghost use Rattle.memory_slots.specs.Handed.{IsHandedOut};
 ghost use Rattle.memory_slots.specs.Lent.{IsReady};
-ghost use Rattle.memory_slots.specs.Pools.{IsMemoryPass, IsNewMemoryPass, IsLoneMemoryPass, words_of};
+ghost use Rattle.memory_slots.specs.Pools.{IsMemoryPass, IsNewMemoryPass, words_of};
 
 use crate::slot::MemSlot;
 use decommit_batch::hand_in;
@@ -159,16 +159,5 @@ impl<N: Naming> MemoryPool<N> {
     {
         let MemoryPool { words } = self;
         words.close(pass)
-    }
-
-    /// Joins the other passes into this one, and closes.
-    pub fn close_all(self, first: Pass<MemSlot<N>>, others: Vec<Pass<MemSlot<N>>>) -> KindCounts
-        requires first { IsLoneMemoryPass self first }
-        requires others { All (IsLoneMemoryPass self) others.items }
-        ensures held { result.held + length others.items + 1 ≤ passes_of (words_of self) }
-        ensures joined { length others.items + 1 ≡ passes_of (words_of self) → CountsLeft (slots_of (words_of self)) (operations first ++ flat_map operations (reverse others.items)) result }
-    {
-        let MemoryPool { words } = self;
-        words.close_all(first, others)
     }
 }

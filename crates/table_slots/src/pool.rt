@@ -1,5 +1,5 @@
 //! Pools of tables.
-ghost use Rattle.std.specs.Prelude.{◌≡◌, ◌+◌, ◌<◌, ◌≤◌, ◌++◌, true, false, is_some, length, flat_map, reverse, IfOk, OnErr};
+ghost use Rattle.std.specs.Prelude.{◌≡◌, ◌+◌, ◌<◌, ◌≤◌, ◌++◌, true, false, is_some, length, IfOk, OnErr};
 ghost use Rattle.std.specs.List.{All};
 ghost use Rattle.pool_core.specs.declared.limits.TheConstants.{MOST_SLOTS};
 ghost use Rattle.pool_core.specs.declared.words.State.TheVariants.{Warm};
@@ -13,7 +13,7 @@ ghost use Rattle.slot_pools.specs.Takes.{IsAffineTake, IsFullAffineTake};
 ghost use Rattle.pool_worlds.specs.Contents.{Table, IsCold, IsTableOf, Matches};
 ghost use Rattle.table_slots.specs.Fits.{own_tag};
 ghost use Rattle.table_slots.specs.Handed.{IsHandedOut};
-ghost use Rattle.table_slots.specs.Pools.{IsTablePass, IsNewTablePass, IsLoneTablePass, words_of};
+ghost use Rattle.table_slots.specs.Pools.{IsTablePass, IsNewTablePass, words_of};
 
 use crate::slot::TableSlot;
 use module_store::{ModuleRef, ModuleStore, Naming};
@@ -150,16 +150,5 @@ impl<N: Naming> TablePool<N> {
     {
         let TablePool { words } = self;
         words.close(pass)
-    }
-
-    /// Joins the other passes into this one, and closes.
-    pub fn close_all(self, first: Pass<TableSlot<N>>, others: Vec<Pass<TableSlot<N>>>) -> KindCounts
-        requires first { IsLoneTablePass self first }
-        requires others { All (IsLoneTablePass self) others.items }
-        ensures held { result.held + length others.items + 1 ≤ passes_of (words_of self) }
-        ensures joined { length others.items + 1 ≡ passes_of (words_of self) → CountsLeft (slots_of (words_of self)) (operations first ++ flat_map operations (reverse others.items)) result }
-    {
-        let TablePool { words } = self;
-        words.close_all(first, others)
     }
 }
