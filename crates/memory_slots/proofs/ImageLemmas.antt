@@ -1,18 +1,19 @@
 -- Bytes that were written from the image of a loaded module.
-use Rattle.std.proofs.Common.{◌≡◌, ℕ, ◌*◌, ◌≤◌, List, length, sym, ◌∙◌}
-use Rattle.std.specs.Prelude.{Bool, slice_index}
+use Rattle.std.proofs.Common.{◌≡◌, ℕ, ◌*◌, ◌/◌, ◌≤◌, List, length, sym, ◌∙◌}
+use Rattle.std.specs.Prelude.{Bool, Some, slice_index}
 use Rattle.wasm_types.specs.Tree.{ModuleTree}
 use Rattle.wasm_types.specs.declared.limits.LoadLimits.{LoadLimits}
 use Rattle.wasm_spec.specs.Store.{fresh_store, page_size}
 use Rattle.wasm_spec.proofs.ResultLaws.{length-fresh_memory}
 use Rattle.wasm_spec.proofs.StoreSizes.{minimum_within}
-use Rattle.pool_worlds.specs.Contents.{filled, HasImageOutside}
+use Rattle.pool_worlds.specs.Contents.{Named, filled, HasImageOutside}
 use Rattle.pool_worlds.proofs.Images.{from_bytes, filled-at}
 use Rattle.loaded_modules.specs.Within.{IsWithin}
-use Rattle.sparse_bytes.specs.SparseBytes.{byte_at}
+use Rattle.sparse_bytes.specs.SparseBytes.{HasCell, byte_at}
 use Rattle.initial_image.specs.declared.image.Image.{Image}
 use Rattle.initial_image.specs.Image.{IsImageOf}
 use Rattle.memory_slots.specs.Images.{HasImage, KeepsImage, IsZeroOutside}
+use Rattle.memory_slots.specs.Written.{HasDataIn}
 
 module _ (limits : LoadLimits) (m : ModuleTree) (image : Image) (within : IsWithin limits m) (is : IsImageOf m image) where
   fresh_fits : length (fresh_store m).memory ≤ limits.pages * page_size
@@ -30,3 +31,7 @@ module _ (limits : LoadLimits) (m : ModuleTree) (image : Image) (within : IsWith
 
   pub image_zeros : (room : ℕ) (written : List Bool) → IsZeroOutside room written (byte_at image.memory) → IsZeroOutside room written (slice_index (filled limits.pages (fresh_store m).memory))
   image_zeros room written zeros i lt free = filled_image i ∙ zeros i lt free
+
+-- a block in which the image of a module has a cell has data of that module
+pub image_least : (m : Named) (image : Image) → IsImageOf m.tree image → (k : ℕ) → (cell : ℕ) × HasCell image.memory cell × (cell / 64 ≡ k) → HasDataIn (Some m) k
+image_least m image is k (cell, has, in_block) = (cell, is.cells cell has, in_block)

@@ -1,9 +1,11 @@
 -- Marks of blocks that lie together.
-use Rattle.std.proofs.Common.{◌≡◌, ℕ, ◌+◌, ◌-◌, ◌<◌, ◌≤◌, Bool, true, false, cond, List, [], ◌∷◌, length, take, drop, get_or, zero, suc, refl, sym, ap, ◌∙◌, add-zero, arith}
+use Rattle.std.proofs.Common.{◌≡◌, ℕ, ◌+◌, ◌-◌, ◌<◌, ◌≤◌, Bool, true, false, cond, List, [], ◌∷◌, length, take, drop, get_or, zero, suc, refl, sym, ap, ◌∙◌, add-zero, subst, arith}
 use Rattle.std.specs.Prelude.{slice_index_or, count_by, if◌then◌else◌}
+use Rattle.std.specs.List.{range_with_len}
 use Rattle.std.proofs.lemmas.List.{ext_get_or, get_or-drop, get_or-take, length-drop}
 use Rattle.std.proofs.lemmas.List.Sums.{sum_by-append, sum_by-cons, count_by_more_yes, count_by_more_no}
 use Rattle.std.proofs.Math.Seq.{take-add}
+use Rattle.memory_slots.specs.Images.{HasMarked, count_in}
 
 abbrev pub count : List Bool → ℕ
 count marks = count_by (λ marked. marked) marks
@@ -49,3 +51,32 @@ module _ (first end : ℕ) (marks : List Bool) (le : first ≤ end) (none : ¬ (
 
   pub none-counted : count (take first marks) ≡ count (take end marks)
   none-counted = let split = count-take first end marks le in omega arith
+
+-- ---- blocks of a set
+
+-- no more are marked than a set has that has all of them
+marked_within : (set : ℕ → Bool) (marks : List Bool) (from : ℕ) → ((k : ℕ) → slice_index_or marks k false ≡ true → set (from + k) ≡ true)
+    → count marks ≤ count_by set (range_with_len from (length marks))
+marked_within set [] from all = omega arith
+marked_within set (b ∷ marks) from all =
+    let mine : count (b ∷ marks) ≡ cond b 1 0 + count marks = sum_by-cons (λ (marked : Bool). cond marked 1 0) b marks in
+    let theirs : count_by set (from ∷ range_with_len (from + 1) (length marks)) ≡ cond (set from) 1 0 + count_by set (range_with_len (from + 1) (length marks)) =
+    sum_by-cons (λ (k : ℕ). cond (set k) 1 0) from (range_with_len (from + 1) (length marks)) in
+    let rest = marked_within set marks (from + 1) (λ k is. subst (λ (n : ℕ). set n ≡ true) (omega arith) (all (suc k) is)) in
+    let first : cond b 1 0 ≤ cond (set from) 1 0 = one_within b (λ is. subst (λ (n : ℕ). set n ≡ true) (omega arith) (all zero is)) in
+    omega (arith, mine, theirs, rest, first)
+  where
+    one_within : (b : Bool) → (b ≡ true → set from ≡ true) → cond b 1 0 ≤ cond (set from) 1 0
+    one_within false h = omega arith
+    one_within true h = rw (h refl) (omega arith)
+
+pub count_within : (set : ℕ → Bool) (marks : List Bool) → HasMarked set marks → count marks ≤ count_in set (length marks)
+count_within set marks all = marked_within set marks 0 (λ k is. subst (λ (n : ℕ). set n ≡ true) (omega arith) (all k is))
+
+-- a set that has all marks of both has all of what others were added to
+pub marked_with : (set : ℕ → Bool) (old others new : List Bool) → ((k : ℕ) → slice_index_or old k false ≡ false → slice_index_or new k false ≡ true → slice_index_or others k false ≡ true)
+    → HasMarked set old → HasMarked set others → HasMarked set new
+marked_with set old others new least has has_others k is = split (slice_index_or old k false) refl where
+  split : (b : Bool) → slice_index_or old k false ≡ b → set k ≡ true
+  split true e = has k e
+  split false e = has_others k (least k e is)

@@ -4,3 +4,4 @@ pub mod Images
 pub mod Kept
 pub mod Lent
 pub mod Pools
+pub mod Written

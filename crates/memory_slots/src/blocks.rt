@@ -1,14 +1,13 @@
 //! Blocks of a memory, and how they are written over from an image.
-ghost use Rattle.std.specs.Prelude.{◌≡◌, ◌≢◌, ◌+◌, ◌*◌, ◌<◌, ◌≤◌, ◌↔◌, ◌^◌, IsTrue, false, ℕ, length, take, slice_index, slice_index_or, count_by, if◌then◌else◌};
+ghost use Rattle.std.specs.Prelude.{◌≡◌, ◌≢◌, ◌+◌, ◌*◌, ◌<◌, ◌≤◌, ◌↔◌, ◌^◌, IsTrue, Bool, true, false, ℕ, length, take, slice_index, slice_index_or, count_by, if◌then◌else◌};
 ghost use Rattle.linear_memory.specs.Marks.{block_size};
 ghost use Rattle.pool_worlds.specs.Contents.{IsClean};
-ghost use Rattle.memory_slots.specs.Images.{HasImageFrom, HasImage, KeepsImage, IsZeroOutside, byte_of};
+ghost use Rattle.memory_slots.specs.Images.{HasCellIn, HasImageFrom, HasImage, HasMarked, KeepsImage, IsZeroOutside, byte_of, count_in};
 
 use crate::steps::Steps;
 use linear_memory::BLOCK_SIZE;
 use sparse_bytes::SparseBytes;
-use std::marker::Brand;
-use std::sync::ledger::{Blank, Ledger};
+use std::sync::ledger::Ledger;
 
 // How many marks are looked at together.
 const GROUP: usize = 128;
@@ -119,11 +118,13 @@ pub(crate) fn restore_marked<L: Ledger>(
     }
 }
 
-// Marks what is marked there, too.
+// Marks what is marked there, too, and no other.
 fn add_marks(marks: &mut [bool], others: &[bool])
     requires { length others.now ≡ length marks.old }
     ensures marks { (k : ℕ) → slice_index_or marks.new k false ≡ false
         → (slice_index_or marks.old k false ≡ false) × (slice_index_or others.now k false ≡ false) }
+    ensures least { (k : ℕ) → slice_index_or marks.old k false ≡ false → slice_index_or marks.new k false ≡ true
+        → slice_index_or others.now k false ≡ true }
     ensures room { length marks.new ≡ length marks.old }
 {
     for block in 0..marks.len() {
@@ -134,6 +135,7 @@ fn add_marks(marks: &mut [bool], others: &[bool])
 // Marks the blocks in which a byte of the image may not be zero, and no other.
 fn mark_written(written: &mut [bool], image: Option<&SparseBytes>)
     ensures zeros { IsZeroOutside (block_size * length written.new) written.new (byte_of image.entry) }
+    ensures least { (k : ℕ) → slice_index_or written.new k false ≡ true → HasCellIn image.entry k }
     ensures room { length written.new ≡ length written.old }
 {
     written.fill(false);
@@ -142,32 +144,15 @@ fn mark_written(written: &mut [bool], image: Option<&SparseBytes>)
     }
 }
 
-// Writes the blocks that are marked over from the image, and takes their marks away.
-fn restore_uncounted<L: Ledger>(
-    bytes: &mut [u8],
-    marks: &mut [bool],
-    image: Option<&SparseBytes>,
-    blank: Blank,
-)
-    requires marked { length bytes.old ≡ block_size * length marks.old }
-    requires few { length marks.old ≤ 2 ^ 26 }
-    requires outside { KeepsImage bytes.old marks.old (byte_of image) }
-    requires name { (blank.name ≡ L.name) × (blank.parts ≡ L.parts) × (0 < blank.parts) }
-    ensures bytes { HasImage bytes.new (byte_of image.entry) }
-    ensures marks { IsClean marks.new }
-    ensures room { (length bytes.new ≡ length bytes.old) × (length marks.new ≡ length marks.old) }
-{
-    let mut steps = Steps::<L>::new(blank);
-    restore_marked(bytes, marks, image, &mut steps);
-}
-
 // Makes all bytes the image's, or zero without one, and takes all marks away. Outside marked blocks they were those of another image,
-// which is zero outside the blocks `written`; after it these are the blocks of the new one. Zeros that are there already are not written.
-pub(crate) fn write_all(
+// which is zero outside the blocks `written`; after it these are the blocks of the new one. With one step each, only marked blocks and
+// those of the two images are written: zeros that are there already are not.
+pub(crate) fn write_all<L: Ledger>(
     bytes: &mut [u8],
     marks: &mut [bool],
     written: &mut [bool],
     image: Option<&SparseBytes>,
+    steps: &mut Steps<L>,
 )
     requires marked { length bytes.old ≡ block_size * length marks.old }
     requires few { length marks.old ≤ 2 ^ 26 }
@@ -176,11 +161,14 @@ pub(crate) fn write_all(
     ensures bytes { HasImage bytes.new (byte_of image.entry) }
     ensures marks { IsClean marks.new }
     ensures written { IsZeroOutside (length bytes.new) written.new (byte_of image.entry) }
+    ensures least { (k : ℕ) → slice_index_or written.new k false ≡ true → HasCellIn image.entry k }
     ensures room { (length bytes.new ≡ length bytes.old) × (length marks.new ≡ length marks.old) }
     ensures blocks { length written.new ≡ length written.old }
+    ensures steps { (set : ℕ → Bool) → HasMarked set marks.old → HasMarked set written.old → HasMarked set written.new
+        → steps.new ≤ steps.old + count_in set (length marks.old) }
 {
     add_marks(marks, written);
     mark_written(written, image);
     add_marks(marks, written);
-    restore_uncounted::<Brand>(bytes, marks, image, Blank::new(1));
+    restore_marked(bytes, marks, image, steps);
 }

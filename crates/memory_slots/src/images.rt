@@ -5,6 +5,7 @@ ghost use Rattle.wasm_spec.specs.Store.{minimum_of};
 ghost use Rattle.linear_memory.specs.Marks.{count_marks};
 ghost use Rattle.pool_worlds.specs.Contents.{Named, IsFreshMemory};
 ghost use Rattle.memory_slots.specs.Kept.{IsKept, IsWrittenTo, contents_of};
+ghost use Rattle.memory_slots.specs.Written.{WritesAtMost};
 
 use crate::blocks::{restore_marked, write_all};
 use crate::steps::Steps;
@@ -48,17 +49,21 @@ pub(crate) fn restore_memory<N: Naming, L: Ledger>(
 }
 
 // Makes a memory the module's fresh one. Before, it belonged to another module or to none, whose image is zero outside the blocks
-// `written`; after it these are the blocks of the module's image.
-pub(crate) fn write_memory<N: Naming>(
+// `written`; after it these are the blocks of the module's image. With one step each, only marked blocks and those of the two images
+// are written.
+pub(crate) fn write_memory<N: Naming, L: Ledger>(
     memory: &mut Memory,
     written: &mut [bool],
     store: &ModuleStore<N>,
     module: &ModuleRef<N>,
+    steps: &mut Steps<L>,
 )
     requires { (holds : Option Named) × IsWrittenTo N.config written.old (contents_of memory.old holds) }
     ensures fresh { IsFreshMemory N.config.pages (contents_of memory.new (Some «module».now)) «module».now }
     ensures written { IsWrittenTo N.config written.new (contents_of memory.new (Some «module».now)) }
     ensures marks { memory.new.marks.items ≡ map (λ marked. false) memory.old.marks.items }
+    ensures steps { (holds : Option Named) → IsWrittenTo N.config written.old (contents_of memory.old holds)
+        → WritesAtMost (contents_of memory.old holds) (Some «module».now) steps.old steps.new }
 {
     let image = store.image(module);
     let pages = least_pages(store.valid(module));
@@ -67,6 +72,7 @@ pub(crate) fn write_memory<N: Naming>(
         &mut memory.marks,
         written,
         Some(&image.memory),
+        steps,
     );
     memory.pages = pages;
 }

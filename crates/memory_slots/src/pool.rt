@@ -31,7 +31,7 @@ use wasm_types::NoMemory;
 /// batch of them each becomes warm or cold.
 #[derive(Drop)]
 pub struct MemoryPool<N: Naming> {
-    words: Words<MemSlot<N>>,
+    pub(crate) words: Words<MemSlot<N>>,
 }
 
 // So many cold memories.

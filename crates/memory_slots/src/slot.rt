@@ -9,10 +9,11 @@ ghost use Rattle.wasm_machine.specs.Calls.{IsCall, FitsFrame, IsDone};
 ghost use Rattle.wasm_machine.specs.Lent.{others};
 ghost use Rattle.wasm_machine.specs.TypedConfiguration.{IsTypedStore};
 ghost use Rattle.pool_worlds.specs.Contents as contents;
-ghost use Rattle.pool_worlds.specs.Contents.{Named, prepared, restored, shown_memory, IsCold, IsFreshMemory, Matches};
+ghost use Rattle.pool_worlds.specs.Contents.{Named, belongs_to, prepared, restored, shown_memory, IsCold, IsFreshMemory, Matches};
 ghost use Rattle.pool_worlds.specs.Runs.{Leaves};
 ghost use Rattle.memory_slots.specs.Fits.{room, own_tag, fits-own_tag};
 ghost use Rattle.memory_slots.specs.Lent.{IsReady, dirty_blocks, parts, store_in};
+ghost use Rattle.memory_slots.specs.Written.{WritesAtMost};
 
 use crate::blocks::write_all;
 use crate::images::{restore_memory, write_memory};
@@ -80,28 +81,57 @@ impl<N: Naming> MemSlot<N> {
     {
         // A module of the store has no larger memory than the configuration allows.
         let _valid = store.valid(module);
-        self.make_fresh(store, module);
+        self.prepare_uncounted::<Brand>(store, module, Blank::new(1));
     }
 
-    fn make_fresh(&mut self, store: &ModuleStore<N>, module: &ModuleRef<N>)
+    fn prepare_uncounted<L: Ledger>(
+        &mut self,
+        store: &ModuleStore<N>,
+        module: &ModuleRef<N>,
+        blank: Blank,
+    )
+        requires name { (blank.name ≡ L.name) × (blank.parts ≡ L.parts) × (0 < blank.parts) }
         ensures prepared { self.new ≡ prepared N.config.pages «module».now contents.Memory self.old }
         ensures fresh { IsFreshMemory N.config.pages self.new «module».now }
     {
+        let mut steps = Steps::<L>::new(blank);
+        self.prepare_counted(store, module, &mut steps);
+    }
+
+    /// [`MemSlot::prepare`] with one step for each block that is written. Where it belongs to that module already, they are as many as are
+    /// marked. Else they are at most those that are marked or in which the old module or the new one has data.
+    pub fn prepare_counted<L: Ledger>(
+        &mut self,
+        store: &ModuleStore<N>,
+        module: &ModuleRef<N>,
+        steps: &mut Steps<L>,
+    )
+        ensures prepared { self.new ≡ prepared N.config.pages «module».now contents.Memory self.old }
+        ensures fresh { IsFreshMemory N.config.pages self.new «module».now }
+        ensures own { belongs_to «module».now self.old.holds ≡ true → steps.new ≡ steps.old + dirty_blocks self.old }
+        ensures steps { WritesAtMost self.old (Some «module».now) steps.old steps.new }
+    {
         if let Some(own) = &self.holds {
             if store.same(own, module) {
-                self.restore(store);
+                self.restore_counted(store, steps);
                 return;
             }
         }
-        self.write(store, module);
+        self.write(store, module, steps);
     }
 
     // Writes the module's memory over what is there.
-    fn write(&mut self, store: &ModuleStore<N>, module: &ModuleRef<N>)
+    fn write<L: Ledger>(
+        &mut self,
+        store: &ModuleStore<N>,
+        module: &ModuleRef<N>,
+        steps: &mut Steps<L>,
+    )
         ensures fresh { IsFreshMemory N.config.pages self.new «module».now }
         ensures marks { self.new.marks ≡ map (λ marked. false) self.old.marks }
+        ensures steps { WritesAtMost self.old (Some «module».now) steps.old steps.new }
     {
-        write_memory(&mut self.memory, &mut self.written, store, module);
+        write_memory(&mut self.memory, &mut self.written, store, module, steps);
         self.holds = Some(module.again());
     }
 
@@ -142,11 +172,28 @@ impl<N: Naming> MemSlot<N> {
     pub fn clear(&mut self)
         ensures { IsCold N.config.pages contents.Memory self.new }
     {
+        self.clear_uncounted::<Brand>(Blank::new(1));
+    }
+
+    fn clear_uncounted<L: Ledger>(&mut self, blank: Blank)
+        requires name { (blank.name ≡ L.name) × (blank.parts ≡ L.parts) × (0 < blank.parts) }
+        ensures { IsCold N.config.pages contents.Memory self.new }
+    {
+        let mut steps = Steps::<L>::new(blank);
+        self.clear_counted(&mut steps);
+    }
+
+    /// [`MemSlot::clear`] with one step for each block that is written: at most those that are marked or in which its module has data.
+    pub fn clear_counted<L: Ledger>(&mut self, steps: &mut Steps<L>)
+        ensures cold { IsCold N.config.pages contents.Memory self.new }
+        ensures steps { WritesAtMost self.old None steps.old steps.new }
+    {
         write_all(
             &mut self.memory.bytes,
             &mut self.memory.marks,
             &mut self.written,
             None,
+            steps,
         );
         self.memory.pages = 0;
         self.holds = None;

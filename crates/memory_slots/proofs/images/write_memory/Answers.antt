@@ -8,7 +8,7 @@ use Rattle.pool_worlds.specs.Contents.{memory_image}
 use Rattle.pool_worlds.proofs.Images.{clean_is}
 use Rattle.loaded_modules.proofs.WithinLemmas.{loaded-within}
 use Rattle.memory_slots.specs.Kept.{contents_of}
-use Rattle.memory_slots.proofs.ImageLemmas.{image_written, image_zeros}
+use Rattle.memory_slots.proofs.ImageLemmas.{image_written, image_least, image_zeros}
 use Rattle.memory_slots.proofs.KeptLemmas.{fresh_kept}
 use Rattle.memory_slots.proofs.images.write_memory.Goals as goal
 
@@ -62,4 +62,12 @@ returns-clause-written g c =
           }) loaded.pages;
       blocks = c.write_all.ensures.blocks ∙ c.requires.1.blocks ∙ sym long_marks;
       zeros = λ i lt free. image_zeros (load_limits config) m.tree c.image-image.result.now loaded c.image-image.ensures (length bytes) c.write_all.new.written c.write_all.ensures.written i (omega (arith, lt, long_bytes)) free;
+      least = λ k is. image_least m c.image-image.result.now c.image-image.ensures k (c.write_all.ensures.least k is);
     }
+
+pub returns-clause-steps : goal.returns-clause-steps
+returns-clause-steps g c = λ holds before set all.
+    rw (← c.deref_mut-2.ensures.value) (c.write_all.ensures.steps set
+    (rw c.deref_mut-2.ensures.value all.marked)
+    (λ k is. all.old k (before.least k is))
+    (λ k is. all.new k (image_least c.args.module.now c.image-image.result.now c.image-image.ensures k (c.write_all.ensures.least k is))))

@@ -25,4 +25,5 @@ invariant_of-slot g c =
       };
       blocks = c.slot.invariant.blocks ∙ sym changed.room.marks;
       zeros = λ i lt free. c.slot.invariant.zeros i (omega (arith, lt, changed.room.bytes)) free;
+      least = c.slot.invariant.least;
     }

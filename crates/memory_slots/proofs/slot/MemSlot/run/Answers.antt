@@ -26,6 +26,7 @@ invariant_of-self g c =
           (c.run.ensures.marked c.args.fuel _ (omega arith) c.run.ensures.result);
       blocks = c.self.invariant.blocks ∙ sym c.run.ensures.room.marks;
       zeros = λ i lt free. c.self.invariant.zeros i (omega (arith, lt, c.run.ensures.room.bytes)) free;
+      least = c.self.invariant.least;
     }
 
 pub returns-clause-ready : goal.returns-clause-ready
