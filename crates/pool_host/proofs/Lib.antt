@@ -1,5 +1,6 @@
 pub mod AnswerLemmas
 pub mod ClosingLemmas
 pub mod IdleLemmas
+pub mod PreferringLemmas
 pub mod SlotLemmas
 pub mod VisitLemmas

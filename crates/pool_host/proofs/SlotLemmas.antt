@@ -1,7 +1,6 @@
 -- The slots of an instance, from their takes to their gives.
-use Rattle.std.proofs.Common.{ℕ, List, Option, Some, sym, subst}
+use Rattle.std.proofs.Common.{Option, Some, sym, subst}
 use Rattle.wasm_types.specs.declared.outcome.Outcome.{Outcome}
-use Rattle.wasm_types.specs.declared.outcome.Val.{Val}
 use Rattle.slot_words.specs.declared.leases.Lease.{Lease}
 use Rattle.slot_words.specs.Leases.{lease_number, lease_word}
 use Rattle.slot_words.specs.Owned.{slots_of}
@@ -9,22 +8,19 @@ use Rattle.slot_words.specs.Parts.{Grew}
 use Rattle.slot_words.specs.Passes.{trail}
 use Rattle.pool_limits.specs.declared.numbers.Numbers.{Numbers}
 use Rattle.pool_worlds.specs.Contents.{Memory, Named, Table, TableContents, needs}
-use Rattle.instance_slots.specs.Handed as ticket
 use Rattle.instance_slots.specs.Pools as tickets
 use Rattle.memory_slots.specs.Pools as memories
 use Rattle.table_slots.specs.Pools as tables
-use Rattle.instance_calls.specs.CallWords.{MayCall}
 use Rattle.instance_calls.specs.declared.instance.Instance.{Instance}
-use Rattle.instance_calls.specs.Instances.{IsFreshInstance, KeepsSlots, instance_contents}
+use Rattle.instance_calls.specs.Instances.{IsFreshInstance, KeepsSlots}
 use Rattle.instance_calls.specs.Parts.{Slot, memory_slot, table_slot}
-use Rattle.instance_calls.specs.Runs.{RanOn}
 use Rattle.pool_host.specs.declared.answers.Answer.TheVariants.{Done}
 use Rattle.pool_host.specs.declared.host.Host.{Host}
 use Rattle.pool_host.specs.declared.passes.Passes.{Passes}
 use Rattle.pool_host.specs.Leases.{BelongsTo, Gave, HasSlot}
-use Rattle.pool_host.specs.Taking.{GaveSlots, HaveSlots, IsHandedInstance, TookSlots}
-use Rattle.pool_host.specs.Trails.{AddsTrails, IsFullMemoryTake, IsFullTableTake, IsFullTicketTake, IsMemoryGive, IsMemoryTake, IsTableGive, IsTableTake, IsTicketGive, IsTicketTake, RanOnSlots}
-use Rattle.pool_host.proofs.VisitLemmas.{memory_served, memory_slot_some, served, served_with, table_served, table_slot_some, visited}
+use Rattle.pool_host.specs.Taking.{GaveSlots, HaveSlots, TookSlots}
+use Rattle.pool_host.specs.Trails.{AddsTrails, IsFullMemoryTake, IsFullTableTake, IsFullTicketTake, IsMemoryGive, IsMemoryTake, IsTableGive, IsTableTake, IsTicketGive, IsTicketTake}
+use Rattle.pool_host.proofs.VisitLemmas.{memory_slot_some, served, table_slot_some, visited}
 
 module _ {N : Type 0} (config : Numbers) (host : Host N) (m : Named) (x y : Instance N) (keeps : KeepsSlots x y) where
   -- the passes still have the slots of the instance after its run
@@ -52,20 +48,4 @@ module _ {N : Type 0} (config : Numbers) (host : Host N) (m : Named) (x : Instan
     ticket = served (IsTicketTake config host m) (IsTicketGive config host m) (IsFullTicketTake config host m) (lease_number x.ticket) (lease_word x.ticket) _ _ _ took.ticket gave.ticket;
     memory = visited (IsMemoryTake config host m) (IsMemoryGive config host m) (IsFullMemoryTake config host m) (memory_slot x.memory) (needs Memory m.tree) _ _ _ (memory_slot_some x.memory _ fresh.memory.had) took.memory gave.memory;
     table = visited (IsTableTake config host m) (IsTableGive config host m) (IsFullTableTake config host m) (table_slot x.table) (needs Table m.tree) _ _ _ (table_slot_some x.table _ fresh.table.had) took.table gave.table;
-  }
-
-  pub ran_on_slots : (y : Instance N) (export : List ℕ) (function : ℕ) (args : List Val) (fuel : ℕ) (outcome : Outcome) → IsHandedInstance config m x → MayCall m.tree export function args
-      → RanOn config m.tree function args fuel (instance_contents x) (instance_contents y) outcome → RanOnSlots config host m export args fuel p r outcome
-  ran_on_slots y export function args fuel outcome handed may ran = record {
-    function = function;
-    may = may;
-    handed = instance_contents x;
-    taken = instance_contents y;
-    ran = ran;
-    ticket = served_with (IsTicketTake config host m) (IsTicketGive config host m) (IsFullTicketTake config host m) (ticket.IsHandedOut config.pages m) x.ticket.value p.ticket q.ticket r.ticket
-        (lease_number x.ticket) (lease_word x.ticket) took.ticket gave.ticket handed.ticket;
-    memory = memory_served (IsMemoryTake config host m) (IsMemoryGive config host m) (IsFullMemoryTake config host m) config.pages m x.memory (needs Memory m.tree) p.memory q.memory r.memory
-        fresh.memory.had handed.memory took.memory gave.memory;
-    table = table_served (IsTableTake config host m) (IsTableGive config host m) (IsFullTableTake config host m) config.pages m x.table (needs Table m.tree) p.table q.table r.table
-        fresh.table.had handed.table took.table gave.table;
   }

@@ -3,17 +3,13 @@ use Rattle.std.proofs.Common.{◌≡◌, ℕ, Bool, true, false, Option, Some, N
 use Rattle.std.specs.Prelude.{is_some, if◌then◌else◌}
 use Rattle.slot_words.specs.declared.leases.Lease.{Lease}
 use Rattle.slot_words.specs.declared.views.Operation.{Operation}
-use Rattle.slot_words.specs.Leases.{lease_number, lease_word}
 use Rattle.slot_words.specs.Parts.{Grew}
-use Rattle.slot_words.specs.Passes.{Pass, trail}
 use Rattle.slot_words.proofs.Parts.{then_grew}
-use Rattle.pool_worlds.specs.Contents.{MemoryContents, Named, TableContents}
-use Rattle.instance_calls.specs.Parts.{Slot, memory_in, memory_slot, table_in, table_slot}
-use Rattle.memory_slots.specs.Handed as memory
-use Rattle.table_slots.specs.Handed as table
-use Rattle.pool_host.specs.Leases.{Gave, IsHandedMemory, IsHandedTable, Took}
+use Rattle.pool_worlds.specs.Contents.{MemoryContents, TableContents}
+use Rattle.instance_calls.specs.Parts.{Slot, memory_slot, table_slot}
+use Rattle.pool_host.specs.Leases.{Gave, Took}
 use Rattle.pool_host.specs.Visits as visit
-use Rattle.pool_host.specs.Visits.{Adds, IsServed, IsServedWith, Served, TurnedAway, Visit}
+use Rattle.pool_host.specs.Visits.{Adds, IsServed, Served, TurnedAway, Visit}
 
 module _ (IsTake : ℕ → ℕ → List Operation → Type 0) (IsGive : ℕ → List Operation → Type 0) (IsFullTake : List Operation → Type 0) where
   abbrev AddsThere : Visit → List Operation → List Operation → Type 0
@@ -47,30 +43,6 @@ module _ (IsTake : ℕ → ℕ → List Operation → Type 0) (IsGive : ℕ → 
   visited (Some s) false t u v had took gave = cc
   visited None true t u v had took gave = cc
 
-  -- with what it was served
-  pub served_with : {X V : Type 0} (IsHandedOut : ℕ → X → Type 0) (handed : X) (p q r : Pass V) (number read : ℕ)
-      → Grew (IsTake number read) (trail p) (trail q) → Grew (IsGive number) (trail q) (trail r) → IsHandedOut read handed → IsServedWith IsTake IsGive IsHandedOut handed p r
-  served_with IsHandedOut handed p q r number read take give is = record {
-    number = number;
-    read = read;
-    visit = then_grew (IsTake number read) (IsGive number) (trail p) (trail q) (trail r) take give;
-    handed_is = is;
-  }
-
-  pub memory_served : {V : Type 0} (pages : ℕ) (m : Named) (o : Option (Lease MemoryContents)) (needed : Bool) (p q r : Pass V) → is_some o ≡ needed → IsHandedMemory pages m o
-      → Grew (Took IsTake (memory_slot o)) (trail p) (trail q) → Grew (Gave IsGive (memory_slot o)) (trail q) (trail r) → needed ≡ true
-      → IsServedWith IsTake IsGive (memory.IsHandedOut pages m) (memory_in o) p r
-  memory_served pages m None needed p q r had handed took gave is = let no : false ≡ true = had ∙ is in cc
-  memory_served pages m (Some l) needed p q r had handed took gave is =
-      served_with (memory.IsHandedOut pages m) l.value p q r (lease_number l) (lease_word l) took gave handed
-
-  pub table_served : {V : Type 0} (pages : ℕ) (m : Named) (o : Option (Lease TableContents)) (needed : Bool) (p q r : Pass V) → is_some o ≡ needed → IsHandedTable pages m o
-      → Grew (Took IsTake (table_slot o)) (trail p) (trail q) → Grew (Gave IsGive (table_slot o)) (trail q) (trail r) → needed ≡ true
-      → IsServedWith IsTake IsGive (table.IsHandedOut pages m) (table_in o) p r
-  table_served pages m None needed p q r had handed took gave is = let no : false ≡ true = had ∙ is in cc
-  table_served pages m (Some l) needed p q r had handed took gave is =
-      served_with (table.IsHandedOut pages m) l.value p q r (lease_number l) (lease_word l) took gave handed
-
 pub memory_slot_some : (o : Option (Lease MemoryContents)) (needed : Bool) → is_some o ≡ needed → is_some (memory_slot o) ≡ needed
 memory_slot_some None needed had = had
 memory_slot_some (Some l) needed had = had
@@ -78,3 +50,10 @@ memory_slot_some (Some l) needed had = had
 pub table_slot_some : (o : Option (Lease TableContents)) (needed : Bool) → is_some o ≡ needed → is_some (table_slot o) ≡ needed
 table_slot_some None needed had = had
 table_slot_some (Some l) needed had = had
+
+-- a trail that grew, where its ends are known by other names
+pub grew_to : (P : List Operation → Type 0) (t u v : List Operation) → Grew P t u → v ≡ u → Grew P t v
+grew_to P t u v grew same = record { done = grew.done; grown = same ∙ grew.grown; is = grew.is }
+
+pub grew_from : (P : List Operation → Type 0) (s t u : List Operation) → Grew P t u → t ≡ s → Grew P s u
+grew_from P s t u grew same = record { done = grew.done; grown = grew.grown ∙ ap (λ os. os ++ grew.done) same; is = grew.is }

@@ -1,6 +1,5 @@
 -- What a call of a loaded module is answered.
 use Rattle.std.specs.Prelude.{ℕ, List}
-use Rattle.wasm_types.specs.declared.outcome.Outcome.{Outcome}
 use Rattle.wasm_types.specs.declared.outcome.Val.{Val}
 use Rattle.wasm_types.specs.declared.limits.RunLimits.{RunLimits}
 use Rattle.wasm_types.specs.Tree.{ModuleTree}
@@ -29,11 +28,6 @@ abbrev pub host_answer : LaneAnswer → Answer
 host_answer NoExport = answer.NoExport
 host_answer BadArgs = answer.BadArgs
 host_answer (Done outcome) = answer.Done outcome
-
--- a fact of the outcome, where the call was made
-abbrev pub IfDone : Answer → (Outcome → Type 0) → Type 0
-IfDone (answer.Done outcome) P = P outcome
-IfDone _ P = Unit {0}
 
 -- a fact of the kind, where it was full
 abbrev pub IfFull : Answer → (Kind → Type 0) → Type 0

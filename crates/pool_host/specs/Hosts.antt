@@ -55,6 +55,7 @@ module _ {N : Type 0} where
     pub of_tickets : slots_of (tickets.words_of host.tickets) ≡ share.instances
     pub of_memories : slots_of (memories.words_of host.memories) ≡ share.memories
     pub of_tables : slots_of (tables.words_of host.tables) ≡ share.tables
+    pub warm_tickets : limit_of (tickets.words_of host.tickets) ≡ config.warm
     pub warm_memories : limit_of (memories.words_of host.memories) ≡ config.warm
     pub warm_tables : limit_of (tables.words_of host.tables) ≡ config.warm
 

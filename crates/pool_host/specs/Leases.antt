@@ -1,12 +1,8 @@
 -- A slot that a module may not need, between its take and its give.
 use Rattle.std.specs.Prelude.{◌≡◌, ℕ, ◌<◌, false, Option, Some, None, List, []}
 use Rattle.slot_words.specs.declared.views.Operation.{Operation}
-use Rattle.slot_words.specs.declared.leases.Lease.{Lease}
-use Rattle.slot_words.specs.Leases.{lease_word}
 use Rattle.slot_words.specs.Passes.{Holds, IsIdle, Pass}
-use Rattle.pool_worlds.specs.Contents.{MemoryContents, Named, TableContents}
-use Rattle.memory_slots.specs.Handed as memory
-use Rattle.table_slots.specs.Handed as table
+use Rattle.pool_worlds.specs.Contents.{Named}
 use Rattle.instance_calls.specs.Parts.{Slot}
 
 -- the pass has this slot of so many; without a slot it holds nothing
@@ -27,12 +23,3 @@ Took IsTake (Some s) done = IsTake s.number s.word done
 abbrev pub Gave : (ℕ → List Operation → Type 0) → Option Slot → List Operation → Type 0
 Gave IsGive None done = done ≡ []
 Gave IsGive (Some s) done = IsGive s.number done
-
--- a lease's value is what its take handed out
-abbrev pub IsHandedMemory : ℕ → Named → Option (Lease MemoryContents) → Type 0
-IsHandedMemory pages m None = Unit {0}
-IsHandedMemory pages m (Some l) = memory.IsHandedOut pages m (lease_word l) l.value
-
-abbrev pub IsHandedTable : ℕ → Named → Option (Lease TableContents) → Type 0
-IsHandedTable pages m None = Unit {0}
-IsHandedTable pages m (Some l) = table.IsHandedOut pages m (lease_word l) l.value

@@ -3,6 +3,7 @@ pub mod Closing
 pub mod Hosts
 pub mod Idle
 pub mod Leases
+pub mod Preferring
 pub mod Taking
 pub mod Trails
 pub mod Visits

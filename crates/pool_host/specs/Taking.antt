@@ -1,20 +1,25 @@
 -- The slots of an instance, between their takes and their gives.
-use Rattle.std.specs.Prelude.{Some}
+use Rattle.std.specs.Prelude.{Some, IfSome}
 use Rattle.slot_words.specs.Leases.{lease_word}
 use Rattle.slot_words.specs.Owned.{slots_of}
 use Rattle.slot_words.specs.Parts.{Grew}
 use Rattle.slot_words.specs.Passes.{trail}
 use Rattle.pool_limits.specs.declared.numbers.Numbers.{Numbers}
-use Rattle.pool_worlds.specs.Contents.{Named}
+use Rattle.pool_core.specs.declared.words.State.TheVariants.{Awaiting, Warm}
+use Rattle.pool_worlds.specs.Contents.{Matches, Memory, Named, Table}
 use Rattle.instance_slots.specs.Handed as ticket
 use Rattle.instance_slots.specs.Pools as tickets
+use Rattle.memory_slots.specs.Fits as memory_fits
+use Rattle.memory_slots.specs.Handed as memory
 use Rattle.memory_slots.specs.Pools as memories
+use Rattle.table_slots.specs.Fits as table_fits
+use Rattle.table_slots.specs.Handed as table
 use Rattle.table_slots.specs.Pools as tables
 use Rattle.instance_calls.specs.declared.instance.Instance.{Instance}
 use Rattle.instance_calls.specs.Parts.{memory_slot, table_slot, ticket_slot}
 use Rattle.pool_host.specs.declared.host.Host.{Host}
 use Rattle.pool_host.specs.declared.passes.Passes.{Passes}
-use Rattle.pool_host.specs.Leases.{BelongsTo, Gave, HasSlot, IsHandedMemory, IsHandedTable, Took}
+use Rattle.pool_host.specs.Leases.{BelongsTo, Gave, HasSlot, Took}
 use Rattle.pool_host.specs.Trails.{IsMemoryGive, IsMemoryTake, IsTableGive, IsTableTake, IsTicketGive, IsTicketTake}
 
 module _ {N : Type 0} where
@@ -29,8 +34,8 @@ module _ {N : Type 0} where
   -- what its slots hold is what their takes handed out
   pub record IsHandedInstance (config : Numbers) (m : Named) (x : Instance N) : Type 0 where
     pub ticket : ticket.IsHandedOut config.pages m (lease_word x.ticket) x.ticket.value
-    pub memory : IsHandedMemory config.pages m x.memory
-    pub table : IsHandedTable config.pages m x.table
+    pub memory : IfSome x.memory (λ l. memory.IsHandedOut config.pages m (lease_word l) l.value)
+    pub table : IfSome x.table (λ l. table.IsHandedOut config.pages m (lease_word l) l.value)
 
   -- the trails grew by the takes of its slots
   pub record TookSlots (config : Numbers) (host : Host N) (m : Named) (before after : Passes N) (x : Instance N) : Type 0 where
@@ -43,3 +48,8 @@ module _ {N : Type 0} where
     pub ticket : Grew (Gave (IsTicketGive config host m) (Some (ticket_slot x.ticket))) (trail before.ticket) (trail after.ticket)
     pub memory : Grew (Gave (IsMemoryGive config host m) (memory_slot x.memory)) (trail before.memory) (trail after.memory)
     pub table : Grew (Gave (IsTableGive config host m) (table_slot x.table)) (trail before.table) (trail after.table)
+
+  -- what its slots hold fits the words that their gives write
+  pub record FitsWords (config : Numbers) (x : Instance N) : Type 0 where
+    pub memory : IfSome x.memory (λ l. Matches config.pages Memory Awaiting (memory_fits.own_tag l.value) l.value)
+    pub table : IfSome x.table (λ l. Matches config.pages Table Warm (table_fits.own_tag l.value) l.value)

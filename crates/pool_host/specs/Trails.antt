@@ -1,7 +1,5 @@
--- What a call adds to the trails of a host's pass, and on what it ran.
-use Rattle.std.specs.Prelude.{◌≡◌, ℕ, Bool, true, List, if◌then◌else◌}
-use Rattle.wasm_types.specs.declared.outcome.Outcome.{Outcome}
-use Rattle.wasm_types.specs.declared.outcome.Val.{Val}
+-- What a call adds to the trails of a host's pass.
+use Rattle.std.specs.Prelude.{ℕ, Bool, true, List, if◌then◌else◌}
 use Rattle.slot_words.specs.declared.views.Operation.{Operation}
 use Rattle.slot_words.specs.Owned.{limit_of, passes_of, slots_of}
 use Rattle.slot_words.specs.Parts.{Grew}
@@ -10,22 +8,17 @@ use Rattle.decommit_batch.specs.HandIn.{IsHandIn}
 use Rattle.slot_pools.specs.Gives.{IsColdGive, IsWarmGive}
 use Rattle.slot_pools.specs.Takes.{IsAffineTake, IsAnyTake, IsBatchedTake, IsFullAffineTake, IsFullAnyTake, IsFullBatchedTake}
 use Rattle.pool_limits.specs.declared.numbers.Numbers.{Numbers}
-use Rattle.pool_worlds.specs.Contents.{Contents, Kind, Memory, Named, Table, Ticket, needs}
-use Rattle.instance_slots.specs.Handed as ticket
+use Rattle.pool_worlds.specs.Contents.{Kind, Memory, Named, Table, Ticket, needs}
 use Rattle.instance_slots.specs.Pools as tickets
-use Rattle.memory_slots.specs.Handed as memory
 use Rattle.memory_slots.specs.Pools as memories
-use Rattle.table_slots.specs.Handed as table
 use Rattle.table_slots.specs.Pools as tables
-use Rattle.instance_calls.specs.CallWords.{MayCall}
-use Rattle.instance_calls.specs.Runs.{RanOn}
 use Rattle.pool_host.specs.declared.answers.Answer.{Answer}
 use Rattle.pool_host.specs.declared.answers.Answer.TheVariants.{Done, NoExport, BadArgs, Full}
 use Rattle.pool_host.specs.declared.answers.Kind.{Kind as AnyKind}
 use Rattle.pool_host.specs.declared.answers.Kind.TheVariants as kind
 use Rattle.pool_host.specs.declared.host.Host.{Host}
 use Rattle.pool_host.specs.declared.passes.Passes.{Passes}
-use Rattle.pool_host.specs.Visits.{Adds, IsServedWith, IsTurnedAway, None, Served, TurnedAway, Visit}
+use Rattle.pool_host.specs.Visits.{Adds, IsTurnedAway, None, Served, TurnedAway, Visit}
 
 -- What a call so answered does at the pool of a kind that its module needs. It goes to the tickets, the memories and the tables in
 -- this order, up to the first that is full.
@@ -86,14 +79,3 @@ module _ {N : Type 0} (config : Numbers) (host : Host N) (m : Named) where
   HasCause before after kind.Instance = IsTurnedAway true IsFullTicketTake (passes_of (tickets.words_of host.tickets)) before.ticket after.ticket
   HasCause before after kind.Memory = IsTurnedAway (needs Memory m.tree) IsFullMemoryTake (passes_of (memories.words_of host.memories)) before.memory after.memory
   HasCause before after kind.Table = IsTurnedAway (needs Table m.tree) IsFullTableTake (passes_of (tables.words_of host.tables)) before.table after.table
-
-  -- A call that ended so: the contents that its takes handed out, those that its gives took, and how the one came of the other.
-  pub record RanOnSlots (export : List ℕ) (args : List Val) (fuel : ℕ) (before after : Passes N) (outcome : Outcome) : Type 0 where
-    pub function : ℕ
-    pub may : MayCall m.tree export function args
-    pub handed : (k : Kind) → Contents k
-    pub taken : (k : Kind) → Contents k
-    pub ran : RanOn config m.tree function args fuel handed taken outcome
-    pub ticket : IsServedWith IsTicketTake IsTicketGive (ticket.IsHandedOut config.pages m) (handed Ticket) before.ticket after.ticket
-    pub memory : needs Memory m.tree ≡ true → IsServedWith IsMemoryTake IsMemoryGive (memory.IsHandedOut config.pages m) (handed Memory) before.memory after.memory
-    pub table : needs Table m.tree ≡ true → IsServedWith IsTableTake IsTableGive (table.IsHandedOut config.pages m) (handed Table) before.table after.table

@@ -25,10 +25,3 @@ pub record IsTurnedAway {V : Type 0} (needed : Bool) (IsFullTake : List Operatio
   pub needed_is : needed ≡ true
   pub full : Grew IsFullTake (trail before) (trail after)
   pub others : share_of before < passes
-
--- The slot that it was served with: a take won it, which handed these contents out, and a give brought it back.
-pub record IsServedWith {X V : Type 0} (IsTake : ℕ → ℕ → List Operation → Type 0) (IsGive : ℕ → List Operation → Type 0) (IsHandedOut : ℕ → X → Type 0) (handed : X) (before after : Pass V) : Type 0 where
-  pub number : ℕ
-  pub read : ℕ
-  pub visit : Grew (IsServed IsTake IsGive number read) (trail before) (trail after)
-  pub handed_is : IsHandedOut read handed

@@ -2,9 +2,9 @@
 ghost use Rattle.std.specs.Prelude.{◌≡◌, ◌≤◌, IfOk, length};
 ghost use Rattle.std.specs.List.{All};
 ghost use Rattle.instance_calls.specs.CallWords.{run_limits};
-ghost use Rattle.pool_host.specs.CallWords.{IfDone, IfFull, IsHostAnswer};
+ghost use Rattle.pool_host.specs.CallWords.{IfFull, IsHostAnswer};
 ghost use Rattle.pool_host.specs.Hosts.{AreIdle, ArePassesOf, AreSamePasses, HandedOut, HasShare, IsHostPass, IsNewHostPass, IsSameHostPass, IsShare};
-ghost use Rattle.pool_host.specs.Trails.{AddsTrails, HasCause, RanOnSlots};
+ghost use Rattle.pool_host.specs.Trails.{AddsTrails, HasCause};
 
 use crate::answers::Answer;
 use crate::dealing::deal;
@@ -83,7 +83,6 @@ impl<N: Naming> Host<N> {
         ensures answer { IsHostAnswer «module».now.tree (run_limits N.config) export.now args.now fuel result }
         ensures trails { AddsTrails N.config self.now «module».now result passes.old passes.new }
         ensures full { IfFull result (HasCause N.config self.now «module».now passes.old passes.new) }
-        ensures ran { IfDone result (RanOnSlots N.config self.now «module».now export.now args.now fuel passes.old passes.new) }
     {
         let function = match find_function(store, module, export, args) {
             Ok(function) => function,
@@ -128,9 +127,6 @@ impl<N: Naming> Host<N> {
         // to each pass of the kinds that it asked: one take and its give, or a take that won nothing
         ensures trails { AddsTrails N.config self.now «module».now result pass.old.passes pass.new.passes }
         ensures full { IfFull result (HasCause N.config self.now «module».now pass.old.passes pass.new.passes) }
-
-        // what the takes handed out, and what the run of the call made of it
-        ensures ran { IfDone result (RanOnSlots N.config self.now «module».now export.now args.now fuel pass.old.passes pass.new.passes) }
     {
         let answer = self.answer(
             &mut pass.passes,

@@ -1,19 +1,20 @@
-//! Slots of a kind that a module may not need are taken and given back.
-ghost use Rattle.std.specs.Prelude.{◌≡◌, ◌<◌, true, IfOk, OnErr};
+//! Slots of a kind that a module may not need are taken.
+ghost use Rattle.std.specs.Prelude.{IfOk, IfSome, OnErr};
+ghost use Rattle.slot_words.specs.Leases.{lease_word};
 ghost use Rattle.slot_words.specs.Owned.{slots_of, limit_of, passes_of};
 ghost use Rattle.slot_words.specs.Parts.{Grew};
 ghost use Rattle.slot_words.specs.Passes.{IsIdle, IsSamePass, trail};
-ghost use Rattle.decommit_batch.specs.HandIn.{IsHandIn};
-ghost use Rattle.slot_pools.specs.Gives.{IsWarmGive};
 ghost use Rattle.slot_pools.specs.Takes.{IsAffineTake, IsBatchedTake, IsFullAffineTake, IsFullBatchedTake};
-ghost use Rattle.pool_worlds.specs.Contents.{Memory, Named, Table, needs};
+ghost use Rattle.pool_worlds.specs.Contents.{Memory, Table, needs};
+ghost use Rattle.memory_slots.specs.Handed as memory;
 ghost use Rattle.memory_slots.specs.Pools as memories;
 ghost use Rattle.memory_slots.specs.Pools.{IsMemoryPass};
+ghost use Rattle.table_slots.specs.Handed as table;
 ghost use Rattle.table_slots.specs.Pools as tables;
 ghost use Rattle.table_slots.specs.Pools.{IsTablePass};
 ghost use Rattle.instance_calls.specs.Instances.{IsFreshMemory, IsFreshTable};
 ghost use Rattle.instance_calls.specs.Parts.{memory_slot, table_slot};
-ghost use Rattle.pool_host.specs.Leases.{BelongsTo, Gave, HasSlot, IsHandedMemory, IsHandedTable, Took};
+ghost use Rattle.pool_host.specs.Leases.{BelongsTo, HasSlot, Took};
 ghost use Rattle.pool_host.specs.Visits.{IsTurnedAway};
 
 use instance_calls::{needs_memory, needs_table};
@@ -36,7 +37,7 @@ pub(crate) fn take_memory<N: Naming>(
     ensures has { IfOk result (λ o. HasSlot (slots_of (memories.words_of pool.now)) pass.new (memory_slot o)) }
     ensures belongs { IfOk result (λ o. BelongsTo «module».now (memory_slot o)) }
     ensures fresh { IfOk result (IsFreshMemory N.config «module».now.tree) }
-    ensures handed { IfOk result (IsHandedMemory N.config.pages «module».now) }
+    ensures handed { IfOk result (λ o. IfSome o (λ l. memory.IsHandedOut N.config.pages «module».now (lease_word l) l.value)) }
     ensures took { IfOk result (λ o. Grew (Took (IsBatchedTake (limit_of (memories.words_of pool.now)) (slots_of (memories.words_of pool.now)) «module».now.tag) (memory_slot o)) (trail pass.old) (trail pass.new)) }
     ensures idle { OnErr result (IsIdle pass.new) }
     ensures full { OnErr result (IsTurnedAway (needs Memory «module».now.tree) (IsFullBatchedTake (limit_of (memories.words_of pool.now)) (slots_of (memories.words_of pool.now)) «module».now.tag) (passes_of (memories.words_of pool.now)) pass.old pass.new) }
@@ -61,7 +62,7 @@ pub(crate) fn take_table<N: Naming>(
     ensures has { IfOk result (λ o. HasSlot (slots_of (tables.words_of pool.now)) pass.new (table_slot o)) }
     ensures belongs { IfOk result (λ o. BelongsTo «module».now (table_slot o)) }
     ensures fresh { IfOk result (IsFreshTable «module».now.tree) }
-    ensures handed { IfOk result (IsHandedTable N.config.pages «module».now) }
+    ensures handed { IfOk result (λ o. IfSome o (λ l. table.IsHandedOut N.config.pages «module».now (lease_word l) l.value)) }
     ensures took { IfOk result (λ o. Grew (Took (IsAffineTake (limit_of (tables.words_of pool.now)) (slots_of (tables.words_of pool.now)) «module».now.tag) (table_slot o)) (trail pass.old) (trail pass.new)) }
     ensures idle { OnErr result (IsIdle pass.new) }
     ensures full { OnErr result (IsTurnedAway (needs Table «module».now.tree) (IsFullAffineTake (limit_of (tables.words_of pool.now)) (slots_of (tables.words_of pool.now)) «module».now.tag) (passes_of (tables.words_of pool.now)) pass.old pass.new) }
@@ -71,44 +72,4 @@ pub(crate) fn take_table<N: Naming>(
     }
     let lease = pool.take(pass, store, module)?;
     Ok(Some(lease))
-}
-
-// Gives back a memory that belongs to a module, if there is one.
-pub(crate) fn give_memory<N: Naming>(
-    pool: &MemoryPool<N>,
-    pass: &mut Pass<MemSlot<N>>,
-    store: &ModuleStore<N>,
-    memory: Option<Lease<MemSlot<N>>>,
-)
-    requires own { IsMemoryPass pool.now pass.old }
-    requires has { HasSlot (slots_of (memories.words_of pool.now)) pass.old (memory_slot memory) }
-    requires belongs { (m : Named) × BelongsTo m (memory_slot memory) }
-    ensures same { IsSamePass pass.old pass.new }
-    ensures idle { IsIdle pass.new }
-    ensures gave { (m : Named) → BelongsTo m (memory_slot memory)
-        → Grew (Gave (λ n. IsHandIn (limit_of (memories.words_of pool.now)) (slots_of (memories.words_of pool.now)) n m.tag N.config.batch) (memory_slot memory)) (trail pass.old) (trail pass.new) }
-{
-    if let Some(lease) = memory {
-        pool.give(pass, lease, store);
-    }
-}
-
-// Gives back a table that belongs to a module, if there is one.
-pub(crate) fn give_table<N: Naming>(
-    pool: &TablePool<N>,
-    pass: &mut Pass<TableSlot<N>>,
-    store: &ModuleStore<N>,
-    table: Option<Lease<TableSlot<N>>>,
-)
-    requires own { IsTablePass pool.now pass.old }
-    requires has { HasSlot (slots_of (tables.words_of pool.now)) pass.old (table_slot table) }
-    requires belongs { (m : Named) × BelongsTo m (table_slot table) }
-    ensures same { IsSamePass pass.old pass.new }
-    ensures idle { IsIdle pass.new }
-    ensures gave { (m : Named) → BelongsTo m (table_slot table)
-        → Grew (Gave (λ n. IsWarmGive (limit_of (tables.words_of pool.now)) n m.tag) (table_slot table)) (trail pass.old) (trail pass.new) }
-{
-    if let Some(lease) = table {
-        pool.give(pass, lease, store);
-    }
 }

@@ -1,9 +1,9 @@
 //! Calls of one caller.
 ghost use Rattle.std.specs.Prelude.{◌≡◌, IfOk};
 ghost use Rattle.instance_calls.specs.CallWords.{run_limits};
-ghost use Rattle.pool_host.specs.CallWords.{IfDone, IsAnswer, host_answer};
+ghost use Rattle.pool_host.specs.CallWords.{IsAnswer, host_answer};
 ghost use Rattle.pool_host.specs.Hosts.{HandedOut, HasShare, IsHostPass, IsSameHostPass, IsShare};
-ghost use Rattle.pool_host.specs.Trails.{AddsTrails, RanOnSlots};
+ghost use Rattle.pool_host.specs.Trails.{AddsTrails};
 
 use crate::answers::Answer;
 use crate::host::Host;
@@ -71,7 +71,6 @@ impl<N: Naming> LaneHost<N> {
         ensures same { (self.new.host ≡ self.old.host) × IsSameHostPass self.old.pass self.new.pass }
         ensures answer { IsAnswer «module».now.tree (run_limits N.config) export.now args.now fuel result }
         ensures trails { AddsTrails N.config self.old.host «module».now (host_answer result) self.old.pass.passes self.new.pass.passes }
-        ensures ran { IfDone (host_answer result) (RanOnSlots N.config self.old.host «module».now export.now args.now fuel self.old.pass.passes self.new.pass.passes) }
     {
         let pass = &mut self.pass;
         match self

@@ -6,10 +6,21 @@ ghost use Rattle.wasm_types.specs.declared.limits.RunLimits.{RunLimits};
 ghost use Rattle.wasm_spec.specs.Validity.{IsValid};
 ghost use Rattle.pool_worlds.specs.Worlds.{AlwaysShadow, TwoWorldsAgree, AnswersAgree, RunsAreTurns, PreparingTwiceIsOnce};
 ghost use Rattle.pool_worlds.specs.Fitting.{FreeSlotsFit, ClearedFitsCold, RestoredFitsWarm, UsedFitsAwaiting, TablesFitWarm};
+ghost use Rattle.pool_worlds.specs.Contents.{Matches, Memory, Table, Ticket};
+ghost use Rattle.slot_pools.specs.Causes.{LostToAnother};
+ghost use Rattle.instance_slots.specs.Fits as tickets;
+ghost use Rattle.memory_slots.specs.Fits as memories;
+ghost use Rattle.table_slots.specs.Fits as tables;
 ghost use Rattle.pool_host.specs.CallWords.{IsAnswer};
+ghost use Rattle.pool_host.specs.Preferring.{CallsPreferOwn, FullHasCause};
 ghost use Rattle.pool_host.specs.declared.lane.LaneAnswer.{LaneAnswer};
 
+use instance_slots::Ticket as AnyTicket;
+use memory_slots::MemSlot;
+use module_store::Naming;
 use pool_worlds::laws as worlds;
+use slot_pools::laws as pools;
+use table_slots::TableSlot;
 
 /// A call of a valid module has one answer: nothing but the module, the limits, the export, the arguments and the fuel
 /// decides it.
@@ -35,7 +46,8 @@ pub fn two_worlds()
     worlds::two_worlds();
 }
 
-/// What a call's run does to its slots, as [`Host::call`](crate::Host::call) tells it, is turns of the call, after which it ends.
+/// What a call's run does to its slots, as [`Instance::run`](instance_calls::Instance::run) tells it, is turns of the call, after
+/// which it ends.
 pub fn runs_are_turns()
     ensures { RunsAreTurns }
 {
@@ -60,4 +72,32 @@ pub fn contents_fit_their_words()
     ensures tables { TablesFitWarm }
 {
     worlds::contents_fit_their_words();
+}
+
+/// A call that is served with a memory wins one that its scan saw free and warm for its module, unless it lost the claim of each such
+/// memory; and likewise with a table. The last claim of its take is of the slot that it won.
+pub fn calls_prefer_their_own<N: Naming>()
+    ensures { CallsPreferOwn N }
+{
+    pools::takes_prefer_their_own();
+    pools::the_last_claim_names_the_slot();
+}
+
+/// A call that is answered that a kind is full claimed each slot of that kind and found it held: the memories after its flush mark,
+/// the tables after its look, the tickets after its scan.
+pub fn full_has_its_cause<N: Naming>()
+    ensures { FullHasCause N }
+{
+    pools::full_has_its_cause();
+}
+
+/// Where a call lost the claim of a slot, another pass held that slot.
+pub fn lost_claims_are_lost_to_another<N: Naming>()
+    ensures tickets { LostToAnother (λ s tag x. Matches N.config.pages Ticket s tag x) tickets.room }
+    ensures memories { LostToAnother (λ s tag x. Matches N.config.pages Memory s tag x) memories.room }
+    ensures tables { LostToAnother (λ s tag x. Matches N.config.pages Table s tag x) tables.room }
+{
+    pools::lost_claims_are_lost_to_another::<AnyTicket<N>>();
+    pools::lost_claims_are_lost_to_another::<MemSlot<N>>();
+    pools::lost_claims_are_lost_to_another::<TableSlot<N>>();
 }

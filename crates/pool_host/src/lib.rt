@@ -4,6 +4,7 @@
 mod answers;
 mod closing;
 mod dealing;
+mod giving;
 mod host;
 mod kinds;
 mod lane;

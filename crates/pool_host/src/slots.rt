@@ -2,13 +2,14 @@
 ghost use Rattle.std.specs.Prelude.{IfErr, IfOk, OnErr};
 ghost use Rattle.instance_calls.specs.Instances.{IsFreshInstance};
 ghost use Rattle.pool_host.specs.Hosts.{AreIdle, ArePassesOf, AreSamePasses};
-ghost use Rattle.pool_host.specs.Taking.{GaveSlots, HaveSlots, IsHandedInstance, TookSlots};
+ghost use Rattle.pool_host.specs.Taking.{FitsWords, GaveSlots, HaveSlots, IsHandedInstance, TookSlots};
 ghost use Rattle.pool_host.specs.Trails.{AddsTrails, HasCause};
 ghost use Rattle.pool_worlds.specs.Contents.{Named};
 
 use crate::answers::{Answer, Kind};
+use crate::giving::{give_memory, give_table, give_ticket};
 use crate::host::Host;
-use crate::kinds::{give_memory, give_table, take_memory, take_table};
+use crate::kinds::{take_memory, take_table};
 use crate::passes::Passes;
 use instance_calls::Instance;
 use module_store::{ModuleRef, ModuleStore, Naming};
@@ -36,12 +37,12 @@ pub(crate) fn take_slots<N: Naming>(
         return Err(Kind::Instance);
     };
     let Ok(memory) = take_memory(&host.memories, &mut passes.memory, store, module) else {
-        host.tickets.give(&mut passes.ticket, ticket, store);
+        give_ticket(host, passes, store, ticket);
         return Err(Kind::Memory);
     };
     let Ok(table) = take_table(&host.tables, &mut passes.table, store, module) else {
-        give_memory(&host.memories, &mut passes.memory, store, memory);
-        host.tickets.give(&mut passes.ticket, ticket, store);
+        give_memory(host, passes, store, memory);
+        give_ticket(host, passes, store, ticket);
         return Err(Kind::Table);
     };
     Ok(Instance {
@@ -62,6 +63,7 @@ pub(crate) fn give_slots<N: Naming>(
     requires have { (m : Named) × HaveSlots host.now m passes.old instance }
     ensures same { AreSamePasses passes.old passes.new }
     ensures idle { AreIdle passes.new }
+    ensures took { FitsWords N.config instance }
     ensures gave { (m : Named) → HaveSlots host.now m passes.old instance → GaveSlots N.config host.now m passes.old passes.new instance }
 {
     let Instance {
@@ -69,7 +71,7 @@ pub(crate) fn give_slots<N: Naming>(
         memory,
         table,
     } = instance;
-    give_table(&host.tables, &mut passes.table, store, table);
-    give_memory(&host.memories, &mut passes.memory, store, memory);
-    host.tickets.give(&mut passes.ticket, ticket, store);
+    give_table(host, passes, store, table);
+    give_memory(host, passes, store, memory);
+    give_ticket(host, passes, store, ticket);
 }

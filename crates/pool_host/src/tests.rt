@@ -51,7 +51,7 @@ fn open(alloc: Global, warm: u32, batch: u32) -> Result<Opened, Fail> {
         tables: 4,
         warm,
         batch,
-        pages: 2,
+        pages: 4,
         elements: 8,
         depth: 16,
         frame: 16,
@@ -428,7 +428,7 @@ fn marks_of<N: Naming>(instance: &Instance<N>) -> Option<u32> {
     }
 }
 
-// How many blocks of its memory a call marks.
+// How a call ends, and how many blocks of its memory it marks.
 fn marks_after<N: Naming>(
     host: &Host<N>,
     passes: &mut Passes<N>,
@@ -437,7 +437,7 @@ fn marks_after<N: Naming>(
     export: &[u8],
     args: &[Val],
     fuel: u64,
-) -> Option<u32>
+) -> Option<(Outcome, Option<u32>)>
     requires own { ArePassesOf host.now passes.old }
     requires idle { AreIdle passes.old }
     ensures same { AreSamePasses passes.old passes.new }
@@ -448,10 +448,10 @@ fn marks_after<N: Naming>(
     };
     match take_slots(host, passes, store, module) {
         Ok(mut instance) => {
-            let _outcome = instance.run(store, module, function, args, fuel);
+            let outcome = instance.run(store, module, function, args, fuel);
             let marks = marks_of(&instance);
             give_slots(host, passes, store, instance);
-            marks
+            Some((outcome, marks))
         }
         Err(_) => None,
     }
@@ -466,7 +466,7 @@ fn marked_by<N: Naming>(
     export: &[u8],
     args: &[Val],
     fuel: u64,
-) -> (Option<u32>, HostPass<N>)
+) -> (Option<(Outcome, Option<u32>)>, HostPass<N>)
     requires { IsHostPass host.now pass }
     ensures { IsHostPass host.now result.1 }
 {
@@ -485,20 +485,21 @@ fn check_marks<N: Naming, R: Abort + Wait>(rt: &R, alloc: Global, opened: Opened
         register(rt, alloc, &store, &mut desk, GROW.as_slice()),
     ];
     let (host, mut pass) = one_caller(rt, alloc, &store);
-    // the module, the export, how many of the two arguments, the first of them, the fuel, and the blocks
-    let rows: [(usize, &str, usize, u32, u64, u32); 5] = [
-        (0, "bump", 0, 0, 100, 1),
-        (1, "poke", 2, 4094, 100, 2),
-        (1, "poke", 2, 4092, 100, 1),
-        (2, "dirty", 0, 0, 50, 1),
-        (3, "grow", 1, 1, 100, 0),
+    // the module, the export, how many of the two arguments, the first of them, the fuel, how the call ends, and the blocks
+    let none = Outcome::Done(None);
+    let rows: [(usize, &str, usize, u32, u64, Outcome, u32); 5] = [
+        (0, "bump", 0, 0, 100, ONE, 1),
+        (1, "poke", 2, 4094, 100, none, 2),
+        (1, "poke", 2, 4092, 100, none, 1),
+        (2, "dirty", 0, 0, 50, Outcome::Fuel, 1),
+        (3, "grow", 1, 3, 100, ONE, 0),
     ];
-    for (module, export, count, first, fuel, blocks) in rows {
+    for (module, export, count, first, fuel, outcome, blocks) in rows {
         let args = [Val::I32(first), Val::I32(7)];
         let module = &modules[module % 4];
         let args = &args[..count.min(2)];
         let (marks, back) = marked_by(&host, pass, &store, module, export.as_bytes(), args, fuel);
-        assert_eq!(rt; marks, Some(blocks), "at {export}");
+        assert_eq!(rt; marks, Some((outcome, Some(blocks))), "at {export}");
         pass = back;
     }
 }

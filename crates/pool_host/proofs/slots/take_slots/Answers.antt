@@ -1,8 +1,9 @@
-use Rattle.std.proofs.Common.{refl}
+use Rattle.std.proofs.Common.{ap, ◌∙◌}
+use Rattle.slot_words.specs.Passes.{trail}
 use Rattle.pool_worlds.specs.Contents.{Memory, Table, needs}
 use Rattle.instance_calls.specs.Parts.{memory_slot}
 use Rattle.pool_host.specs.Trails.{IsFullMemoryTake, IsFullTableTake, IsFullTicketTake, IsMemoryGive, IsMemoryTake, IsTableGive, IsTableTake, IsTicketGive, IsTicketTake}
-use Rattle.pool_host.proofs.VisitLemmas.{memory_slot_some, nothing_if, served, turned_away, visited}
+use Rattle.pool_host.proofs.VisitLemmas.{grew_from, grew_to, memory_slot_some, nothing_if, served, turned_away, visited}
 use Rattle.pool_host.proofs.slots.take_slots.Goals as goal
 
 pub returns-in_default-take_memory-clause-trails : goal.returns-in_default-take_memory-clause-trails
@@ -10,10 +11,12 @@ returns-in_default-take_memory-clause-trails g c =
     let config = g.N.Naming.config in
     let host = c.args.host.now in
     let m = c.args.module.now in
-    let full = c.in_default-take_memory.ensures.full in record {
-      ticket = served (IsTicketTake config host m) (IsTicketGive config host m) (IsFullTicketTake config host m) _ _ _ _ _ c.in-Ok.ensures.trail c.give.ensures.trail;
-      memory = turned_away (IsMemoryTake config host m) (IsMemoryGive config host m) (IsFullMemoryTake config host m) (needs Memory m.tree) _ _ full.needed_is full.full;
-      table = nothing_if (IsTableTake config host m) (IsTableGive config host m) (IsFullTableTake config host m) (needs Table m.tree) _ _ refl;
+    let full = c.in_default-take_memory.ensures.full in
+    let back = c.give_ticket.ensures.others in record {
+      ticket = served (IsTicketTake config host m) (IsTicketGive config host m) (IsFullTicketTake config host m) _ _ _ _ _ c.in-Ok.ensures.trail (c.give_ticket.ensures.gave m);
+      memory = grew_to _ _ _ _ (turned_away (IsMemoryTake config host m) (IsMemoryGive config host m) (IsFullMemoryTake config host m) (needs Memory m.tree) _ _ full.needed_is full.full)
+          (ap (λ p. trail p.memory) back);
+      table = nothing_if (IsTableTake config host m) (IsTableGive config host m) (IsFullTableTake config host m) (needs Table m.tree) _ _ (ap (λ p. trail p.table) back);
     }
 
 pub returns-in_default-take_table-clause-trails : goal.returns-in_default-take_table-clause-trails
@@ -22,9 +25,13 @@ returns-in_default-take_table-clause-trails g c =
     let host = c.args.host.now in
     let m = c.args.module.now in
     let full = c.in_default-take_table.ensures.full in
-    let memory = c.in-Ok-take_memory in record {
-      ticket = served (IsTicketTake config host m) (IsTicketGive config host m) (IsFullTicketTake config host m) _ _ _ _ _ c.in-Ok.ensures.trail c.give-in_default-take_table.ensures.trail;
-      memory = visited (IsMemoryTake config host m) (IsMemoryGive config host m) (IsFullMemoryTake config host m) (memory_slot memory.memory) (needs Memory m.tree) _ _ _
-          (memory_slot_some memory.memory _ memory.ensures.fresh.had) memory.ensures.took (c.give_memory.ensures.gave m memory.ensures.belongs);
-      table = turned_away (IsTableTake config host m) (IsTableGive config host m) (IsFullTableTake config host m) (needs Table m.tree) _ _ full.needed_is full.full;
+    let memory = c.in-Ok-take_memory in
+    let first = c.give_memory.ensures.others in
+    let then = c.give_ticket-in_default-take_table.ensures.others in record {
+      ticket = served (IsTicketTake config host m) (IsTicketGive config host m) (IsFullTicketTake config host m) _ _ _ _ _ c.in-Ok.ensures.trail
+          (grew_from _ _ _ _ (c.give_ticket-in_default-take_table.ensures.gave m) (ap (λ p. trail p.ticket) first));
+      memory = grew_to _ _ _ _ (visited (IsMemoryTake config host m) (IsMemoryGive config host m) (IsFullMemoryTake config host m) (memory_slot memory.memory) (needs Memory m.tree) _ _ _
+          (memory_slot_some memory.memory _ memory.ensures.fresh.had) memory.ensures.took (c.give_memory.ensures.gave m memory.ensures.belongs)) (ap (λ p. trail p.memory) then);
+      table = grew_to _ _ _ _ (turned_away (IsTableTake config host m) (IsTableGive config host m) (IsFullTableTake config host m) (needs Table m.tree) _ _ full.needed_is full.full)
+          (ap (λ p. trail p.table) then ∙ ap (λ p. trail p.table) first);
     }

@@ -1,4 +1,4 @@
-use Rattle.pool_host.proofs.SlotLemmas.{all_served, gave_those, ran_on_slots, still_have}
+use Rattle.pool_host.proofs.SlotLemmas.{all_served, gave_those, still_have}
 use Rattle.pool_host.proofs.host.Host.answer.Goals as goal
 
 pub give_slots-requires-clause-have : goal.give_slots-requires-clause-have
@@ -16,16 +16,3 @@ returns-in-Ok-take_slots-clause-trails g c =
     let have = still_have config host m x y keeps c.take_slots.new.passes c.in-Ok-take_slots.ensures.have in
     let gave = gave_those config host m x y keeps c.take_slots.new.passes c.give_slots.new.passes (c.give_slots.ensures.gave m have) in
     all_served config host m x c.args.passes.now c.take_slots.new.passes c.give_slots.new.passes c.in-Ok-take_slots.ensures.fresh c.in-Ok-take_slots.ensures.took gave c.run-outcome.result
-
-pub returns-in-Ok-take_slots-clause-ran : goal.returns-in-Ok-take_slots-clause-ran
-returns-in-Ok-take_slots-clause-ran g c =
-    let config = g.N.Naming.config in
-    let host = c.args.self.now in
-    let m = c.args.module.now in
-    let x = c.in-Ok-take_slots.instance in
-    let y = c.run-outcome.new.self in
-    let keeps = c.run-outcome.ensures.slots in
-    let have = still_have config host m x y keeps c.take_slots.new.passes c.in-Ok-take_slots.ensures.have in
-    let gave = gave_those config host m x y keeps c.take_slots.new.passes c.give_slots.new.passes (c.give_slots.ensures.gave m have) in
-    ran_on_slots config host m x c.args.passes.now c.take_slots.new.passes c.give_slots.new.passes c.in-Ok-take_slots.ensures.fresh c.in-Ok-take_slots.ensures.took gave
-    y c.args.export.now c.in-Ok.function c.args.args.now c.args.fuel c.run-outcome.result c.in-Ok-take_slots.ensures.handed c.in-Ok.ensures.found c.run-outcome.ensures.ran
