@@ -324,10 +324,8 @@ impl Pooled for Ticket {
 fn a_ticket_comes_back_cold(rt: HostRuntime) -> Result<(), Fail> {
     let mut tickets = Vec::with_capacity(rt.alloc(), 1)?;
     tickets.push_reserved(Ticket { calls: 7 });
-    let (words, mut passes) = Words::open(rt.alloc(), &(), tickets, 0, 2)?;
+    let (words, mut passes) = Words::open(rt.alloc(), &(), tickets, 0, 1)?;
     let mut pass = passes.pop().unwrap();
-    let other = passes.pop().unwrap();
-    words.join_pass(&mut pass, other);
     let mut lease = take(&words, &mut pass, 0).unwrap();
     assert_eq!(rt; lease.value.calls, 7);
     lease.value.clear();
