@@ -7,7 +7,7 @@ use Rattle.pool_host.proofs.ClosingLemmas.{counts_of}
 use Rattle.pool_host.proofs.host.Host.close.Goals as goal
 
 pub returns : goal.returns
-returns g c = let host = c.args.self in let items = c.args.passes.items in let all = c.join_all.ensures in let joined = c.join_all.result in
+returns g c = let host = c.args.self in let items = c.args.passes.items in let all = c.join_all-ticket.ensures in let joined = c.join_all-ticket.result in
     let i = c.close-instance in let m = c.close-memory in let t = c.close-table in record {
       instance = counts_of (tickets.words_of host.tickets) joined.ticket (length items) (ticket_trails items) i.result all.shares.ticket all.ticket i.ensures.counts i.ensures.joined i.ensures.held;
       memory = counts_of (memories.words_of host.memories) joined.memory (length items) (memory_trails items) m.result all.shares.memory all.memory m.ensures.counts m.ensures.joined m.ensures.held;
