@@ -34,7 +34,8 @@ pub(crate) struct Collected<N: Naming> {
     pub board: Board,
 }
 
-// The modules are registered and the calls put beside the workers that make them.
+// The modules are registered and the calls put beside the workers that make them. Where no thread can be made the first closure
+// runs last: then all stands in the queue before the first worker asks.
 fn put_and_work<N: Naming + Send + Sync, R: Threads + Wait + Sync, G: Gate>(
     rt: &R,
     alloc: Global,
@@ -66,8 +67,15 @@ fn put_and_work<N: Naming + Send + Sync, R: Threads + Wait + Sync, G: Gate>(
     ensures many { IfOk result.1 (λ done. length done.items ≡ length crew.items) }
     ensures done { IfOk result.1 (λ done. All (IsDone N.config host.now jobs.now calls.now) done.items) }
 {
-    thread::join(
+    let (done, put) = thread::join(
         rt,
+        move || -> Result<Vec<Done<N>>, NoMemory>
+            requires crew { All (IsNewWorker host.now jobs.now) crew.items }
+            requires numbered { AreNumbered calls.now }
+            requires enough { count_of jobs.now ≤ length calls.now }
+            ensures many { IfOk result (λ done. length done.items ≡ length crew.items) }
+            ensures done { IfOk result (λ done. All (IsDone N.config host.entry.now jobs.entry.now calls.entry.now) done.items) }
+        { work_all(rt, alloc, host, store, jobs, crew, calls, gate) },
         move || -> Put<N>
             requires placed { IsPlacedFrom 0 requests.now }
             requires few_modules { desk + length (module_names requests.now) ≤ MOST_MODULES }
@@ -81,14 +89,8 @@ fn put_and_work<N: Naming + Send + Sync, R: Threads + Wait + Sync, G: Gate>(
             ensures entries { IfOk result.entries (λ entries. AreEntries (limits_in N.config) (modules_of requests.entry.now) entries.items) }
             ensures put { IfOk result.entries (λ entries. HasPut (pairs_put entries.items requests.entry.now workers) (account_of own) (account_of result.own)) }
         { put_all(rt, alloc, store, desk, jobs, own, requests, workers) },
-        move || -> Result<Vec<Done<N>>, NoMemory>
-            requires crew { All (IsNewWorker host.now jobs.now) crew.items }
-            requires numbered { AreNumbered calls.now }
-            requires enough { count_of jobs.now ≤ length calls.now }
-            ensures many { IfOk result (λ done. length done.items ≡ length crew.items) }
-            ensures done { IfOk result (λ done. All (IsDone N.config host.entry.now jobs.entry.now calls.entry.now) done.items) }
-        { work_all(rt, alloc, host, store, jobs, crew, calls, gate) },
-    )
+    );
+    (put, done)
 }
 
 // What the workers made of all calls, and the entries of the modules that were registered meanwhile.
