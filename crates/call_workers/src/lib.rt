@@ -4,6 +4,7 @@
 mod calls;
 mod crew;
 mod finishing;
+mod waiting;
 mod working;
 
 pub use calls::{Due, Item, Worked};
