@@ -39,7 +39,7 @@ fn a_load_of_1000_calls_is_a_request_file(rt: HostRuntime) -> Result<(), Fail> {
     let file = make(rt.alloc(), 7, 1000)?;
     let mut modules = 0u32;
     let mut calls = 0u32;
-    for directive in parse(rt.alloc(), file.as_slice())?.as_slice() {
+    for directive in parse(rt.alloc(), file.as_slice())?.directives() {
         match directive {
             Directive::Module { .. } => modules = modules.saturating_add(1),
             Directive::Call { .. } => calls = calls.saturating_add(1),

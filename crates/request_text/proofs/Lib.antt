@@ -3,3 +3,4 @@ pub mod NumberLemmas
 pub mod ReadingLemmas
 pub mod WordLemmas
 pub mod SummaryLemmas
+pub mod PlaceLemmas

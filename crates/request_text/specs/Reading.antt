@@ -1,5 +1,6 @@
 -- How the reader's answers agree with the definition of the request text.
-use Rattle.std.specs.Prelude.{◌+◌, ◌&&◌, nat_lt, Bool, true, [], ◌∷◌, ◌≡◌, ◌<◌, ℕ, List, length, Result, Ok, Err, MatchResult, ⊤}
+use Rattle.std.specs.Global.{Global}
+use Rattle.std.specs.Prelude.{None, Vec, ◌≡◌, ◌<◌, ℕ, List, length, Result, Ok, Err, MatchResult, ⊤}
 use Rattle.request_text.specs.declared.request.Directive.{Directive}
 use Rattle.request_text.specs.declared.request.Directive.TheVariants.{Module, Call}
 use Rattle.request_text.specs.declared.request.Reason.{Reason}
@@ -8,7 +9,10 @@ use Rattle.request_text.specs.declared.directive.LineFault.{LineFault}
 use Rattle.request_text.specs.declared.request.ParseFault.{ParseFault}
 use Rattle.request_text.specs.declared.request.ParseFault.TheVariants.{TextFault, TooLong, NoMemory}
 use Rattle.request_text.specs.declared.directive.LineFault.TheVariants as judged
-use Rattle.request_text.specs.Text.{BadLine, Declared, FileRefusal}
+use Rattle.request_text.specs.Text.{BadLine, Declared, FileRefusal, place_of}
+use Rattle.std.specs.BTreeMap.{BTreeMap, get_by}
+use Rattle.std.specs.Cmp.Lexicographic.{slice_cmp}
+use Rattle.std.specs.Ordering.{nat_cmp}
 
 -- a refusal is the definition's; want of memory says nothing
 abbrev pub Explains : {A : Type 0} → LineFault → Result A Reason → Type 0
@@ -30,13 +34,11 @@ Reports (TextFault line reason) meaning = meaning ≡ Err (BadLine line reason)
 Reports TooLong meaning = ⊥
 Reports NoMemory meaning = ⊤
 
--- one more directive keeps within the numbers of modules and calls, and a call is of one of the modules
-abbrev pub HasRoom : Declared → Directive → Type 0
-HasRoom before (Module name bytes) = length before.names < MOST_MODULES
-HasRoom before (Call place export fuel args) = (before.calls < MOST_CALLS) × (place < length before.names)
+-- the map has the place of each name, and no other name
+abbrev pub ArePlaces : BTreeMap (Vec ℕ Global) ℕ → List (List ℕ) → Type 0
+ArePlaces places names = (name : List ℕ) → get_by (λ key. slice_cmp nat_cmp name key.items) places ≡ place_of names name
 
--- the test for `IsPlacedFrom`
-abbrev pub are_placed_from : ℕ → List Directive → Bool
-are_placed_from modules [] = true
-are_placed_from modules (Module name bytes ∷ rest) = are_placed_from (modules + 1) rest
-are_placed_from modules (Call place export fuel args ∷ rest) = nat_lt place modules && are_placed_from modules rest
+-- one more directive keeps within the numbers of modules and calls; a module's name is new, and a call is of one of the modules
+abbrev pub HasRoom : Declared → Directive → Type 0
+HasRoom before (Module name bytes) = (length before.names < MOST_MODULES) × (place_of before.names name ≡ None)
+HasRoom before (Call place export fuel args) = (before.calls < MOST_CALLS) × (place < length before.names)

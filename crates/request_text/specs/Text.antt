@@ -1,5 +1,5 @@
 -- The request text: the lines of a file, the words of a line, and the ladder of reasons for which a line is refused.
-use Rattle.std.specs.Prelude.{◌<◌, ℕ, ◌+◌, ◌-◌, ◌%◌, ◌^◌, ◌==◌, ◌&&◌, ◌||◌, nat_lt, nat_le, Bool, true, false, not, if◌then◌else◌, List, [], ◌∷◌, ◌++◌, length, take, drop, codes, filter, filter_map, count_by, position, Option, Some, None, is_none, option_and_then, Result, Ok, Err}
+use Rattle.std.specs.Prelude.{◌<◌, ◌≤◌, ℕ, ◌+◌, ◌-◌, ◌%◌, ◌^◌, ◌==◌, ◌&&◌, ◌||◌, nat_lt, nat_le, Bool, true, false, not, if◌then◌else◌, List, [], ◌∷◌, ◌++◌, length, take, drop, codes, filter, filter_map, count_by, position, Option, Some, None, is_none, option_and_then, Result, Ok, Err}
 use Rattle.std.specs.List.{slice_split, list_all}
 use Rattle.std.specs.Option.{option_map, ok_or}
 use Rattle.std.specs.Result.{result_ok}
@@ -167,6 +167,12 @@ abbrev pub IsPlacedFrom : ℕ → List Directive → Type 0
 IsPlacedFrom modules [] = Unit {0}
 IsPlacedFrom modules (Module name bytes ∷ rest) = IsPlacedFrom (modules + 1) rest
 IsPlacedFrom modules (Call place export fuel args ∷ rest) = (place < modules) × IsPlacedFrom modules rest
+
+-- what holds of the directives of each file that is read
+pub record AreRequests (directives : List Directive) : Type 0 where
+  pub placed : IsPlacedFrom 0 directives
+  pub few_modules : length (module_names directives) ≤ 4096
+  pub few_calls : call_count directives ≤ 100000
 
 -- what these directives declare
 abbrev pub declared_by : List Directive → Declared

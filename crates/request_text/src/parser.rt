@@ -1,13 +1,12 @@
 //! A request file is read line by line.
 ghost use Rattle.std.specs.Prelude.{◌≡◌, ◌↔◌, ◌<◌, ◌≤◌, [], length, IfOk, IfErr, IfSome, IsErrOf};
-ghost use Rattle.request_text.specs.Text.{text_lines, requests_from, requests_of, file_refusal_of, module_names, call_count, IsPlacedFrom};
+ghost use Rattle.request_text.specs.Text.{text_lines, requests_from, requests_of, file_refusal_of};
 ghost use Rattle.request_text.specs.Reading.{fault_at, Reports};
 
 use crate::directive::LineFault;
 use crate::reading::Reading;
-use crate::request::{MOST_BYTES, MOST_CALLS, MOST_MODULES, ParseFault, Requests};
+use crate::request::{MOST_BYTES, ParseFault, Requests};
 use std::alloc::Global;
-use wasm_types::Items;
 
 // The fault of the line with this number.
 fn at_line(line: u32, fault: LineFault) -> ParseFault
@@ -23,9 +22,6 @@ fn at_line(line: u32, fault: LineFault) -> ParseFault
 fn read_lines(alloc: Global, text: &[u8]) -> Result<Requests, ParseFault>
     requires { length text.now ≤ MOST_BYTES }
     ensures requests { IfOk result (λ requests. requests_from 1 [] (text_lines text.now) ≡ Ok requests) }
-    ensures few_modules { IfOk result (λ requests. length (module_names requests) ≤ MOST_MODULES) }
-    ensures few_calls { IfOk result (λ requests. call_count requests ≤ MOST_CALLS) }
-    ensures placed { IfOk result (λ requests. IsPlacedFrom 0 requests) }
     ensures refused { IfErr result (λ fault. Reports fault (requests_from 1 [] (text_lines text.now))) }
 {
     let mut reading = Reading::new(alloc);
@@ -37,7 +33,7 @@ fn read_lines(alloc: Global, text: &[u8]) -> Result<Requests, ParseFault>
             Err(fault) => return Err(at_line(number, fault)),
         };
     }
-    Ok(Items::new(reading.directives))
+    Ok(reading.requests())
 }
 
 /// Reads a request file of at most `MOST_BYTES` bytes: its directives in file order. Source: `specs/Text.antt`,
@@ -50,9 +46,6 @@ fn read_lines(alloc: Global, text: &[u8]) -> Result<Requests, ParseFault>
 #[tactic(auto, unfolding(crate::specs::Text::requests_of))]
 pub fn parse(alloc: Global, text: &[u8]) -> Result<Requests, ParseFault>
     ensures requests { IfOk result (λ requests. requests_of text.now ≡ Ok requests) }
-    ensures few_modules { IfOk result (λ requests. length (module_names requests) ≤ MOST_MODULES) }
-    ensures few_calls { IfOk result (λ requests. call_count requests ≤ MOST_CALLS) }
-    ensures placed { IfOk result (λ requests. IsPlacedFrom 0 requests) }
     ensures refused { IfErr result (λ fault. IfSome (file_refusal_of fault) (λ refusal. requests_of text.now ≡ Err refusal)) }
     ensures too_long { IsErrOf result ParseFault.TooLong ↔ (MOST_BYTES < length text.now) }
 {

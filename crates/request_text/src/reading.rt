@@ -1,33 +1,38 @@
 //! The directives that were read so far.
-ghost use Rattle.std.specs.Prelude.{◌≡◌, ◌≤◌, [], ◌∷◌, ◌++◌, length, IsTrue, IfOk, IfErr};
-ghost use Rattle.request_text.specs.Text.{declared_by};
-ghost use Rattle.request_text.specs.Reading.{are_placed_from};
-ghost use Rattle.request_text.specs.declared.request.TheConstants.{MOST_CALLS, MOST_MODULES};
+ghost use Rattle.std.specs.Prelude.{◌≡◌, [], ◌∷◌, ◌++◌, IfOk, IfErr};
+ghost use Rattle.request_text.specs.Text.{declared_by, requests_after};
+ghost use Rattle.request_text.specs.Reading.{Explains, HasRoom};
 
 use crate::directive::{LineFault, line_directive};
-use crate::request::Directive;
+use crate::request::{Directive, Requests};
 use crate::scope::Scope;
 use crate::words::is_skipped;
 use std::alloc::Global;
+use std::marker::Model;
 
 // The directives that were read so far, and what the next line is judged by.
 #[derive(Drop)]
 pub(crate) struct Reading {
-    pub(crate) directives: Vec<Directive>,
+    directives: Vec<Directive>,
     scope: Scope,
-    ghost declared: { scope ≡ declared_by directives.items },
-    ghost few_names: { length scope.names ≤ MOST_MODULES },
-    ghost few_calls: { scope.calls ≤ MOST_CALLS },
-    ghost placed: { IsTrue (are_placed_from 0 directives.items) },
+}
+
+impl Model for Reading {
+    ghost use Rattle.std.specs.Prelude.{◌≡◌, List};
+    ghost use Rattle.request_text.specs.declared.request.Directive.{Directive};
+    ghost use Rattle.request_text.specs.Text.{AreRequests, declared_by};
+
+    ghost Value = { List Directive };
+
+    ghost view = { λ r. r.directives.items };
+
+    ghost invariant = { λ r. (r.scope ≡ declared_by r.directives.items) × AreRequests r.directives.items };
 }
 
 impl Reading {
-    ghost use Rattle.request_text.specs.Text.{requests_after};
-    ghost use Rattle.request_text.specs.Reading.{Explains, HasRoom};
-
     // Nothing is read yet. Takes no memory.
     pub(crate) fn new(alloc: Global) -> Reading
-        ensures { result.directives.items ≡ [] }
+        ensures { result ≡ [] }
     {
         Reading {
             directives: Vec::new(alloc),
@@ -37,8 +42,8 @@ impl Reading {
 
     // The reading with one more directive.
     fn with(self, alloc: Global, directive: Directive) -> Result<Reading, LineFault>
-        requires { HasRoom self.scope directive }
-        ensures more { IfOk result (λ r. r.directives.items ≡ self.directives.items ++ directive ∷ []) }
+        requires { HasRoom (declared_by self) directive }
+        ensures more { IfOk result (λ reading. reading ≡ self ++ directive ∷ []) }
         ensures memory { IfErr result (λ fault. fault ≡ LineFault.NoMemory) }
     {
         let Reading {
@@ -53,13 +58,20 @@ impl Reading {
     // The reading once this line is read.
     #[tactic(auto, unfolding(crate::specs::Text::requests_after))]
     pub(crate) fn after(self, alloc: Global, line: &[u8]) -> Result<Reading, LineFault>
-        ensures read { IfOk result (λ r. requests_after self.directives.items line.now ≡ Ok r.directives.items) }
-        ensures refused { IfErr result (λ fault. Explains fault (requests_after self.directives.items line.now)) }
+        ensures read { IfOk result (λ reading. requests_after self line.now ≡ Ok reading) }
+        ensures refused { IfErr result (λ fault. Explains fault (requests_after self line.now)) }
     {
         if is_skipped(line) {
             return Ok(self);
         }
         let directive = line_directive(alloc, &self.scope, line)?;
         self.with(alloc, directive)
+    }
+
+    // What was read. Takes no memory.
+    pub(crate) fn requests(self) -> Requests
+        ensures { result ≡ self }
+    {
+        Requests::new(self.directives)
     }
 }

@@ -1,8 +1,10 @@
 //! What a request file asks for, and why one is refused.
 ghost use Rattle.std.specs.Prelude.{◌≡◌, Some};
 ghost use Rattle.request_text.specs.Lines.{reason_text};
+ghost use Rattle.request_text.specs.Text.{AreRequests};
 
 use std::fmt;
+use std::marker::Model;
 use thiserror::Error;
 use wasm_types::{Items, Val};
 
@@ -36,8 +38,43 @@ pub enum Directive {
     },
 }
 
-/// The directives of a request file, in file order.
-pub type Requests = Items<Directive>;
+/// What a request file asks for, which contracts see as the list of its directives, in file order. `parse` alone makes
+/// one.
+#[derive(Drop)]
+pub struct Requests {
+    directives: Vec<Directive>,
+}
+
+impl Model for Requests {
+    ghost use Rattle.std.specs.Prelude.{List};
+    ghost use Rattle.request_text.specs.declared.request.Directive.{Directive};
+    ghost use Rattle.request_text.specs.Text.{AreRequests};
+
+    ghost Value = { List Directive };
+
+    ghost view = { λ r. r.directives.items };
+
+    ghost invariant = { λ r. AreRequests r.directives.items };
+}
+
+impl Requests {
+    // The requests of these directives. Takes no memory.
+    pub(crate) fn new(directives: Vec<Directive>) -> Self
+        requires { AreRequests directives.items }
+        ensures { result ≡ directives.items }
+    {
+        Requests { directives }
+    }
+
+    /// The directives: at most `MOST_MODULES` module lines and `MOST_CALLS` call lines, and the module of each call is a
+    /// module line before it.
+    pub fn directives(&self) -> &[Directive]
+        ensures all { result.now ≡ self.now }
+        ensures lawful { AreRequests self.now }
+    {
+        self.directives.as_slice()
+    }
+}
 
 /// Why a line of a request file is refused: the first of these that applies, in this order. Source:
 /// `specs/Text.antt`, `directive_of`.

@@ -1,17 +1,19 @@
 //! What the lines of a request file have declared.
-ghost use Rattle.std.specs.Prelude.{◌≡◌, ◌↔◌, ◌<◌, ◌≤◌, [], length, IsTrue, IfOk, IfSome};
+ghost use Rattle.std.specs.Prelude.{◌≡◌, ◌↔◌, ◌<◌, ◌≤◌, [], ◌∷◌, ◌++◌, None, length, IsTrue, IfOk, IfSome};
 ghost use Rattle.request_text.specs.Text.{declared_after, declared_by, place_of};
-ghost use Rattle.request_text.specs.Reading.{HasRoom};
+ghost use Rattle.request_text.specs.Reading.{ArePlaces, HasRoom};
 
 use crate::request::{Directive, MOST_CALLS, MOST_MODULES};
 use std::alloc::{AllocError, Global};
+use std::collections::BTreeMap;
 use std::marker::Model;
 use wasm_types::Items;
 
-// The names of the modules of the lines before, and how many calls stood there.
+// The names of the modules of the lines before, the place of each, and how many calls stood there.
 #[derive(Drop)]
 pub(crate) struct Scope {
     names: Vec<Items<u8>>,
+    places: BTreeMap<Vec<u8>, u32>,
     calls: usize,
 }
 
@@ -21,15 +23,31 @@ impl Model for Scope {
     ghost Value = { Declared };
 
     ghost view = { λ s. record { names = s.names.items; calls = s.calls } };
+
+    ghost use Rattle.request_text.specs.Reading.{ArePlaces};
+
+    ghost invariant = { λ s. ArePlaces s.places s.names.items };
 }
 
-// The index of a name.
-#[tactic(auto, unfolding(crate::specs::Text::place_of))]
-fn index_of(names: &[Items<u8>], name: &[u8]) -> Option<usize>
-    ensures place { result ≡ place_of names.now name.now }
-    ensures within { IfSome result (λ index. index < length names.now) }
+// Declares one more name, whose place is the next.
+fn declare(
+    alloc: Global,
+    names: &mut Vec<Items<u8>>,
+    places: &mut BTreeMap<Vec<u8>, u32>,
+    name: &[u8],
+) -> Result<(), AllocError>
+    requires few { length names.old.items < MOST_MODULES }
+    requires new { place_of names.old.items name.now ≡ None }
+    requires places { ArePlaces places.old names.old.items }
+    ensures names { IfOk result (λ _. names.new.items ≡ names.old.items ++ name.now ∷ []) }
+    ensures places { IfOk result (λ _. ArePlaces places.new names.new.items) }
 {
-    names.iter().position(|other| other.as_slice() == name)
+    let place = names.len() as u32;
+    let copy = Vec::from_slice(alloc, name)?;
+    names.push(Items::new(copy))?;
+    let key = Vec::from_slice(alloc, name)?;
+    places.insert(key, place).map_err(|_| AllocError)?;
+    Ok(())
 }
 
 impl Scope {
@@ -39,18 +57,17 @@ impl Scope {
     {
         Scope {
             names: Vec::new(alloc),
+            places: BTreeMap::new(alloc),
             calls: 0,
         }
     }
 
     // The place of the module of this name, from 0.
     pub(crate) fn place(&self, name: &[u8]) -> Option<u32>
-        requires { length self.now.names ≤ MOST_MODULES }
         ensures place { result ≡ place_of self.now.names name.now }
         ensures within { IfSome result (λ place. place < length self.now.names) }
     {
-        let index = index_of(&self.names, name)?;
-        Some(index as u32)
+        self.places.get(name).copied()
     }
 
     // Whether one more module may be declared.
@@ -74,15 +91,19 @@ impl Scope {
     {
         let Scope {
             mut names,
+            mut places,
             mut calls,
         } = self;
         match directive {
             Directive::Module { name, bytes: _ } => {
-                let copy = Vec::from_slice(alloc, name.as_slice())?;
-                names.push(Items::new(copy))?;
+                declare(alloc, &mut names, &mut places, name.as_slice())?;
             }
             Directive::Call { .. } => calls += 1,
         }
-        Ok(Scope { names, calls })
+        Ok(Scope {
+            names,
+            places,
+            calls,
+        })
     }
 }

@@ -44,7 +44,7 @@ fn described(alloc: Global, parsed: &Result<Requests, ParseFault>) -> Result<Str
     let mut text = String::new(alloc);
     match parsed {
         Ok(requests) => {
-            for directive in requests.as_slice() {
+            for directive in requests.directives() {
                 push_directive(&mut text, directive)?;
             }
         }

@@ -3,7 +3,6 @@ use Rattle.std.proofs.lemmas.Iterator.Splits.{YieldsList-from_slice_split}
 use Rattle.std.proofs.lemmas.Iterator.Consumers.{YieldsList-turn, YieldsList-end}
 use Rattle.std.proofs.lemmas.List.{length_push}
 use Rattle.request_text.specs.Text.{text_lines}
-use Rattle.request_text.proofs.ReadingLemmas.{placed_from-test}
 use Rattle.request_text.proofs.LineLemmas.{one_read, one_refused, all_read}
 use Rattle.request_text.proofs.parser.read_lines.Goals as goal
 
@@ -26,6 +25,3 @@ returns-clause-requests c =
     let end = YieldsList-end (YieldsList-from_slice_split _ (λ b. b == 10) c.args.text.now (cc) (cc) (cc) (λ x b q k. search (rules, tests))) c.loop-line.yielded _ c.loop-line.yielded_by _ _ c.in-None.is c.next.ensures.steps in
     let whole = all_read (text_lines c.args.text.now) _ _ _ _ c.loop-line.invariant.0 end.1 c.loop-line.invariant.1 in
     cc
-
-pub returns-clause-placed : goal.returns-clause-placed
-returns-clause-placed c = rw c.new.ensures (placed_from-test 0 c.loop-line.reading.directives.items c.loop-line.reading.placed)

@@ -1,0 +1,84 @@
+-- The places of names, as a map has them.
+use Rattle.std.proofs.Common.{Vec, not, subst, ◌≡◌, ℕ, ◌+◌, ◌<◌, ◌≤◌, Bool, true, false, cond, nat_lt, List, [], ◌∷◌, ◌++◌, length, Option, Some, None, refl, sym, ap, ◌∙◌, arith, ⊎_elim}
+use Rattle.std.specs.Global.{Global}
+use Rattle.std.specs.Prelude.{IfSome}
+use Rattle.std.specs.Ordering.{is_eq, nat_cmp}
+use Rattle.std.specs.Cmp.{eq_by_cmp_equiv}
+use Rattle.std.specs.Cmp.Lexicographic.{slice_cmp, bytes_decides, nat_list_cmp_total, nat_list_eq_equiv}
+use Rattle.std.specs.BTreeMap.{BTreeMap, UpdatesBy, get_by}
+use Rattle.std.specs.Map.{lookup, IsKeyTest, AreApart, KeepsOthers}
+use Rattle.std.specs.List.{position_or_len}
+use Rattle.std.specs.Str.{bytes_eq}
+use Rattle.std.proofs.Math.Dec.{eqb}
+use Rattle.std.proofs.lemmas.Bool.Decides.{nat_tests}
+use Rattle.std.proofs.lemmas.List.{length-append}
+use Rattle.std.proofs.lemmas.List.Sums.{prefix_len-le-length}
+use Rattle.std.proofs.lemmas.List.Folds.{position_or_len_push}
+use Rattle.std.proofs.lemmas.Slice.Eq.{bytes_eq-Decides}
+use Rattle.std.proofs.lemmas.Map.Text.{is_eq-slice_cmp}
+use Rattle.std.proofs.lemmas.Bool.{cases_Bool, cond-true, cond-false}
+use Rattle.request_text.specs.Text.{place_of}
+use Rattle.request_text.specs.Reading.{ArePlaces}
+
+-- the place k, which is that of the first of n that passes, or n; of one more, where b says whether it passes
+abbrev at_most : ℕ → ℕ → Option ℕ
+at_most k n = cond (nat_lt k n) (Some k) None
+
+one_more : (n k : ℕ) (b : Bool) → k ≤ n → (b ≡ true → k ≡ n) → at_most (cond (eqb k n) (n + cond b 0 1) k) (n + 1) ≡ cond b (Some n) (at_most k n)
+one_more n k true le last = grind (arith, nat_tests)
+one_more n k false le last = grind (arith, nat_tests)
+
+none_at : (n k : ℕ) → k ≤ n → at_most k n ≡ None → k ≡ n
+none_at n k le e = grind (arith, nat_tests)
+
+first_le : (q : List ℕ) (names : List (List ℕ)) → position_or_len (λ other. bytes_eq other q) names ≤ length names
+first_le q names = prefix_len-le-length (λ other. not (bytes_eq other q)) names
+
+pub place_of-push : (names : List (List ℕ)) (name q : List ℕ) → place_of names name ≡ None → place_of (names ++ name ∷ []) q ≡ cond (bytes_eq name q) (Some (length names)) (place_of names q)
+unfolding place_of
+place_of-push names name q none =
+    let k : ℕ = position_or_len (λ other. bytes_eq other q) names in
+    let pushed = position_or_len_push (λ (other : List ℕ). bytes_eq other q) names name in
+    let long : length (names ++ name ∷ []) ≡ length names + 1 = length-append names (name ∷ []) in
+    ap (λ (n : ℕ). at_most (position_or_len (λ (other : List ℕ). bytes_eq other q) (names ++ name ∷ [])) n) long
+    ∙ ap (λ (j : ℕ). at_most j (length names + 1)) pushed
+    ∙ one_more (length names) k (bytes_eq name q) (first_le q names)
+    (λ same. let e : name ≡ q = (bytes_eq-Decides name q).0 same in
+    none_at (length names) k (first_le q names) (ap (λ (x : List ℕ). at_most (position_or_len (λ (other : List ℕ). bytes_eq other x) names) (length names)) (sym e) ∙ none))
+
+within_at : (k n : ℕ) → IfSome (at_most k n) (λ place. place < n)
+within_at k n = split (nat_lt k n) refl where
+  split : (b : Bool) → nat_lt k n ≡ b → IfSome (cond b (Some k) None) (λ place. place < n)
+  split true e = grind (arith, nat_tests)
+  split false e = tt
+
+pub place_within : (names : List (List ℕ)) (name : List ℕ) → IfSome (place_of names name) (λ place. place < length names)
+unfolding place_of
+place_within names name = within_at (position_or_len (λ other. bytes_eq other name) names) (length names)
+
+-- ---- a map with keys of bytes
+
+apart : (bs cs ks : List ℕ) → bytes_eq bs cs ≡ false → is_eq (slice_cmp nat_cmp bs ks) ≡ true → is_eq (slice_cmp nat_cmp cs ks) ≡ false
+apart bs cs ks n y =
+    let z : bytes_eq bs ks ≡ true = sym (is_eq-slice_cmp bs ks) ∙ y in
+    is_eq-slice_cmp cs ks ∙ nat_list_eq_equiv.symm cs ks ∙ sym (nat_list_eq_equiv.congr bs ks cs z) ∙ n
+
+module _ {K : Type 0} (eq : K → K → Bool) (test : K → Bool) where
+  other_entries : {X : Type 0} (old new : List (K × X)) → KeepsOthers eq test old new → (other : K → Bool) → IsKeyTest eq other → AreApart test other → lookup other new ≡ lookup other old
+  unfolding KeepsOthers
+  other_entries old new h = h
+
+-- what a change at the bytes bs leaves at any bytes cs
+pub updated_at : {X : Type 0} (bs : List ℕ) (m n : BTreeMap (Vec ℕ Global) X) (w : Option X) → UpdatesBy (λ x y. slice_cmp nat_cmp x.items y.items) (λ key. slice_cmp nat_cmp bs key.items) m n w
+    → (cs : List ℕ) → get_by (λ key. slice_cmp nat_cmp cs key.items) n ≡ cond (bytes_eq bs cs) w (get_by (λ key. slice_cmp nat_cmp cs key.items) m)
+updated_at bs m n w h cs =
+    ⊎_elim
+    (λ y. subst (λ (l : List ℕ). get_by (λ key. slice_cmp nat_cmp l key.items) n ≡ w) ((bytes_decides bs cs).0 y) h.1 ∙ sym (cond-true (bytes_eq bs cs) w _ y))
+    (λ e. other_entries _ _ _ _ h.3 _ (λ x y. (eq_by_cmp_equiv nat_list_cmp_total).congr cs x.items y.items) (λ k. apart bs cs k.items e) ∙ sym (cond-false (bytes_eq bs cs) w _ e))
+    (cases_Bool (bytes_eq bs cs))
+
+-- one more name, at the next place
+pub places-push : (old new : BTreeMap (Vec ℕ Global) ℕ) (names : List (List ℕ)) (name : List ℕ) → place_of names name ≡ None → ArePlaces old names
+    → UpdatesBy (λ x y. slice_cmp nat_cmp x.items y.items) (λ key. slice_cmp nat_cmp name key.items) old new (Some (length names)) → ArePlaces new (names ++ name ∷ [])
+places-push old new names name none places h q =
+    updated_at name old new (Some (length names)) h q ∙ ap (cond (bytes_eq name q) (Some (length names))) (places q) ∙ sym (place_of-push names name q none)
