@@ -5,7 +5,7 @@ use pool_host::Answer;
 use std::thread;
 
 // In turns.
-const SHORT_WAIT: u64 = 1 << 14;
+const SHORT_WAIT: u64 = 1 << 18;
 
 /// How long a worker waits before it takes its next call: not at all, unless the last one found a kind full. While the next ones
 /// do too each wait is twice as long as the one before, up to a short one and to an eighth of all that it waited, whichever is
