@@ -3,7 +3,6 @@
 
 mod calls;
 mod collecting;
-mod config;
 mod dues;
 pub mod laws;
 mod modules;
