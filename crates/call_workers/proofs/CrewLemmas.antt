@@ -13,8 +13,9 @@ use Rattle.pool_host.specs.declared.passes.Passes.{Passes}
 use Rattle.call_workers.specs.declared.calls.Due.{Due}
 use Rattle.call_workers.specs.declared.calls.Worked.{Worked}
 use Rattle.call_workers.specs.Crews.{HasJoined}
-use Rattle.call_workers.specs.Entries.{IsEntry, Pair, called}
+use Rattle.call_workers.specs.Entries.{IsEntry, Pair, called, zeros}
 use Rattle.call_workers.specs.Taken.{DidWork}
+use Rattle.call_workers.proofs.EndLemmas.{zeros-append, zeros_before_zero}
 use Rattle.call_workers.proofs.EntryLemmas.{all_zip_append, called-append, called_before_zero, entries_made}
 
 abbrev Given : Type 0
@@ -29,6 +30,7 @@ module _ (config : Numbers) (jobs : Jobs (Option Named)) (calls : List Due) wher
     own = is;
     share = omega arith;
     put = refl;
+    ended = ap zeros none;
     made = subst (λ (given : List Pair). AllZip (IsEntry config calls) (called given) []) (sym none) tt;
   }
 
@@ -48,6 +50,7 @@ module _ (config : Numbers) (jobs : Jobs (Option Named)) (calls : List Due) wher
       record {
         own = is;
         share = let s = h.share in omega arith;
+        ended = ap zeros given ∙ (zeros-append (account_of own).given a.given ∙ (let e = h.ended in let one : zeros a.given ≡ 1 = ap zeros taken ∙ zeros_before_zero d.taken d.last d.counted in omega arith));
         put = put ∙ (ap (λ (ps : List Pair). (account_of own).put ++ ps) none ∙ (append-nil (account_of own).put ∙ h.put));
         made = rw (given, calls_of, put_behind) (all_zip_append (IsEntry config calls) (called ((account_of own).given)) d.taken entries made h.made (entries_made config calls host d.taken made began ended d.made));
       }

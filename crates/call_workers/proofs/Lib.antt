@@ -1,3 +1,4 @@
 pub mod CrewLemmas
+pub mod EndLemmas
 pub mod EntryLemmas
 pub mod TakenLemmas

@@ -1,13 +1,13 @@
 -- What workers make of the pairs that a queue gives them.
-use Rattle.std.specs.Prelude.{◌≡◌, ℕ, ◌+◌, ◌-◌, ◌==◌, not, List, [], ◌∷◌, filter, slice_get, Option, Some, None}
+use Rattle.std.specs.Prelude.{◌≡◌, ℕ, ◌+◌, ◌-◌, ◌<◌, ◌==◌, not, List, [], ◌∷◌, ◌++◌, All, filter, replicate, slice_get, sum_by, if◌then◌else◌, Option, Some, None}
 use Rattle.pool_limits.specs.declared.numbers.Numbers.{Numbers}
 use Rattle.pool_worlds.specs.Contents.{Named}
 use Rattle.pool_host.specs.declared.answers.Answer.{Answer}
 use Rattle.pool_host.specs.declared.host.Host.{Host}
 use Rattle.pool_host.specs.declared.passes.Passes.{Passes}
 use Rattle.instance_calls.specs.CallWords.{run_limits}
-use Rattle.pool_host.specs.CallWords.{IsHostAnswer}
-use Rattle.pool_host.specs.Trails.{AddsTrails}
+use Rattle.pool_host.specs.CallWords.{IfFull, IsHostAnswer}
+use Rattle.pool_host.specs.Trails.{AddsTrails, HasCause}
 use Rattle.call_workers.specs.declared.calls.Due.{Due}
 use Rattle.call_workers.specs.declared.calls.Worked.{Worked}
 
@@ -18,6 +18,16 @@ Pair = ℕ × Option Named
 -- the pairs of calls
 abbrev pub called : List Pair → List Pair
 called pairs = filter (λ pair. not (pair.0 == 0)) pairs
+
+-- how many of them tell a worker to end
+abbrev pub zeros : List Pair → ℕ
+zeros pairs = sum_by (λ pair. if pair.0 == 0 then 1 else 0) pairs
+
+-- numbers of calls were put, and then a 0 for each worker
+pub record EndsAll (put : List Pair) (workers : ℕ) : Type 0 where
+  pub pairs : List Pair
+  pub put_is : put ≡ pairs ++ replicate workers (0, None)
+  pub counted : All (λ pair. 0 < pair.0) pairs
 
 -- the calls are numbered from 1, in order
 abbrev pub AreNumbered : List Due → Type 0
@@ -37,11 +47,12 @@ pub record IsEntry (config : Numbers) (calls : List Due) (pair : Pair) (worked :
   pub answered : IsAnswered config due pair.1 worked.answer
 
 module _ {N : Type 0} (config : Numbers) (host : Host N) where
-  -- the pass was that of a call of the module, which was answered so; without a module it is as it was
+  -- the pass was that of a call of the module, which was answered so, and Full only for its cause; without a module it is as it was
   abbrev pub MadeCall : Option Named → Option Answer → (before after : Passes N) → Type 0
   MadeCall None answer before after = after ≡ before
   MadeCall (Some m) None before after = ⊥
-  MadeCall (Some m) (Some answer) before after = AddsTrails config host m answer before after
+  MadeCall (Some m) (Some answer) before after =
+      AddsTrails config host m answer before after × IfFull answer (HasCause config host m before after)
 
   -- a pass made this entry for a pair
   pub record MadeEntry (calls : List Due) (pair : Pair) (worked : Worked) (before after : Passes N) : Type 0 where

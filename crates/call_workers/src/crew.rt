@@ -1,41 +1,55 @@
 //! Workers that work side by side.
-ghost use Rattle.std.specs.Prelude.{◌≡◌, ◌≤◌, false, All, IfOk, length};
-ghost use Rattle.job_queue.specs.Passes.{IsNewPassOf, count_of};
-ghost use Rattle.pool_host.specs.Hosts.{IsHostPass};
-ghost use Rattle.call_workers.specs.Crews.{IsDone, IsNewWorker};
+ghost use Rattle.std.specs.Prelude.{◌≡◌, ◌+◌, ◌^◌, ◌<◌, ◌≤◌, false, All, IfOk, length};
+ghost use Rattle.job_queue.specs.Passes.{IsNewPassOf};
+ghost use Rattle.pool_host.specs.Hosts.{IsHostPass, IsNewHostPass, IsShare};
+ghost use Rattle.call_workers.specs.Crews.{IsDone, IsNewCrew, IsNewWorker};
 ghost use Rattle.call_workers.specs.Entries.{AreNumbered};
 
-use crate::calls::{Due, Item, Worked};
+use crate::calls::{Due, Item};
+use crate::members::{Crew, Done, Worker};
+use crate::shared::Shared;
 use crate::working::work;
 use host_edge::Gate;
 use job_queue::{JobPass, Jobs};
 use module_store::{ModuleStore, Naming};
-use pool_host::{Host, HostPass};
+use pool_host::{Host, HostPass, MOST_PASSES};
+use pool_limits::Share;
 use std::alloc::Global;
 use std::sync::Wait;
 use std::thread::{self, Threads};
 use wasm_types::NoMemory;
 
-/// What a worker works with: its pass of the host, and its pass of the queue.
-#[derive(Drop)]
-pub struct Worker<N: Naming> {
-    pub pass: HostPass<N>,
-    pub own: JobPass<Item<N>>,
-}
-
-/// What a worker gives back: its passes, and what it made.
-#[derive(Drop)]
-pub struct Done<N: Naming> {
-    pub worker: Worker<N>,
-    pub made: Result<Vec<Worked>, NoMemory>,
-}
-
-/// A worker for each pass of the host, which takes one of the queue's.
+/// So many workers over a host with these slots, and a queue for these calls.
 ///
 /// # Errors
 ///
 /// `NoMemory` where memory is refused.
-pub fn workers<N: Naming>(
+pub fn open_crew<N: Naming>(
+    alloc: Global,
+    store: &ModuleStore<N>,
+    share: Share,
+    calls: Vec<Due>,
+    count: u32,
+) -> Result<Crew<N>, NoMemory>
+    requires share { IsShare share }
+    requires count { (1 ≤ count) × (count ≤ MOST_PASSES) }
+    requires numbered { AreNumbered calls.items }
+    requires few { length calls.items < 2 ^ 32 }
+    ensures { IfOk result (IsNewCrew N.config share calls.items count) }
+{
+    let (host, passes) = Host::open(alloc, store, share, count)?;
+    let (jobs, putter, takers) = Jobs::open(alloc, calls.len() as u32, count)?;
+    let workers = workers(alloc, &host, passes, &jobs, takers)?;
+    let shared = Shared { host, jobs, calls };
+    Ok(Crew {
+        shared,
+        putter,
+        workers,
+    })
+}
+
+// A worker for each pass of the host, which takes one of the queue's.
+fn workers<N: Naming>(
     alloc: Global,
     host: &Host<N>,
     mut passes: Vec<HostPass<N>>,
@@ -43,6 +57,7 @@ pub fn workers<N: Naming>(
     mut owns: Vec<JobPass<Item<N>>>,
 ) -> Result<Vec<Worker<N>>, NoMemory>
     requires passes { All (IsHostPass host.now) passes.items }
+    requires new { All (IsNewHostPass host.now) passes.items }
     requires owns { All (IsNewPassOf false jobs.now) owns.items }
     requires many { length passes.items ≡ length owns.items }
     ensures count { IfOk result (λ workers. length workers.items ≡ length owns.items) }
@@ -63,19 +78,16 @@ pub fn workers<N: Naming>(
 fn work_one<N: Naming, R: Wait, G: Gate>(
     rt: &R,
     alloc: Global,
-    host: &Host<N>,
     store: &ModuleStore<N>,
-    jobs: &Jobs<Item<N>>,
+    shared: &Shared<N>,
     mut worker: Worker<N>,
-    calls: &[Due],
     gate: &G,
 ) -> Done<N>
-    requires worker { IsNewWorker host.now jobs.now worker }
-    requires numbered { AreNumbered calls.now }
-    requires enough { count_of jobs.now ≤ length calls.now }
-    ensures { IsDone N.config host.now jobs.now calls.now result }
+    requires worker { IsNewWorker shared.now.host shared.now.jobs worker }
+    ensures { IsDone N.config shared.now result }
 {
     let Worker { pass, own } = &mut worker;
+    let Shared { host, jobs, calls } = shared;
     let made = work(rt, alloc, host, pass, store, jobs, own, calls, gate);
     Done { worker, made }
 }
@@ -88,28 +100,22 @@ fn work_one<N: Naming, R: Wait, G: Gate>(
 pub fn work_all<N: Naming + Send + Sync, R: Threads + Wait + Sync, G: Gate>(
     rt: &R,
     alloc: Global,
-    host: &Host<N>,
     store: &ModuleStore<N>,
-    jobs: &Jobs<Item<N>>,
+    shared: &Shared<N>,
     workers: Vec<Worker<N>>,
-    calls: &[Due],
     gate: &G,
 ) -> Result<Vec<Done<N>>, NoMemory>
-    requires workers { All (IsNewWorker host.now jobs.now) workers.items }
-    requires numbered { AreNumbered calls.now }
-    requires enough { count_of jobs.now ≤ length calls.now }
+    requires workers { All (IsNewWorker shared.now.host shared.now.jobs) workers.items }
     ensures count { IfOk result (λ done. length done.items ≡ length workers.items) }
-    ensures done { IfOk result (λ done. All (IsDone N.config host.now jobs.now calls.now) done.items) }
+    ensures done { IfOk result (λ done. All (IsDone N.config shared.now) done.items) }
 {
     let done = thread::map_vec(
         rt,
         workers,
         &|worker| -> Done<N>
-            requires worker { IsNewWorker host.now jobs.now worker }
-            requires numbered { AreNumbered calls.now }
-            requires enough { count_of jobs.now ≤ length calls.now }
-            ensures { IsDone N.config host.entry.now jobs.entry.now calls.entry.now result }
-        { work_one(rt, alloc, host, store, jobs, worker, calls, gate) },
+            requires worker { IsNewWorker shared.now.host shared.now.jobs worker }
+            ensures { IsDone N.config shared.entry.now result }
+        { work_one(rt, alloc, store, shared, worker, gate) },
     );
     done.map_err(|_| NoMemory)
 }

@@ -4,9 +4,14 @@
 mod calls;
 mod crew;
 mod finishing;
+mod members;
+mod shared;
+mod waiting;
 mod working;
 
 pub use calls::{Due, Item, Worked};
-pub use crew::{Done, Worker, work_all, workers};
+pub use crew::{open_crew, work_all};
 pub use finishing::finish;
+pub use members::{Crew, Done, Worker};
+pub use shared::Shared;
 pub use working::work;

@@ -6,6 +6,7 @@ ghost use Rattle.call_workers.specs.Entries.{AreNumbered};
 ghost use Rattle.call_workers.specs.Taken.{DidWork, WasGiven};
 
 use crate::calls::{Due, Item, Worked, make};
+use crate::waiting::Waits;
 use host_edge::Gate;
 use job_queue::{JobPass, Jobs};
 use module_store::{ModuleStore, Naming};
@@ -16,7 +17,8 @@ use std::thread;
 use wasm_types::NoMemory;
 
 /// Makes the calls that the queue gives it, on the host, until it is given a 0; where the queue is empty it asks again. There is
-/// an entry for each call, in the order in which they were given. `calls` has the call of each number of the queue, at the place
+/// an entry for each call, in the order in which they were given. After a call that found a kind full it waits before it asks for
+/// the next one, so that the queue is left to those that have slots. `calls` has the call of each number of the queue, at the place
 /// before its number. `gate` is told of each call.
 ///
 /// # Errors
@@ -43,6 +45,7 @@ pub fn work<N: Naming, R: Wait, G: Gate>(
     ensures spent { OnErr result (WasGiven (account_of own.old) (account_of own.new)) }
 {
     let mut made = Vec::new(alloc);
+    let mut waits = Waits::none();
     for _ in rt.forever() {
         if made.reserve(1).is_err() {
             return Err(NoMemory);
@@ -53,7 +56,10 @@ pub fn work<N: Naming, R: Wait, G: Gate>(
                 if number == 0 {
                     return Ok(made);
                 }
-                made.push_reserved(make(host, pass, store, number, item, calls, gate));
+                let worked = make(host, pass, store, number, item, calls, gate);
+                made.push_reserved(worked);
+                waits = waits.after(worked.answer);
+                waits.wait();
             }
         }
     }

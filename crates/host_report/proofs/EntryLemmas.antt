@@ -1,13 +1,13 @@
 -- The entries of the module lines.
-use Rattle.std.proofs.Common.{◌≡◌, ℕ, zero, suc, ◌+◌, ◌<◌, ◌≤◌, List, [], ◌∷◌, ◌++◌, Some, Ok, Err, length, refl, ap, arith, append_assoc, append-nil}
+use Rattle.std.proofs.Common.{◌≡◌, true, false, ℕ, zero, suc, ◌+◌, ◌<◌, ◌≤◌, List, [], ◌∷◌, ◌++◌, Some, Ok, Err, length, refl, ap, arith, append_assoc, append-nil}
 use Rattle.std.proofs.lemmas.Option.{slice_get_within}
-use Rattle.std.specs.Prelude.{slice_get}
-use Rattle.wasm_types.specs.declared.limits.LoadLimits.{LoadLimits}
+use Rattle.std.specs.Prelude.{Result, IfErr, IfOk, slice_get}
+use Rattle.wasm_types.specs.declared.outcome.NoMemory.{NoMemory}
 use Rattle.wasm_spec.specs.Loading as loading
+use Rattle.wasm_spec.specs.Loading.{Loads}
 use Rattle.pool_limits.specs.Limits.{demand_of}
-use Rattle.pool_limits.specs.declared.over.Over.{Over}
 use Rattle.initial_image.specs.Segments.{extent_of}
-use Rattle.initial_image.specs.declared.segments.Misfit.{Misfit}
+use Rattle.pool_worlds.specs.Contents.{Named}
 use Rattle.module_store.specs.Faults.{IsRefusal}
 use Rattle.module_store.specs.declared.fault.LoadFault.{LoadFault}
 use Rattle.module_store.specs.declared.fault.LoadFault.TheVariants as fault
@@ -17,22 +17,24 @@ use Rattle.request_text.specs.declared.report.ModuleLine.TheVariants as module_l
 use Rattle.request_text.specs.Text.{module_names, modules_of}
 use Rattle.module_store.specs.declared.desk.TheConstants.{MOST_MODULES}
 use Rattle.host_report.specs.Report.{Limits, IsModuleLine, load_limits}
-use Rattle.host_report.specs.Entries.{AreEntries, Entry, IsEntry, entry_line}
+use Rattle.host_report.specs.Entries.{AreEntries, Entry, IsEntry, IsEntryOf, entry_line}
 
 pub entry_told : (limits : Limits) (bytes : List ℕ) (e : Entry) → IsEntry limits bytes e → IsModuleLine limits bytes (entry_line e)
 entry_told limits bytes (Ok named) h = record { loaded = Ok named.tree; loads = h; shows = refl }
 entry_told limits bytes (Err line) h = record { loaded = Err h.0; loads = h.1; shows = h.2 }
 
-module _ (limits : Limits) (bytes : List ℕ) (why : LoadFault) where
-  pub over_limit_entry : (over : Over) → why ≡ fault.OverLimit over → IsRefusal bytes (load_limits limits) why → IsEntry limits bytes (Err module_line.Limit)
-  over_limit_entry over is h =
-      let k : IsRefusal bytes (load_limits limits) (fault.OverLimit over) = rw is at h in
-      (loading.OverLimit (demand_of over), k, refl)
-
-  pub segment_entry : (misfit : Misfit) → why ≡ fault.Segment misfit → IsRefusal bytes (load_limits limits) why → IsEntry limits bytes (Err module_line.Segment)
-  segment_entry misfit is h =
-      let k : IsRefusal bytes (load_limits limits) (fault.Segment misfit) = rw is at h in
-      (loading.Segment (extent_of misfit), k, refl)
+-- what became of a module is its entry
+pub entry_of_loaded : (limits : Limits) (bytes : List ℕ) (loaded : Result Named LoadFault) (r : Result Entry NoMemory) → IfOk loaded (λ named. Loads bytes (load_limits limits) (Ok named.tree))
+    → IfErr loaded (IsRefusal bytes (load_limits limits)) → IsEntryOf loaded r → IfOk r (IsEntry limits bytes)
+entry_of_loaded limits bytes (Ok named) r loads h is = rw is loads
+entry_of_loaded limits bytes (Err fault.TooMany) r loads h is = absurd is
+entry_of_loaded limits bytes (Err fault.Malformed) r loads h is = rw is (loading.Malformed, h, refl)
+entry_of_loaded limits bytes (Err fault.Unsupported) r loads h is = rw is (loading.Unsupported, h, refl)
+entry_of_loaded limits bytes (Err fault.Invalid) r loads h is = rw is (loading.Invalid, h, refl)
+entry_of_loaded limits bytes (Err (fault.OverLimit over)) r loads h is = rw is (loading.OverLimit (demand_of over), h, refl)
+entry_of_loaded limits bytes (Err (fault.Segment misfit)) r loads h is = rw is (loading.Segment (extent_of misfit), h, refl)
+entry_of_loaded limits bytes (Err fault.NoMemory) (Ok entry) loads h is = let wanting : false ≡ true = is in cc
+entry_of_loaded limits bytes (Err fault.NoMemory) (Err wanting) loads h is = tt
 
 -- ---- entries in a list
 

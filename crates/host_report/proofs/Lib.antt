@@ -2,6 +2,7 @@ pub mod BoardLemmas
 pub mod CallLemmas
 pub mod DueLemmas
 pub mod EntryLemmas
+pub mod LeftLemmas
 pub mod LineLemmas
 pub mod PutLemmas
 pub mod ReportLemmas

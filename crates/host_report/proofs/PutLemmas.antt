@@ -1,11 +1,13 @@
 -- The calls are put with their modules, one after the other.
 use Rattle.std.proofs.Common.{◌≡◌, ◌≢◌, ◌⊎◌, inl, inr, ⊎_elim, ℕ, zero, suc, ◌+◌, ◌-◌, ◌<◌, ◌≤◌, ◌==◌, Bool, true, false, List, [], ◌∷◌, ◌++◌, Option, Some, None, Ok, Err, length, replicate, refl, sym, ap, ◌∙◌, subst, arith, append_assoc, append-nil, length-append, cond}
-use Rattle.std.specs.Prelude.{slice_get, count_by}
+use Rattle.std.specs.Prelude.{Result, IfOk, slice_get, count_by}
 use Rattle.std.specs.List.{All}
 use Rattle.std.proofs.lemmas.Bool.{cases_eq}
 use Rattle.std.proofs.lemmas.Bool.Decides.{nat_tests}
+use Rattle.std.proofs.lemmas.List.{replicate_more}
 use Rattle.std.proofs.lemmas.List.Elements.{All-append, All-cons, All-nil, All-replicate}
 use Rattle.std.proofs.lemmas.List.Sums.{sum_by-append, sum_by-cons}
+use Rattle.wasm_types.specs.declared.outcome.NoMemory.{NoMemory}
 use Rattle.wasm_types.specs.declared.outcome.Val.{Val}
 use Rattle.pool_worlds.specs.Contents.{Named}
 use Rattle.job_queue.specs.declared.accounts.Account.{Account}
@@ -14,7 +16,7 @@ use Rattle.module_store.specs.declared.desk.TheConstants.{MOST_MODULES}
 use Rattle.request_text.specs.declared.request.Directive.{Directive}
 use Rattle.request_text.specs.declared.request.Directive.TheVariants.{Module, Call}
 use Rattle.request_text.specs.Text.{IsPlacedFrom, call_count, module_names, modules_of}
-use Rattle.call_workers.specs.Entries.{Pair}
+use Rattle.call_workers.specs.Entries.{EndsAll, Pair}
 use Rattle.host_report.specs.Collected.{call_at}
 use Rattle.host_report.specs.Entries.{AreEntries, Entry, IsEntry}
 use Rattle.host_report.specs.Put.{HasPut, module_at, module_of, pairs_from, pairs_put}
@@ -124,6 +126,29 @@ module _ (limits : Limits) (whole : List Directive) where
                   ∙ (ap (λ (m : Option Named). after.put ++ (number + 1, m) ∷ pairs_from (entries ++ others) (number + 1 + 1) more) (sym same) ∙ k.completes others));
             }
 
+-- ---- the ends
+
+pub put_none : (a : Puts) → a ≡ with_put a []
+put_none a = ap (λ (pairs : List Pair). record a { put = pairs }) (sym (append-nil a.put))
+
+pub put_then : (a b c : Puts) (n : ℕ) → b ≡ with_put a (replicate n (0, None)) → c ≡ with_put b ((0, None) ∷ []) → c ≡ with_put a (replicate (n + 1) (0, None))
+put_then a b c n e f =
+    let zero_pair : Pair = (0, None) in
+    let longer : (a.put ++ replicate n zero_pair) ++ zero_pair ∷ [] ≡ a.put ++ replicate (n + 1) zero_pair =
+    append_assoc a.put (replicate n zero_pair) (zero_pair ∷ []) ∙ ap (λ (ps : List Pair). a.put ++ ps) (replicate_more n zero_pair) in
+    f ∙ (ap (λ (x : Puts). with_put x (zero_pair ∷ [])) e ∙ ap (λ (ps : List Pair). record a { put = ps }) longer)
+
+-- what was put, and then a 0 for each worker
+pub put_and_ends : {V : Type 0} (r : Result V NoMemory) (items : V → List Entry) (requests : List Directive) (workers : ℕ) (a b c : Puts)
+    → IfOk r (λ entries. HasPut (pairs_from (items entries) 1 requests) a b) → c ≡ with_put b (replicate workers (0, None))
+    → IfOk r (λ entries. HasPut (pairs_put (items entries) requests workers) a c)
+put_and_ends (Ok entries) items requests workers a b c h is = record {
+  put = ap (λ (x : Puts). x.put) is ∙ ap (λ (ps : List Pair). ps ++ replicate workers (0, None)) h.put;
+  given = ap (λ (x : Puts). x.given) is ∙ h.given;
+  share = ap (λ (x : Puts). x.share) is ∙ h.share;
+}
+put_and_ends (Err wanting) items requests workers a b c h is = tt
+
 -- ---- what is known of the pairs that are put
 
 -- it is a call's, with the call's module, or a 0
@@ -189,6 +214,15 @@ module _ (entries : List Entry) where
       All-cons (λ (pair : Pair). pair.0 < n + call_count (Call place export fuel args ∷ ds)) (n, module_at entries place) (pairs_from entries (n + 1) ds)
       (omega (arith, call_count-call place export fuel args ds))
       (subst (λ (most : ℕ). All (λ (pair : Pair). pair.0 < most) (pairs_from entries (n + 1) ds)) same (below_from (n + 1) ds))
+
+  counted_from : (n : ℕ) (ds : List Directive) → 0 < n → All (λ (pair : Pair). 0 < pair.0) (pairs_from entries n ds)
+  counted_from n [] some = All-nil (λ (pair : Pair). 0 < pair.0)
+  counted_from n (Module name bytes ∷ ds) some = counted_from n ds some
+  counted_from n (Call place export fuel args ∷ ds) some =
+      All-cons (λ (pair : Pair). 0 < pair.0) (n, module_at entries place) (pairs_from entries (n + 1) ds) some (counted_from (n + 1) ds (omega arith))
+
+  pub put_ends : (requests : List Directive) (workers : ℕ) → EndsAll (pairs_put entries requests workers) workers
+  put_ends requests workers = record { pairs = pairs_from entries 1 requests; put_is = refl; counted = counted_from 1 requests (omega arith) }
 
   pub put_below : (requests : List Directive) (workers : ℕ) → All (λ (pair : Pair). pair.0 ≤ call_count requests) (pairs_put entries requests workers)
   put_below requests workers =

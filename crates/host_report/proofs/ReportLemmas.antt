@@ -1,5 +1,5 @@
 -- The lines of a report, one after the other.
-use Rattle.std.proofs.Common.{◌≡◌, ℕ, suc, ◌+◌, ◌<◌, ◌≤◌, List, [], ◌∷◌, ◌++◌, Some, length, drop, refl, sym, ap, ◌∙◌, subst, arith, append_assoc, append-nil, drop-cons, length-drop}
+use Rattle.std.proofs.Common.{◌≡◌, ℕ, zero, suc, ◌+◌, ◌<◌, ◌≤◌, List, [], ◌∷◌, ◌++◌, Option, Some, length, map, drop, refl, sym, ap, ◌∙◌, subst, arith, append_assoc, append-nil, drop-cons, length-drop}
 use Rattle.std.proofs.lemmas.Option.{get_or_from_slice_get, slice_get_within}
 use Rattle.std.specs.Prelude.{slice_get}
 use Rattle.wasm_types.specs.declared.outcome.Val.{Val}
@@ -10,6 +10,7 @@ use Rattle.request_text.specs.declared.report.CallLine.{CallLine}
 use Rattle.request_text.specs.declared.report.ReportLine.{ReportLine}
 use Rattle.request_text.specs.Text.{call_count, modules_of}
 use Rattle.host_report.specs.Answers.{AreAnswers}
+use Rattle.host_report.specs.Collected.{AreCollected}
 use Rattle.host_report.specs.Report.{AreLines, Limits}
 use Rattle.host_report.specs.Entries.{AreEntries, Entry, IsEntry, entry_line}
 use Rattle.host_report.specs.Lines.{HasSource, ShowsNext, counts_after}
@@ -33,6 +34,15 @@ some_answers : (limits : Limits) (modules : List (List ℕ)) (place : ℕ) (expo
     → AreAnswers limits modules (Call place export fuel args ∷ ds) answers → 0 < length answers
 some_answers limits modules place export fuel args ds [] h = absurd h
 some_answers limits modules place export fuel args ds (how ∷ answers) h = omega arith
+
+-- each line of a board that has all
+pub collected_at : (board : List (Option CallLine)) (lines : List CallLine) (i : ℕ) → AreCollected board lines → i < length lines
+    → (line : CallLine) × (slice_get board i ≡ Some (Some line)) × (slice_get lines i ≡ Some line)
+collected_at board [] i all within = absurd (omega arith)
+collected_at board (line ∷ lines) zero all within = (line, ap (λ (b : List (Option CallLine)). slice_get b 0) all, refl)
+collected_at board (line ∷ lines) (suc i) all within =
+    let (this, on_board, in_lines) = collected_at (map (λ (l : CallLine). Some l) lines) lines i refl (omega arith) in
+    (this, ap (λ (b : List (Option CallLine)). slice_get b (suc i)) all ∙ on_board, in_lines)
 
 -- So many module lines and calls have been reported on by these lines: whatever are the lines of the directives that are
 -- left completes them.

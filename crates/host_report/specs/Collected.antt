@@ -1,5 +1,5 @@
 -- What the board has of the calls.
-use Rattle.std.specs.Prelude.{◌≡◌, ℕ, ◌+◌, ◌<◌, ◌≤◌, ◌==◌, zero, suc, List, [], ◌∷◌, All, length, map, count_by, slice_get, Option, Some, None, IfSome}
+use Rattle.std.specs.Prelude.{◌≡◌, ℕ, ◌+◌, ◌-◌, ◌<◌, ◌≤◌, ◌==◌, zero, suc, List, [], ◌∷◌, All, flat_map, length, map, count_by, option_to_list, slice_get, Option, Some, None, IfSome}
 use Rattle.pool_host.specs.declared.answers.Answer.{Answer}
 use Rattle.pool_host.specs.declared.answers.Answer.TheVariants as answer
 use Rattle.request_text.specs.declared.request.Directive.{Directive}
@@ -39,6 +39,10 @@ pub record IsBoard (limits : Limits) (requests : List Directive) (board : List (
   pub many : length board ≡ call_count requests
   pub right : (at : ℕ) (line : CallLine) → slice_get board at ≡ Some (Some line) → IsLineOf limits requests at line
 
+-- the lines that stand on the board, in order
+abbrev pub lines_on : (board : List (Option CallLine)) → List CallLine
+lines_on board = flat_map option_to_list board
+
 -- the board has these lines, one for each call in order, and none is missing
 abbrev pub AreCollected : (board : List (Option CallLine)) → List CallLine → Type 0
 AreCollected board lines = board ≡ map (λ line. Some line) lines
@@ -55,3 +59,8 @@ pub record IsOfWorked (worked : List Worked) (at : ℕ) (line : CallLine) : Type
   pub one_is : slice_get worked place ≡ Some one
   pub number_is : one.number ≡ at + 1
   pub line_is : line_of one.answer ≡ Some line
+
+-- each of these entries that has a line has it on the board, at its call's place
+abbrev pub HasLinesOf : List Worked → (board : List (Option CallLine)) → Type 0
+HasLinesOf worked board = (place : ℕ) (one : Worked) (line : CallLine) → slice_get worked place ≡ Some one → line_of one.answer ≡ Some line
+    → slice_get board (one.number - 1) ≡ Some (Some line)

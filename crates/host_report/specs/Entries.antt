@@ -1,5 +1,8 @@
 -- What became of the module lines of a request file.
-use Rattle.std.specs.Prelude.{◌≡◌, ℕ, List, [], ◌∷◌, Result, Ok, Err}
+use Rattle.wasm_types.specs.declared.outcome.NoMemory.{NoMemory}
+use Rattle.std.specs.Prelude.{◌≡◌, ℕ, List, [], ◌∷◌, Result, Ok, Err, IsErr}
+use Rattle.module_store.specs.declared.fault.LoadFault.{LoadFault}
+use Rattle.module_store.specs.declared.fault.LoadFault.TheVariants as fault
 use Rattle.wasm_spec.specs.Loading.{Loads, Refusal}
 use Rattle.pool_worlds.specs.Contents.{Named}
 use Rattle.host_report.specs.Report.{Limits, load_limits, loading_line}
@@ -9,6 +12,17 @@ use Rattle.request_text.specs.declared.report.ModuleLine.TheVariants as module_l
 -- a module that may be called, or the line that tells why it is refused
 abbrev pub Entry : Type 0
 Entry = Result Named ModuleLine
+
+-- what became of a module whose loading went so: memory is wanting exactly where loading wanted it
+abbrev pub IsEntryOf : Result Named LoadFault → Result Entry NoMemory → Type 0
+IsEntryOf (Ok named) entry = entry ≡ Ok (Ok named)
+IsEntryOf (Err fault.TooMany) entry = ⊥
+IsEntryOf (Err fault.Malformed) entry = entry ≡ Ok (Err module_line.Malformed)
+IsEntryOf (Err fault.Unsupported) entry = entry ≡ Ok (Err module_line.Unsupported)
+IsEntryOf (Err fault.Invalid) entry = entry ≡ Ok (Err module_line.Invalid)
+IsEntryOf (Err (fault.OverLimit over)) entry = entry ≡ Ok (Err module_line.Limit)
+IsEntryOf (Err (fault.Segment misfit)) entry = entry ≡ Ok (Err module_line.Segment)
+IsEntryOf (Err fault.NoMemory) entry = IsErr entry
 
 -- an entry for the module line of these bytes
 abbrev pub IsEntry : Limits → List ℕ → Entry → Type 0

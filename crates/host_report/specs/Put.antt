@@ -31,3 +31,8 @@ pub record HasPut (pairs : List Pair) (before after : Account (Option Named)) : 
   pub put : after.put ≡ pairs
   pub given : after.given ≡ before.given
   pub share : after.share ≡ before.share
+
+-- a pass that stands for itself, and was given nothing
+pub record IsUnused (account : Account (Option Named)) : Type 0 where
+  pub share : account.share ≡ 1
+  pub given : account.given ≡ []

@@ -1,10 +1,11 @@
 //! The calls of a request file, and those of them that the lane makes.
-ghost use Rattle.std.specs.Prelude.{◌≡◌, ◌-◌, ◌≤◌, ◌<◌, ℕ, List, IfOk, None, Some, length, slice_get, slice_set};
-ghost use Rattle.request_text.specs.declared.report.CallLine.{CallLine};
-ghost use Rattle.request_text.specs.Text.{IsPlacedFrom, call_count, modules_of};
+ghost use Rattle.std.specs.Prelude.{◌≡◌, ◌-◌, ◌<◌, ◌≤◌, ℕ, List, IfSome, Some, is_none, length, slice_get};
+ghost use Rattle.request_text.specs.Text.{AreRequests, modules_of};
 ghost use Rattle.host_report.specs.Answers.{AreAnswers};
-ghost use Rattle.host_report.specs.Collected.{AreCollected, IsBoard};
+ghost use Rattle.host_report.specs.Collected.{AreCollected, IsBoard, lines_on};
 ghost use Rattle.host_report.specs.Entries.{AreEntries, IsEntry};
+ghost use Rattle.host_report.specs.Left.{MadeLeft, MadeOnLane};
+ghost use Rattle.host_report.specs.Put.{module_of};
 ghost use Rattle.host_report.specs.Report.{IsCallLine, answer_line, limits_in};
 
 use crate::collecting::collect;
@@ -13,9 +14,8 @@ use host_edge::Gate;
 use job_queue::Board;
 use module_store::{ModuleStore, Naming};
 use pool_host::{LaneAnswer, LaneHost};
-use request_text::{CallLine, Directive, MOST_CALLS};
-use std::alloc::Global;
-use wasm_types::{NoMemory, Val};
+use request_text::{CallLine, Directive};
+use wasm_types::Val;
 
 fn answer_line(answer: LaneAnswer) -> CallLine
     ensures { result ≡ answer_line answer }
@@ -38,7 +38,9 @@ fn call_line<N: Naming, G: Gate>(
     lane: &mut LaneHost<N>,
     gate: &G,
 ) -> CallLine
-    ensures { (bytes : List ℕ) → IsEntry (limits_in N.config) bytes entry.now
+    ensures lane { lane.new.host ≡ lane.old.host }
+    ensures made { MadeOnLane N.config lane.old.host (module_of entry.now) lane.old.pass.passes lane.new.pass.passes }
+    ensures line { (bytes : List ℕ) → IsEntry (limits_in N.config) bytes entry.now
         → IsCallLine (limits_in N.config) bytes export.now fuel args.now result }
 {
     match entry {
@@ -58,51 +60,31 @@ pub(crate) fn entry_at<N: Naming>(entries: &[Entry<N>], place: u32) -> &Entry<N>
     &entries[place as usize]
 }
 
-// The line that the board has of this call. Where it has none the lane makes the call, and the board collects its line.
-fn settle<N: Naming, G: Gate>(
-    store: &ModuleStore<N>,
-    entry: &Entry<N>,
-    export: &[u8],
-    args: &[Val],
-    fuel: u32,
-    number: u32,
-    board: &mut Board,
-    lane: &mut LaneHost<N>,
-    gate: &G,
-) -> CallLine
-    requires { (0 < number) × (number ≤ length board.old) }
-    ensures had { (line : CallLine) → slice_get board.old (number - 1) ≡ Some (Some line) → (result ≡ line) × (board.new ≡ board.old) }
-    ensures collected { slice_get board.old (number - 1) ≡ Some None → board.new ≡ slice_set board.old (number - 1) (Some result) }
-    ensures made { slice_get board.old (number - 1) ≡ Some None → (bytes : List ℕ) → IsEntry (limits_in N.config) bytes entry.now
-        → IsCallLine (limits_in N.config) bytes export.now fuel args.now result }
+// Whether the board has no line of this call.
+fn is_left(board: &Board, number: u32) -> bool
+    requires { (0 < number) × (number ≤ length board.now) }
+    ensures { IfSome (slice_get board.now (number - 1)) (λ slot. result ≡ is_none slot) }
 {
-    if let Some(line) = board.lines()[number as usize - 1] {
-        return line;
-    }
-    let line = call_line(store, entry, export, args, fuel, number as u64, lane, gate);
-    collect(board, number, line);
-    line
+    board.lines()[number as usize - 1].is_none()
 }
 
-// How the calls go, in file order. Those of which the board has no line are made on the lane, one after the other; then the
-// board has the line of each.
-pub(crate) fn answers<N: Naming, G: Gate>(
-    alloc: Global,
+// Makes each call of which the board has no line on the lane, in file order, and no other. The board then has the line of each.
+pub(crate) fn make_left<N: Naming, G: Gate>(
     store: &ModuleStore<N>,
     requests: &[Directive],
     entries: &[Entry<N>],
     board: &mut Board,
     lane: &mut LaneHost<N>,
     gate: &G,
-) -> Result<Vec<CallLine>, NoMemory>
-    requires placed { IsPlacedFrom 0 requests.now }
-    requires few { call_count requests.now ≤ MOST_CALLS }
+)
+    requires lawful { AreRequests requests.now }
     requires entries { AreEntries (limits_in N.config) (modules_of requests.now) entries.now }
     requires board { IsBoard (limits_in N.config) requests.now board.old }
-    ensures answers { IfOk result (λ answers. AreAnswers (limits_in N.config) (modules_of requests.now) requests.now answers.items) }
-    ensures collected { IfOk result (λ answers. AreCollected board.new answers.items) }
+    ensures all { AreCollected board.new (lines_on board.new) }
+    ensures right { AreAnswers (limits_in N.config) (modules_of requests.now) requests.now (lines_on board.new) }
+    ensures lane { lane.new.host ≡ lane.old.host }
+    ensures made { MadeLeft N.config lane.old.host entries.now board.old 0 requests.now lane.old.pass.passes lane.new.pass.passes }
 {
-    let mut answers = Vec::new(alloc);
     let mut number = 0u32;
     for directive in requests {
         if let Directive::Call {
@@ -115,9 +97,10 @@ pub(crate) fn answers<N: Naming, G: Gate>(
             number += 1;
             let entry = entry_at(entries, *module);
             let (export, args) = (export.as_slice(), args.as_slice());
-            let line = settle(store, entry, export, args, *fuel, number, board, lane, gate);
-            answers.push(line).map_err(|_| NoMemory)?;
+            if is_left(board, number) {
+                let line = call_line(store, entry, export, args, *fuel, number as u64, lane, gate);
+                collect(board, number, line);
+            }
         }
     }
-    Ok(answers)
 }

@@ -2,7 +2,7 @@
 ghost use Rattle.std.specs.Prelude.{◌≡◌, ◌-◌, ℕ, None, Some, MatchOption, length, replicate, slice_get, slice_set};
 ghost use Rattle.request_text.specs.declared.report.CallLine.{CallLine};
 ghost use Rattle.job_queue.specs.Boards.{IsOpen};
-ghost use Rattle.host_report.specs.Collected.{AreOfCalls, IsOfWorked, line_of};
+ghost use Rattle.host_report.specs.Collected.{AreOfCalls, HasLinesOf, IsOfWorked, line_of};
 
 use call_workers::Worked;
 use job_queue::Board;
@@ -41,12 +41,13 @@ fn collect_worked(board: &mut Board, worked: &Worked)
     }
 }
 
-// Collects the lines of the calls that workers made. Those that were answered Full have none.
+// Collects the line of each call that workers made. Those that were answered Full have none.
 pub(crate) fn collect_all(board: &mut Board, worked: &[Worked])
     requires calls { AreOfCalls (length board.old) worked.now }
     requires none { board.old ≡ replicate (length board.old) None }
     ensures many { length board.new ≡ length board.old }
     ensures lines { (at : ℕ) (line : CallLine) → slice_get board.new at ≡ Some (Some line) → IsOfWorked worked.now at line }
+    ensures all { HasLinesOf worked.now board.new }
 {
     for one in worked {
         collect_worked(board, one);

@@ -1,10 +1,10 @@
 //! The calls that are due.
-ghost use Rattle.std.specs.Prelude.{◌≡◌, ◌≤◌, IfOk};
-ghost use Rattle.request_text.specs.Text.{call_count};
+ghost use Rattle.std.specs.Prelude.{◌≡◌, IfOk};
+ghost use Rattle.request_text.specs.Text.{AreRequests};
 ghost use Rattle.host_report.specs.Due.{due_of, dues_from};
 
 use call_workers::Due;
-use request_text::{Directive, MOST_CALLS};
+use request_text::Directive;
 use std::alloc::Global;
 use wasm_types::{Items, NoMemory, Val};
 
@@ -24,7 +24,7 @@ fn due(alloc: Global, number: u32, export: &[u8], args: &[Val], fuel: u32) -> Re
 
 // The calls of a request file, numbered from 1.
 pub(crate) fn dues(alloc: Global, requests: &[Directive]) -> Result<Vec<Due>, NoMemory>
-    requires { call_count requests.now ≤ MOST_CALLS }
+    requires { AreRequests requests.now }
     ensures { IfOk result (λ calls. calls.items ≡ dues_from 1 requests.now) }
 {
     let mut calls = Vec::new(alloc);

@@ -1,8 +1,8 @@
 //! The modules of a request file.
-ghost use Rattle.std.specs.Prelude.{IfOk, ◌≡◌, ◌+◌, ◌<◌, ◌≤◌, length};
+ghost use Rattle.std.specs.Prelude.{◌≡◌, ◌+◌, ◌<◌, ◌≤◌, IfOk, IsErrOf, length};
 ghost use Rattle.request_text.specs.Text.{module_names, modules_of};
 ghost use Rattle.module_store.specs.declared.desk.TheConstants.{MOST_MODULES};
-ghost use Rattle.host_report.specs.Entries.{AreEntries, IsEntry, entry_line};
+ghost use Rattle.host_report.specs.Entries.{AreEntries, IsEntry, IsEntryOf, entry_line};
 ghost use Rattle.host_report.specs.Report.{limits_in};
 
 use module_store::{Desk, LoadFault, ModuleRef, ModuleStore, Naming};
@@ -24,6 +24,23 @@ pub(crate) fn entry_line<N: Naming>(entry: &Entry<N>) -> ModuleLine
     }
 }
 
+// What became of a module whose loading went so. Memory is wanting exactly where loading wanted it.
+fn entry_of<N: Naming>(loaded: Result<ModuleRef<N>, LoadFault>) -> Result<Entry<N>, NoMemory>
+    requires { IsErrOf loaded LoadFault.TooMany → ⊥ }
+    ensures { IsEntryOf loaded result }
+{
+    match loaded {
+        Ok(module) => Ok(Ok(module)),
+        Err(LoadFault::TooMany) => unreachable!(),
+        Err(LoadFault::Malformed) => Ok(Err(ModuleLine::Malformed)),
+        Err(LoadFault::Unsupported) => Ok(Err(ModuleLine::Unsupported)),
+        Err(LoadFault::Invalid) => Ok(Err(ModuleLine::Invalid)),
+        Err(LoadFault::OverLimit(_)) => Ok(Err(ModuleLine::Limit)),
+        Err(LoadFault::Segment(_)) => Ok(Err(ModuleLine::Segment)),
+        Err(LoadFault::NoMemory) => Err(NoMemory),
+    }
+}
+
 // The entry of a module line.
 pub(crate) fn register<N: Naming, R: Wait>(
     rt: &R,
@@ -36,16 +53,7 @@ pub(crate) fn register<N: Naming, R: Wait>(
     ensures entry { IfOk result (λ entry. IsEntry (limits_in N.config) bytes.now entry) }
     ensures desk { desk.new ≤ desk.old + 1 }
 {
-    match store.register(rt, alloc, desk, bytes) {
-        Ok(module) => Ok(Ok(module)),
-        Err(LoadFault::TooMany) => unreachable!(),
-        Err(LoadFault::Malformed) => Ok(Err(ModuleLine::Malformed)),
-        Err(LoadFault::Unsupported) => Ok(Err(ModuleLine::Unsupported)),
-        Err(LoadFault::Invalid) => Ok(Err(ModuleLine::Invalid)),
-        Err(LoadFault::OverLimit(_)) => Ok(Err(ModuleLine::Limit)),
-        Err(LoadFault::Segment(_)) => Ok(Err(ModuleLine::Segment)),
-        Err(LoadFault::NoMemory) => Err(NoMemory),
-    }
+    entry_of(store.register(rt, alloc, desk, bytes))
 }
 
 // The entries of all module lines, in their order.

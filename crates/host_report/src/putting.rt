@@ -1,18 +1,20 @@
 //! The calls are put to the queue while modules are still registered.
-ghost use Rattle.std.specs.Prelude.{◌≡◌, ◌+◌, ◌≤◌, [], IfOk, length};
+ghost use Rattle.std.specs.Prelude.{◌≡◌, ◌+◌, ◌≤◌, List, [], ◌++◌, IfOk, None, length, replicate};
+ghost use Rattle.job_queue.specs.Accounts.{with_put};
 ghost use Rattle.job_queue.specs.Passes.{IsJobPass, IsPutter, account_of, capacity_of, count_of, put_by};
-ghost use Rattle.request_text.specs.Text.{IsPlacedFrom, call_count, module_names, modules_of};
-ghost use Rattle.module_store.specs.declared.desk.TheConstants.{MOST_MODULES};
+ghost use Rattle.request_text.specs.Text.{AreRequests, call_count, modules_of};
+ghost use Rattle.call_workers.specs.Entries.{Pair};
 ghost use Rattle.host_report.specs.Entries.{AreEntries};
 ghost use Rattle.host_report.specs.Put.{HasPut, module_of, pairs_from, pairs_put};
 ghost use Rattle.host_report.specs.Report.{limits_in};
 
 use crate::calls::entry_at;
 use crate::modules::{Entry, register};
+use crate::shares::worker_count;
 use call_workers::Item;
 use job_queue::{JobPass, Jobs};
 use module_store::{Desk, ModuleStore, Naming};
-use request_text::{Directive, MOST_CALLS};
+use request_text::Directive;
 use std::alloc::Global;
 use std::sync::Wait;
 use wasm_types::NoMemory;
@@ -37,9 +39,8 @@ fn put_calls<N: Naming, R: Wait>(
     own: &mut JobPass<Item<N>>,
     requests: &[Directive],
 ) -> Result<Vec<Entry<N>>, NoMemory>
-    requires placed { IsPlacedFrom 0 requests.now }
-    requires few_modules { desk.old + length (module_names requests.now) ≤ MOST_MODULES }
-    requires few_calls { call_count requests.now ≤ MOST_CALLS }
+    requires lawful { AreRequests requests.now }
+    requires desk { desk.old ≡ 0 }
     requires own { IsJobPass jobs.now own.old }
     requires putter { IsPutter own.old }
     requires none { put_by own.old ≡ [] }
@@ -70,6 +71,24 @@ fn put_calls<N: Naming, R: Wait>(
     Ok(entries)
 }
 
+// Puts a 0 for each worker.
+fn put_ends<N: Naming, R: Wait>(
+    rt: &R,
+    jobs: &Jobs<Item<N>>,
+    own: &mut JobPass<Item<N>>,
+    workers: u32,
+)
+    requires own { IsJobPass jobs.now own.old }
+    requires putter { IsPutter own.old }
+    requires room { length (put_by own.old) + workers ≤ capacity_of jobs.now }
+    ensures own { IsJobPass jobs.now own.new }
+    ensures put { account_of own.new ≡ with_put (account_of own.old) (replicate workers (0, None)) }
+{
+    for _ in 0..workers {
+        jobs.put(rt, own, 0, None);
+    }
+}
+
 // What is left after all was put: the pass that put it, and the entries of the module lines.
 #[derive(Drop)]
 pub(crate) struct Put<N: Naming> {
@@ -86,23 +105,21 @@ pub(crate) fn put_all<N: Naming, R: Wait>(
     jobs: &Jobs<Item<N>>,
     mut own: JobPass<Item<N>>,
     requests: &[Directive],
-    workers: u32,
 ) -> Put<N>
-    requires placed { IsPlacedFrom 0 requests.now }
-    requires few_modules { desk + length (module_names requests.now) ≤ MOST_MODULES }
-    requires few_calls { call_count requests.now ≤ MOST_CALLS }
+    requires lawful { AreRequests requests.now }
+    requires desk { desk ≡ 0 }
     requires own { IsJobPass jobs.now own }
     requires putter { IsPutter own }
     requires none { put_by own ≡ [] }
     requires count { call_count requests.now ≤ count_of jobs.now }
-    requires room { call_count requests.now + workers ≤ capacity_of jobs.now }
+    requires room { call_count requests.now + N.config.workers ≤ capacity_of jobs.now }
     ensures own { IsJobPass jobs.now result.own }
+    ensures ends { (pairs : List Pair) × (put_by result.own ≡ pairs ++ replicate N.config.workers (0, None)) }
     ensures entries { IfOk result.entries (λ entries. AreEntries (limits_in N.config) (modules_of requests.now) entries.items) }
-    ensures put { IfOk result.entries (λ entries. HasPut (pairs_put entries.items requests.now workers) (account_of own) (account_of result.own)) }
+    ensures put { IfOk result.entries (λ entries. HasPut (pairs_put entries.items requests.now N.config.workers) (account_of own) (account_of result.own)) }
 {
     let entries = put_calls(rt, alloc, store, &mut desk, jobs, &mut own, requests);
-    for _ in 0..workers {
-        jobs.put(rt, &mut own, 0, None);
-    }
+    let workers = worker_count(store);
+    put_ends(rt, jobs, &mut own, workers);
     Put { own, entries }
 }

@@ -1,21 +1,21 @@
 //! The report on what a request file asks for.
-ghost use Rattle.std.specs.Prelude.{◌≡◌, ◌≤◌, IfOk, length};
+ghost use Rattle.std.specs.Prelude.{◌≡◌, ◌<◌, IfOk, Some, length, slice_get};
 ghost use Rattle.module_store.specs.Names.{Bears};
-ghost use Rattle.request_text.specs.Text.{IsPlacedFrom, call_count, module_names, modules_of};
+ghost use Rattle.request_text.specs.Text.{AreRequests, modules_of};
 ghost use Rattle.host_report.specs.Answers.{AreAnswers};
+ghost use Rattle.host_report.specs.Collected.{AreCollected, lines_on};
 ghost use Rattle.host_report.specs.Entries.{AreEntries};
 ghost use Rattle.host_report.specs.Lines.{HasSource, ShowsNext, counts_after};
 ghost use Rattle.host_report.specs.Report.{AreLines, IsReport, limits_in};
 
-use crate::calls::answers;
+use crate::calls::make_left;
 use crate::modules::{Entry, entry_line};
-use crate::shares::lane_share;
+use crate::shares::open_lane;
 use crate::sharing::{Collected, gather};
 use host_edge::Gate;
 use module_store::{Naming, Opened};
-use pool_host::LaneHost;
 use pool_limits::PoolConfig;
-use request_text::{CallLine, Directive, MOST_CALLS, MOST_MODULES, ReportLine, Requests};
+use request_text::{CallLine, Directive, ReportLine, Requests};
 use std::alloc::Global;
 use std::marker::Brand;
 use std::sync::Wait;
@@ -29,16 +29,29 @@ pub(crate) struct Counts {
     calls: u32,
 }
 
+// The line of the call after so many others, on a board that has all.
+fn line_at(board: &[Option<CallLine>], calls: u32) -> CallLine
+    requires all { AreCollected board.now (lines_on board.now) }
+    requires there { calls < length (lines_on board.now) }
+    ensures { slice_get (lines_on board.now) calls ≡ Some result }
+{
+    match board[calls as usize] {
+        Some(line) => line,
+        None => unreachable!(),
+    }
+}
+
 // The line of one directive.
 fn next_line<N: Naming>(
     alloc: Global,
     directive: &Directive,
     entries: &[Entry<N>],
-    answers: &[CallLine],
+    board: &[Option<CallLine>],
     counts: &mut Counts,
 ) -> Result<ReportLine, NoMemory>
-    requires { HasSource counts.old entries.now answers.now directive.now }
-    ensures line { IfOk result (ShowsNext counts.old entries.now answers.now directive.now) }
+    requires all { AreCollected board.now (lines_on board.now) }
+    requires source { HasSource counts.old entries.now (lines_on board.now) directive.now }
+    ensures line { IfOk result (ShowsNext counts.old entries.now (lines_on board.now) directive.now) }
     ensures counts { IfOk result (λ _. counts.new ≡ counts_after counts.old directive.now) }
 {
     match directive {
@@ -50,7 +63,7 @@ fn next_line<N: Naming>(
             Ok(ReportLine::Module { name, line })
         }
         Directive::Call { .. } => {
-            let line = answers[counts.calls as usize];
+            let line = line_at(board, counts.calls);
             counts.calls += 1;
             let number = counts.calls;
             Ok(ReportLine::Call { number, line })
@@ -58,16 +71,17 @@ fn next_line<N: Naming>(
     }
 }
 
-// A line for each directive, from the entries of its modules and the answers of its calls.
+// A line for each directive, from the entries of its modules and the lines of its calls on the board.
 fn lines<N: Naming>(
     alloc: Global,
     requests: &[Directive],
     entries: &[Entry<N>],
-    answers: &[CallLine],
+    board: &[Option<CallLine>],
 ) -> Result<Vec<ReportLine>, NoMemory>
-    requires few { call_count requests.now ≤ MOST_CALLS }
+    requires lawful { AreRequests requests.now }
     requires entries { AreEntries (limits_in N.config) (modules_of requests.now) entries.now }
-    requires answers { AreAnswers (limits_in N.config) (modules_of requests.now) requests.now answers.now }
+    requires all { AreCollected board.now (lines_on board.now) }
+    requires right { AreAnswers (limits_in N.config) (modules_of requests.now) requests.now (lines_on board.now) }
     ensures { IfOk result (λ lines. AreLines (limits_in N.config) (modules_of requests.now) 1 requests.now lines.items) }
 {
     let mut counts = Counts {
@@ -76,7 +90,7 @@ fn lines<N: Naming>(
     };
     let mut lines = Vec::new(alloc);
     for directive in requests {
-        let line = next_line(alloc, directive, entries, answers, &mut counts)?;
+        let line = next_line(alloc, directive, entries, board, &mut counts)?;
         lines.push(line).map_err(|_| NoMemory)?;
     }
     Ok(lines)
@@ -92,18 +106,14 @@ fn report_in<N: Naming + Send + Sync, R: Threads + Wait + Sync, G: Gate>(
     gate: &G,
 ) -> Result<Vec<ReportLine>, NoMemory>
     requires name { Bears opened N.shelves N.config }
-    requires placed { IsPlacedFrom 0 requests.now }
-    requires few_modules { length (module_names requests.now) ≤ MOST_MODULES }
-    requires few_calls { call_count requests.now ≤ MOST_CALLS }
+    requires lawful { AreRequests requests.now }
     ensures { IfOk result (λ lines. AreLines (limits_in N.config) (modules_of requests.now) 1 requests.now lines.items) }
 {
     let (store, desk) = opened.named::<N>();
     let Collected { entries, mut board } = gather(rt, alloc, &store, desk, requests, gate)?;
-    let mut lane = LaneHost::open(alloc, &store, lane_share(&store))?;
-    let answers = answers(
-        alloc, &store, requests, &entries, &mut board, &mut lane, gate,
-    )?;
-    lines(alloc, requests, &entries, &answers)
+    let mut lane = open_lane(alloc, &store)?;
+    make_left(&store, requests, &entries, &mut board, &mut lane, gate);
+    lines(alloc, requests, &entries, board.lines())
 }
 
 /// The report on what a request file asks for, under a configuration. `gate` is told of each call.

@@ -115,6 +115,18 @@ module _ {M : Type 0} where
   puts_learns port a may items accounts kept at =
       let e : length a.put ≡ length (kept.gone ++ items) = ap length ((kept.balance.each port a at).putter may) in omega (arith, length-append kept.gone items)
 
+  -- a pass that stands for all put all that was put, and was given all that has gone
+  all_alone : (terms : Terms) (gone items : List (ℕ × M)) (accounts : List (Account M)) (port : ℕ) (a : Account M) → IsBalanced terms gone items accounts → get_elem? accounts port ≡ some a → 0 < a.share → a.share ≡ a.terms.passes
+      → (a.put ≡ gone ++ items) × IsPermutation gone a.given
+  all_alone terms gone items accounts port a k at live whole =
+      let mine : Fits terms (gone ++ items) a = k.each port a at in
+      let known : a.terms.passes ≡ terms.passes = ap (λ (t : Terms). t.passes) (mine.told_so live) in
+      let idle = others_have_none (λ (u : Account M). u.share) accounts port a at (whole ∙ (known ∙ sym k.shares)) in
+      let mine_only : flat_map (λ (u : Account M). u.given) accounts ≡ a.given = flat_map-alone (λ (u : Account M). u.given) accounts port a at (λ j b apart e. (k.each j b e).never_given (idle j b apart e)) in
+      let only_one : sum_by (λ (u : Account M). one_if u.puts) accounts ≡ one_if a.puts = sum_by-alone (λ (u : Account M). one_if u.puts) accounts port a at (λ j b apart e. ap one_if ((k.each j b e).never_puts (idle j b apart e))) in
+      let may : a.puts ≡ true = one_puts a.puts (sym only_one ∙ k.one_puts) in
+      (mine.putter may, subst (IsPermutation gone) mine_only k.given_out)
+
   pub takes : (port : ℕ) (a : Account M) → 0 < a.share → Pops Kept port a (IsGiven a)
   takes port a live x items accounts kept at =
       let b : Account M = with_given a (x ∷ []) in
@@ -140,20 +152,17 @@ module _ {M : Type 0} where
             numbers = All-same (λ (y : ℕ × M). y.0 ≤ kept.terms.count) (gone ++ items) (kept.gone ++ x ∷ items) (sym moved) k.numbers;
           };
         },
-        record { number_is = omega arith; account_is = refl },
+        record {
+          number_is = omega arith;
+          account_is = refl;
+          next = λ whole. let alone = all_alone kept.terms kept.gone (x ∷ items) accounts port a k at live whole in record { gone = kept.gone; rest = items; order = alone.0; given_out = alone.1 };
+        },
       )
 
   pub takes_learns : (port : ℕ) (a : Account M) → 0 < a.share → Learns Kept port a (IsSettledBy a)
   takes_learns port a live items accounts kept at whole =
-      let k = kept.balance in
-      let mine : Fits kept.terms (kept.gone ++ items) a = k.each port a at in
-      let known : a.terms.passes ≡ kept.terms.passes = ap (λ (t : Terms). t.passes) (mine.told_so live) in
-      let idle = others_have_none (λ (u : Account M). u.share) accounts port a at (whole ∙ (known ∙ sym k.shares)) in
-      let mine_only : flat_map (λ (u : Account M). u.given) accounts ≡ a.given = flat_map-alone (λ (u : Account M). u.given) accounts port a at (λ j b apart e. (k.each j b e).never_given (idle j b apart e)) in
-      let only_one : sum_by (λ (u : Account M). one_if u.puts) accounts ≡ one_if a.puts = sum_by-alone (λ (u : Account M). one_if u.puts) accounts port a at (λ j b apart e. ap one_if ((k.each j b e).never_puts (idle j b apart e))) in
-      let may : a.puts ≡ true = one_puts a.puts (sym only_one ∙ k.one_puts) in
-      let given : IsPermutation (kept.gone ++ items) (a.given ++ items) = IsPermutation-append_left items kept.gone a.given (subst (IsPermutation kept.gone) mine_only k.given_out) in
-      let P : List (ℕ × M) → Type 0 = λ l. IsPermutation l (a.given ++ items) in subst P (sym (mine.putter may)) given
+      let alone = all_alone kept.terms kept.gone items accounts port a kept.balance at live whole in
+      let P : List (ℕ × M) → Type 0 = λ l. IsPermutation l (a.given ++ items) in subst P (sym alone.0) (IsPermutation-append_left items kept.gone a.given alone.1)
 
   pub parts : (port : ℕ) (a : Account M) → 1 < a.share → Forks Kept port a (parted a) (new_account a.terms false)
   parts port a several items accounts kept at =

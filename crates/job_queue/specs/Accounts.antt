@@ -37,10 +37,18 @@ module _ {M : Type 0} where
   abbrev pub joined : Account M → Account M → Account M
   joined a b = record a { share = a.share + b.share; puts = a.puts || b.puts; put = a.put ++ b.put; given = a.given ++ b.given }
 
-  -- a pass was given the pair, and the pair's number is one that may be put
+  -- the pair is the first of those that were put and not given, in the order in which they were put
+  pub record IsNextOf (put given : List (ℕ × M)) (x : ℕ × M) : Type 0 where
+    pub gone : List (ℕ × M)
+    pub rest : List (ℕ × M)
+    pub order : put ≡ gone ++ x ∷ rest
+    pub given_out : IsPermutation gone given
+
+  -- a pass was given the pair, whose number is one that may be put; a pass that stands for all knows that it came next
   pub record IsGiven (a : Account M) (x : ℕ × M) (b : Account M) : Type 0 where
     pub number_is : x.0 ≤ a.terms.count
     pub account_is : b ≡ with_given a (x ∷ [])
+    pub next : a.share ≡ a.terms.passes → IsNextOf a.put a.given x
 
   -- where the pass stands for all, what it put is what it was given and what the queue holds
   abbrev pub IsSettledBy : Account M → List (ℕ × M) → Type 0

@@ -2,7 +2,7 @@
 ghost use Rattle.std.specs.Prelude.{◌≡◌, ◌+◌, ◌-◌, ◌<◌, ◌≤◌, ◌∷◌, [], true, All, length, IfOk, IfSome, IfNone};
 ghost use Rattle.std.specs.List.Sorted.{IsPermutation};
 ghost use Rattle.crossbeam_queue.specs.Passes.{IsPassOf, IsSamePass, view};
-ghost use Rattle.job_queue.specs.Accounts.{first_terms, joined, new_account, parted, told, with_given, with_put};
+ghost use Rattle.job_queue.specs.Accounts.{IsNextOf, first_terms, joined, new_account, parted, told, with_given, with_put};
 ghost use Rattle.job_queue.specs.Passes.{IsJobPass, IsNewPutterOf, IsNewTakerOf, IsPutter, StandsForAll, account_of, capacity_of, count_of, given_to, passes_of, put_by, share_of};
 
 use crate::accounts::{Account, Terms};
@@ -103,12 +103,14 @@ impl<M: Drop> Jobs<M> {
     }
 
     /// Gives a pair that was put and given to no pass yet. Takes no memory. Answers none only where the queue was empty at a step
-    /// of this call: a pass that stands for all was then given all that was put, and another pass learns nothing from it.
+    /// of this call: a pass that stands for all was then given all that was put, and another pass learns nothing from it. To a pass
+    /// that stands for all it gives the pairs in the order in which they were put.
     pub fn next<R: Wait>(&self, rt: &R, pass: &mut JobPass<M>) -> Option<(u32, M)>
         requires { IsJobPass self.now pass.old }
         ensures own { IsJobPass self.now pass.new }
         ensures number { IfSome result (λ x. x.0 ≤ count_of self.now) }
         ensures given { IfSome result (λ x. account_of pass.new ≡ with_given (account_of pass.old) (x ∷ [])) }
+        ensures order { IfSome result (λ x. StandsForAll self.now pass.old → IsNextOf (put_by pass.old) (given_to pass.old) x) }
         ensures none { IfNone result (account_of pass.new ≡ account_of pass.old) }
         ensures all { IfNone result (StandsForAll self.now pass.old → IsPermutation (put_by pass.old) (given_to pass.old)) }
     {

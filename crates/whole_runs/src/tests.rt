@@ -261,6 +261,25 @@ fn eight_workers_and_one_have_the_same_summary(rt: HostRuntime) -> Result<(), Fa
     Ok(())
 }
 
+// As many calls as a file may have.
+#[test]
+fn a_file_may_have_100_000_calls(rt: HostRuntime) -> Result<(), Fail> {
+    let alloc = rt.alloc();
+    let mut text = String::from_str(alloc, ADDITION)?;
+    for _ in 1..100_000u32 {
+        text.push_str("call add add 100 i32:2 i32:3\n")?;
+    }
+    let written =
+        "modules ok 1\nmodules refused 0\ncalls ok 100000\ncalls trap 0\ncalls fuel 0\ncalls refused 0\n";
+    for line in [
+        "poolhost run --summary",
+        "poolhost run --summary --workers 4",
+    ] {
+        check(&rt, alloc, line, text.as_str(), written)?;
+    }
+    Ok(())
+}
+
 // A number as five bytes of LEB128, in hex.
 fn push_number(hex: &mut String, number: usize) -> Result<(), Fail> {
     let mut rest = number;

@@ -1,13 +1,14 @@
 use Rattle.std.proofs.Common.{◌≡◌, ◌+◌, false, length}
 use Rattle.std.specs.List.{All}
 use Rattle.job_queue.specs.Passes.{IsNewPassOf}
-use Rattle.pool_host.specs.Hosts.{IsHostPass}
+use Rattle.pool_host.specs.Hosts.{IsHostPass, IsNewHostPass}
 use Rattle.call_workers.specs.Crews.{IsNewWorker}
 use Rattle.call_workers.proofs.crew.workers.Given as goal
 
 abbrev pub invariant-loop-pass : goal.invariant-loop-pass
 invariant-loop-pass g l = record {
   passes : All (IsHostPass l.host) l.passes.items;
+  new : All (IsNewHostPass l.host) l.passes.items;
   owns : All (IsNewPassOf false l.jobs) l.owns.items;
   many : length l.passes.items ≡ length l.owns.items;
   count : length l.workers.items + length l.owns.items ≡ length l.initial.owns.items;

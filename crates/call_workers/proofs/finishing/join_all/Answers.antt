@@ -7,13 +7,11 @@ use Rattle.call_workers.proofs.finishing.join_all.Goals as goal
 pub loop-one-preserved : goal.loop-one-preserved
 loop-one-preserved g c =
     let i = c.loop-one.invariant in
-    let rest = All-pop (IsDone g.N.Naming.config c.args.host.now c.args.jobs.now c.args.calls.now) _ _ _ c.pop.ensures.items i.done in
-    let one : IsDone g.N.Naming.config c.args.host.now c.args.jobs.now c.args.calls.now c.in-Some.one = rw c.in-Some.is at rest.1 in
-    let did = rw c.in_ok-made.was at one.made in record {
+    let rest = All-pop (IsDone g.N.Naming.config c.args.shared.now) _ _ _ c.pop.ensures.items i.done in
+    let one : IsDone g.N.Naming.config c.args.shared.now c.in-Some.one = rw c.in-Some.is at rest.1 in
+    let worked = rw c.in_ok-made.was at one.made in record {
       fewer = let len = c.in-Some.ensures.len in let most = i.fewer in omega arith;
-      last = one.pass;
-      some = λ _. refl;
-      joined = joined_more _ _ _ c.args.host.now _ _ _ _ _ _ _ _ _ _ _ _ i.joined did.1 c.join_pass.ensures.own c.join_pass.ensures.both
+      joined = joined_more _ _ _ c.args.shared.now.host _ _ _ _ _ _ _ _ _ _ _ _ i.joined worked.did c.join_pass.ensures.own c.join_pass.ensures.both
           (let len = c.in-Some.ensures.len in let most = i.fewer in omega arith) c.in_ok-put_behind.ensures;
       done = rest.0;
     }

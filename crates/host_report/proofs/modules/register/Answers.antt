@@ -1,9 +1,7 @@
 use Rattle.host_report.specs.Report.{limits_in}
-use Rattle.host_report.proofs.EntryLemmas.{over_limit_entry, segment_entry}
+use Rattle.host_report.proofs.EntryLemmas.{entry_of_loaded}
 use Rattle.host_report.proofs.modules.register.Goals as goal
 
-pub returns-in-Err-OverLimit-clause-entry : goal.returns-in-Err-OverLimit-clause-entry
-returns-in-Err-OverLimit-clause-entry g c = over_limit_entry (limits_in g.N.Naming.config) _ _ _ c.in-Err-OverLimit.field-0-is c.in-Err-OverLimit.ensures.refused
-
-pub returns-in-Err-Segment-clause-entry : goal.returns-in-Err-Segment-clause-entry
-returns-in-Err-Segment-clause-entry g c = segment_entry (limits_in g.N.Naming.config) _ _ _ c.in-Err-Segment.field-0-is c.in-Err-Segment.ensures.refused
+pub returns-clause-entry : goal.returns-clause-entry
+returns-clause-entry g c =
+    entry_of_loaded (limits_in g.N.Naming.config) c.args.bytes.now c.register.result c.entry_of.result c.register.ensures.loaded c.register.ensures.refused c.entry_of.ensures

@@ -1,10 +1,19 @@
+use Rattle.std.proofs.Common.{arith}
 use Rattle.std.proofs.lemmas.List.{drop_all}
 use Rattle.host_report.specs.Report.{limits_in}
 use Rattle.host_report.proofs.CallLemmas.{next_directive}
 use Rattle.host_report.proofs.EntryLemmas.{all_entries}
-use Rattle.host_report.proofs.PutLemmas.{module_there, puts_call, puts_end, puts_module}
+use Rattle.host_report.proofs.PutLemmas.{module_there, puts_begin, puts_call, puts_end, puts_module}
 use Rattle.host_report.proofs.putting.put_calls.Goals as goal
 use Rattle.host_report.proofs.putting.put_calls.Goals.{in-Module+in_ok-map_err-in-Module+in_ok-entry-in-Module, in-Call}
+
+pub loop-directive-init : goal.loop-directive-init
+loop-directive-init g c =
+    let few = c.requires.lawful.few_modules in
+    let none = c.requires.desk in record {
+      own = c.requires.own;
+      left = rw c.new-entries.ensures.items (puts_begin (limits_in g.N.Naming.config) c.args.requests.now _ _ c.requires.lawful.placed (omega arith) c.requires.putter c.requires.none);
+    }
 
 pub loop-directive-preserved : goal.loop-directive-preserved
 loop-directive-preserved g c =

@@ -1,8 +1,9 @@
 use Rattle.std.proofs.Common.{drop}
+use Rattle.host_report.specs.Collected.{lines_on}
 use Rattle.host_report.specs.Report.{limits_in}
 use Rattle.host_report.proofs.ReportLemmas.{LinesLeft}
 use Rattle.host_report.proofs.reporting.lines.Given as goal
 
 abbrev pub invariant-loop-directive : goal.invariant-loop-directive
 invariant-loop-directive g l =
-    LinesLeft (limits_in g.N.Naming.config) l.fn.requests (drop l.directive-index l.fn.requests) l.entries l.answers l.counts l.lines.items
+    LinesLeft (limits_in g.N.Naming.config) l.fn.requests (drop l.directive-index l.fn.requests) l.entries (lines_on l.board) l.counts l.lines.items

@@ -1,0 +1,14 @@
+use Rattle.std.proofs.Common.{◌≡◌, sym, subst, arith}
+use Rattle.job_queue.specs.Passes.{put_by, share_of}
+use Rattle.call_workers.specs.Entries.{EndsAll, Pair}
+use Rattle.call_workers.proofs.EndLemmas.{nothing_left}
+use Rattle.call_workers.proofs.finishing.finish.Goals as goal
+
+pub unreachable-requires : goal.unreachable-requires
+unreachable-requires g c =
+    let joined = c.in_ok-entries.ensures in
+    let next = rw c.in-Some.is at c.next.ensures.order in
+    let w = c.requires.whole in
+    let s = joined.share in
+    let ends = rw (sym joined.put) at c.requires.ends in
+    nothing_left _ _ _ _ c.requires.some ends joined.ended (next (omega arith))

@@ -1,0 +1,60 @@
+-- The lane makes the calls of which the board has no line, one after the other.
+use Rattle.std.proofs.Common.{◌≡◌, ◌≢◌, ℕ, ◌+◌, ◌<◌, ◌≤◌, List, [], ◌∷◌, Option, Some, None, inl, inr, refl, sym, ap, ◌∙◌, subst, arith}
+use Rattle.std.specs.Prelude.{slice_get, slice_set}
+use Rattle.wasm_types.specs.declared.outcome.Val.{Val}
+use Rattle.pool_limits.specs.declared.numbers.Numbers.{Numbers}
+use Rattle.pool_worlds.specs.Contents.{Named}
+use Rattle.pool_host.specs.declared.host.Host.{Host}
+use Rattle.pool_host.specs.declared.passes.Passes.{Passes}
+use Rattle.request_text.specs.declared.request.Directive.{Directive}
+use Rattle.request_text.specs.declared.request.Directive.TheVariants.{Module, Call}
+use Rattle.request_text.specs.declared.report.CallLine.{CallLine}
+use Rattle.host_report.specs.Entries.{Entry}
+use Rattle.host_report.specs.Left.{MadeLeft, MadeOnLane}
+use Rattle.host_report.specs.Put.{module_at}
+use Rattle.host_report.proofs.BoardLemmas.{got_set_other}
+use Rattle.host_report.proofs.CallLemmas.{kind_of}
+
+abbrev Lines : Type 0
+Lines = List (Option CallLine)
+
+-- Those of so many calls were made that had no line, and no line of a call that is left was written: what is made of those that
+-- are left completes it.
+pub record LeftSoFar {N : Type 0} (config : Numbers) (lane : Host N) (entries : List Entry) (whole rest : List Directive) (number : ℕ) (first board : Lines)
+    (before now : Passes N) : Type 0 where
+  pub slots : (j : ℕ) → number ≤ j → slice_get board j ≡ slice_get first j
+  pub completes : (after : Passes N) → MadeLeft config lane entries first number rest now after → MadeLeft config lane entries first 0 whole before after
+
+module _ {N : Type 0} (config : Numbers) (lane : Host N) (entries : List Entry) (whole : List Directive) (first : Lines) (before : Passes N) where
+  pub left_begin : LeftSoFar config lane entries whole whole 0 first first before before
+  left_begin = record { slots = λ j above. refl; completes = λ after h. h }
+
+  module _ (rest : List Directive) (number : ℕ) (board : Lines) (now : Passes N) (h : LeftSoFar config lane entries whole rest number first board before now) where
+    pub left_end : rest ≡ [] → MadeLeft config lane entries first 0 whole before now
+    left_end none = h.completes now (rw none refl)
+
+    module _ (more : List Directive) (d : Directive) (is : rest ≡ d ∷ more) where
+      left_module : (name bytes : List ℕ) → d ≡ Module name bytes → LeftSoFar config lane entries whole more number first board before now
+      left_module name bytes module_is = record { slots = h.slots; completes = λ after g. h.completes after (rw (is, module_is) g) }
+
+      pub left_other : ((place : ℕ) (export : List ℕ) (fuel : ℕ) (args : List Val) → d ≡ Call place export fuel args → ⊥) → LeftSoFar config lane entries whole more number first board before now
+      left_other other = elim (kind_of d) [ inl (name, bytes, module_is) ↦ left_module name bytes module_is | inr (place, export, fuel, args, call_is) ↦ absurd (other place export fuel args call_is) ]
+
+      module _ (place : ℕ) (export : List ℕ) (fuel : ℕ) (args : List Val) (call_is : d ≡ Call place export fuel args) where
+        had : slice_get board number ≡ slice_get first number
+        had = h.slots number (omega arith)
+
+        pub left_had : (line : CallLine) → slice_get board number ≡ Some (Some line) → LeftSoFar config lane entries whole more (number + 1) first board before now
+        left_had line stands =
+            let stood : slice_get first number ≡ Some (Some line) = sym had ∙ stands in record {
+              slots = λ j above. h.slots j (omega arith);
+              completes = λ after g. h.completes after (rw (is, call_is, stood) (now, refl, g));
+            }
+
+        pub left_made : (line : CallLine) (board' : Lines) (now' : Passes N) → slice_get board number ≡ Some None → board' ≡ slice_set board number (Some line)
+            → MadeOnLane config lane (module_at entries place) now now' → LeftSoFar config lane entries whole more (number + 1) first board' before now'
+        left_made line board' now' none set_is made =
+            let stood : slice_get first number ≡ Some None = sym had ∙ none in record {
+              slots = λ j above. ap (λ (b : Lines). slice_get b j) set_is ∙ (got_set_other board number j (Some line) (λ same. absurd (omega arith)) ∙ h.slots j (omega arith));
+              completes = λ after g. h.completes after (rw (is, call_is, stood) (now', made, g));
+            }
