@@ -1,6 +1,4 @@
-use Rattle.std.proofs.Common.{◌≡◌, sym, subst, arith}
-use Rattle.job_queue.specs.Passes.{put_by, share_of}
-use Rattle.call_workers.specs.Entries.{EndsAll, Pair}
+use Rattle.std.proofs.Common.{sym, arith}
 use Rattle.call_workers.proofs.EndLemmas.{nothing_left}
 use Rattle.call_workers.proofs.finishing.finish.Goals as goal
 

@@ -1,4 +1,4 @@
-use Rattle.std.proofs.Common.{refl, arith}
+use Rattle.std.proofs.Common.{arith}
 use Rattle.std.proofs.lemmas.List.Elements.{All-pop}
 use Rattle.call_workers.specs.Crews.{IsDone}
 use Rattle.call_workers.proofs.CrewLemmas.{joined_more}

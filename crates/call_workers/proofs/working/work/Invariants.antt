@@ -1,4 +1,3 @@
-use Rattle.std.proofs.Common.{◌≡◌}
 use Rattle.job_queue.specs.Passes.{IsJobPass, account_of}
 use Rattle.pool_host.specs.Hosts.{IsHostPass}
 use Rattle.call_workers.proofs.TakenLemmas.{IsWorking}
