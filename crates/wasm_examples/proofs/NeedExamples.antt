@@ -80,6 +80,10 @@ after_a_call_of_an_element = refl
 behind_a_branch : need_of 2 [] (straight (i32_const 1 ∷ []) (Block None (straight (i32_const 1 ∷ i32_const 2 ∷ instr.Br 0 ∷ i32_add ∷ i32_const 1 ∷ i32_const 2 ∷ i32_const 3 ∷ instr.Unreachable ∷ []) End) (straight (instr.Drop ∷ []) End))) ≡ 7
 behind_a_branch = refl
 
+-- what lay there before the branch counts no more
+behind_a_branch_with_two_below : need_of 2 [] (Block None (straight (i32_const 1 ∷ i32_const 2 ∷ instr.Br 0 ∷ i32_const 3 ∷ instr.Unreachable ∷ []) End) End) ≡ 4
+behind_a_branch_with_two_below = refl
+
 -- select takes three and leaves one, drop takes one
 behind_a_select : need_of 2 [] (straight (i32_const 1 ∷ i32_const 2 ∷ i32_const 3 ∷ instr.Select ∷ i32_const 4 ∷ i32_const 5 ∷ instr.Select ∷ instr.Drop ∷ []) End) ≡ 4
 behind_a_select = refl

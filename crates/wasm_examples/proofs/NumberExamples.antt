@@ -1,5 +1,5 @@
 -- Spellings of numbers, and bytes that are none.
-use Rattle.std.proofs.Common.{ℕ, ◌-◌, ◌^◌, ◌<◌, ◌≤◌, List, [], ◌∷◌, inl, inr, refl, arith, ℤ, pos}
+use Rattle.std.proofs.Common.{◌≡◌, ℕ, ◌-◌, ◌^◌, ◌<◌, ◌≤◌, List, [], ◌∷◌, inl, inr, refl, arith, ℤ, pos}
 use Rattle.std.specs.Prelude.{negsuc}
 use Rattle.wasm_spec.specs.Numbers.{TakesUnsigned, TakesSigned}
 
@@ -26,13 +26,13 @@ goes_on : (n x b : ℕ) (bytes rest : List ℕ) → 2 ^ 7 ≤ b → TakesUnsigne
 goes_on n x b bytes rest h (inl a) = absurd (omega (arith, h, a.0))
 goes_on n x b bytes rest h (inr a) = (a.2, a.1, a.3)
 
--- a bit past the 32nd is set
-pub unused_bits_are_not_zero : (x : ℕ) (rest : List ℕ) → TakesUnsigned 32 x (0x80 ∷ 0x80 ∷ 0x80 ∷ 0x80 ∷ 0x10 ∷ []) rest → ⊥
-unused_bits_are_not_zero x rest h =
-    let a0 = goes_on 32 x 128 (0x80 ∷ 0x80 ∷ 0x80 ∷ 0x10 ∷ []) rest (omega arith) h in
-    let a1 = goes_on 25 a0.0 128 (0x80 ∷ 0x80 ∷ 0x10 ∷ []) rest (omega arith) a0.2 in
-    let a2 = goes_on 18 a1.0 128 (0x80 ∷ 0x10 ∷ []) rest (omega arith) a1.2 in
-    let a3 = goes_on 11 a2.0 128 (0x10 ∷ []) rest (omega arith) a2.2 in
+-- a bit past the 32nd is set, whatever stands behind
+pub unused_bits_are_not_zero : (x : ℕ) (behind rest : List ℕ) → TakesUnsigned 32 x (0x80 ∷ 0x80 ∷ 0x80 ∷ 0x80 ∷ 0x10 ∷ behind) rest → ⊥
+unused_bits_are_not_zero x behind rest h =
+    let a0 = goes_on 32 x 128 (0x80 ∷ 0x80 ∷ 0x80 ∷ 0x10 ∷ behind) rest (omega arith) h in
+    let a1 = goes_on 25 a0.0 128 (0x80 ∷ 0x80 ∷ 0x10 ∷ behind) rest (omega arith) a0.2 in
+    let a2 = goes_on 18 a1.0 128 (0x80 ∷ 0x10 ∷ behind) rest (omega arith) a1.2 in
+    let a3 = goes_on 11 a2.0 128 (0x10 ∷ behind) rest (omega arith) a2.2 in
     elim (a3.2) [ inl b ↦ absurd (omega (arith, b.0, b.1)) | inr b ↦ absurd (omega (arith, b.0, b.1)) ]
 
 -- a sixth byte
@@ -87,6 +87,12 @@ least_signed_of_64 = inr (inr (omega arith, omega arith, (negsuc 720575940379279
 -- the greatest of 64 bits
 greatest_signed_of_64 : TakesSigned 64 (pos 9223372036854775807) (0xFF ∷ 0xFF ∷ 0xFF ∷ 0xFF ∷ 0xFF ∷ 0xFF ∷ 0xFF ∷ 0xFF ∷ 0xFF ∷ 0x00 ∷ 0x05 ∷ []) (0x05 ∷ [])
 greatest_signed_of_64 = inr (inr (omega arith, omega arith, (pos 72057594037927935), inr (inr (omega arith, omega arith, (pos 562949953421311), inr (inr (omega arith, omega arith, (pos 4398046511103), inr (inr (omega arith, omega arith, (pos 34359738367), inr (inr (omega arith, omega arith, (pos 268435455), inr (inr (omega arith, omega arith, (pos 2097151), inr (inr (omega arith, omega arith, (pos 16383), inr (inr (omega arith, omega arith, (pos 127), inr (inr (omega arith, omega arith, (pos 0), inl (omega arith, omega arith, refl, refl), refl)), refl)), refl)), refl)), refl)), refl)), refl)), refl)), refl))
+
+-- no byte whose bit 6 is set spells a number from 0 on
+bit_6_is_the_sign : (rest : List ℕ) → TakesSigned 32 (pos 127) (0x7F ∷ []) rest → ⊥
+bit_6_is_the_sign rest (inl a) = absurd (omega (arith, a.0))
+bit_6_is_the_sign rest (inr (inl a)) = let e : pos 127 ≡ negsuc 0 = a.3 in cc (e)
+bit_6_is_the_sign rest (inr (inr a)) = absurd (omega (arith, a.0))
 
 signed_goes_on : (n : ℕ) (x : ℤ) (b : ℕ) (bytes rest : List ℕ) → 2 ^ 7 ≤ b → TakesSigned n x (b ∷ bytes) rest → (m : ℤ) × (7 < n) × TakesSigned (n - 7) m bytes rest
 signed_goes_on n x b bytes rest h (inl a) = absurd (omega (arith, h, a.0))

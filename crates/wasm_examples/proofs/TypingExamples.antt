@@ -132,14 +132,40 @@ operand_below_a_loop = (I32 ∷ [], ([], refl, refl), (refl, ([], (I32, refl), r
 operand_below_an_if : IsTyped (constant (constant (If None End End drop)))
 operand_below_an_if = (I32 ∷ [], ([], refl, refl), (I32 ∷ I32 ∷ [], (I32 ∷ [], refl, refl), (I32 ∷ [], refl, refl, refl, ([], (I32, refl), refl))))
 
-block_drops_what_lies_below : IsTyped (constant (Block None drop End)) → ⊥
+block_drops_what_lies_below : IsTyped (constant (Block None drop drop)) → ⊥
 block_drops_what_lies_below h = let e = h.2.0.1.1 in cc (e)
 
-loop_drops_what_lies_below : IsTyped (constant (Loop None drop End)) → ⊥
+loop_drops_what_lies_below : IsTyped (constant (Loop None drop drop)) → ⊥
 loop_drops_what_lies_below h = let e = h.2.0.1.1 in cc (e)
 
-first_arm_drops_what_lies_below : IsTyped (constant (constant (If None drop End End))) → ⊥
+first_arm_drops_what_lies_below : IsTyped (constant (constant (If None drop End drop))) → ⊥
 first_arm_drops_what_lies_below h = let e = h.2.2.2.1.1 in cc (e)
 
-second_arm_drops_what_lies_below : IsTyped (constant (constant (If None End drop End))) → ⊥
+second_arm_drops_what_lies_below : IsTyped (constant (constant (If None End drop drop))) → ⊥
 second_arm_drops_what_lies_below h = let e = h.2.2.3.1.1 in cc (e)
+
+-- ---- rules, in the words of the relation
+
+-- both operands of a select have one type
+select_of_two_types : IsTyped (constant (Plain (instr.Const (val.I64 0)) (constant (Plain instr.Select drop)))) → ⊥
+select_of_two_types h =
+    let first = h.1 in
+    let second = h.2.1 in
+    let third = h.2.2.1 in
+    let chosen = h.2.2.2.1 in
+    cc (first.1, first.2, second.1, second.2, third.1, third.2, chosen.2)
+
+select_of_one_type : IsTyped (constant (constant (constant (Plain instr.Select drop))))
+select_of_one_type = (
+  I32 ∷ [],
+  ([], refl, refl),
+  (
+    I32 ∷ I32 ∷ [],
+    (I32 ∷ [], refl, refl),
+    (
+      I32 ∷ I32 ∷ I32 ∷ [],
+      (I32 ∷ I32 ∷ [], refl, refl),
+      (I32 ∷ [], (I32, [], refl, refl), ([], (I32, refl), refl)),
+    ),
+  ),
+)
