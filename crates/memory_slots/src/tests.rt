@@ -233,53 +233,6 @@ fn a_pool_is_full_until_its_memory_is_given_back(rt: HostRuntime) -> Result<(), 
     Ok(())
 }
 
-// How many blocks are marked in a slot whose memory was given back with one marked block.
-fn marked_after_give<N: Naming>(
-    pool: &MemoryPool<N>,
-    mut pass: Pass<MemSlot<N>>,
-    store: &ModuleStore<N>,
-    module: &ModuleRef<N>,
-) -> Option<u32>
-    requires own { IsMemoryPass pool.now pass }
-    requires idle { IsIdle pass }
-{
-    let Ok(mut lease) = pool.take(&mut pass, store, module) else {
-        return None;
-    };
-    let number = lease.number();
-    let _scribbled = scribble(&mut lease.value);
-    pool.give(&mut pass, lease, store);
-    let Ok(lease) = pool.words.claim(&mut pass, number) else {
-        return None;
-    };
-    Some(lease.keep().dirty())
-}
-
-fn check_marks_after_give<N: Naming, R: Abort + Wait>(
-    rt: &R,
-    alloc: Global,
-    opened: Opened,
-    marked: u32,
-)
-    requires { Bears opened N.shelves N.config }
-{
-    let (store, mut desk) = opened.named::<N>();
-    let module = registered(rt, alloc, &store, &mut desk, &BUMP);
-    let (pool, mut passes) = MemoryPool::open(alloc, &store, 1, 1, 1).expect(rt, "opened");
-    let pass = passes.pop().unwrap();
-    let got = marked_after_give(&pool, pass, &store, &module);
-    assert_eq!(rt; got, Some(marked));
-}
-
-#[test]
-fn a_memory_is_written_over_in_a_flush_and_not_as_it_is_given(rt: HostRuntime) -> Result<(), Fail> {
-    for (batch, marked) in [(1, 0), (2, 1)] {
-        let opened = opened(rt.alloc(), batch)?;
-        check_marks_after_give::<Brand, HostRuntime>(&rt, rt.alloc(), opened, marked);
-    }
-    Ok(())
-}
-
 fn visit_often<N: Naming>(
     pool: &MemoryPool<N>,
     mut pass: Pass<MemSlot<N>>,
