@@ -1,5 +1,5 @@
 -- Whatever was seen, there is an order of it.
-use Rattle.std.proofs.Common.{◌≡◌, ◌⊎◌, inl, inr, ⊎_elim, ℕ, zero, suc, ◌+◌, ◌<◌, ◌≤◌, ◌==◌, ◌&&◌, Bool, true, false, cond, Option, Some, None, is_some, unwrap_or, List, [], ◌∷◌, length, ltb, refl, ap, sym, ◌∙◌, subst, arith}
+use Rattle.std.proofs.Common.{◌≡◌, ◌⊎◌, inl, inr, ⊎_elim, ℕ, zero, suc, ◌+◌, ◌<◌, ◌≤◌, ◌==◌, ◌&&◌, Bool, true, false, Option, Some, None, is_some, unwrap_or, List, [], ◌∷◌, length, ltb, refl, ap, sym, ◌∙◌, arith}
 use Rattle.std.specs.Prelude.{slice_index_or}
 use Rattle.std.specs.List.{count_by}
 use Rattle.std.proofs.lemmas.Bool.{true≢false}
@@ -72,6 +72,7 @@ module _ (seen : List ℕ) (tag : ℕ) (full : Bool) where
   -- one number more, at its place
   record Inserted (n : ℕ) (ns : List ℕ) : Type 0 where
     more : List ℕ
+    longer : length more ≡ suc (length ns)
     once : (m : ℕ) → count_by (λ (k : ℕ). k == m) more ≡ bit (n == m) + count_by (λ (k : ℕ). k == m) ns
     in_order : InOrder more
     after : (w : ℕ) → Before w n → BeforeAll w ns → BeforeAll w more
@@ -79,6 +80,7 @@ module _ (seen : List ℕ) (tag : ℕ) (full : Bool) where
   inserted : (n : ℕ) (ns : List ℕ) → InOrder ns → Inserted n ns
   inserted n [] is = record {
     more = n ∷ [];
+    longer = refl;
     once = λ m. sum_by-cons (λ (k : ℕ). bit (k == m)) n [];
     in_order = (tt, tt);
     after = λ w first all. (first, tt);
@@ -86,12 +88,14 @@ module _ (seen : List ℕ) (tag : ℕ) (full : Bool) where
   inserted n (m ∷ ms) is = ⊎_elim
       (λ (first : Before n m). record {
         more = n ∷ m ∷ ms;
+        longer = refl;
         once = λ k. sum_by-cons (λ (j : ℕ). bit (j == k)) n (m ∷ ms);
         in_order = ((first, earlier_too n m ms first is.0), is);
         after = λ w before all. (before, all);
       })
       (λ (later : Before m n). let rest = inserted n ms is.1 in record {
         more = m ∷ rest.more;
+        longer = ap suc rest.longer;
         once = λ k. let here = sum_by-cons (λ (j : ℕ). bit (j == k)) m rest.more in let there = sum_by-cons (λ (j : ℕ). bit (j == k)) m ms in let e = rest.once k in omega (arith, here, there, e);
         in_order = (rest.after m later is.0, rest.in_order);
         after = λ w before all. (all.0, rest.after w before all.1);
@@ -101,23 +105,26 @@ module _ (seen : List ℕ) (tag : ℕ) (full : Bool) where
   -- the slots below k that have a rank, in order
   record Ordered (k : ℕ) : Type 0 where
     order : List ℕ
+    few : length order ≤ k
     once : (n : ℕ) → count_by (λ (m : ℕ). m == n) order ≡ bit (ltb n k && is_some (seen_rank seen tag full n))
     in_order : InOrder order
 
   one_more : (k : ℕ) (o : Option ℕ) → seen_rank seen tag full k ≡ o → Ordered k → Ordered (suc k)
   one_more k None is so_far = record {
     order = so_far.order;
+    few = let f = so_far.few in omega arith;
     once = λ n. so_far.once n ∙ no_more has k n (ap is_some is);
     in_order = so_far.in_order;
   }
   one_more k (Some r) is so_far = let more = inserted k so_far.order so_far.in_order in record {
     order = more.more;
+    few = let f = so_far.few in let l = more.longer in omega arith;
     once = λ n. more.once n ∙ ap (λ (c : ℕ). bit (k == n) + c) (so_far.once n) ∙ and_one has k n (ap is_some is);
     in_order = more.in_order;
   }
 
   ordered : (k : ℕ) → Ordered k
-  ordered zero = record { order = []; once = λ n. none_below n (has n); in_order = tt }
+  ordered zero = record { order = []; few = omega arith; once = λ n. none_below n (has n); in_order = tt }
   ordered (suc k) = one_more k (seen_rank seen tag full k) refl (ordered k)
 
   all_before : (n : ℕ) (ns : List ℕ) → BeforeAll n ns → (k : ℕ) → k < length ns → Before n (slice_index_or ns k 0)
@@ -135,11 +142,12 @@ module _ (seen : List ℕ) (tag : ℕ) (full : Bool) where
   some_within n None is some = absurd (true≢false (sym some))
   some_within n (Some r) is some = ranked_is_within seen tag full n r is
 
-  pub order_exists : (order : List ℕ) × IsOrder seen tag full order
+  pub order_exists : (order : List ℕ) × IsOrder seen tag full order × (length order ≤ length seen)
   order_exists = let all = ordered (length seen) in (
     all.order,
     record {
       once = λ n. all.once n ∙ within_all n (length seen) (has n) (some_within n (seen_rank seen tag full n) refl);
       ranked = by_place all.order all.in_order;
     },
+    all.few,
   )

@@ -1,3 +1,4 @@
+mod Examples
 mod Sorting
 mod Preferring
 mod Existing

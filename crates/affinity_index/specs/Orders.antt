@@ -5,13 +5,12 @@ use Rattle.pool_core.specs.declared.words.State.{State}
 use Rattle.pool_core.specs.declared.words.State.TheVariants.{Cold, Warm, Awaiting}
 use Rattle.pool_core.specs.declared.words.Target.{Target}
 use Rattle.pool_core.specs.declared.words.StateWord.{StateWord}
-use Rattle.pool_core.specs.declared.limits.TheConstants.{STAMP_LIMIT}
-use Rattle.pool_core.specs.StateWords.{bit, unpacked}
+use Rattle.pool_core.specs.StateWords.{bit, stamp_bound, unpacked}
 
 -- The rank of a slot of this state: first those warm for the tag, the greatest stamp first; then, where the warm slots are at their limit, the other warm ones, the least stamp first, and the cold ones last; else the cold ones before the other warm ones. An awaiting slot has none.
 abbrev pub free_rank : ℕ → Bool → Target → State → Option ℕ
-free_rank tag full to Cold = Some (cond full (2 * STAMP_LIMIT) (STAMP_LIMIT))
-free_rank tag full to Warm = Some (cond (to.tag == tag) (STAMP_LIMIT - 1 - to.stamp) (cond full (STAMP_LIMIT) (2 * STAMP_LIMIT) + to.stamp))
+free_rank tag full to Cold = Some (cond full (2 * stamp_bound) (stamp_bound))
+free_rank tag full to Warm = Some (cond (to.tag == tag) (stamp_bound - 1 - to.stamp) (cond full (stamp_bound) (2 * stamp_bound) + to.stamp))
 free_rank tag full to Awaiting = None
 
 -- a held slot has none

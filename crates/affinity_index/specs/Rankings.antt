@@ -1,5 +1,5 @@
 -- Slots with their ranks.
-use Rattle.std.specs.Prelude.{◌≡◌, ◌⊎◌, ℕ, ◌<◌, ◌≤◌, ◌==◌, Bool, Option, Some, None, List, MatchOption, leb, cond}
+use Rattle.std.specs.Prelude.{◌≡◌, ◌⊎◌, ℕ, ◌<◌, ◌≤◌, ◌==◌, ◌||◌, ◌&&◌, Bool, Option, Some, None, List, MatchOption, leb, ltb, cond}
 use Rattle.affinity_index.specs.declared.ranks.Ranked.{Ranked}
 use Rattle.affinity_index.specs.Orders.{seen_rank}
 
@@ -14,13 +14,27 @@ abbrev pub lesser_of : Option Ranked → Ranked → Ranked
 lesser_of None e = e
 lesser_of (Some a) e = cond (leb a.rank e.rank) a e
 
-module _ (seen : List ℕ) (tag : ℕ) (full : Bool) where
+-- a slot of this rank and number is claimed behind that one
+abbrev pub is_behind : Ranked → ℕ → ℕ → Bool
+is_behind e r n = ltb e.rank r || (e.rank == r && ltb e.number n)
+
+-- the rank of slot n, if it is claimed behind the last
+abbrev pub behind : Option Ranked → ℕ → Option ℕ → Option ℕ
+behind None n o = o
+behind (Some e) n None = None
+behind (Some e) n (Some r) = cond (is_behind e r n) (Some r) None
+
+-- the rank of each slot that was seen, if it is claimed behind the last
+abbrev pub rank_behind : List ℕ → ℕ → Bool → Option Ranked → ℕ → Option ℕ
+rank_behind seen tag full last n = behind last n (seen_rank seen tag full n)
+
+module _ (rank_at : ℕ → Option ℕ) where
   -- of the slots below k this one has the least rank, and of equal ranks the least number
   pub record IsLeast (k : ℕ) (e : Ranked) : Type 0 where
     pub within : e.number < k
-    pub rank_is : seen_rank seen tag full e.number ≡ Some e.rank
-    pub least : (m r : ℕ) → m < k → seen_rank seen tag full m ≡ Some r → (e.rank < r) ⊎ ((e.rank ≡ r) × (e.number ≤ m))
+    pub rank_is : rank_at e.number ≡ Some e.rank
+    pub least : (m r : ℕ) → m < k → rank_at m ≡ Some r → (e.rank < r) ⊎ ((e.rank ≡ r) × (e.number ≤ m))
 
   -- or none of them has a rank
   abbrev pub IsLeastBelow : ℕ → Option Ranked → Type 0
-  IsLeastBelow k least = MatchOption least ((m : ℕ) → m < k → seen_rank seen tag full m ≡ None) (IsLeast k)
+  IsLeastBelow k least = MatchOption least ((m : ℕ) → m < k → rank_at m ≡ None) (IsLeast k)

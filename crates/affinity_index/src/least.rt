@@ -1,10 +1,10 @@
-//! Which slot is claimed first.
-ghost use Rattle.std.specs.Prelude.{◌≡◌, ◌<◌, ◌≤◌, ℕ, List, Some, IfSome, leb, length, slice_get};
+//! Which slot is claimed first, and which one next.
+ghost use Rattle.std.specs.Prelude.{◌≡◌, ◌+◌, ◌<◌, ◌≤◌, ℕ, List, Some, None, IfSome, leb, length, slice_get};
 ghost use Rattle.std.specs.List.{All};
 ghost use Rattle.pool_core.specs.declared.words.StateWord.{StateWord};
-ghost use Rattle.pool_core.specs.StateWords.{IsWordOf};
-ghost use Rattle.affinity_index.specs.Orders.{IsOrder};
-ghost use Rattle.affinity_index.specs.Rankings.{IsLeastBelow, lesser_of};
+ghost use Rattle.pool_core.specs.StateWords.{IsWordOf, unpacked};
+ghost use Rattle.affinity_index.specs.Orders.{IsOrder, rank_of, seen_rank};
+ghost use Rattle.affinity_index.specs.Rankings.{IsLeastBelow, behind, is_behind, lesser_of, rank_behind};
 
 use crate::ranks::{Ranked, rank};
 use pool_core::MOST_SLOTS;
@@ -19,16 +19,35 @@ fn lesser(least: Option<Ranked>, entry: Ranked) -> Ranked
     }
 }
 
-// The slot of the least rank, and of equal ranks the one of the least number.
-fn least(seen: &[u64], tag: u32, full: bool) -> Option<Ranked>
+// Whether a slot of this rank and number is claimed behind `last`.
+fn comes_behind(last: Ranked, rank: u64, number: u32) -> bool
+    ensures { result ≡ is_behind last rank number }
+{
+    last.rank < rank || (last.rank == rank && last.number < number)
+}
+
+// The rank of slot `number`, whose word this is, if it is claimed behind `last`.
+fn rank_of_next(word: u64, tag: u32, full: bool, number: u32, last: Option<Ranked>) -> Option<u64>
+    requires { (w : StateWord) × IsWordOf word w }
+    ensures { result ≡ behind last number (rank_of tag full (unpacked word)) }
+{
+    let rank = rank(word, tag, full)?;
+    match last {
+        Some(last) if !comes_behind(last, rank, number) => None,
+        _ => Some(rank),
+    }
+}
+
+// Of the slots that are claimed behind `last` the one of the least rank, and of equal ranks the one of the least number.
+fn least(seen: &[u64], tag: u32, full: bool, last: Option<Ranked>) -> Option<Ranked>
     requires few { length seen.now ≤ MOST_SLOTS }
     requires words { All (λ r. (w : StateWord) × IsWordOf r w) seen.now }
-    ensures { IsLeastBelow seen.now tag full (length seen.now) result }
+    ensures { IsLeastBelow (rank_behind seen.now tag full last) (length seen.now) result }
 {
     let mut least = None;
     for n in 0..seen.len() {
-        if let Some(rank) = rank(seen[n], tag, full) {
-            let number = n as u32;
+        let number = n as u32;
+        if let Some(rank) = rank_of_next(seen[n], tag, full, number, last) {
             least = Some(lesser(least, Ranked { rank, number }));
         }
     }
@@ -42,7 +61,25 @@ pub fn first_in_order(seen: &[u64], tag: u32, warm: u64, limit: u64) -> Option<u
     ensures first { (order : List ℕ) → IsOrder seen.now tag (leb limit warm) order → result ≡ slice_get order 0 }
     ensures number { IfSome result (λ n. n < length seen.now) }
 {
-    match least(seen, tag, warm >= limit) {
+    match least(seen, tag, warm >= limit, None) {
+        Some(entry) => Some(entry.number),
+        None => None,
+    }
+}
+
+/// The number that follows `last` in the [`order`](crate::order) for the same, found without sorting: `None` exactly where `last` is the order's last, or does not stand in it.
+pub fn next_in_order(seen: &[u64], tag: u32, warm: u64, limit: u64, last: u32) -> Option<u32>
+    requires few { length seen.now ≤ MOST_SLOTS }
+    requires words { All (λ r. (w : StateWord) × IsWordOf r w) seen.now }
+    requires last { last < length seen.now }
+    ensures next { (order : List ℕ) (k : ℕ) → IsOrder seen.now tag (leb limit warm) order → slice_get order k ≡ Some last → result ≡ slice_get order (k + 1) }
+    ensures outside { seen_rank seen.now tag (leb limit warm) last ≡ None → result ≡ None }
+    ensures number { IfSome result (λ n. n < length seen.now) }
+{
+    let full = warm >= limit;
+    let rank = rank(seen[last as usize], tag, full)?;
+    let number = last;
+    match least(seen, tag, full, Some(Ranked { rank, number })) {
         Some(entry) => Some(entry.number),
         None => None,
     }

@@ -7,7 +7,7 @@ mod orders;
 mod ranking;
 mod ranks;
 
-pub use least::first_in_order;
+pub use least::{first_in_order, next_in_order};
 pub use orders::Order;
 pub use ranking::order;
 

@@ -33,11 +33,11 @@ make_level = shape_at (built poolhost_command).subs 1
 pub run_numbers : (rest : List Text) → level_fault run_level [] nothing_held rest false [] ≡ [] → HasNumbers (rows_after run_level.rules [] rest)
 run_numbers rest e = record {
   workers = option_number run_level rest refl e (codes "workers") 1 16 (codes "1") refl;
-  instances = option_number run_level rest refl e (codes "instances") 1 64 (codes "4") refl;
-  memories = option_number run_level rest refl e (codes "memories") 1 64 (codes "4") refl;
-  tables = option_number run_level rest refl e (codes "tables") 1 64 (codes "4") refl;
-  warm = option_number run_level rest refl e (codes "warm") 0 64 (codes "2") refl;
-  batch = option_number run_level rest refl e (codes "batch") 1 64 (codes "4") refl;
+  instances = option_number run_level rest refl e (codes "instances") 1 1024 (codes "4") refl;
+  memories = option_number run_level rest refl e (codes "memories") 1 1024 (codes "4") refl;
+  tables = option_number run_level rest refl e (codes "tables") 1 1024 (codes "4") refl;
+  warm = option_number run_level rest refl e (codes "warm") 0 1024 (codes "2") refl;
+  batch = option_number run_level rest refl e (codes "batch") 1 1024 (codes "4") refl;
   pages = option_number run_level rest refl e (codes "pages") 1 256 (codes "32") refl;
   elements = option_number run_level rest refl e (codes "elements") 0 65536 (codes "1024") refl;
   depth = option_number run_level rest refl e (codes "depth") 1 1000 (codes "128") refl;

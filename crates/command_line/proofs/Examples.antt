@@ -35,6 +35,14 @@ two_memories_to_share : command_of (run (codes "--workers" ∷ codes "2" ∷ cod
 unfolding clap_on_literals command_of entered_by
 two_memories_to_share = refl
 
+most_memories : command_of (run (codes "--memories" ∷ codes "1024" ∷ codes "--pages" ∷ codes "1" ∷ [])) ≡ Some (Run (record defaults { memories = 1024; pages = 1 }) false)
+unfolding clap_on_literals command_of entered_by
+most_memories = refl
+
+one_memory_more : command_of (run (codes "--memories" ∷ codes "1025" ∷ [])) ≡ None
+unfolding clap_on_literals command_of entered_by
+one_memory_more = refl
+
 no_subcommand : command_of (codes "poolhost" ∷ []) ≡ None
 unfolding clap_on_literals command_of entered_by
 no_subcommand = refl

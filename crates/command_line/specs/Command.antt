@@ -17,11 +17,11 @@ number_option name least most default = record (new_rule name) {
 
 abbrev pub run_options : List Rule
 run_options = number_option (codes "workers") 1 16 (codes "1")
-    ∷ number_option (codes "instances") 1 64 (codes "4")
-    ∷ number_option (codes "memories") 1 64 (codes "4")
-    ∷ number_option (codes "tables") 1 64 (codes "4")
-    ∷ number_option (codes "warm") 0 64 (codes "2")
-    ∷ number_option (codes "batch") 1 64 (codes "4")
+    ∷ number_option (codes "instances") 1 1024 (codes "4")
+    ∷ number_option (codes "memories") 1 1024 (codes "4")
+    ∷ number_option (codes "tables") 1 1024 (codes "4")
+    ∷ number_option (codes "warm") 0 1024 (codes "2")
+    ∷ number_option (codes "batch") 1 1024 (codes "4")
     ∷ number_option (codes "pages") 1 256 (codes "32")
     ∷ number_option (codes "elements") 0 65536 (codes "1024")
     ∷ number_option (codes "depth") 1 1000 (codes "128")

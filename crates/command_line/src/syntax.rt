@@ -79,11 +79,11 @@ fn run_command<'a>(alloc: Global) -> Result<Command<'a>, AllocError>
 {
     let empty = Command::new(alloc, "run").disable_help_flag(true);
     let workers = with_number(alloc, empty, "workers", 1, 16, "1")?;
-    let instances = with_number(alloc, workers, "instances", 1, 64, "4")?;
-    let memories = with_number(alloc, instances, "memories", 1, 64, "4")?;
-    let tables = with_number(alloc, memories, "tables", 1, 64, "4")?;
-    let warm = with_number(alloc, tables, "warm", 0, 64, "2")?;
-    let batch = with_number(alloc, warm, "batch", 1, 64, "4")?;
+    let instances = with_number(alloc, workers, "instances", 1, 1_024, "4")?;
+    let memories = with_number(alloc, instances, "memories", 1, 1_024, "4")?;
+    let tables = with_number(alloc, memories, "tables", 1, 1_024, "4")?;
+    let warm = with_number(alloc, tables, "warm", 0, 1_024, "2")?;
+    let batch = with_number(alloc, warm, "batch", 1, 1_024, "4")?;
     let pages = with_number(alloc, batch, "pages", 1, 256, "32")?;
     let elements = with_number(alloc, pages, "elements", 0, 65536, "1024")?;
     let depth = with_number(alloc, elements, "depth", 1, 1000, "128")?;

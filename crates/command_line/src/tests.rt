@@ -59,12 +59,16 @@ fn reads_or_refuses_each_command_line(rt: HostRuntime) -> Result<(), Fail> {
             run([16, 4, 2, 4, 2, 4, 32, 1024, 128, 1024], false),
         ),
         (
-            "run --instances 64 --pages 256",
-            run([1, 64, 4, 4, 2, 4, 256, 1024, 128, 1024], false),
+            "run --instances 1024 --pages 256",
+            run([1, 1024, 4, 4, 2, 4, 256, 1024, 128, 1024], false),
         ),
         (
-            "run --warm 0 --batch 64",
-            run([1, 4, 4, 4, 0, 64, 32, 1024, 128, 1024], false),
+            "run --memories 1024 --tables 1024 --warm 1024",
+            run([1, 4, 1024, 1024, 1024, 4, 32, 1024, 128, 1024], false),
+        ),
+        (
+            "run --warm 0 --batch 1024",
+            run([1, 4, 4, 4, 0, 1024, 32, 1024, 128, 1024], false),
         ),
         (
             "run --elements 65536 --depth 1000",
@@ -83,6 +87,11 @@ fn reads_or_refuses_each_command_line(rt: HostRuntime) -> Result<(), Fail> {
         ("run --workers 2 --tables 1", REFUSED),
         ("run --workers 0", REFUSED),
         ("run --workers 17", REFUSED),
+        ("run --instances 1025", REFUSED),
+        ("run --memories 1025", REFUSED),
+        ("run --tables 1025", REFUSED),
+        ("run --warm 1025", REFUSED),
+        ("run --batch 1025", REFUSED),
         ("run --frame 4097", REFUSED),
         ("run --warm -1", REFUSED),
         ("run --warm two", REFUSED),

@@ -1,5 +1,5 @@
 -- Which hand-in completes a batch of four.
-use Rattle.std.proofs.Common.{◌≡◌, ℕ, ◌-◌, leb, MatchBool, List, [], ◌∷◌, sym, subst}
+use Rattle.std.proofs.Common.{◌≡◌, ℕ, ◌-◌, leb, MatchBool, List, [], ◌∷◌, subst}
 use Rattle.slot_words.specs.declared.views.Operation.{Operation}
 use Rattle.slot_words.specs.declared.views.Operation.TheVariants.{AwaitUp}
 use Rattle.decommit_batch.specs.Flush.{IsFlush}

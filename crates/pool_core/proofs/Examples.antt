@@ -1,12 +1,12 @@
 -- Lists of events, worked by hand: what a wrong line of the table or of the rules would change.
-use Rattle.std.proofs.Common.{◌≡◌, true, List, [], ◌∷◌, map, refl}
+use Rattle.std.proofs.Common.{◌≡◌, true, false, List, [], ◌∷◌, map, refl}
 use Rattle.std.specs.Prelude.{Some}
 use Rattle.pool_core.specs.declared.events.Event.{Event}
 use Rattle.pool_core.specs.declared.events.Event.TheVariants.{AwaitDown, AwaitLoad, AwaitUp, Claim, Close, Home, Join, Load, Out, Release, Split, Stamp, WarmDown, WarmUp}
 use Rattle.pool_core.specs.declared.seats.Stage.TheVariants.{Closed, Joined, Live}
 use Rattle.pool_core.specs.declared.words.State.TheVariants.{Awaiting, Cold, Warm}
 use Rattle.pool_core.specs.declared.words.Target.{Target}
-use Rattle.pool_core.specs.StateWords.{cold_target, free_word, packed}
+use Rattle.pool_core.specs.StateWords.{cold_target, free_word, is_well_formed, packed, unpacked}
 use Rattle.pool_core.specs.PoolCore.{PoolCore, idle_seat, opening_core}
 use Rattle.pool_core.specs.RefusalRules.{refusal_of}
 use Rattle.pool_core.specs.Runs.{AllAllowed, core_after_all}
@@ -32,8 +32,25 @@ visits_leave = refl
 warm_bits : packed (free_word warm_5) ≡ 42
 warm_bits = refl
 
-all_bits : packed (record { target = record { state = Warm; tag = 7; stamp = 12 }; held = true }) ≡ 393275
+all_bits : packed (record { target = record { state = Warm; tag = 7; stamp = 12 }; held = true }) ≡ 100663355
 all_bits = refl
+
+all_said : unpacked 100663355 ≡ record { target = record { state = Warm; tag = 7; stamp = 12 }; held = true }
+all_said = refl
+
+-- the greatest tag and the greatest stamp, and one more of each
+abbrev fullest : Target
+fullest = record { state = Awaiting; tag = 1048575; stamp = 2199023255551 }
+
+fullest_bits : packed (record { target = fullest; held = true }) ≡ 18446744073709551613
+fullest_bits = refl
+
+fullest_said : unpacked 18446744073709551613 ≡ record { target = fullest; held = true }
+fullest_said = refl
+
+fitting : map is_well_formed (fullest ∷ record fullest { tag = 1048576 } ∷ record fullest { stamp = 2199023255552 } ∷ record cold_target { tag = 1 } ∷ record cold_target { stamp = 1 } ∷ cold_target ∷ [])
+    ≡ true ∷ false ∷ false ∷ false ∷ false ∷ true ∷ []
+fitting = refl
 
 -- one seat is split off and joined again, a second claims, and all are closed
 abbrev ends : List Event

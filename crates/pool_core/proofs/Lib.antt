@@ -4,7 +4,7 @@ pub mod SeatChanges
 pub mod LawfulSteps
 pub mod Holders
 pub mod LawfulOpening
-mod RunLemmas
+pub mod RunLemmas
 mod LeastRule
 pub mod ChangeLemmas
 mod OutFlags

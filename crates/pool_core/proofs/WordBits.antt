@@ -2,20 +2,19 @@
 use Rattle.std.proofs.Common.{◌≡◌, ℕ, ◌+◌, ◌*◌, ◌/◌, ◌%◌, ◌^◌, ◌<◌, ◌≤◌, ◌==◌, ◌&&◌, ◌||◌, not, ltb, Bool, true, false, refl, sym, ap, ◌∙◌, arith}
 use lib.Bits.{bit_or, or_shifted, or_block, or_zero_r}
 use Rattle.std.proofs.lemmas.Bool.{and_parts, ltb-true}
-use Rattle.pool_core.specs.declared.limits.TheConstants.{STAMP_LIMIT, TAG_LIMIT}
 use Rattle.pool_core.specs.declared.words.State.{State}
 use Rattle.pool_core.specs.declared.words.State.TheVariants.{Awaiting, Cold, Warm}
 use Rattle.pool_core.specs.declared.words.StateWord.{StateWord}
 use Rattle.pool_core.specs.declared.words.Target.{Target}
 use Rattle.pool_core.specs.Laws.{BitsSayOneWord, BitsSayTheWord}
-use Rattle.pool_core.specs.StateWords.{bit, coded_state, held_word, is_cold, is_well_formed, packed, state_code}
+use Rattle.pool_core.specs.StateWords.{bit, coded_state, held_word, is_cold, is_well_formed, packed, stamp_bound, state_code, tag_bound}
 
 pub bit_le : (b : Bool) → bit b ≤ 1
 bit_le true = omega arith
 bit_le false = omega arith
 
 above_held_bit : StateWord → ℕ
-above_held_bit w = state_code w.target.state + 4 * w.target.tag + 4 * TAG_LIMIT * w.target.stamp
+above_held_bit w = state_code w.target.state + 4 * w.target.tag + 4 * tag_bound * w.target.stamp
 
 split_off : (w : StateWord) → packed w ≡ bit w.held + 2 * above_held_bit w
 unfolding above_held_bit
@@ -46,10 +45,10 @@ packed-mod_2 w = ap (λ (k : ℕ). k % 2) (split_off w) ∙ low_bit w.held (abov
 record Fields (bits b c t s : ℕ) : Type 0 where
   first : bits % 2 ≡ b
   second : bits / 2 % 4 ≡ c
-  third : bits / 8 % TAG_LIMIT ≡ t
-  last : bits / (8 * TAG_LIMIT) ≡ s
+  third : bits / 8 % tag_bound ≡ t
+  last : bits / (8 * tag_bound) ≡ s
 
-fields : (bits b c t s : ℕ) → bits ≡ b + 2 * c + 8 * t + 8 * TAG_LIMIT * s → b < 2 → c < 4 → t < TAG_LIMIT → Fields bits b c t s
+fields : (bits b c t s : ℕ) → bits ≡ b + 2 * c + 8 * t + 8 * tag_bound * s → b < 2 → c < 4 → t < tag_bound → Fields bits b c t s
 fields bits b c t s is b2 c4 t12 = record { first = omega arith; second = omega arith; third = omega arith; last = omega arith }
 
 code_below : (s : State) → state_code s < 4
@@ -66,8 +65,8 @@ bit_again : (h : Bool) → (bit h == 1) ≡ h
 bit_again true = refl
 bit_again false = refl
 
-tag_below : (to : Target) → is_well_formed to ≡ true → to.tag < TAG_LIMIT
-tag_below to ok = ltb-true to.tag TAG_LIMIT (and_parts (ltb to.tag TAG_LIMIT) (ltb to.stamp STAMP_LIMIT) (and_parts (ltb to.tag TAG_LIMIT && ltb to.stamp STAMP_LIMIT) (not (is_cold to.state) || (to.tag == 0 && to.stamp == 0)) ok).0).0
+tag_below : (to : Target) → is_well_formed to ≡ true → to.tag < tag_bound
+tag_below to ok = ltb-true to.tag tag_bound (and_parts (ltb to.tag tag_bound) (ltb to.stamp stamp_bound) (and_parts (ltb to.tag tag_bound && ltb to.stamp stamp_bound) (not (is_cold to.state) || (to.tag == 0 && to.stamp == 0)) ok).0).0
 
 pub bits_say_the_word : BitsSayTheWord
 bits_say_the_word bits w is =

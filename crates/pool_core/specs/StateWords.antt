@@ -4,7 +4,6 @@ use Rattle.pool_core.specs.declared.words.State.{State}
 use Rattle.pool_core.specs.declared.words.State.TheVariants.{Cold, Warm, Awaiting}
 use Rattle.pool_core.specs.declared.words.Target.{Target}
 use Rattle.pool_core.specs.declared.words.StateWord.{StateWord}
-use Rattle.pool_core.specs.declared.limits.TheConstants.{TAG_LIMIT, STAMP_LIMIT}
 
 abbrev pub is_cold : State → Bool
 is_cold Cold = true
@@ -21,9 +20,17 @@ is_awaiting Cold = false
 is_awaiting Warm = false
 is_awaiting Awaiting = true
 
+-- twenty bits for a tag
+abbrev pub tag_bound : ℕ
+tag_bound = 1048576
+
+-- forty-one for a stamp
+abbrev pub stamp_bound : ℕ
+stamp_bound = 2199023255552
+
 -- a tag and a stamp that fit, and neither where the state is cold
 abbrev pub is_well_formed : Target → Bool
-is_well_formed to = ltb to.tag TAG_LIMIT && ltb to.stamp STAMP_LIMIT && (not (is_cold to.state) || (to.tag == 0 && to.stamp == 0))
+is_well_formed to = ltb to.tag tag_bound && ltb to.stamp stamp_bound && (not (is_cold to.state) || (to.tag == 0 && to.stamp == 0))
 
 abbrev pub cold_target : Target
 cold_target = record { state = Cold; tag = 0; stamp = 0 }
@@ -46,9 +53,9 @@ state_code Cold = 0
 state_code Warm = 1
 state_code Awaiting = 2
 
--- bit 0: held; bits 1 and 2: the state; from bit 3 on the tag, and above it the stamp
+-- bit 0: held; bits 1 and 2: the state; bits 3 to 22: the tag; bits 23 to 63: the stamp
 abbrev pub packed : StateWord → ℕ
-packed w = bit w.held + 2 * state_code w.target.state + 8 * w.target.tag + 8 * TAG_LIMIT * w.target.stamp
+packed w = bit w.held + 2 * state_code w.target.state + 8 * w.target.tag + 8 * tag_bound * w.target.stamp
 
 -- the number is the 64 bits of this word
 pub record IsWordOf (number : ℕ) (w : StateWord) : Type 0 where
@@ -61,4 +68,4 @@ coded_state code = cond (code == 0) Cold (cond (code == 1) Warm Awaiting)
 
 -- the word that 64 bits say
 abbrev pub unpacked : ℕ → StateWord
-unpacked bits = record { target = record { state = coded_state (bits / 2 % 4); tag = bits / 8 % TAG_LIMIT; stamp = bits / (8 * TAG_LIMIT) }; held = bits % 2 == 1 }
+unpacked bits = record { target = record { state = coded_state (bits / 2 % 4); tag = bits / 8 % tag_bound; stamp = bits / (8 * tag_bound) }; held = bits % 2 == 1 }

@@ -8,6 +8,8 @@ ghost use Rattle.pool_core.specs.RefusalRules.{refusal_of, IsLeastRule};
 ghost use Rattle.pool_core.specs.Lawful.{Lawful, is_free_warm, has_permit};
 ghost use Rattle.pool_core.specs.Laws.{OpeningIsLawful, OpensCold, OpensUnmade, EventsKeepLawful, RunsKeepLawful, OneSeatHolds, SeatsHoldWords, HeldWordsHaveSeats, BitsSayOneWord, BitsSayTheWord, LowestBitSaysHeld, LowestBitMakesHeld};
 ghost use Rattle.pool_core.specs.Runs.{core_after_all, AllAllowed};
+ghost use Rattle.pool_core.specs.StateWords.{stamp_bound, tag_bound};
+ghost use Rattle.pool_core.specs.declared.limits.TheConstants.{MOST_SLOTS, STAMP_LIMIT, TAG_LIMIT};
 ghost use Rattle.pool_core.specs.declared.events.Event.{Event as AnyEvent};
 
 use crate::pool::Core;
@@ -78,6 +80,13 @@ pub fn refusals_are_least()
 pub fn words_are_read_back()
     ensures one { BitsSayOneWord }
     ensures read { BitsSayTheWord }
+{}
+
+/// A pool has at most 1,024 slots, and a word has 20 bits for a tag and 41 for a stamp.
+pub fn limits_are_those_of_the_words()
+    ensures slots { MOST_SLOTS ≡ 1024 }
+    ensures tags { TAG_LIMIT ≡ tag_bound }
+    ensures stamps { STAMP_LIMIT ≡ stamp_bound }
 {}
 
 /// The lowest bit of a word says whether it is held, and to set it is to make the word held.

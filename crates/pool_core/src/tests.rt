@@ -41,6 +41,24 @@ const AWAITING_6: Target = Target {
     stamp: 0,
 };
 
+const GREATEST: Target = Target {
+    state: State::Awaiting,
+    tag: 1_048_575,
+    stamp: 2_199_023_255_551,
+};
+
+const PAST_TAGS: Target = Target {
+    state: State::Awaiting,
+    tag: 1_048_576,
+    stamp: 0,
+};
+
+const PAST_STAMPS: Target = Target {
+    state: State::Awaiting,
+    tag: 0,
+    stamp: 2_199_023_255_552,
+};
+
 /// A list of events, the first that is refused, and the words and the warm, await and clock counts after all the others.
 #[derive(Drop)]
 struct Row<'a> {
@@ -276,6 +294,42 @@ fn worked_rows_end_as_they_should(rt: HostRuntime) -> Result<(), Fail> {
             words: &[1, 1, 1],
             counts: (2, 0, 0),
         },
+        // The greatest tag and the greatest stamp are released, and one more of either is not.
+        Row {
+            slots: 1,
+            warm: 0,
+            seats: 1,
+            events: &[Claim(0, 0), AwaitUp(0), Release(0, 0, GREATEST)],
+            fault: None,
+            words: &[18446744073709551612],
+            counts: (0, 1, 0),
+        },
+        Row {
+            slots: 1,
+            warm: 0,
+            seats: 1,
+            events: &[Claim(0, 0), AwaitUp(0), Release(0, 0, PAST_TAGS)],
+            fault: Some(ReplayFault::Unlawful {
+                at: 2,
+                rule: 8,
+                number: 0,
+            }),
+            words: &[1],
+            counts: (0, 1, 0),
+        },
+        Row {
+            slots: 1,
+            warm: 0,
+            seats: 1,
+            events: &[Claim(0, 0), AwaitUp(0), Release(0, 0, PAST_STAMPS)],
+            fault: Some(ReplayFault::Unlawful {
+                at: 2,
+                rule: 8,
+                number: 0,
+            }),
+            words: &[1],
+            counts: (0, 1, 0),
+        },
     ];
     for (place, row) in rows.iter().enumerate() {
         ends_as_it_should(&rt, rt.alloc(), place, row)?;
@@ -290,8 +344,12 @@ fn words_are_packed_as_the_layout_says(rt: HostRuntime) {
         tag: 7,
         stamp: 12,
     };
-    assert_eq!(rt; pack(target, false), 393274);
+    assert_eq!(rt; pack(target, false), 100663354);
     let held = pack(target, true);
-    assert_eq!(rt; held, 393275);
+    assert_eq!(rt; held, 100663355);
     assert_eq!(rt; unpack(held), (target, true));
+    assert_eq!(rt; pack(WARM_5, false), 42);
+    let full = pack(GREATEST, true);
+    assert_eq!(rt; full, 18446744073709551613);
+    assert_eq!(rt; unpack(full), (GREATEST, true));
 }

@@ -96,7 +96,7 @@ impl StateWord {
     };
 }
 
-/// The 64 bits of a slot's word, from the lowest on: one bit says that it is held, two are the state (0 cold, 1 warm, 2 awaiting), twelve the tag and the others the stamp.
+/// The 64 bits of a slot's word, from the lowest on: one bit says that it is held, two are the state (0 cold, 1 warm, 2 awaiting), twenty the tag and the others the stamp.
 pub fn pack(word: Target, held: bool) -> u64
     requires { is_well_formed word ≡ true }
     ensures { IsWordOf result (record { target = word; held = held }) }

@@ -13,7 +13,7 @@ abbrev usual : Numbers
 usual = record { workers = 1; instances = 4; memories = 4; tables = 4; warm = 2; batch = 4; pages = 32; elements = 1024; depth = 128; frame = 1024 }
 
 abbrev greatest : Numbers
-greatest = record { workers = 16; instances = 64; memories = 64; tables = 64; warm = 64; batch = 64; pages = 256; elements = 65536; depth = 1000; frame = 4096 }
+greatest = record { workers = 16; instances = 1024; memories = 1024; tables = 1024; warm = 1024; batch = 1024; pages = 256; elements = 65536; depth = 1000; frame = 4096 }
 
 abbrev least : Numbers
 least = record { workers = 1; instances = 1; memories = 1; tables = 1; warm = 0; batch = 1; pages = 1; elements = 0; depth = 1; frame = 1 }
@@ -40,19 +40,19 @@ workers_before_batch : bad_number (record usual { workers = 17; batch = 0 }) ≡
 workers_before_batch = refl
 
 -- each number at one past its range, with all later ones out of theirs too
-past : bad_number (record greatest { instances = 65; memories = 65; tables = 65; warm = 65; batch = 65; pages = 257; elements = 65537; depth = 1001; frame = 4097 }) ≡ bad Instances 65
+past : bad_number (record greatest { instances = 1025; memories = 1025; tables = 1025; warm = 1025; batch = 1025; pages = 257; elements = 65537; depth = 1001; frame = 4097 }) ≡ bad Instances 1025
 past = refl
 
-past_memories : bad_number (record greatest { memories = 65; tables = 65; warm = 65; batch = 65; pages = 257; elements = 65537; depth = 1001; frame = 4097 }) ≡ bad Memories 65
+past_memories : bad_number (record greatest { memories = 1025; tables = 1025; warm = 1025; batch = 1025; pages = 257; elements = 65537; depth = 1001; frame = 4097 }) ≡ bad Memories 1025
 past_memories = refl
 
-past_tables : bad_number (record greatest { tables = 65; warm = 65; batch = 65; pages = 257; elements = 65537; depth = 1001; frame = 4097 }) ≡ bad Tables 65
+past_tables : bad_number (record greatest { tables = 1025; warm = 1025; batch = 1025; pages = 257; elements = 65537; depth = 1001; frame = 4097 }) ≡ bad Tables 1025
 past_tables = refl
 
-past_warm : bad_number (record greatest { warm = 65; batch = 65; pages = 257; elements = 65537; depth = 1001; frame = 4097 }) ≡ bad Warm 65
+past_warm : bad_number (record greatest { warm = 1025; batch = 1025; pages = 257; elements = 65537; depth = 1001; frame = 4097 }) ≡ bad Warm 1025
 past_warm = refl
 
-past_batch : bad_number (record greatest { batch = 65; pages = 257; elements = 65537; depth = 1001; frame = 4097 }) ≡ bad Batch 65
+past_batch : bad_number (record greatest { batch = 1025; pages = 257; elements = 65537; depth = 1001; frame = 4097 }) ≡ bad Batch 1025
 past_batch = refl
 
 past_pages : bad_number (record greatest { pages = 257; elements = 65537; depth = 1001; frame = 4097 }) ≡ bad Pages 257

@@ -44,10 +44,10 @@ least_total-two n several = cond-false _ _ _ (le-ltb n.workers 2 several)
 
 -- a total within its range
 record IsTotal (n : Numbers) (total : ℕ) : Type 0 where
-  one : (1 ≤ total) × (total ≤ 64)
+  one : (1 ≤ total) × (total ≤ 1024)
   two : 2 ≤ n.workers → 2 ≤ total
 
-is_total : (n : Numbers) (r : Ranged) → r.least ≡ least_total n → r.most ≡ 64 → IsInside r → IsTotal n r.value
+is_total : (n : Numbers) (r : Ranged) → r.least ≡ least_total n → r.most ≡ 1024 → IsInside r → IsTotal n r.value
 is_total n r least most is = let at_least = is.least in let at_most = is.most in let one = least_total-one n in record {
   one = (omega arith, omega arith);
   two = λ several. let two = least_total-two n several in omega arith;
@@ -62,11 +62,11 @@ pub in_range : (n : Numbers) → bad_number n ≡ None → AreInRange n
 in_range n h =
     let none = find-none is_outside (ranges n) (bad_number-none (find is_outside (ranges n)) h) in
     let workers = inside (ranged Workers n.workers 1 16) none.0 in
-    let instances = is_total n (ranged Instances n.instances (least_total n) 64) refl refl (inside (ranged Instances n.instances (least_total n) 64) none.1.0) in
-    let memories = is_total n (ranged Memories n.memories (least_total n) 64) refl refl (inside (ranged Memories n.memories (least_total n) 64) none.1.1.0) in
-    let tables = is_total n (ranged Tables n.tables (least_total n) 64) refl refl (inside (ranged Tables n.tables (least_total n) 64) none.1.1.1.0) in
-    let warm = inside (ranged Warm n.warm 0 64) none.1.1.1.1.0 in
-    let batch = inside (ranged Batch n.batch 1 64) none.1.1.1.1.1.0 in
+    let instances = is_total n (ranged Instances n.instances (least_total n) 1024) refl refl (inside (ranged Instances n.instances (least_total n) 1024) none.1.0) in
+    let memories = is_total n (ranged Memories n.memories (least_total n) 1024) refl refl (inside (ranged Memories n.memories (least_total n) 1024) none.1.1.0) in
+    let tables = is_total n (ranged Tables n.tables (least_total n) 1024) refl refl (inside (ranged Tables n.tables (least_total n) 1024) none.1.1.1.0) in
+    let warm = inside (ranged Warm n.warm 0 1024) none.1.1.1.1.0 in
+    let batch = inside (ranged Batch n.batch 1 1024) none.1.1.1.1.1.0 in
     let pages = inside (ranged Pages n.pages 1 256) none.1.1.1.1.1.1.0 in
     let elements = inside (ranged Elements n.elements 0 65536) none.1.1.1.1.1.1.1.0 in
     let depth = inside (ranged Depth n.depth 1 1000) none.1.1.1.1.1.1.1.1.0 in
@@ -85,8 +85,8 @@ in_range n h =
       shared = λ several. (instances.two several, memories.two several, tables.two several);
     }
 
-total-inside : (n : Numbers) (which : Setting) (total : ℕ) → (1 ≤ total) × (total ≤ 64) → (2 ≤ n.workers → 2 ≤ total) → is_outside (ranged which total (least_total n) 64) ≡ false
-total-inside n which total is several = not_outside (ranged which total (least_total n) 64)
+total-inside : (n : Numbers) (which : Setting) (total : ℕ) → (1 ≤ total) × (total ≤ 1024) → (2 ≤ n.workers → 2 ≤ total) → is_outside (ranged which total (least_total n) 1024) ≡ false
+total-inside n which total is several = not_outside (ranged which total (least_total n) 1024)
     (cond_both (nat_lt n.workers 2) 1 2 (λ k. k ≤ total) (λ e. is.0) (λ e. several (ltb-false n.workers 2 e))) is.1
 
 -- and where all are in range, no number is bad
@@ -100,9 +100,9 @@ none_bad n is = ap (option_map bad_of) (none-find is_outside (ranges n) (
       (
         total-inside n Tables n.tables is.tables (λ several. (is.shared several).2),
         (
-          not_outside (ranged Warm n.warm 0 64) (omega arith) is.warm,
+          not_outside (ranged Warm n.warm 0 1024) (omega arith) is.warm,
           (
-            not_outside (ranged Batch n.batch 1 64) is.batch.0 is.batch.1,
+            not_outside (ranged Batch n.batch 1 1024) is.batch.0 is.batch.1,
             (
               not_outside (ranged Pages n.pages 1 256) is.pages.0 is.pages.1,
               (not_outside (ranged Elements n.elements 0 65536) (omega arith) is.elements, (not_outside (ranged Depth n.depth 1 1000) is.depth.0 is.depth.1, (not_outside (ranged Frame n.frame 1 4096) is.frame.0 is.frame.1, tt))),

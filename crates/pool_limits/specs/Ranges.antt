@@ -17,11 +17,11 @@ ranged which value least most = record { which = which; value = value; least = l
 abbrev pub ranges : Numbers → List Ranged
 ranges n =
     ranged Workers n.workers 1 16
-    ∷ ranged Instances n.instances (least_total n) 64
-    ∷ ranged Memories n.memories (least_total n) 64
-    ∷ ranged Tables n.tables (least_total n) 64
-    ∷ ranged Warm n.warm 0 64
-    ∷ ranged Batch n.batch 1 64
+    ∷ ranged Instances n.instances (least_total n) 1024
+    ∷ ranged Memories n.memories (least_total n) 1024
+    ∷ ranged Tables n.tables (least_total n) 1024
+    ∷ ranged Warm n.warm 0 1024
+    ∷ ranged Batch n.batch 1 1024
     ∷ ranged Pages n.pages 1 256
     ∷ ranged Elements n.elements 0 65536
     ∷ ranged Depth n.depth 1 1000
@@ -41,11 +41,11 @@ bad_number n = option_map bad_of (find is_outside (ranges n))
 -- each number is in its range
 pub record AreInRange (n : Numbers) : Type 0 where
   pub workers : (1 ≤ n.workers) × (n.workers ≤ 16)
-  pub instances : (1 ≤ n.instances) × (n.instances ≤ 64)
-  pub memories : (1 ≤ n.memories) × (n.memories ≤ 64)
-  pub tables : (1 ≤ n.tables) × (n.tables ≤ 64)
-  pub warm : n.warm ≤ 64
-  pub batch : (1 ≤ n.batch) × (n.batch ≤ 64)
+  pub instances : (1 ≤ n.instances) × (n.instances ≤ 1024)
+  pub memories : (1 ≤ n.memories) × (n.memories ≤ 1024)
+  pub tables : (1 ≤ n.tables) × (n.tables ≤ 1024)
+  pub warm : n.warm ≤ 1024
+  pub batch : (1 ≤ n.batch) × (n.batch ≤ 1024)
   pub pages : (1 ≤ n.pages) × (n.pages ≤ 256)
   pub elements : n.elements ≤ 65536
   pub depth : (1 ≤ n.depth) × (n.depth ≤ 1000)

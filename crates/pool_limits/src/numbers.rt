@@ -9,15 +9,15 @@ use thiserror::Error;
 pub struct Numbers {
     /// Threads that make calls, from 1 to 16.
     pub workers: u32,
-    /// Slots for instances, from 1 to 64; from 2 where there are several workers.
+    /// Slots for instances, from 1 to 1,024; from 2 where there are several workers.
     pub instances: u32,
-    /// Slots for memories, from 1 to 64; from 2 where there are several workers.
+    /// Slots for memories, from 1 to 1,024; from 2 where there are several workers.
     pub memories: u32,
-    /// Slots for tables, from 1 to 64; from 2 where there are several workers.
+    /// Slots for tables, from 1 to 1,024; from 2 where there are several workers.
     pub tables: u32,
-    /// Slots of the memories, and of the tables, that may be warm while no call has them, from 0 to 64.
+    /// Slots of the memories, and of the tables, that may be warm while no call has them, from 0 to 1,024.
     pub warm: u32,
-    /// Memory slots that await their decommit together, from 1 to 64.
+    /// Memory slots that await their decommit together, from 1 to 1,024.
     pub batch: u32,
     /// The most pages of 65,536 bytes that a memory may have, from 1 to 256.
     pub pages: u32,
@@ -95,11 +95,11 @@ impl Numbers {
         let total = self.least_total();
         [
             Ranged::new(Setting::Workers, self.workers, 1, 16),
-            Ranged::new(Setting::Instances, self.instances, total, 64),
-            Ranged::new(Setting::Memories, self.memories, total, 64),
-            Ranged::new(Setting::Tables, self.tables, total, 64),
-            Ranged::new(Setting::Warm, self.warm, 0, 64),
-            Ranged::new(Setting::Batch, self.batch, 1, 64),
+            Ranged::new(Setting::Instances, self.instances, total, 1_024),
+            Ranged::new(Setting::Memories, self.memories, total, 1_024),
+            Ranged::new(Setting::Tables, self.tables, total, 1_024),
+            Ranged::new(Setting::Warm, self.warm, 0, 1_024),
+            Ranged::new(Setting::Batch, self.batch, 1, 1_024),
             Ranged::new(Setting::Pages, self.pages, 1, 256),
             Ranged::new(Setting::Elements, self.elements, 0, 65_536),
             Ranged::new(Setting::Depth, self.depth, 1, 1_000),

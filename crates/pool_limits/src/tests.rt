@@ -37,11 +37,11 @@ fn new(numbers: Numbers) -> Result<Numbers, BadNumber> {
 fn the_first_number_out_of_range_is_named(rt: HostRuntime) {
     let most = Numbers {
         workers: 16,
-        instances: 64,
-        memories: 64,
-        tables: 64,
-        warm: 64,
-        batch: 64,
+        instances: 1024,
+        memories: 1024,
+        tables: 1024,
+        warm: 1024,
+        batch: 1024,
         pages: 256,
         elements: 65_536,
         depth: 1_000,
@@ -94,7 +94,13 @@ fn the_first_number_out_of_range_is_named(rt: HostRuntime) {
             },
             bad(Setting::Instances, 1),
         ),
-        (Numbers { warm: 65, ..USUAL }, bad(Setting::Warm, 65)),
+        (
+            Numbers {
+                warm: 1025,
+                ..USUAL
+            },
+            bad(Setting::Warm, 1025),
+        ),
         (
             Numbers {
                 pages: 257,

@@ -1,18 +1,16 @@
 -- A take prefers the slots of its module.
-use Rattle.std.proofs.Common.{◌≡◌, ◌⊎◌, ⊎_elim, inl, inr, ℕ, ◌<◌, Bool, List, [], ◌∷◌, ◌++◌, length, take, refl, sym, ap, ◌∙◌, subst, arith, append_assoc}
+use Rattle.std.proofs.Common.{◌≡◌, ◌⊎◌, ⊎_elim, inl, inr, ℕ, ◌<◌, Bool, List, [], ◌∷◌, ◌++◌, length, take, sym, ap, ◌∙◌, subst, arith, append_assoc}
 use Rattle.std.specs.Prelude.{slice_index_or, leb}
 use Rattle.std.proofs.lemmas.List.{length-take-le, get_or-take}
 use Rattle.slot_words.specs.declared.views.Operation.{Operation}
-use Rattle.slot_words.specs.declared.views.Operation.TheVariants.{Claim, WarmLoad}
-use Rattle.slot_words.specs.Trails.{loads_from}
+use Rattle.slot_words.specs.declared.views.Operation.TheVariants.{Claim}
 use Rattle.slot_words.specs.Parts.{Then}
 use Rattle.slot_words.specs.Rows.{IsLost}
-use Rattle.slot_pools.specs.Rows.{AreLost, IsSettled, IsWonAlong}
+use Rattle.slot_pools.specs.Rows.{AreLost, IsWonAlong}
 use Rattle.slot_words.proofs.Parts.{part_at}
 use Rattle.affinity_index.specs.Orders.{IsOrder}
 use Rattle.affinity_index.specs.Preference.{IsOwnSeen, OwnAreListed, OwnOrAllBefore}
 use Rattle.slot_pools.specs.Looks.{IsLook}
-use Rattle.slot_pools.specs.Wins.{IsFlushWin, IsDirectWin}
 use Rattle.slot_pools.specs.Takes.{IsBatchedTake, IsAffineTake}
 use Rattle.slot_pools.specs.Causes.{HasLostClaim}
 use Rattle.slot_pools.specs.Preferring.{PrefersOwn}

@@ -1,15 +1,14 @@
 -- What a give does, by what it reads.
 use Rattle.std.specs.Prelude.{◌≡◌, ℕ, ◌%◌, ltb, MatchBool, List, [], ◌∷◌}
 use Rattle.pool_core.specs.declared.words.State.TheVariants.{Warm}
-use Rattle.pool_core.specs.declared.limits.TheConstants.{STAMP_LIMIT}
-use Rattle.pool_core.specs.StateWords.{packed, free_word, cold_word}
+use Rattle.pool_core.specs.StateWords.{cold_word, free_word, packed, stamp_bound}
 use Rattle.slot_words.specs.declared.views.Operation.{Operation}
 use Rattle.slot_words.specs.declared.views.Operation.TheVariants.{WarmUp, WarmDown, Stamp, Release}
 
 -- With a permit the slot is stamped and released warm for this tag; without one the refusal is given back, and it is released cold.
 abbrev pub IsWarmGive : ℕ → ℕ → ℕ → List Operation → Type 0
 IsWarmGive limit n tag done = (r : ℕ) × MatchBool (ltb r limit)
-    ((s : ℕ) × (done ≡ WarmUp r ∷ Stamp s ∷ Release n (packed (free_word (record { state = Warm; tag = tag; stamp = s % STAMP_LIMIT }))) ∷ []))
+    ((s : ℕ) × (done ≡ WarmUp r ∷ Stamp s ∷ Release n (packed (free_word (record { state = Warm; tag = tag; stamp = s % stamp_bound }))) ∷ []))
     ((d : ℕ) × (done ≡ WarmUp r ∷ WarmDown d ∷ Release n (packed cold_word) ∷ []))
 
 -- the slot is released cold

@@ -6,7 +6,6 @@ use Rattle.slot_words.specs.declared.views.Operation.{Operation}
 use Rattle.slot_words.specs.Leases.{lease_number, lease_word}
 use Rattle.slot_words.specs.Owned.{slots_of, limit_of}
 use Rattle.affinity_index.specs.Orders.{IsOrder}
-use Rattle.slot_pools.specs.declared.looking.Looked.{Looked}
 use Rattle.slot_pools.specs.Rows.{IsWonAlong}
 use Rattle.slot_pools.specs.Wins.{IsFlushWin, IsDirectWin}
 
@@ -16,9 +15,9 @@ module _ {V : Type 0} where
   WinsAlong l ns = IsWonAlong ns (lease_number l) (lease_word l)
 
 module _ {V I : Type 0} (words : Words V I) where
-  -- claims of this kind along the order for the module of this tag, by what the look read
-  abbrev pub AlongOrder : ℕ → Looked → (List ℕ → List Operation → Type 0) → List Operation → Type 0
-  AlongOrder tag look Claims done = (order : List ℕ) × IsOrder look.seen tag (leb (limit_of words) look.warm) order × Claims order done
+  -- claims of this kind along the order for the module of this tag, by the warm word and the words of the slots that the look read
+  abbrev pub AlongOrder : ℕ → ℕ → List ℕ → (List ℕ → List Operation → Type 0) → List Operation → Type 0
+  AlongOrder tag warm seen Claims done = (order : List ℕ) × IsOrder seen tag (leb (limit_of words) warm) order × Claims order done
 
   -- the slot of this lease is won along these numbers, or else along all
   abbrev pub WinsDirectly : Lease V → List ℕ → List Operation → Type 0

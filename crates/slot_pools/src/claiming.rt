@@ -11,38 +11,40 @@ ghost use Rattle.slot_pools.specs.Rows.{AreLost};
 ghost use Rattle.slot_pools.specs.Looks.{AreWords};
 ghost use Rattle.slot_pools.specs.LookWins.{AlongOrder, WinsAlong};
 
-use crate::looking::Looked;
-use crate::rows::{AllHeld, claim_first};
+use crate::rows::AllHeld;
 use affinity_index::laws::each_scan_has_its_order;
-use affinity_index::{first_in_order, order};
+use affinity_index::{first_in_order, next_in_order};
 use slot_words::{Held, Lease, Pass, Pooled, Words};
 
-// Claims along the order for the module of this tag. It is sorted only where its first claim is lost.
+// Claims along the order for the module of this tag. What comes next in it is looked for only where a claim is lost.
 pub(crate) fn claim_in_order<V: Pooled>(
     words: &Words<V>,
     pass: &mut Pass<V>,
-    look: &Looked,
+    seen: &[u64],
+    warm: u64,
     tag: u32,
 ) -> Result<Lease<V>, AllHeld>
     requires own { IsPassOf V.room words.now pass.old }
     requires idle { IsIdle pass.old }
-    requires words { AreWords (slots_of words.now) look.now.seen }
+    requires words { AreWords (slots_of words.now) seen.now }
     ensures same { IsSamePass pass.old pass.new }
     ensures won { IfOk result (HasWon V.fits V.room words.now pass.new) }
-    ensures trail { IfOk result (λ l. Grew (AlongOrder words.now tag look.now (WinsAlong l)) (trail pass.old) (trail pass.new)) }
-    ensures held { OnErr result (IsIdle pass.new × Grew (AlongOrder words.now tag look.now AreLost) (trail pass.old) (trail pass.new)) }
+    ensures trail { IfOk result (λ l. Grew (AlongOrder words.now tag warm seen.now (WinsAlong l)) (trail pass.old) (trail pass.new)) }
+    ensures held { OnErr result (IsIdle pass.new × Grew (AlongOrder words.now tag warm seen.now AreLost) (trail pass.old) (trail pass.new)) }
 {
     each_scan_has_its_order();
-    let seen = look.seen.words();
     let limit = words.limit();
-    let Some(first) = first_in_order(seen, tag, look.warm, limit) else {
-        return Err(AllHeld);
-    };
-    if let Ok(lease) = words.claim(pass, first) {
-        return Ok(lease);
+    let mut next = first_in_order(seen, tag, warm, limit);
+    for _ in 0..words.slots() {
+        let Some(n) = next else {
+            return Err(AllHeld);
+        };
+        if let Ok(lease) = words.claim(pass, n) {
+            return Ok(lease);
+        }
+        next = next_in_order(seen, tag, warm, limit, n);
     }
-    let order = order(seen, tag, look.warm, limit);
-    claim_first(words, pass, &order.numbers()[1..])
+    Err(AllHeld)
 }
 
 // Claims a number, unless this word of its slot says that it is held.

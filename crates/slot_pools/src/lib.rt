@@ -4,6 +4,7 @@
 #![tactic(auto)]
 
 mod answers;
+mod by_row;
 mod claiming;
 mod giving;
 pub mod laws;

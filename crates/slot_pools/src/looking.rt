@@ -1,30 +1,29 @@
 //! What a take reads before it claims.
-ghost use Rattle.std.specs.Prelude.{◌≡◌, ◌++◌, ◌∷◌};
+ghost use Rattle.std.specs.Prelude.{◌≡◌, ◌≤◌, ◌++◌, ◌∷◌, length, take};
 ghost use Rattle.slot_words.specs.declared.views.Operation.TheVariants.{WarmLoad};
 ghost use Rattle.slot_words.specs.Passes.{IsSamePass, KeepsAll, trail};
 ghost use Rattle.slot_words.specs.Owned.{IsPassOf, slots_of};
 ghost use Rattle.slot_words.specs.Trails.{loads_from};
 ghost use Rattle.slot_pools.specs.Looks.{AreWords};
 
-use slot_words::{Pass, Pooled, Seen, Words};
+use slot_words::{Pass, Pooled, Words};
 
-/// The warm word and each slot's word, as they were read.
-#[derive(Drop)]
-pub(crate) struct Looked {
-    pub warm: u64,
-    pub seen: Seen,
-}
+// A take has room for the words of so many slots, or of as many as a pool may have.
+pub(crate) const FEW_SLOTS: usize = 16;
 
-// Reads the warm word, and then each slot's word.
-pub(crate) fn look<V: Pooled>(words: &Words<V>, pass: &mut Pass<V>) -> Looked
-    requires { IsPassOf V.room words.now pass.old }
+pub(crate) const MANY_SLOTS: usize = 128;
+
+// Reads the warm word, and then each slot's word into the row.
+pub(crate) fn look<V: Pooled>(words: &Words<V>, pass: &mut Pass<V>, row: &mut [u64]) -> u64
+    requires own { IsPassOf V.room words.now pass.old }
+    requires room { slots_of words.now ≤ length row.old }
     ensures same { IsSamePass pass.old pass.new }
     ensures keeps { KeepsAll pass.old pass.new }
-    ensures words { AreWords (slots_of words.now) result.seen }
-    ensures trail { trail pass.new ≡ trail pass.old ++ WarmLoad result.warm ∷ loads_from 0 result.seen }
+    ensures len { length row.new ≡ length row.old }
+    ensures words { AreWords (slots_of words.now) (take (slots_of words.now) row.new) }
+    ensures trail { trail pass.new ≡ trail pass.old ++ WarmLoad result ∷ loads_from 0 (take (slots_of words.now) row.new) }
 {
     let warm = words.warm_load(pass);
-    let mut seen = Seen::new();
-    words.scan(pass, &mut seen);
-    Looked { warm, seen }
+    words.scan_into(pass, row);
+    warm
 }

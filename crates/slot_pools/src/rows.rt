@@ -1,6 +1,6 @@
 //! Claims of some numbers, one after another.
 ghost use Rattle.std.specs.Prelude.{◌<◌, IfOk, OnErr};
-ghost use Rattle.std.specs.List.{All, range_with_len};
+ghost use Rattle.std.specs.List.{range_with_len};
 ghost use Rattle.slot_words.specs.Leases.{lease_number, lease_word};
 ghost use Rattle.slot_words.specs.Parts.{Grew};
 ghost use Rattle.slot_words.specs.Passes.{IsIdle, IsSamePass, share_of, trail};
@@ -14,28 +14,6 @@ use slot_words::{Lease, Pass, Pooled, Words};
 // Each slot was held as it was claimed.
 #[derive(Drop)]
 pub(crate) struct AllHeld;
-
-// Claims these numbers in order until one is won: `AllHeld` exactly where each of them was claimed and each claim read a held word.
-pub(crate) fn claim_first<V: Pooled>(
-    words: &Words<V>,
-    pass: &mut Pass<V>,
-    numbers: &[u32],
-) -> Result<Lease<V>, AllHeld>
-    requires own { IsPassOf V.room words.now pass.old }
-    requires idle { IsIdle pass.old }
-    requires numbers { All (λ n. n < slots_of words.now) numbers.now }
-    ensures same { IsSamePass pass.old pass.new }
-    ensures won { IfOk result (HasWon V.fits V.room words.now pass.new) }
-    ensures trail { IfOk result (λ l. Grew (IsWonAlong numbers.now (lease_number l) (lease_word l)) (trail pass.old) (trail pass.new)) }
-    ensures held { OnErr result (IsIdle pass.new × Grew (AreLost numbers.now) (trail pass.old) (trail pass.new)) }
-{
-    for n in numbers {
-        if let Ok(lease) = words.claim(pass, *n) {
-            return Ok(lease);
-        }
-    }
-    Err(AllHeld)
-}
 
 // Claims 0, 1, .. until one is won: `AllHeld` exactly where each number was claimed and each claim read a held word. A pass that stands for all never meets it.
 pub(crate) fn claim_any<V: Pooled>(

@@ -1,4 +1,4 @@
-//! A slot is taken.
+//! A slot is taken. A take reads each slot's word into a row on its stack, and a small pool's row is small: a row is zeroed before it is used.
 ghost use Rattle.std.specs.Prelude.{◌<◌, IfOk, OnErr};
 ghost use Rattle.slot_words.specs.Leases.{lease_number, lease_word};
 ghost use Rattle.slot_words.specs.Parts.{Grew};
@@ -8,10 +8,10 @@ ghost use Rattle.slot_words.specs.Rows.{HasTaken};
 ghost use Rattle.slot_pools.specs.Takes.{IsBatchedTake, IsFullBatchedTake, IsAffineTake, IsFullAffineTake, IsAnyTake, IsFullAnyTake};
 
 use crate::answers::Full;
-use crate::looking::look;
-use crate::rows::settle;
-use crate::winning::{win, win_after_flush, win_any};
-use slot_words::{Lease, Pass, Pooled, Seen, Words};
+use crate::by_row::{affine_by_row, any_by_row, batched_by_row};
+use crate::looking::{FEW_SLOTS, MANY_SLOTS};
+use pool_core::MOST_SLOTS;
+use slot_words::{Lease, Pass, Pooled, Words};
 
 /// Takes a slot for the module of this tag, out of a pool in which slots may await their decommit: along the order, and else, after a flush, whichever is won first.
 ///
@@ -36,10 +36,14 @@ pub fn take_batched<V: Pooled>(
     ensures full { OnErr result (IsIdle pass.new × Grew (IsFullBatchedTake (limit_of words.now) (slots_of words.now) tag) (trail pass.old) (trail pass.new)) }
     ensures another { OnErr result (share_of pass.old < passes_of words.now) }
 {
-    let look = look(words, pass);
-    let lease = win_after_flush(words, pass, images, &look, tag)?;
-    settle(words, pass, &lease);
-    Ok(lease)
+    let slots = words.slots() as usize;
+    if slots <= FEW_SLOTS {
+        batched_by_row::<V, FEW_SLOTS>(words, pass, images, tag)
+    } else if slots <= MANY_SLOTS {
+        batched_by_row::<V, MANY_SLOTS>(words, pass, images, tag)
+    } else {
+        batched_by_row::<V, MOST_SLOTS>(words, pass, images, tag)
+    }
 }
 
 /// Takes a slot for the module of this tag, out of a pool in which no slot awaits: along the order, and else whichever is won first.
@@ -64,10 +68,14 @@ pub fn take_affine<V: Pooled>(
     ensures full { OnErr result (IsIdle pass.new × Grew (IsFullAffineTake (limit_of words.now) (slots_of words.now) tag) (trail pass.old) (trail pass.new)) }
     ensures another { OnErr result (share_of pass.old < passes_of words.now) }
 {
-    let look = look(words, pass);
-    let lease = win(words, pass, &look, tag)?;
-    settle(words, pass, &lease);
-    Ok(lease)
+    let slots = words.slots() as usize;
+    if slots <= FEW_SLOTS {
+        affine_by_row::<V, FEW_SLOTS>(words, pass, tag)
+    } else if slots <= MANY_SLOTS {
+        affine_by_row::<V, MANY_SLOTS>(words, pass, tag)
+    } else {
+        affine_by_row::<V, MOST_SLOTS>(words, pass, tag)
+    }
 }
 
 /// Takes a slot, whatever it last served: those that were seen not held first, by rising number, and else whichever is won first.
@@ -88,9 +96,12 @@ pub fn take_any<V: Pooled>(words: &Words<V>, pass: &mut Pass<V>) -> Result<Lease
     ensures full { OnErr result (IsIdle pass.new × Grew (IsFullAnyTake (slots_of words.now)) (trail pass.old) (trail pass.new)) }
     ensures another { OnErr result (share_of pass.old < passes_of words.now) }
 {
-    let mut seen = Seen::new();
-    words.scan(pass, &mut seen);
-    let lease = win_any(words, pass, seen.words())?;
-    settle(words, pass, &lease);
-    Ok(lease)
+    let slots = words.slots() as usize;
+    if slots <= FEW_SLOTS {
+        any_by_row::<V, FEW_SLOTS>(words, pass)
+    } else if slots <= MANY_SLOTS {
+        any_by_row::<V, MANY_SLOTS>(words, pass)
+    } else {
+        any_by_row::<V, MOST_SLOTS>(words, pass)
+    }
 }

@@ -7,7 +7,8 @@ ghost use Rattle.slot_words.specs.Leases.{lease_number};
 ghost use Rattle.slot_words.specs.Passes.{IsIdle, IsSamePass, Holds};
 ghost use Rattle.slot_words.specs.Owned.{IsPassOf, IsNewPassOf, slots_of};
 
-use crate::rows::{claim_any, claim_first};
+use crate::claiming::claim_in_order;
+use crate::rows::claim_any;
 use crate::{Full, give_cold, give_warm, take_affine, take_any, take_batched};
 use decommit_batch::hand_in;
 use pool_core::TAG_LIMIT;
@@ -119,7 +120,7 @@ fn opened(
     warm: u32,
     passes: u32,
 ) -> Result<(Words<Cell>, Vec<Pass<Cell>>), NoMemory>
-    requires slots { (1 ≤ slots) × (slots ≤ 3) }
+    requires slots { (1 ≤ slots) × (slots ≤ 1024) }
     requires passes { 1 ≤ passes }
     ensures slots { IfOk result (λ o. slots_of o.0 ≡ slots) }
     ensures passes { IfOk result (λ o. (length o.1.items ≡ passes) × All (IsNewPassOf (λ x. []) o.0) o.1.items) }
@@ -195,7 +196,7 @@ fn visits(
     kind: Kind,
     modules: [Option<Module>; 4],
 ) -> Result<([u32; 4], KindCounts), NoMemory>
-    requires { (1 ≤ slots) × (slots ≤ 3) }
+    requires { (1 ≤ slots) × (slots ≤ 1024) }
 {
     let (words, mut passes) = opened(alloc, slots, warm, 1)?;
     let mut pass = passes.pop().unwrap();
@@ -223,9 +224,22 @@ fn modules_come_back_to_their_slots(rt: HostRuntime) -> Result<(), Fail> {
         (3, 0, Affine, [A, B, A, N], [0, 0, 0, 9], (3, 0, 0)),
         (3, 1, Affine, [A, B, A, N], [0, 0, 0, 9], (2, 1, 0)),
         (3, 2, Any, [A, B, A, N], [0, 0, 0, 9], (3, 0, 0)),
+        (16, 2, Batched(1), [A, B, A, B], [0, 1, 0, 1], (14, 2, 0)),
+        (17, 2, Batched(1), [A, B, A, C], [0, 1, 0, 1], (15, 2, 0)),
+        (129, 2, Affine, [A, B, A, C], [0, 1, 0, 1], (127, 2, 0)),
+        (
+            1024,
+            1,
+            Batched(8),
+            [A, B, A, N],
+            [0, 1, 2, 9],
+            (1021, 0, 3),
+        ),
+        (1024, 2, Affine, [A, B, A, B], [0, 1, 0, 1], (1022, 2, 0)),
+        (1024, 2, Any, [A, B, A, N], [0, 0, 0, 9], (1024, 0, 0)),
     ];
     for (slots, warm, kind, modules, numbers, (cold, warm_left, awaiting)) in rows {
-        assert!(rt; slots >= 1 && slots <= 3);
+        assert!(rt; slots >= 1 && slots <= 1_024);
         let want = (numbers, kinds(cold, warm_left, awaiting));
         assert_eq!(rt; visits(rt.alloc(), slots, warm, kind, modules)?, want);
     }
@@ -254,7 +268,7 @@ fn a_held_pool_is_full_until_its_slot_is_given_back(rt: HostRuntime) -> Result<(
     Ok(())
 }
 
-// Which slot the second pass wins in the order 0, 1 while the first has slot 0.
+// Which slot the second pass wins in the order 0, 1 of two cold slots while the first has slot 0.
 fn won_in_order(alloc: Global) -> Result<u32, NoMemory> {
     let (words, mut passes) = opened(alloc, 2, 1, 2)?;
     let mut first = passes.pop().unwrap();
@@ -262,7 +276,7 @@ fn won_in_order(alloc: Global) -> Result<u32, NoMemory> {
     let mut won = 9;
     if let Ok(lease) = take(&words, &mut first, Affine, Module::A) {
         lease.keep();
-        if let Ok(other) = claim_first(&words, &mut second, &[0, 1]) {
+        if let Ok(other) = claim_in_order(&words, &mut second, &[0, 0], 0, 5) {
             won = other.number();
             other.keep();
         }

@@ -12,7 +12,6 @@ ghost use Rattle.slot_pools.specs.Wins.{all_numbers, IsAfterFlush, IsFlushLoss, 
 ghost use Rattle.slot_pools.specs.LookWins.{AlongOrder, WinsByFlush, WinsDirectly};
 
 use crate::claiming::{claim_first_unheld, claim_in_order};
-use crate::looking::Looked;
 use crate::rows::{AllHeld, claim_any};
 use decommit_batch::flush;
 use slot_words::{Lease, Pass, Pooled, Words};
@@ -41,20 +40,21 @@ pub(crate) fn win_after_flush<V: Pooled>(
     words: &Words<V>,
     pass: &mut Pass<V>,
     images: &V::Images,
-    look: &Looked,
+    seen: &[u64],
+    warm: u64,
     tag: u32,
 ) -> Result<Lease<V>, AllHeld>
     requires own { IsPassOf V.room words.now pass.old }
     requires idle { IsIdle pass.old }
-    requires words { AreWords (slots_of words.now) look.now.seen }
+    requires words { AreWords (slots_of words.now) seen.now }
     ensures same { IsSamePass pass.old pass.new }
     ensures won { IfOk result (HasWon V.fits V.room words.now pass.new) }
-    ensures trail { IfOk result (λ l. Grew (AlongOrder words.now tag look.now (WinsByFlush words.now l)) (trail pass.old) (trail pass.new)) }
+    ensures trail { IfOk result (λ l. Grew (AlongOrder words.now tag warm seen.now (WinsByFlush words.now l)) (trail pass.old) (trail pass.new)) }
     ensures idle { OnErr result (IsIdle pass.new) }
-    ensures held { OnErr result (Grew (AlongOrder words.now tag look.now (IsFlushLoss (limit_of words.now) (slots_of words.now))) (trail pass.old) (trail pass.new)) }
+    ensures held { OnErr result (Grew (AlongOrder words.now tag warm seen.now (IsFlushLoss (limit_of words.now) (slots_of words.now))) (trail pass.old) (trail pass.new)) }
     ensures another { OnErr result (share_of pass.old < passes_of words.now) }
 {
-    if let Ok(lease) = claim_in_order(words, pass, look, tag) {
+    if let Ok(lease) = claim_in_order(words, pass, seen, warm, tag) {
         return Ok(lease);
     }
     claim_after_flush(words, pass, images)
@@ -64,20 +64,21 @@ pub(crate) fn win_after_flush<V: Pooled>(
 pub(crate) fn win<V: Pooled>(
     words: &Words<V>,
     pass: &mut Pass<V>,
-    look: &Looked,
+    seen: &[u64],
+    warm: u64,
     tag: u32,
 ) -> Result<Lease<V>, AllHeld>
     requires own { IsPassOf V.room words.now pass.old }
     requires idle { IsIdle pass.old }
-    requires words { AreWords (slots_of words.now) look.now.seen }
+    requires words { AreWords (slots_of words.now) seen.now }
     ensures same { IsSamePass pass.old pass.new }
     ensures won { IfOk result (HasWon V.fits V.room words.now pass.new) }
-    ensures trail { IfOk result (λ l. Grew (AlongOrder words.now tag look.now (WinsDirectly words.now l)) (trail pass.old) (trail pass.new)) }
+    ensures trail { IfOk result (λ l. Grew (AlongOrder words.now tag warm seen.now (WinsDirectly words.now l)) (trail pass.old) (trail pass.new)) }
     ensures idle { OnErr result (IsIdle pass.new) }
-    ensures held { OnErr result (Grew (AlongOrder words.now tag look.now (IsDirectLoss (slots_of words.now))) (trail pass.old) (trail pass.new)) }
+    ensures held { OnErr result (Grew (AlongOrder words.now tag warm seen.now (IsDirectLoss (slots_of words.now))) (trail pass.old) (trail pass.new)) }
     ensures another { OnErr result (share_of pass.old < passes_of words.now) }
 {
-    if let Ok(lease) = claim_in_order(words, pass, look, tag) {
+    if let Ok(lease) = claim_in_order(words, pass, seen, warm, tag) {
         return Ok(lease);
     }
     claim_any(words, pass)

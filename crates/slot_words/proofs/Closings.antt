@@ -7,6 +7,7 @@ use Rattle.std.specs.List.{count_by, sum_by}
 use Rattle.std.proofs.lemmas.List.Sums.{sum_by-cons, sum_by-set, get_or-le-sum_by}
 use Rattle.atomic_table.specs.Table.{Final, Seen}
 use Rattle.atomic_table.proofs.Lists.{at_set}
+use Rattle.pool_core.proofs.RunLemmas.{allowed_more, core_after_all-more}
 use Rattle.pool_core.specs.declared.words.State.{State}
 use Rattle.pool_core.specs.declared.seats.Seat.{Seat}
 use Rattle.pool_core.specs.declared.seats.Stage.TheVariants.{Live}
@@ -31,7 +32,7 @@ use Rattle.slot_words.proofs.AccountSteps.{left_by_counts, count_by-views}
 use Rattle.slot_words.proofs.HistoryAccounts.{histories_account}
 use Rattle.slot_words.proofs.NotedSums.{count_by-operations, operations_are_noted}
 use Rattle.pool_core.proofs.WordBits.{bit_le}
-use Rattle.slot_words.proofs.HistorySteps.{AllAllowed-push, core_after_all-push, trails_here}
+use Rattle.slot_words.proofs.HistorySteps.{trails_here}
 use Rattle.slot_words.proofs.Holdings.{holdings, held-are-holdings}
 use Rattle.slot_words.proofs.Lookups.{found}
 use Rattle.slot_words.proofs.PassEvents.{closes_are_events}
@@ -107,11 +108,11 @@ closing : (slots limit passes : ℕ) (core : PoolCore) (views : List PassView) �
     → v.share ≡ length (trails_of v) → refusal_of core (Close id) ≡ 0 → ClosesAs slots limit passes v.share (trails_of v) (kind_counts core.words)
 closing slots limit passes core views h id v at lives stands may = let opening : PoolCore = opening_core slots limit passes in let number = h.number id v at lives in let here : refusal_of core (Close v.number) ≡ 0 = ap (λ (k : ℕ). refusal_of core (Close k)) number ∙ may in record {
   events = h.events;
-  allowed = AllAllowed-push opening h.events (Close v.number) h.allowed (ap (λ (c : PoolCore). refusal_of c (Close v.number)) (sym h.leads) ∙ here);
+  allowed = allowed_more opening h.events (Close v.number) h.allowed (ap (λ (c : PoolCore). refusal_of c (Close v.number)) (sym h.leads) ∙ here);
   each = h.each id v at lives;
   apart = apart_in opening core views h id v at lives;
   stands = stands;
-  counted = ap (λ (c : PoolCore). kind_counts c.words) h.leads ∙ sym (ap (λ (c : PoolCore). kind_counts c.words) (core_after_all-push opening h.events (Close v.number)));
+  counted = ap (λ (c : PoolCore). kind_counts c.words) h.leads ∙ sym (ap (λ (c : PoolCore). kind_counts c.words) (core_after_all-more opening h.events (Close v.number)));
 }
 
 module _ (laws : CoreLaws) {V : Type 0} (fits : State → ℕ → V → Type 0) (room : V → List ℕ) (bounds : Bounds) where

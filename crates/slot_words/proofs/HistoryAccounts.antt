@@ -2,7 +2,7 @@
 use Rattle.std.proofs.Common.{◌≡◌, ℕ, ◌+◌, ◌*◌, ◌%◌, ◌^◌, ◌<◌, Bool, true, false, not, ltb, List, [], ◌∷◌, ◌++◌, length, set, refl, sym, ap, ◌∙◌, subst, arith, append_assoc, append-nil}
 use Rattle.std.specs.Prelude.{Some, ◌==◌}
 use Rattle.std.specs.List.{count_by}
-use Rattle.std.proofs.lemmas.Bool.{ltb-true}
+use Rattle.std.proofs.lemmas.Bool.{ltb-true, not-false}
 use Rattle.std.proofs.lemmas.List.Folds.{sum_by-replicate}
 use Rattle.std.proofs.lemmas.List.Sums.{sum_by_push}
 use Rattle.pool_core.proofs.CoreChanges.{counts}
@@ -64,13 +64,9 @@ claims_do laws c s n below = let w : StateWord = word_at c n in let r : ℕ = pa
   ticks = λ stamps e. claim_clock c s n ∙ still c.clock stamps e;
 }
 
-negated : (b : Bool) → not b ≡ false → b ≡ true
-negated true e = refl
-negated false e = sym e
-
 releases_do : CoreLaws → (c : PoolCore) (s n : ℕ) (to : Target) → Lawful c → refusal_of c (Release s n to) ≡ 0 → Does c (operation.Release n (packed (free_word to))) (core_after c (Release s n to))
 releases_do laws c s n to law may =
-    let holds : (seat_at c s).holds ≡ Some n = holds_it (seat_at c s).holds n (negated (is_holding (seat_at c s).holds n) (no_rule_broken c (Release s n to) may).holder) in
+    let holds : (seat_at c s).holds ≡ Some n = holds_it (seat_at c s).holds n (not-false (is_holding (seat_at c s).holds n) (no_rule_broken c (Release s n to) may).holder) in
     let slot = laws.seats c s n law holds in record {
       turns = release_turn laws c n to slot.0 slot.1;
       holds = let was : bit (word_at c n).held ≡ 1 = ap bit slot.1 in let change : count_by is_held (set c.words n (free_word to)) + bit (word_at c n).held ≡ count_by is_held c.words + 0 = counts is_held c.words n (free_word to) cold_word slot.0 in
@@ -79,7 +75,7 @@ releases_do laws c s n to law may =
     }
 
 below_slots : (c : PoolCore) (s n : ℕ) → refusal_of c (Claim s n) ≡ 0 → n < length c.words
-below_slots c s n may = ltb-true n (length c.words) (negated (ltb n (length c.words)) (no_rule_broken c (Claim s n) may).slot)
+below_slots c s n may = ltb-true n (length c.words) (not-false (ltb n (length c.words)) (no_rule_broken c (Claim s n) may).slot)
 
 -- an event of which nothing is noted leaves the words and the clock
 nothing : (done : List Operation) (old new : PoolCore) → new.words ≡ old.words → new.clock ≡ old.clock → AreAccounts done old → AreAccounts (done ++ []) new

@@ -18,6 +18,7 @@ use Rattle.pool_core.specs.PoolCore.{PoolCore, is_away, idle_seat}
 use Rattle.pool_core.specs.EventEffects.{core_after}
 use Rattle.pool_core.specs.RefusalRules.{seat_of, refusal_of}
 use Rattle.pool_core.specs.Runs.{core_after_all, AllAllowed}
+use Rattle.pool_core.proofs.RunLemmas.{allowed_more, core_after_all-more}
 use Rattle.slot_words.specs.declared.views.PassView.{PassView}
 use Rattle.slot_words.specs.declared.views.Bounds.{Bounds}
 use Rattle.slot_words.specs.declared.views.Operation.{Operation}
@@ -27,14 +28,6 @@ use Rattle.slot_words.specs.History.{noted, noted_by, trail_of, trails_in, is_of
 use Rattle.slot_words.proofs.AccountSteps.{count_by-views, count_by-set_view, count_by-view_more}
 use Rattle.slot_words.proofs.SharedPasses.{two-le-sum_by}
 use Rattle.slot_words.proofs.Lookups.{found}
-
-pub core_after_all-push : (c : PoolCore) (es : List Event) (e : Event) → core_after_all c (es ++ e ∷ []) ≡ core_after (core_after_all c es) e
-core_after_all-push c [] e = refl
-core_after_all-push c (x ∷ es) e = core_after_all-push (core_after c x) es e
-
-pub AllAllowed-push : (c : PoolCore) (es : List Event) (e : Event) → AllAllowed c es → refusal_of (core_after_all c es) e ≡ 0 → AllAllowed c (es ++ e ∷ [])
-AllAllowed-push c [] e so_far may = (may, tt)
-AllAllowed-push c (x ∷ es) e so_far may = (so_far.0, AllAllowed-push (core_after c x) es e so_far.1 may)
 
 trail_of-push : (s : ℕ) (c : PoolCore) (es : List Event) (e : Event) → trail_of s c (es ++ e ∷ []) ≡ trail_of s c es ++ noted_by s (core_after_all c es) e
 trail_of-push s c [] e = append-nil (noted_by s c e)
@@ -99,10 +92,10 @@ module _ (opening core : PoolCore) (views : List PassView) (h : IsHistory openin
   longer = h.events ++ e ∷ []
 
   went_on : AllAllowed opening longer
-  went_on = AllAllowed-push opening h.events e h.allowed (ap (λ (c : PoolCore). refusal_of c e) (sym h.leads) ∙ may)
+  went_on = allowed_more opening h.events e h.allowed (ap (λ (c : PoolCore). refusal_of c e) (sym h.leads) ∙ may)
 
   leads_on : core_after core e ≡ core_after_all opening longer
-  leads_on = ap (λ (c : PoolCore). core_after c e) h.leads ∙ sym (core_after_all-push opening h.events e)
+  leads_on = ap (λ (c : PoolCore). core_after c e) h.leads ∙ sym (core_after_all-more opening h.events e)
 
   -- a trail, and what its seat notes of the event
   with_noted : (j : ℕ) (t : List Operation) → t ≡ trail_of j opening h.events → t ++ noted_by j core e ≡ trail_of j opening longer

@@ -1,5 +1,5 @@
 //! Steps that read a word and change none.
-ghost use Rattle.std.specs.Prelude.{◌≡◌, ◌<◌, ◌≤◌, ◌++◌, [], ◌∷◌, length};
+ghost use Rattle.std.specs.Prelude.{◌≡◌, ◌<◌, ◌≤◌, ◌++◌, [], ◌∷◌, length, take};
 ghost use Rattle.std.specs.List.{All};
 ghost use Rattle.pool_core.specs.declared.words.StateWord.{StateWord};
 ghost use Rattle.pool_core.specs.StateWords.{IsWordOf};
@@ -40,10 +40,23 @@ impl<V: Pooled> Words<V> {
         ensures trail { trail pass.new ≡ trail pass.old ++ loads_from 0 seen.new }
         ensures words { All (λ r. (w : StateWord) × IsWordOf r w) seen.new }
     {
-        seen.clear();
+        self.scan_into(pass, &mut seen.words);
+        seen.count = self.slots;
+    }
+
+    /// The same scan into the first places of a row, which has one for each slot at least.
+    pub fn scan_into(&self, pass: &mut Pass<V>, row: &mut [u64])
+        requires own { IsPassOf V.room self.now pass.old }
+        requires room { slots_of self.now ≤ length row.old }
+        ensures same { IsSamePass pass.old pass.new }
+        ensures keeps { KeepsAll pass.old pass.new }
+        ensures len { length row.new ≡ length row.old }
+        ensures few { slots_of self.now ≤ MOST_SLOTS }
+        ensures trail { trail pass.new ≡ trail pass.old ++ loads_from 0 (take (slots_of self.now) row.new) }
+        ensures words { All (λ r. (w : StateWord) × IsWordOf r w) (take (slots_of self.now) row.new) }
+    {
         for n in 0..self.slots() {
-            let word = self.load(pass, n);
-            seen.add(word);
+            row[n as usize] = self.load(pass, n);
         }
     }
 

@@ -1,5 +1,5 @@
 //! Room for a scan.
-ghost use Rattle.std.specs.Prelude.{◌≡◌, ℕ, ◌++◌, ◌<◌, [], ◌∷◌, length};
+ghost use Rattle.std.specs.Prelude.{◌≡◌, ℕ, [], take};
 
 use pool_core::MOST_SLOTS;
 use std::marker::Model;
@@ -7,8 +7,8 @@ use std::marker::Model;
 /// The state words that the last scan read, by slot number.
 #[derive(Drop)]
 pub struct Seen {
-    words: [u64; MOST_SLOTS],
-    count: usize,
+    pub(crate) words: [u64; MOST_SLOTS],
+    pub(crate) count: usize,
 }
 
 impl Model for Seen {
@@ -38,19 +38,5 @@ impl Seen {
         ensures { result.now ≡ self.now }
     {
         &self.words[..self.count]
-    }
-
-    pub(crate) fn clear(&mut self)
-        ensures { self.new ≡ [] }
-    {
-        self.count = 0;
-    }
-
-    pub(crate) fn add(&mut self, word: u64)
-        requires { length self.old < MOST_SLOTS }
-        ensures { self.new ≡ self.old ++ word ∷ [] }
-    {
-        self.words[self.count] = word;
-        self.count += 1;
     }
 }

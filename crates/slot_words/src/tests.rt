@@ -1,4 +1,6 @@
-ghost use Rattle.std.specs.Prelude.{◌≡◌, ◌<◌, [], true, false, IfOk, OnErr};
+ghost use Rattle.std.specs.Prelude.{◌≡◌, ◌<◌, [], true, false, length, IfOk, OnErr};
+ghost use Rattle.std.specs.List.{All};
+ghost use Rattle.pool_core.specs.declared.words.State.TheVariants.{Cold};
 ghost use Rattle.std.proofs.lemmas.Bool.{both_ways};
 ghost use Rattle.pool_core.specs.declared.limits.TheConstants.{TAG_LIMIT};
 ghost use Rattle.pool_core.specs.StateWords.{is_cold, is_awaiting};
@@ -9,7 +11,7 @@ ghost use Rattle.slot_words.specs.Owned.{IsPassOf, IsNewPassOf, slots_of, passes
 use crate::laws::nothing_done_leaves_all_cold;
 use crate::{Held, KindCounts, Lease, NoMemory, Pass, Pooled, Seen, Words};
 use pool_core::{State, TAG_LIMIT, Target, unpack};
-use std::alloc::Global;
+use std::alloc::{AllocError, Global};
 use std::test::Fail;
 use std::thread;
 
@@ -389,5 +391,40 @@ fn two_threads_never_have_one_slot_at_once(rt: HostRuntime) -> Result<(), Fail> 
     assert_eq!(rt; lease.value.visits, won.wrapping_add(won_too));
     give(&words, &mut first, lease);
     assert_eq!(rt; words.close(first), kinds(2, 0, 0, 0));
+    Ok(())
+}
+
+// As many cold values as a pool may have slots.
+fn cells(alloc: Global) -> Result<Vec<Cell>, AllocError>
+    ensures { IfOk result (λ s. (length s.items ≡ 1024) × All (λ x. (is_awaiting Cold ≡ false → x.used ≡ false) × (x.tag ≡ 0)) s.items) }
+{
+    let mut cells = Vec::with_capacity(alloc, 1_024)?;
+    for _ in 0..1_024u32 {
+        cells.push(NEW)?;
+    }
+    Ok(cells)
+}
+
+// So many slots, and a pass.
+fn opened_wide(alloc: Global) -> Result<(Words<Cell>, Pass<Cell>), NoMemory>
+    ensures { IfOk result (λ o. (slots_of o.0 ≡ 1024) × (passes_of o.0 ≡ 1) × IsNewPassOf (λ x. []) o.0 o.1) }
+{
+    let cells = cells(alloc)?;
+    let (words, mut passes) = Words::open(alloc, &(), cells, 1, 1)?;
+    let pass = passes.pop().unwrap();
+    Ok((words, pass))
+}
+
+#[test]
+fn a_scan_sees_the_last_slot_of_a_thousand_and_twenty_four(rt: HostRuntime) -> Result<(), Fail> {
+    let (words, mut pass) = opened_wide(rt.alloc())?;
+    let mut seen = Seen::new();
+    assert_eq!(rt; seen.words().len(), 0);
+    assert_eq!(rt; make_warm(&words, &mut pass, 1_023)?, true);
+    words.scan(&mut pass, &mut seen);
+    assert_eq!(rt; seen.words().len(), 1_024);
+    assert_eq!(rt; seen.words()[0], 0);
+    assert_eq!(rt; seen.words()[1_022], 0);
+    assert_eq!(rt; seen.words()[1_023], 42);
     Ok(())
 }

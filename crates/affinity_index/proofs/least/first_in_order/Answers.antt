@@ -3,7 +3,7 @@ use Rattle.affinity_index.proofs.Leasts.{first_of_order}
 use Rattle.affinity_index.proofs.least.first_in_order.Goals as goal
 
 pub returns-in-Some-clause-first : goal.returns-in-Some-clause-first
-returns-in-Some-clause-first c = λ order is. first_of_order c.args.seen.now c.args.tag (leb c.args.limit c.args.warm) (Some c.in-Some.entry) order is c.in-Some.ensures
+returns-in-Some-clause-first c = λ order is. first_of_order c.args.seen.now c.args.tag (leb c.args.limit c.args.warm) order is (Some c.in-Some.entry) c.in-Some.ensures
 
 pub returns-in-None-clause-first : goal.returns-in-None-clause-first
-returns-in-None-clause-first c = λ order is. first_of_order c.args.seen.now c.args.tag (leb c.args.limit c.args.warm) None order is c.in-None.ensures
+returns-in-None-clause-first c = λ order is. first_of_order c.args.seen.now c.args.tag (leb c.args.limit c.args.warm) order is None c.in-None.ensures

@@ -1,60 +1,45 @@
-use Rattle.std.proofs.Common.{◌≡◌, ℕ, suc, ◌<◌, leb, List, [], length, sym, ap, ◌∙◌, subst, refl, append-nil, arith}
-use Rattle.std.specs.List.{All}
-use Rattle.std.proofs.lemmas.Result.{IfOk-weaker}
-use Rattle.slot_words.specs.Leases.{lease_number, lease_word}
-use Rattle.slot_words.specs.Owned.{limit_of, slots_of}
-use Rattle.slot_pools.specs.Rows.{AreLost, IsWonAlong}
-use Rattle.slot_pools.proofs.Filling.{err_weaker}
-use Rattle.slot_pools.proofs.WonRows.{rest_of, first_and_rest, none_is_first, won_at_first, won_after_first, lost_first}
+use Rattle.std.proofs.Common.{◌≡◌, rules, arith, ℕ, Some, leb, slice_get, subst, sym, ◌∙◌}
+use Rattle.affinity_index.specs.Orders.{IsOrder}
+use Rattle.slot_pools.proofs.WonRows.{all_lost, lost_at_place, none_at, won_at_place}
 use Rattle.slot_pools.proofs.claiming.claim_in_order.Goals as goal
+
+pub loop-preserved : goal.loop-preserved
+loop-preserved g c = let h = c.in_default-claim.ensures.held in record {
+  same = search rules;
+  idle = h.0;
+  number = c.next_in_order-next.ensures.number;
+  along = λ order is.
+      let so_far = c.loop.invariant.along order is in
+      let stands : slice_get order c.loop.counter ≡ Some c.in-Some.n = sym so_far.0 ∙ c.in-Some.is in
+      (c.next_in_order-next.ensures.next order c.loop.counter is stands, lost_at_place order c.loop.counter c.in-Some.n stands _ _ _ so_far.1 h.1);
+}
 
 pub returns-in_default-clause-held : goal.returns-in_default-clause-held
 returns-in_default-clause-held g c =
-    let look = c.args.look.now in
-    let first = rw (c.words-seen.ensures, c.limit-limit.ensures) at c.first_in_order.ensures.first in
-    let has = c.each_scan_has_its_order.ensures look.seen c.args.tag (leb (limit_of c.args.words.now) look.warm) in
-    let none = none_is_first has.0 (sym c.in_default.is ∙ first has.0 has.1) in
-    (c.requires.idle, record { done = []; grown = sym (append-nil _); is = (has.0, has.1, subst (λ (ns : List ℕ). AreLost ns []) (sym none) refl) })
+    let has = c.each_scan_has_its_order.ensures c.args.seen.now c.args.tag (leb c.limit-limit.result c.args.warm) in
+    let so_far = c.loop.invariant.along has.0 has.1 in
+    let all = all_lost has.0 c.loop.counter _ _ (none_at has.0 c.loop.counter (sym so_far.0 ∙ c.in_default.is)) so_far.1 in
+    (c.loop.invariant.idle, record { done = all.done; grown = all.grown; is = (has.0, subst (λ (k : ℕ). IsOrder c.args.seen.now c.args.tag (leb k c.args.warm) has.0) c.limit-limit.ensures has.1, all.is) })
+
+pub claim-requires-clause-number : goal.claim-requires-clause-number
+claim-requires-clause-number g c = let within = rw c.in-Some.is at c.loop.invariant.number in omega (arith, within, c.requires.words.all_seen)
 
 pub returns-in-Ok-clause-trail : goal.returns-in-Ok-clause-trail
 returns-in-Ok-clause-trail g c =
-    let look = c.args.look.now in let l = c.in-Ok.lease in
-    let first = rw (c.words-seen.ensures, c.limit-limit.ensures) at c.first_in_order.ensures.first in
-    let has = c.each_scan_has_its_order.ensures look.seen c.args.tag (leb (limit_of c.args.words.now) look.warm) in
-    let is = first_and_rest c.in-Some.first has.0 (sym c.in-Some.is ∙ first has.0 has.1) in
-    let won = won_at_first c.in-Some.first (rest_of has.0) l.number l.word _ _ c.in-Ok.ensures.number c.in-Ok.ensures.trail in
-    record { done = won.done; grown = won.grown; is = (has.0, has.1, subst (λ (ns : List ℕ). IsWonAlong ns l.number l.word won.done) (sym is) won.is) }
+    let l = c.in-Ok.lease in
+    let has = c.each_scan_has_its_order.ensures c.args.seen.now c.args.tag (leb c.limit-limit.result c.args.warm) in
+    let so_far = c.loop.invariant.along has.0 has.1 in
+    let stands : slice_get has.0 c.loop.counter ≡ Some c.in-Some.n = sym so_far.0 ∙ c.in-Some.is in
+    let won = won_at_place has.0 c.loop.counter c.in-Some.n stands l.number l.word _ _ _ c.in-Ok.ensures.number so_far.1 c.in-Ok.ensures.trail in
+    record { done = won.done; grown = won.grown; is = (has.0, subst (λ (k : ℕ). IsOrder c.args.seen.now c.args.tag (leb k c.args.warm) has.0) c.limit-limit.ensures has.1, won.is) }
 
-pub order-order-requires-clause-words : goal.order-order-requires-clause-words
-order-order-requires-clause-words g c = rw c.words-seen.ensures c.requires.words.words
-
-pub claim_first-requires-clause-numbers : goal.claim_first-requires-clause-numbers
-claim_first-requires-clause-numbers g c =
-    let order = c.order-order.result in
-    let first = c.first_in_order.ensures.first order c.order-order.ensures.order in
-    let is = first_and_rest c.in-Some.first order (sym c.in-Some.is ∙ first) in
-    let len : length c.words-seen.result.now ≡ slots_of c.args.words.now = ap length c.words-seen.ensures ∙ c.requires.words.all_seen in
-    let all = subst (All (λ n. n < slots_of c.args.words.now)) is (rw len at c.order-order.ensures.numbers) in
-    rw c.numbers.ensures (λ k d within. all (suc k) d (omega arith))
-
-pub returns-clause-trail : goal.returns-clause-trail
-returns-clause-trail g c =
-    let order = c.order-order.result in
-    let first = c.first_in_order.ensures.first order c.order-order.ensures.order in
-    let is = first_and_rest c.in-Some.first order (sym c.in-Some.is ∙ first) in
-    let is_order = rw (c.words-seen.ensures, c.limit-limit.ensures) at c.order-order.ensures.order in
-    IfOk-weaker c.claim_first.result _ _ (λ l won.
-    let all = won_after_first c.in-Some.first (rest_of order) (lease_number l) (lease_word l) _ _ _ c.in_default-claim.ensures.held.1 won in
-    record { done = all.done; grown = all.grown; is = (order, is_order, subst (λ (ns : List ℕ). IsWonAlong ns (lease_number l) (lease_word l) all.done) (sym is) all.is) })
-    (rw c.numbers.ensures at c.claim_first.ensures.trail)
+pub next_in_order-next-requires-clause-last : goal.next_in_order-next-requires-clause-last
+next_in_order-next-requires-clause-last g c = rw c.in-Some.is at c.loop.invariant.number
 
 pub returns-clause-held : goal.returns-clause-held
 returns-clause-held g c =
-    let order = c.order-order.result in
-    let first = c.first_in_order.ensures.first order c.order-order.ensures.order in
-    let is = first_and_rest c.in-Some.first order (sym c.in-Some.is ∙ first) in
-    let is_order = rw (c.words-seen.ensures, c.limit-limit.ensures) at c.order-order.ensures.order in
-    err_weaker c.claim_first.result (λ h.
-    let all = lost_first c.in-Some.first (rest_of order) _ _ _ c.in_default-claim.ensures.held.1 h.1 in
-    (h.0, record { done = all.done; grown = all.grown; is = (order, is_order, subst (λ (ns : List ℕ). AreLost ns all.done) (sym is) all.is) }))
-    (rw c.numbers.ensures at c.claim_first.ensures.held)
+    let has = c.each_scan_has_its_order.ensures c.args.seen.now c.args.tag (leb c.limit-limit.result c.args.warm) in
+    let so_far = c.loop.invariant.along has.0 has.1 in
+    let up = c.loop.auto.counter-end in
+    let all = all_lost has.0 c.loop.counter _ _ (omega (arith, has.2, c.loop-test.false, c.slots-end.ensures.is, c.requires.words.all_seen)) so_far.1 in
+    (c.loop.invariant.idle, record { done = all.done; grown = all.grown; is = (has.0, subst (λ (k : ℕ). IsOrder c.args.seen.now c.args.tag (leb k c.args.warm) has.0) c.limit-limit.ensures has.1, all.is) })

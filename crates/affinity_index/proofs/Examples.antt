@@ -1,0 +1,31 @@
+-- Ranks worked by hand: which slots are claimed behind one.
+use Rattle.std.proofs.Common.{◌≡◌, true, false, [], ◌∷◌, Some, None, map, refl}
+use Rattle.affinity_index.specs.declared.ranks.Ranked.{Ranked}
+use Rattle.affinity_index.specs.Rankings.{behind, is_behind, lesser_of, rank_behind}
+
+-- slot 2, of rank 5
+abbrev second : Ranked
+second = record { rank = 5; number = 2 }
+
+-- of its rank those of greater number come behind it, whatever their number those of greater rank, and it not behind itself
+same_rank : map (is_behind second 5) (1 ∷ 2 ∷ 3 ∷ []) ≡ false ∷ false ∷ true ∷ []
+same_rank = refl
+
+other_ranks : is_behind second 4 9 ∷ is_behind second 6 0 ∷ [] ≡ false ∷ true ∷ []
+other_ranks = refl
+
+-- behind none each rank is left; behind one, those that come behind it
+ranks_left : behind None 2 (Some 5) ∷ behind None 2 None ∷ behind (Some second) 3 (Some 5) ∷ behind (Some second) 2 (Some 5) ∷ behind (Some second) 3 None ∷ []
+    ≡ Some 5 ∷ None ∷ Some 5 ∷ None ∷ None ∷ []
+ranks_left = refl
+
+-- the first of two stays where their ranks are equal
+lesser : map (lesser_of (Some second)) (record { rank = 5; number = 3 } ∷ record { rank = 4; number = 3 } ∷ []) ≡ second ∷ record { rank = 4; number = 3 } ∷ []
+lesser = refl
+
+-- A cold slot, one that is held, and one that is warm for module 7 with stamp 0. Behind the warm one the cold one is left.
+left_in_a_row : map (rank_behind (0 ∷ 1 ∷ 58 ∷ []) 7 false None) (0 ∷ 1 ∷ 2 ∷ 3 ∷ []) ≡ Some 2199023255552 ∷ None ∷ Some 2199023255551 ∷ None ∷ []
+left_in_a_row = refl
+
+left_behind_the_warm : map (rank_behind (0 ∷ 1 ∷ 58 ∷ []) 7 false (Some (record { rank = 2199023255551; number = 2 }))) (0 ∷ 1 ∷ 2 ∷ 3 ∷ []) ≡ Some 2199023255552 ∷ None ∷ None ∷ None ∷ []
+left_behind_the_warm = refl
