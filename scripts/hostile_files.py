@@ -2,7 +2,8 @@
 """Runs poolhost on large and hostile request files: hostile_files.py PROGRAM
 
 Prints what each run wrote, its seconds and the most memory that it had, of which a small process that starts it counts some
-9 MiB at least. The status is 1 where a run wrote anything but what its row says, or took more than ten seconds.
+9 MiB at least. Then the greatest files are run beside files of half their size. The status is 1 where a run wrote anything
+but what its row says, took more than ten seconds, or took more than three times as long as one of half its size.
 """
 import subprocess
 import sys
@@ -11,6 +12,7 @@ import tempfile
 HEADER = bytes.fromhex("0061736d01000000")
 VOID_FUNCTION = bytes.fromhex("01040160000003020100")
 MOST_SECONDS = 10
+MOST_TIMES = 3
 
 
 def number(n):
@@ -52,11 +54,35 @@ def nested_blocks(count):
     return line(with_code(b"\x00" + b"\x02\x40" * count + b"\x0b" * (count + 1)))
 
 
-def many_calls():
-    """As many modules and calls as a file may have, each call of the last name."""
-    addition = "0061736d0100000001070160027f7f017f030201000707010361646400000a09010700200020016a0b"
-    modules = "".join(f"module m{k} {addition}\n" for k in range(4096))
-    return (modules + "call m4095 add 4 i32:1 i32:1\n" * 100_000).encode()
+ADDITION = "0061736d0100000001070160027f7f017f030201000707010361646400000a09010700200020016a0b"
+
+
+def many_calls(count):
+    """So many calls of the last of 4,096 modules."""
+    modules = "".join(f"module m{k} {ADDITION}\n" for k in range(4096))
+    return (modules + "call m4095 add 4 i32:1 i32:1\n" * count).encode()
+
+
+def calls_of_one(count):
+    return (f"module m {ADDITION}\n" + "call m add 4 i32:1 i32:1\n" * count).encode()
+
+
+def calls_of_each(count):
+    """So many modules of eight bytes, and a call of each, of which a file has 1,000,000 at most."""
+    modules = "".join(f"module {k:x} 0061736d01000000\n" for k in range(count))
+    return (modules + "".join(f"call {k:x} f 1\n" for k in range(min(count, 1_000_000)))).encode()
+
+
+def one_line(size):
+    """One module line of so many bytes."""
+    return line(HEADER + section(0, b"\x00" * (size // 2 - 18)))
+
+
+BUMP = "0061736d010000000105016000017f0302010005030100010708010462756d7000000a160114004100410028020041016a36020041002802000b"
+
+
+def calls_with_memory(count):
+    return (f"module m {BUMP}\n" + "call m bump 100\n" * count).encode()
 
 
 MANY = 1_000_000
@@ -133,7 +159,6 @@ ROWS = [
     ("100,000 exports, two of one name", line(with_exports([b"%05d" % k for k in range(99_999)] + [b"00000"])), "module m refused invalid\n"),
     ("a name of 1 MiB", line(with_exports([b"a" * (1 << 20)])), "module m ok\n"),
     ("1,000,000 empty custom sections", line(HEADER + b"\x00\x01\x00" * MANY), "module m ok\n"),
-    ("16 MiB of one module line", line(HEADER + section(0, b"\x00" * ((1 << 23) - 18))), "module m ok\n"),
     ("1,000,000 calls, not reached, of a function of 1,000,000 parameters", line(calls_not_reached()), "module m refused limit\n"),
     ("4,096 modules with a byte at the end of 32 pages", modules(4096, with_bytes_at(LAST_BYTE)), "\nmodule m4095 ok\n"),
     ("16 modules with a byte in each 64 of 32 pages", modules(16, with_bytes_at(range(0, 32 * 65_536, 64))), "\nmodule m15 ok\n"),
@@ -142,7 +167,17 @@ ROWS = [
     ("100,000 calls of the last of 4,096 names that differ at their end", long_names(), "\n100000 refused export\n"),
     ("a count of items that are not there", line(HEADER + bytes.fromhex("0105ffffffff0f")), "module m refused malformed\n"),
     ("a count of locals past 32 bits", line(with_code(bytes.fromhex("02ffffffff0f7f017f0b"))), "module m refused malformed\n"),
-    ("4,096 modules and 100,000 calls of the last one", many_calls(), "\n100000 ok i32:2\n"),
+    ("4,096 modules and 100,000 calls of the last one", many_calls(100_000), "\n100000 ok i32:2\n"),
+]
+
+# A file by its size, the size, and the options by the size. Half of it is run too.
+GROWING = [
+    ("calls of one module", calls_of_one, 1_000_000, lambda n: []),
+    ("calls of one module on four workers", calls_of_one, 1_000_000, lambda n: ["--workers", "4"]),
+    ("modules of eight bytes with a call each", calls_of_each, 1_048_576, lambda n: []),
+    ("bytes in one module line", one_line, 1 << 26, lambda n: []),
+    ("memories of one page, with 16 workers", lambda n: calls_with_memory(100_000), 1024,
+     lambda n: ["--memories", str(n), "--instances", str(n), "--pages", "1", "--workers", "16"]),
 ]
 
 
@@ -151,22 +186,32 @@ ROWS = [
 STARTER = """
 import os, sys, time
 began = time.time()
-child = os.posix_spawn(sys.argv[1], [sys.argv[1], "run"], os.environ)
+child = os.posix_spawn(sys.argv[1], [sys.argv[1], "run", *sys.argv[2:]], os.environ)
 _, status, usage = os.wait4(child, 0)
 print(status, time.time() - began, usage.ru_maxrss, file=sys.stderr)
 """
 
 
-def run(program, text):
+def run(program, text, options=()):
     """What the program writes, its status, its seconds and its most memory in MiB."""
     with tempfile.TemporaryFile() as given, tempfile.TemporaryFile() as written:
         given.write(text)
         given.seek(0)
-        started = [sys.executable, "-I", "-S", "-c", STARTER, program]
+        started = [sys.executable, "-I", "-S", "-c", STARTER, program, *options]
         told = subprocess.run(started, stdin=given, stdout=written, stderr=subprocess.PIPE, check=True).stderr
         status, seconds, most = told.split()[-3:]
         written.seek(0)
         return written.read().decode(), int(status), float(seconds), int(most) / 1024
+
+
+def grows_with_its_size(program, what, make, size, options):
+    """Whether the file of this size takes at most three times as long as one of half the size."""
+    _, _, half, half_memory = run(program, make(size // 2), options(size // 2))
+    _, status, seconds, memory = run(program, make(size), options(size))
+    right = status == 0 and seconds < MOST_SECONDS and seconds < MOST_TIMES * max(half, 0.05)
+    print(f"{size:,} {what}: {seconds:.2f} s, {memory:.0f} MiB; half of it {half:.2f} s, {half_memory:.0f} MiB"
+          f"{'' if right else ' WRONG'}", flush=True)
+    return right
 
 
 def main(program):
@@ -177,6 +222,7 @@ def main(program):
         bad += not right
         print(f"{what}: {len(text)} bytes, {written[-40:].splitlines()[-1] if written else 'nothing'}, "
               f"{seconds:.2f} s, {memory:.0f} MiB{'' if right else ' WRONG'}", flush=True)
+    bad += sum(not grows_with_its_size(program, *row) for row in GROWING)
     sys.exit(1 if bad else 0)
 
 

@@ -1,5 +1,5 @@
 #!/usr/bin/env python3
-"""Changes lines of the definitions, one at a time, and says which example or law refuses each: wrong_lines.py [CRATE | CRATE/NAME ..]
+"""Changes lines of the definitions, each in a copy of its own, and says which example or law refuses each: wrong_lines.py [CRATE | CRATE/NAME ..]
 
 With no names all wrong lines are tried: the files scripts/wrong_lines/CRATE/NAME.line, which hold, one line each,
 
@@ -8,13 +8,16 @@ With no names all wrong lines are tried: the files scripts/wrong_lines/CRATE/NAM
     new: TEXT           the wrong line; nothing for a line that goes (in both \\n is a line break)
     check: CRATE WHAT.. the files of examples or lemmas in CRATE/proofs (as TypingExamples) or its functions (as laws::shadow)
                         of which one is to refuse it; there may be several such lines
+    by: NAME            where there are several refusals, the example that is false where the line stands
     because: TEXT       what the line says wrongly, in plain words
 
 and further pairs of old and new, each for what the earlier ones made. Each is tried in a scratch copy of the repository that
 holds the definitions, the examples that `check:` names and what these cite, and nothing else: the laws and functions of the
 changed crate are not proved first, unless examples need its types, or `check:` names a function. The same copy with no line
-changed must pass. The status is 1 where a line passes, is refused by what `check:` does not name, or is a BAD LINE: one that
-cannot be applied or read, or that takes away a name. Such a line shows nothing of the definitions.
+changed must pass. One check begins with up to eight lines of the same `check:`, each in a copy of all these files under a mark
+of its own, so that none sees another; a line whose copy is not refused there by an example that is named is tried once more,
+alone, and that counts. The status is 1 where a line passes, is refused by what `check:` does not name, or is a BAD LINE: one
+that cannot be applied or read, or that takes away a name. Such a line shows nothing of the definitions.
 """
 import re
 import shutil
@@ -27,7 +30,10 @@ TOP = Path(__file__).resolve().parent.parent
 LINES = TOP / "scripts" / "wrong_lines"
 CITED = re.compile(r"\bRattle\.(\w+)\.(specs|proofs)((?:\.[^\s.{,;()]+)+)")
 ERROR = re.compile(r"(?:note: )?(?:\./)?((?:specs|proofs|src)/\S+?):(\d+):\d+: error: (.*)")
-MERGED = re.compile(r"\bRattle\.definitions\.(specs|proofs)\.(\w+?)__")
+MERGED = re.compile(r"\bRattle\.definitions\.(specs|proofs)\.(?:line\d+__)?(\w+?)__")
+MARK = re.compile(r"(?<=/)(line\d+)__")
+# how many lines are tried at once
+BATCH = 8
 NAME_GONE = re.compile(r"is not in scope|has no field|has no `|is no name|was not admitted|was rejected|is not a field|unknown field")
 # the one crate of all definitions and examples that need no code
 ONE = "definitions"
@@ -41,7 +47,7 @@ class BadLine(Exception):
 class WrongLine:
     def __init__(self, path):
         self.name = f"{path.parent.name}/{path.stem}"
-        self.file, self.because, self.pairs, self.checks, old = None, "", [], [], None
+        self.file, self.because, self.by, self.pairs, self.checks, old = None, "", None, [], [], None
         for line in path.read_text(encoding="utf-8").splitlines():
             key, _, text = line.partition(":")
             text = text.removeprefix(" ")
@@ -54,6 +60,8 @@ class WrongLine:
             elif key == "check":
                 crate, *what = text.split()
                 self.checks.append((crate, tuple(what)))
+            elif key == "by":
+                self.by = text.strip()
             elif key == "because":
                 self.because = text
             elif line.strip():
@@ -155,15 +163,22 @@ class Part:
         """Whether what is taken of the crate stands in the one crate of definitions and examples: nothing that is taken whole uses it."""
         return crate in self.files and crate not in self.whole and not any(crate in self.below(it) for it in self.whole)
 
-    def place_of(self, room, file):
-        """Where a file of the repository stands in the scratch copy."""
+    def place_of(self, room, file, mark=()):
+        """Where a file of the repository stands in the scratch copy, under a mark or none."""
         inside = file.relative_to(TOP)
         _, crate, part, *names = inside.parts
-        return room / "crates" / ONE / part / "__".join([crate, *names]) if self.is_merged(crate) else room / inside
+        return room / "crates" / ONE / part / "__".join([*mark, crate, *names]) if self.is_merged(crate) else room / inside
 
-    def text_of(self, text):
+    def text_of(self, text, mark=()):
         """The text, in which the modules of merged crates have the names that they have there."""
-        return CITED.sub(lambda it: f"Rattle.{ONE}.{it[2]}.{it[1]}__{it[3][1:]}" if self.is_merged(it[1]) else it[0], text)
+        return CITED.sub(lambda it: f"Rattle.{ONE}.{it[2]}.{'__'.join([*mark, it[1], it[3][1:]])}" if self.is_merged(it[1]) else it[0], text)
+
+    def write_copy(self, room, file, text, mark):
+        """All merged files under a mark, with this text of this file."""
+        for crate in filter(self.is_merged, self.files):
+            for it in self.files[crate]:
+                place = self.place_of(room, it, mark)
+                place.write_text(self.text_of(text if it == file else it.read_text(encoding="utf-8"), mark), encoding="utf-8")
 
     def write(self, room):
         """Writes this part of the repository, as it stands."""
@@ -185,9 +200,12 @@ class Part:
         """An empty source, and the lists of the modules that are there."""
         (folder / "src").mkdir(parents=True, exist_ok=True)
         (folder / "src" / "lib.rt").write_text(EMPTY_SOURCE)
+        self.write_lists(folder)
+
+    def write_lists(self, folder):
         for part in ("specs", "proofs"):
             if (folder / part).is_dir():
-                rows = sorted(f"pub mod {it.stem}" for it in (folder / part).glob("*.antt"))
+                rows = sorted(f"pub mod {it.stem}" for it in (folder / part).glob("*.antt") if it.stem != "Lib")
                 (folder / part / "Lib.antt").write_text("\n".join(rows) + "\n", encoding="utf-8")
 
     def check(self, room):
@@ -204,7 +222,7 @@ class Part:
 def origin(place):
     """The crate of a file of the scratch copy, where its name tells it, and the names of the file below specs/ or proofs/."""
     names = place.removesuffix(".antt").split("/")[1:]
-    crate, *rest = names[-1].split("__")
+    crate, *rest = re.sub(r"^line\d+__", "", names[-1]).split("__")
     return (crate, rest) if rest else (None, names)
 
 
@@ -217,6 +235,11 @@ def is_named(place, checks):
             if crate in (None, named) and path[: len(parts)] == parts:
                 return True
     return False
+
+
+def is_by(line, message):
+    """Whether an error is that of the example which is to refuse the line, if one is named."""
+    return line.by is None or message.startswith(f"`{line.by}`")
 
 
 def told(error):
@@ -236,45 +259,92 @@ def judged(line, status, said):
     if status == 0:
         return False, f"PASSES: {line.because}"
     errors = [it for it in errors if not NAME_GONE.search(re.sub(r"^`[^`]*`: ", "", it[2]))] or errors
-    errors.sort(key=lambda it: not is_named(it[0], line.checks))
+    errors.sort(key=lambda it: (not is_named(it[0], line.checks), not is_by(line, it[2])))
     if not errors:
         return False, f"NO VERDICT, the check ended with status {status}: {said.strip().splitlines()[-1][:160] if said.strip() else 'nothing'}"
     if NAME_GONE.search(errors[0][2]):
         return False, f"BAD LINE, a name is gone: {told(errors[0])}"
     if not is_named(errors[0][0], line.checks):
         return False, f"REFUSED ELSEWHERE, which may show only that a proof no longer fits: {told(errors[0])}"
+    if not is_by(line, errors[0][2]):
+        return False, f"NOT REFUSED BY {line.by}, and elsewhere a proof may no longer fit: {told(errors[0])}"
     return True, f"refused by {told(errors[0])}"
 
 
 class Scratch:
-    """Scratch copies, one for each part of the repository that lines want, each of which passes as it stands."""
+    """A scratch copy of the part of the repository that lines with the same `check:` want, which passes as it stands."""
 
-    def __init__(self, room):
-        self.room, self.made = Path(room), {}
+    def __init__(self, room, checks):
+        self.room, self.part = room, Part(checks)
+        self.part.write(room)
+        status, said = self.part.check(room)
+        if status:
+            raise SystemExit(f"what lines are checked by does not pass as it stands:\n{said}")
 
-    def part(self, line):
-        key = tuple(line.checks)
-        if key not in self.made:
-            part, room = Part(line.checks), self.room / f"part{len(self.made)}"
-            part.write(room)
-            status, said = part.check(room)
-            if status:
-                raise SystemExit(f"{line.name}: what it is checked by does not pass as it stands:\n{said}")
-            self.made[key] = (part, room)
-        return self.made[key]
+    def place(self, line):
+        """Where the file of a line stands."""
+        if TOP / line.file not in self.part.files.get(line.crate, ()):
+            raise BadLine(f"nothing that `check:` names cites {line.file}")
+        return self.part.place_of(self.room, TOP / line.file)
 
     def tried(self, line):
-        text = line.changed()
-        part, room = self.part(line)
-        place = part.place_of(room, TOP / line.file)
-        if not place.is_file():
-            raise BadLine(f"nothing that `check:` names cites {line.file}")
+        """What a line comes to that is tried alone."""
+        text, place = line.changed(), self.place(line)
         stood = place.read_text(encoding="utf-8")
-        place.write_text(part.text_of(text), encoding="utf-8")
+        place.write_text(self.part.text_of(text), encoding="utf-8")
         try:
-            return judged(line, *part.check(room))
+            return judged(line, *self.part.check(self.room))
         finally:
             place.write_text(stood, encoding="utf-8")
+
+    def refused_together(self, lines):
+        """What refuses each of these lines by name, each in its own copy, where something does."""
+        lines = [it for it in lines if it.crate in self.part.files and self.part.is_merged(it.crate)]
+        marks = {f"line{at}": it for at, it in enumerate(lines)}
+        if len(marks) < 2:
+            return {}
+        folder = self.room / "crates" / ONE
+        try:
+            for mark, line in marks.items():
+                self.place(line)
+                self.part.write_copy(self.room, TOP / line.file, line.changed(), (mark,))
+            self.part.write_lists(folder)
+            status, said = self.part.check(self.room)
+        finally:
+            for it in folder.glob("*/line*__*"):
+                it.unlink()
+            self.part.write_lists(folder)
+        own = {mark: [] for mark in marks}
+        for text in said.splitlines():
+            found = MARK.search(text.partition(": ")[0])
+            own.get(found[1] if found else None, []).append(text)
+        verdicts = {line.name: judged(line, status, "\n".join(own[mark])) for mark, line in marks.items() if own[mark]}
+        return {name: verdict for name, verdict in verdicts.items() if verdict[0]}
+
+
+def read(file):
+    """A line that can be applied, or why it cannot."""
+    try:
+        line = WrongLine(file)
+        line.changed()
+        return line
+    except BadLine as why:
+        return why
+
+
+def tried_in_turn(scratch, lines):
+    """Each line with what it comes to."""
+    for at in range(0, len(lines), BATCH):
+        batch = lines[at : at + BATCH]
+        try:
+            together = scratch.refused_together(batch)
+        except BadLine:
+            together = {}
+        for line in batch:
+            try:
+                yield line, together.get(line.name) or scratch.tried(line)
+            except BadLine as why:
+                yield line, (False, f"BAD LINE: {why}")
 
 
 def chosen(names):
@@ -286,17 +356,18 @@ def chosen(names):
 
 
 def main(names):
-    well = 0
-    files = chosen(names)
+    well, groups, files = 0, {}, chosen(names)
+    for file in files:
+        line = read(file)
+        if isinstance(line, BadLine):
+            print(f"{file.parent.name}/{file.stem}: BAD LINE: {line}", flush=True)
+        else:
+            groups.setdefault(tuple(line.checks), []).append(line)
     with tempfile.TemporaryDirectory(prefix="wrong-lines-") as room:
-        scratch = Scratch(room)
-        for file in files:
-            try:
-                is_well, what = scratch.tried(WrongLine(file))
-            except BadLine as why:
-                is_well, what = False, f"BAD LINE: {why}"
-            well += is_well
-            print(f"{file.parent.name}/{file.stem}: {what}", flush=True)
+        for at, (checks, lines) in enumerate(groups.items()):
+            for line, (is_well, what) in tried_in_turn(Scratch(Path(room) / f"part{at}", checks), lines):
+                well += is_well
+                print(f"{line.name}: {what}", flush=True)
     print(f"{well} of {len(files)} wrong lines are refused by the examples and laws that are to refuse them")
     sys.exit(0 if well == len(files) else 1)
 

@@ -11,14 +11,15 @@ use Rattle.wasm_types.specs.declared.instr.Width.TheVariants.{W32, W64}
 use Rattle.wasm_types.specs.declared.instr.UnaryOp.TheVariants as unary_op
 use Rattle.wasm_types.specs.declared.instr.CompareOp.TheVariants as compare_op
 use Rattle.wasm_types.specs.declared.instr.Instr.{Instr}
-use Rattle.wasm_types.specs.declared.instr.PackSize.TheVariants.{Pack8}
+use Rattle.wasm_types.specs.declared.instr.PackSize.{PackSize}
+use Rattle.wasm_types.specs.declared.instr.PackSize.TheVariants.{Pack8, Pack16, Pack32}
 use Rattle.wasm_types.specs.declared.instr.Instr.TheVariants as instr
 use Rattle.wasm_types.specs.Tree.{Code, End, Block, Loop, If, Call, CallIndirect, GlobalTree, ModuleTree}
 use Rattle.wasm_spec.specs.Store.{Store, Data, first_misfit, fresh_store}
 use Rattle.wasm_spec.specs.Operators.{binary_digits}
 use Rattle.wasm_spec.specs.Execution.{most_pages, exec}
 use Rattle.wasm_spec.specs.Result.{CallResult, call_result}
-use Rattle.wasm_examples.proofs.Modules.{straight, i32_const, i32_add, i32_sub, i32_load, function_type, function_of, at_least, bare, paged, empty_type, unary_type, binary_type, constant_type, add_module, bump_module, poke_module, wrap_module, grown_module, grow_module, div_module, indirect_module, recursive_module, count_module, next_module, start_module, spin_module, misfit_module, overlap_module}
+use Rattle.wasm_examples.proofs.Modules.{straight, i32_const, i32_add, i32_sub, i32_load, function_type, function_of, at_least, bare, paged, empty_type, unary_type, binary_type, constant_type, add_module, bump_module, poke_module, wrap_module, grown_module, grow_module, div_module, indirect_module, recursive_module, count_module, next_module, start_module, spin_module, misfit_module, overlap_module, extend_module, fill_module}
 
 abbrev ending : Option CallResult → Option (Outcome × ℕ)
 ending None = None
@@ -528,3 +529,74 @@ branch_out_of_an_arm = refl
 below_a_loop : called (bare (unary_type ∷ []) (function_of 0 (straight (i32_const 100 ∷ []) (Loop (Some type.I32) (straight (instr.LocalGet 0 ∷ i32_const 1 ∷ i32_sub ∷ instr.LocalTee 0 ∷ instr.BrIf 0 ∷ i32_const 9 ∷ []) End) (straight (i32_sub ∷ []) End))) ∷ []) []) 0 (I32 2 ∷ []) 100 ≡ gives 91 85
 unfolding exec
 below_a_loop = refl
+
+-- ---- extensions by the sign
+
+extend-of_127 : called extend_module 0 (I32 127 ∷ []) 2 ≡ gives 127 0
+unfolding exec
+extend-of_127 = refl
+
+extend-of_128 : called extend_module 0 (I32 128 ∷ []) 2 ≡ gives 4294967168 0
+unfolding exec
+extend-of_128 = refl
+
+extend-of_255 : called extend_module 0 (I32 255 ∷ []) 2 ≡ gives 4294967295 0
+unfolding exec
+extend-of_255 = refl
+
+extend-of_256 : called extend_module 0 (I32 256 ∷ []) 2 ≡ gives 0 0
+unfolding exec
+extend-of_256 = refl
+
+extend-with_too_little : called extend_module 0 (I32 127 ∷ []) 1 ≡ out_of_fuel
+unfolding exec
+extend-with_too_little = refl
+
+abbrev extended_32 : PackSize → ℕ → Option (Outcome × ℕ)
+extended_32 p n = called (bare (unary_type ∷ []) (function_of 0 (straight (instr.LocalGet 0 ∷ instr.Unary W32 (unary_op.ExtendS p) ∷ []) End) ∷ []) []) 0 (I32 n ∷ []) 2
+
+abbrev extended_64 : PackSize → ℕ → Option (Outcome × ℕ)
+extended_64 p n = called (bare (function_type (type.I64 ∷ []) (type.I64 ∷ []) ∷ []) (function_of 0 (straight (instr.LocalGet 0 ∷ instr.Unary W64 (unary_op.ExtendS p) ∷ []) End) ∷ []) []) 0 (I64 n ∷ []) 2
+
+extend_16_of_32 : extended_32 Pack16 32768 ≡ gives 4294934528 0
+unfolding exec
+extend_16_of_32 = refl
+
+extend_8_of_64 : extended_64 Pack8 128 ≡ Some (Done (Some (I64 18446744073709551488)), 0)
+unfolding exec
+extend_8_of_64 = refl
+
+extend_16_of_64 : extended_64 Pack16 32768 ≡ Some (Done (Some (I64 18446744073709518848)), 0)
+unfolding exec
+extend_16_of_64 = refl
+
+extend_32_of_64 : extended_64 Pack32 2147483648 ≡ Some (Done (Some (I64 18446744071562067968)), 0)
+unfolding exec
+extend_32_of_64 = refl
+
+-- ---- a fill
+
+fill-of_all : called fill_module 0 (I32 0 ∷ I32 65536 ∷ []) 4 ≡ Some (Done None, 0)
+unfolding exec
+fill-of_all = refl
+
+fill-of_none_at_the_end : called fill_module 0 (I32 65536 ∷ I32 0 ∷ []) 4 ≡ Some (Done None, 0)
+unfolding exec
+fill-of_none_at_the_end = refl
+
+fill-past_the_end : called fill_module 0 (I32 65536 ∷ I32 1 ∷ []) 4 ≡ Some (Trap trap.Memory, 0)
+unfolding exec
+fill-past_the_end = refl
+
+fill-of_none_past_the_end : called fill_module 0 (I32 65537 ∷ I32 0 ∷ []) 4 ≡ Some (Trap trap.Memory, 0)
+unfolding exec
+fill-of_none_past_the_end = refl
+
+-- the end is no number of 32 bits, which would be 1
+fill-far_past_the_end : called fill_module 0 (I32 4294967295 ∷ I32 2 ∷ []) 4 ≡ Some (Trap trap.Memory, 0)
+unfolding exec
+fill-far_past_the_end = refl
+
+fill-with_too_little : called fill_module 0 (I32 0 ∷ I32 65536 ∷ []) 3 ≡ out_of_fuel
+unfolding exec
+fill-with_too_little = refl

@@ -1,11 +1,13 @@
 pub mod Modules
 pub mod SequenceExamples
+pub mod BulkExamples
 pub mod CallExamples
 pub mod NumberExamples
 pub mod WidthExamples
 pub mod LocalsExamples
 pub mod GrammarExamples
 pub mod SpelledModule
+pub mod ProfileExamples
 pub mod OperatorExamples
 pub mod ControlExamples
 pub mod TypingExamples
@@ -14,3 +16,9 @@ pub mod LoadingExamples
 pub mod NeedExamples
 pub mod ValidityExamples
 pub mod WorkedModules
+pub mod OpcodeExamples
+pub mod StuckExamples
+pub mod ReturnExamples
+pub mod FuelExamples
+pub mod RelationExamples
+pub mod OperandExamples

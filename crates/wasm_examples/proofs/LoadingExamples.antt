@@ -1,5 +1,5 @@
 -- Worked examples of floats, limits and segments.
-use Rattle.std.proofs.Common.{arith}
+use Rattle.std.proofs.Common.{ap, arith}
 use Rattle.std.specs.Prelude.{◌≡◌, ℕ, [], ◌∷◌, Some, None, Ok, Err, true, false, replicate, codes, refl}
 use Rattle.wasm_types.specs.declared.types.ValType.TheVariants as type
 use Rattle.wasm_types.specs.declared.outcome.Val.TheVariants.{I64}
@@ -9,6 +9,7 @@ use Rattle.wasm_types.specs.declared.module.ImportDesc.TheVariants as import
 use Rattle.wasm_spec.specs.Validity.{IsSupported, uses_floats, offset_value}
 use Rattle.wasm_spec.specs.Store.{Element, Data, first_misfit}
 use Rattle.wasm_types.specs.declared.limits.LoadLimits.{LoadLimits}
+use Rattle.wasm_types.specs.declared.profile.Profile.TheVariants.{One}
 use Rattle.wasm_spec.specs.Loading.{Malformed, Unsupported, Invalid, Answers, Loads, OverLimit, Segment, Pages, Elements, Globals, Frame, late_refusal}
 use Rattle.wasm_spec.proofs.AddModule.{add, add_bytes, add_spelled, add_valid, add_supported}
 use Rattle.wasm_examples.proofs.GrammarExamples.{header_cut_off}
@@ -186,16 +187,16 @@ no_float_of_64_bits = refl
 
 -- ---- what loading answers
 
-add_is_loaded : Loads add_bytes usual (Ok add)
+add_is_loaded : Loads One add_bytes usual (Ok add)
 add_is_loaded = record { tree = add; spells = add_spelled; answers = (record { runs = add_supported; valid = add_valid; late_is = refl }, refl) }
 
 abbrev narrow : LoadLimits
 narrow = record { pages = 32; elements = 1024; frame = 4 }
 
-add_is_over_its_frame : Loads add_bytes narrow (Err (OverLimit (record { which = Frame 0; value = 5; limit = 4 })))
+add_is_over_its_frame : Loads One add_bytes narrow (Err (OverLimit (record { which = Frame 0; value = 5; limit = 4 })))
 add_is_over_its_frame = record { tree = add; spells = add_spelled; answers = record { runs = add_supported; valid = add_valid; late_is = refl } }
 
-header_cut_off_is_malformed : Loads (0x00 ∷ 0x61 ∷ 0x73 ∷ 0x6D ∷ 0x01 ∷ 0x00 ∷ 0x00 ∷ []) usual (Err Malformed)
+header_cut_off_is_malformed : Loads One (0x00 ∷ 0x61 ∷ 0x73 ∷ 0x6D ∷ 0x01 ∷ 0x00 ∷ 0x00 ∷ []) usual (Err Malformed)
 header_cut_off_is_malformed = header_cut_off
 
 -- it imports, has two memories, and asks for too many pages
@@ -210,3 +211,22 @@ unsupported_comes_first s = let e = s.no_import in cc (e)
 
 invalid_comes_next : Answers IsSupported usual (record bad_in_three_ways { imports = [] }) (Err Invalid)
 invalid_comes_next = (record { no_import = refl; no_float = refl }, λ v. let few = v.one_memory in omega (arith, few))
+
+-- what is no answer: another module; a module over a limit, or an invalid one, as it is; a refusal of what is supported or spelled
+another_module_is_no_answer : Answers IsSupported usual add (Ok all_over) → ⊥
+another_module_is_no_answer h = let e = ap (λ (m : ModuleTree). m.memories) h.1 in cc (e)
+
+over_its_frame_is_not_taken : Answers IsSupported narrow add (Ok add) → ⊥
+over_its_frame_is_not_taken h = let e = h.0.late_is in cc (e)
+
+invalid_is_not_taken : Answers IsSupported usual (record bad_in_three_ways { imports = [] }) (Ok (record bad_in_three_ways { imports = [] })) → ⊥
+invalid_is_not_taken h = let few = h.0.valid.one_memory in omega (arith, few)
+
+unsupported_is_not_invalid : Answers IsSupported usual bad_in_three_ways (Err Invalid) → ⊥
+unsupported_is_not_invalid h = let e = h.0.no_import in cc (e)
+
+supported_is_not_unsupported : Answers IsSupported usual add (Err Unsupported) → ⊥
+supported_is_not_unsupported h = h add_supported
+
+valid_is_not_invalid : Answers IsSupported usual add (Err Invalid) → ⊥
+valid_is_not_invalid h = h.1 add_valid

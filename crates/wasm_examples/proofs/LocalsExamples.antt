@@ -2,6 +2,7 @@
 use Rattle.std.proofs.Common.{◌≡◌, ℕ, ◌+◌, length, refl, ap, ◌∙◌, List, [], ◌∷◌, ◌++◌, inl, inr, arith}
 use Rattle.std.proofs.lemmas.List.{length-append, length-replicate}
 use Rattle.std.specs.List.{flat_map}
+use Rattle.wasm_types.specs.declared.profile.Profile.TheVariants.{One}
 use Rattle.wasm_types.specs.declared.types.ValType.{ValType}
 use Rattle.wasm_types.specs.declared.types.ValType.TheVariants.{I32}
 use Rattle.wasm_types.specs.declared.module.LocalRun.{LocalRun}
@@ -44,7 +45,7 @@ two_runs a b =
     let lb : length (locals_of b) ≡ b.count = length-replicate b.count b.value in
     omega (arith, one, other, la, lb)
 
-too_many_locals : (b : Body) (rest : List ℕ) → TakesBody b two_halves rest → ⊥
+too_many_locals : (b : Body) (rest : List ℕ) → TakesBody One b two_halves rest → ⊥
 too_many_locals b rest h =
     let runs = vec-unique TakesLocalRun local_run-unique h.runs (half ∷ half ∷ []) two_halves h.mid (0x0B ∷ []) h.spelled halves_spelled in
     let are = h.locals ∙ ap (λ (rs : List LocalRun). flat_map locals_of rs) runs.0 in

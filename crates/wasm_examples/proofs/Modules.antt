@@ -10,6 +10,7 @@ use Rattle.wasm_types.specs.declared.outcome.Val.TheVariants.{I32}
 use Rattle.wasm_types.specs.declared.instr.Width.TheVariants.{W32}
 use Rattle.wasm_types.specs.declared.instr.Sign.TheVariants.{Unsigned}
 use Rattle.wasm_types.specs.declared.instr.PackSize.TheVariants.{Pack8}
+use Rattle.wasm_types.specs.declared.instr.UnaryOp.TheVariants as unary_op
 use Rattle.wasm_types.specs.declared.instr.BinaryOp.TheVariants as binary_op
 use Rattle.wasm_types.specs.declared.instr.Instr.{Instr}
 use Rattle.wasm_types.specs.declared.instr.Instr.TheVariants as instr
@@ -188,4 +189,22 @@ overlap_module = record (paged [] [] []) {
   data_segments =
       record { memory = 0; offset = straight (i32_const 2 ∷ []) End; bytes = codes "abc" }
       ∷ record { memory = 0; offset = straight (instr.GlobalGet 0 ∷ []) End; bytes = codes "z" } ∷ [];
+}
+
+-- ---- of profile 2
+
+-- gives the signed number that the lowest 8 bits of its argument are
+abbrev pub extend_module : ModuleTree
+extend_module = bare (unary_type ∷ []) (function_of 0 (straight (instr.LocalGet 0 ∷ instr.Unary W32 (unary_op.ExtendS Pack8) ∷ []) End) ∷ []) (exported (codes "e") 0 ∷ [])
+
+-- fills as many bytes as its second argument says, from its first on, with 7
+abbrev pub fill_module : ModuleTree
+fill_module = paged (function_type (type.I32 ∷ type.I32 ∷ []) [] ∷ [])
+    (function_of 0 (straight (instr.LocalGet 0 ∷ i32_const 7 ∷ instr.LocalGet 1 ∷ instr.MemoryFill ∷ []) End) ∷ [])
+    (exported (codes "f") 0 ∷ [])
+
+-- a byte of data
+abbrev pub counted_module : ModuleTree
+counted_module = record (paged [] [] []) {
+  data_segments = record { memory = 0; offset = straight (i32_const 0 ∷ []) End; bytes = codes "a" } ∷ [];
 }

@@ -2,6 +2,9 @@
 use Rattle.std.specs.Prelude.{◌≡◌, ℕ, List, [], ◌∷◌, Some, None, refl}
 use Rattle.wasm_types.specs.declared.types.ValType.{ValType}
 use Rattle.wasm_types.specs.declared.types.ValType.TheVariants as type
+use Rattle.wasm_types.specs.declared.instr.Width.TheVariants.{W32}
+use Rattle.wasm_types.specs.declared.instr.PackSize.TheVariants.{Pack8}
+use Rattle.wasm_types.specs.declared.instr.UnaryOp.TheVariants.{ExtendS}
 use Rattle.wasm_types.specs.declared.instr.Instr.{Instr}
 use Rattle.wasm_types.specs.declared.instr.Instr.TheVariants as instr
 use Rattle.wasm_types.specs.Tree.{Code, End, Block, Loop, If, Call, CallIndirect}
@@ -11,7 +14,7 @@ use Rattle.wasm_examples.proofs.Modules.{straight, i32_const, i32_add, function_
 -- the need of a function of this type and body, where function 0 takes two operands and gives one, and function 1 takes none
 abbrev need_of : ℕ → List ValType → Code → ℕ
 need_of t locals body =
-    need (record (bare (binary_type ∷ constant_type ∷ empty_type ∷ []) (function_of 0 (straight (i32_const 0 ∷ []) End) ∷ function_of 1 (straight (i32_const 0 ∷ []) End) ∷ []) []) { tables = at_least 1 ∷ [] })
+    need (record (bare (binary_type ∷ constant_type ∷ empty_type ∷ []) (function_of 0 (straight (i32_const 0 ∷ []) End) ∷ function_of 1 (straight (i32_const 0 ∷ []) End) ∷ []) []) { tables = at_least 1 ∷ []; memories = at_least 1 ∷ [] })
     (record { type_index = t; locals = locals; body = body })
 
 abbrev three : List Instr
@@ -88,6 +91,17 @@ behind_a_branch_with_two_below = refl
 behind_a_select : need_of 2 [] (straight (i32_const 1 ∷ i32_const 2 ∷ i32_const 3 ∷ instr.Select ∷ i32_const 4 ∷ i32_const 5 ∷ instr.Select ∷ instr.Drop ∷ []) End) ≡ 4
 behind_a_select = refl
 
+-- a copy and a fill take three and leave none
+behind_a_copy : need_of 2 [] (straight three (straight (instr.MemoryCopy ∷ []) (straight three (straight (instr.MemoryCopy ∷ []) End)))) ≡ 4
+behind_a_copy = refl
+
+behind_a_fill : need_of 2 [] (straight three (straight (instr.MemoryFill ∷ []) (straight three (straight (instr.MemoryFill ∷ []) End)))) ≡ 4
+behind_a_fill = refl
+
+-- an extension takes one and leaves one
+behind_an_extension : need_of 2 [] (straight (i32_const 1 ∷ instr.Unary W32 (ExtendS Pack8) ∷ i32_const 2 ∷ []) (straight (instr.Drop ∷ instr.Drop ∷ []) End)) ≡ 3
+behind_an_extension = refl
+
 -- an operand that was dropped counts no more
 after_a_drop : need_of 2 [] (straight (i32_const 1 ∷ instr.Drop ∷ i32_const 2 ∷ instr.Drop ∷ []) End) ≡ 2
 after_a_drop = refl
@@ -107,3 +121,7 @@ label_behind_a_call = refl
 
 label_behind_a_call_of_an_element : need_of 2 [] (straight (i32_const 0 ∷ []) (CallIndirect 2 (Block None (Block None End End) End))) ≡ 4
 label_behind_a_call_of_an_element = refl
+
+-- four operands behind it, where three lie before
+higher_behind_a_call_of_an_element : need_of 2 [] (straight (i32_const 1 ∷ i32_const 2 ∷ i32_const 0 ∷ []) (CallIndirect 0 (straight three (straight (instr.Drop ∷ []) drops)))) ≡ 5
+higher_behind_a_call_of_an_element = refl

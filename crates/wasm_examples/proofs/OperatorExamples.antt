@@ -1,5 +1,6 @@
 -- Results of the operators, computed. The expected values are those of another engine, V8.
 use Rattle.std.specs.Prelude.{◌≡◌, ℕ, List, [], ◌∷◌, map, Result, Ok, Err, refl}
+use Rattle.wasm_types.specs.declared.instr.PackSize.TheVariants.{Pack8, Pack16, Pack32}
 use Rattle.wasm_types.specs.declared.instr.UnaryOp.TheVariants as unary_op
 use Rattle.wasm_types.specs.declared.instr.BinaryOp.{BinaryOp}
 use Rattle.wasm_types.specs.declared.instr.BinaryOp.TheVariants as binary_op
@@ -214,3 +215,26 @@ wrap_64 = refl
 
 extend_s_32 : map (λ (a, b). extend_s 32 64 a) pairs_32 ≡ 7 ∷ 18446744071562067968 ∷ 18446744073709551609 ∷ 7 ∷ 5 ∷ 305419896 ∷ 18446744071562067969 ∷ 18446744073709551615 ∷ 0 ∷ 18446744073150512879 ∷ []
 extend_s_32 = refl
+
+-- ---- the lowest bits, by their sign
+
+abbrev edges_32 : List ℕ
+edges_32 = 127 ∷ 128 ∷ 255 ∷ 383 ∷ 32767 ∷ 32768 ∷ 65535 ∷ 98304 ∷ []
+
+abbrev edges_64 : List ℕ
+edges_64 = 18446744073709551609 ∷ 127 ∷ 128 ∷ 255 ∷ 383 ∷ 32767 ∷ 32768 ∷ 98304 ∷ 2147483647 ∷ 2147483648 ∷ 6442450944 ∷ []
+
+extend8_s_32 : map (unary 32 (unary_op.ExtendS Pack8)) edges_32 ≡ 127 ∷ 4294967168 ∷ 4294967295 ∷ 127 ∷ 4294967295 ∷ 0 ∷ 4294967295 ∷ 0 ∷ []
+extend8_s_32 = refl
+
+extend16_s_32 : map (unary 32 (unary_op.ExtendS Pack16)) edges_32 ≡ 127 ∷ 128 ∷ 255 ∷ 383 ∷ 32767 ∷ 4294934528 ∷ 4294967295 ∷ 4294934528 ∷ []
+extend16_s_32 = refl
+
+extend8_s_64 : map (unary 64 (unary_op.ExtendS Pack8)) edges_64 ≡ 18446744073709551609 ∷ 127 ∷ 18446744073709551488 ∷ 18446744073709551615 ∷ 127 ∷ 18446744073709551615 ∷ 0 ∷ 0 ∷ 18446744073709551615 ∷ 0 ∷ 0 ∷ []
+extend8_s_64 = refl
+
+extend16_s_64 : map (unary 64 (unary_op.ExtendS Pack16)) edges_64 ≡ 18446744073709551609 ∷ 127 ∷ 128 ∷ 255 ∷ 383 ∷ 32767 ∷ 18446744073709518848 ∷ 18446744073709518848 ∷ 18446744073709551615 ∷ 0 ∷ 0 ∷ []
+extend16_s_64 = refl
+
+extend32_s_64 : map (unary 64 (unary_op.ExtendS Pack32)) edges_64 ≡ 18446744073709551609 ∷ 127 ∷ 128 ∷ 255 ∷ 383 ∷ 32767 ∷ 32768 ∷ 98304 ∷ 2147483647 ∷ 18446744071562067968 ∷ 18446744071562067968 ∷ []
+extend32_s_64 = refl

@@ -13,6 +13,7 @@ use Rattle.wasm_types.specs.Tree.{End, Plain, Block, Loop, If, Call, CallIndirec
 use Rattle.wasm_spec.specs.Numbers.{TakesUnsigned, TakesEach, TakesVec}
 use Rattle.wasm_spec.specs.TypeGrammar.{TakesFuncType, TakesTableType, TakesMemoryType}
 use Rattle.wasm_spec.specs.InstrGrammar.{shape}
+use Rattle.wasm_types.specs.declared.profile.Profile.TheVariants.{One}
 use Rattle.wasm_spec.specs.Grammar.{Section, IsCustom, TakesSection, IsOrderedAbove, TakesImport, TakesGlobal, TakesExport, TakesElement, TakesSizedBody, TakesData, body_of, Spells}
 
 abbrev note_contents : List ℕ
@@ -133,7 +134,7 @@ note_is_custom : IsCustom note_contents
 unfolding lib.Utf8.encode
 note_is_custom = record { name = 0x6E ∷ 0x6F ∷ 0x74 ∷ 0x65 ∷ []; after = _; spelled = record { spelled = record { mid = _; count = inl (omega arith, omega arith, refl, refl); items = refl }; utf8 = (110 ∷ 111 ∷ 116 ∷ 101 ∷ [], (refl, refl)) } }
 
-everything_rises : IsOrderedAbove 0 sections
+everything_rises : IsOrderedAbove One 0 sections
 everything_rises = inl (refl, note_is_custom, inr (omega arith, omega arith, inr (omega arith, omega arith, inr (omega arith, omega arith, inr (omega arith, omega arith, inr (omega arith, omega arith, inr (omega arith, omega arith, inl (refl, note_is_custom, inr (omega arith, omega arith, inr (omega arith, omega arith, inr (omega arith, omega arith, inr (omega arith, omega arith, inr (omega arith, omega arith, inl (refl, note_is_custom, tt))))))))))))))
 
 -- ---- what stands in them
@@ -154,7 +155,7 @@ tables_spelled = record { mid = _; count = inl (omega arith, omega arith, refl, 
 memories_spelled : TakesVec TakesMemoryType everything.memories memory_contents []
 memories_spelled = record { mid = _; count = inl (omega arith, omega arith, refl, refl); items = (_, (_, refl, inl (omega arith, omega arith, refl, refl)), refl) }
 
-globals_spelled : TakesVec TakesGlobal everything.globals global_contents []
+globals_spelled : TakesVec (TakesGlobal One) everything.globals global_contents []
 unfolding shape
 globals_spelled = record { mid = _; count = inl (omega arith, omega arith, refl, refl); items = (_, record { mid = _; global_type = refl; init = (_, record { opcode = 0x41; after = _; leads = refl; follows = (pos 0, refl, inl (omega arith, omega arith, refl, refl)) }, refl) }, (_, record { mid = _; global_type = refl; init = (_, record { opcode = 0x42; after = _; leads = refl; follows = (negsuc 1, refl, inr (inl (omega arith, omega arith, omega arith, refl, refl))) }, refl) }, refl)) }
 
@@ -162,19 +163,19 @@ exports_spelled : TakesVec TakesExport everything.exports export_contents []
 unfolding lib.Utf8.encode
 exports_spelled = record { mid = _; count = inl (omega arith, omega arith, refl, refl); items = (_, record { mid = _; name = record { spelled = record { mid = _; count = inl (omega arith, omega arith, refl, refl); items = refl }; utf8 = (102 ∷ [], (refl, refl)) }; desc = (_, refl, inl (omega arith, omega arith, refl, refl)) }, (_, record { mid = _; name = record { spelled = record { mid = _; count = inl (omega arith, omega arith, refl, refl); items = refl }; utf8 = (116 ∷ [], (refl, refl)) }; desc = (_, refl, inl (omega arith, omega arith, refl, refl)) }, (_, record { mid = _; name = record { spelled = record { mid = _; count = inl (omega arith, omega arith, refl, refl); items = refl }; utf8 = (109 ∷ [], (refl, refl)) }; desc = (_, refl, inl (omega arith, omega arith, refl, refl)) }, (_, record { mid = _; name = record { spelled = record { mid = _; count = inl (omega arith, omega arith, refl, refl); items = refl }; utf8 = (103 ∷ [], (refl, refl)) }; desc = (_, refl, inl (omega arith, omega arith, refl, refl)) }, refl)))) }
 
-elements_spelled : TakesVec TakesElement everything.element_segments element_contents []
+elements_spelled : TakesVec (TakesElement One) everything.element_segments element_contents []
 unfolding shape
 elements_spelled = record { mid = _; count = inl (omega arith, omega arith, refl, refl); items = (_, record { after_table = _; after_offset = _; table = inl (omega arith, omega arith, refl, refl); offset = (_, record { opcode = 0x41; after = _; leads = refl; follows = (pos 1, refl, inl (omega arith, omega arith, refl, refl)) }, refl); functions = record { mid = _; count = inl (omega arith, omega arith, refl, refl); items = (_, inl (omega arith, omega arith, refl, refl), (_, inl (omega arith, omega arith, refl, refl), refl)) } }, refl) }
 
-bodies_spelled : TakesVec TakesSizedBody (map body_of everything.functions) code_contents []
+bodies_spelled : TakesVec (TakesSizedBody One) (map body_of everything.functions) code_contents []
 unfolding shape
 bodies_spelled = record { mid = _; count = inl (omega arith, omega arith, refl, refl); items = (_, record { contents = 0x02 ∷ 0x02 ∷ 0x7F ∷ 0x01 ∷ 0x7C ∷ 0x02 ∷ 0x40 ∷ 0x03 ∷ 0x7F ∷ 0x41 ∷ 0x01 ∷ 0x0B ∷ 0x1A ∷ 0x0B ∷ 0x02 ∷ 0x7E ∷ 0x42 ∷ 0x7E ∷ 0x0B ∷ 0x1A ∷ 0x02 ∷ 0x7D ∷ 0x43 ∷ 0x01 ∷ 0x02 ∷ 0x03 ∷ 0x04 ∷ 0x0B ∷ 0x1A ∷ 0x02 ∷ 0x7C ∷ 0x44 ∷ 0x01 ∷ 0x02 ∷ 0x03 ∷ 0x04 ∷ 0x05 ∷ 0x06 ∷ 0x07 ∷ 0x08 ∷ 0x0B ∷ 0x1A ∷ 0x41 ∷ 0x7F ∷ 0x04 ∷ 0x40 ∷ 0x01 ∷ 0x0B ∷ 0x20 ∷ 0x00 ∷ 0x04 ∷ 0x7F ∷ 0x41 ∷ 0xAC ∷ 0x02 ∷ 0x05 ∷ 0x41 ∷ 0xD4 ∷ 0x7D ∷ 0x0B ∷ 0x21 ∷ 0x04 ∷ 0x02 ∷ 0x40 ∷ 0x41 ∷ 0x00 ∷ 0x0E ∷ 0x02 ∷ 0x00 ∷ 0x01 ∷ 0x00 ∷ 0x0B ∷ 0x02 ∷ 0x40 ∷ 0x41 ∷ 0x00 ∷ 0x0D ∷ 0x00 ∷ 0x0C ∷ 0x00 ∷ 0x0B ∷ 0x10 ∷ 0x01 ∷ 0x41 ∷ 0x02 ∷ 0x11 ∷ 0x01 ∷ 0x00 ∷ 0x41 ∷ 0x00 ∷ 0x28 ∷ 0x02 ∷ 0xC8 ∷ 0x01 ∷ 0x1A ∷ 0x41 ∷ 0x00 ∷ 0x2A ∷ 0x02 ∷ 0x00 ∷ 0x1A ∷ 0x41 ∷ 0x00 ∷ 0x42 ∷ 0x80 ∷ 0x80 ∷ 0x80 ∷ 0x80 ∷ 0x80 ∷ 0x20 ∷ 0x3E ∷ 0x01 ∷ 0x03 ∷ 0x3F ∷ 0x00 ∷ 0x40 ∷ 0x00 ∷ 0x23 ∷ 0x00 ∷ 0x6A ∷ 0x0B ∷ []; sized = record { mid = _; count = inl (omega arith, omega arith, refl, refl); items = refl }; body = record { runs = (record { count = 2; value = type.I32 }) ∷ (record { count = 1; value = type.F64 }) ∷ []; mid = _; spelled = record { mid = _; count = inl (omega arith, omega arith, refl, refl); items = (_, record { mid = _; count = inl (omega arith, omega arith, refl, refl); value = refl }, (_, record { mid = _; count = inl (omega arith, omega arith, refl, refl); value = refl }, refl)) }; locals = refl; few = omega arith; code = (_, refl, _, refl, _, (_, refl, _, refl, _, (_, record { opcode = 0x41; after = _; leads = refl; follows = (pos 1, refl, inl (omega arith, omega arith, refl, refl)) }, refl), (_, record { opcode = 0x1A; after = _; leads = refl; follows = (refl, refl) }, refl)), (_, refl, _, refl, _, (_, record { opcode = 0x42; after = _; leads = refl; follows = (negsuc 1, refl, inr (inl (omega arith, omega arith, omega arith, refl, refl))) }, refl), (_, record { opcode = 0x1A; after = _; leads = refl; follows = (refl, refl) }, (_, refl, _, refl, _, (_, record { opcode = 0x43; after = _; leads = refl; follows = (refl, omega arith, refl) }, refl), (_, record { opcode = 0x1A; after = _; leads = refl; follows = (refl, refl) }, (_, refl, _, refl, _, (_, record { opcode = 0x44; after = _; leads = refl; follows = (refl, omega arith, refl) }, refl), (_, record { opcode = 0x1A; after = _; leads = refl; follows = (refl, refl) }, (_, record { opcode = 0x41; after = _; leads = refl; follows = (negsuc 0, refl, inr (inl (omega arith, omega arith, omega arith, refl, refl))) }, (_, refl, _, refl, _, inl ((_, record { opcode = 0x01; after = _; leads = refl; follows = (refl, refl) }, refl), refl), (_, record { opcode = 0x20; after = _; leads = refl; follows = (0, refl, inl (omega arith, omega arith, refl, refl)) }, (_, refl, _, refl, _, inr (_, (_, record { opcode = 0x41; after = _; leads = refl; follows = (pos 300, refl, inr (inr (omega arith, omega arith, (pos 2), inl (omega arith, omega arith, refl, refl), refl))) }, refl), (_, record { opcode = 0x41; after = _; leads = refl; follows = (negsuc 299, refl, inr (inr (omega arith, omega arith, (negsuc 2), inr (inl (omega arith, omega arith, omega arith, refl, refl)), refl))) }, refl)), (_, record { opcode = 0x21; after = _; leads = refl; follows = (4, refl, inl (omega arith, omega arith, refl, refl)) }, (_, refl, _, refl, _, (_, record { opcode = 0x41; after = _; leads = refl; follows = (pos 0, refl, inl (omega arith, omega arith, refl, refl)) }, (_, record { opcode = 0x0E; after = _; leads = refl; follows = ((0) ∷ (1) ∷ [], 0, _, refl, record { mid = _; count = inl (omega arith, omega arith, refl, refl); items = (_, inl (omega arith, omega arith, refl, refl), (_, inl (omega arith, omega arith, refl, refl), refl)) }, inl (omega arith, omega arith, refl, refl)) }, refl)), (_, refl, _, refl, _, (_, record { opcode = 0x41; after = _; leads = refl; follows = (pos 0, refl, inl (omega arith, omega arith, refl, refl)) }, (_, record { opcode = 0x0D; after = _; leads = refl; follows = (0, refl, inl (omega arith, omega arith, refl, refl)) }, (_, record { opcode = 0x0C; after = _; leads = refl; follows = (0, refl, inl (omega arith, omega arith, refl, refl)) }, refl))), (_, refl, _, inl (omega arith, omega arith, refl, refl), (_, record { opcode = 0x41; after = _; leads = refl; follows = (pos 2, refl, inl (omega arith, omega arith, refl, refl)) }, (_, refl, _, inl (omega arith, omega arith, refl, refl), (_, record { opcode = 0x41; after = _; leads = refl; follows = (pos 0, refl, inl (omega arith, omega arith, refl, refl)) }, (_, record { opcode = 0x28; after = _; leads = refl; follows = (record { align = 2; offset = 200 }, _, refl, inl (omega arith, omega arith, refl, refl), inr (omega arith, omega arith, 1, inl (omega arith, omega arith, refl, refl), refl)) }, (_, record { opcode = 0x1A; after = _; leads = refl; follows = (refl, refl) }, (_, record { opcode = 0x41; after = _; leads = refl; follows = (pos 0, refl, inl (omega arith, omega arith, refl, refl)) }, (_, record { opcode = 0x2A; after = _; leads = refl; follows = (record { align = 2; offset = 0 }, _, refl, inl (omega arith, omega arith, refl, refl), inl (omega arith, omega arith, refl, refl)) }, (_, record { opcode = 0x1A; after = _; leads = refl; follows = (refl, refl) }, (_, record { opcode = 0x41; after = _; leads = refl; follows = (pos 0, refl, inl (omega arith, omega arith, refl, refl)) }, (_, record { opcode = 0x42; after = _; leads = refl; follows = (pos 1099511627776, refl, inr (inr (omega arith, omega arith, (pos 8589934592), inr (inr (omega arith, omega arith, (pos 67108864), inr (inr (omega arith, omega arith, (pos 524288), inr (inr (omega arith, omega arith, (pos 4096), inr (inr (omega arith, omega arith, (pos 32), inl (omega arith, omega arith, refl, refl), refl)), refl)), refl)), refl)), refl))) }, (_, record { opcode = 0x3E; after = _; leads = refl; follows = (record { align = 1; offset = 3 }, _, refl, inl (omega arith, omega arith, refl, refl), inl (omega arith, omega arith, refl, refl)) }, (_, record { opcode = 0x3F; after = _; leads = refl; follows = (refl, refl) }, (_, record { opcode = 0x40; after = _; leads = refl; follows = (refl, refl) }, (_, record { opcode = 0x23; after = _; leads = refl; follows = (0, refl, inl (omega arith, omega arith, refl, refl)) }, (_, record { opcode = 0x6A; after = _; leads = refl; follows = (refl, refl) }, refl)))))))))))))))))))))))))))))) } }, (_, record { contents = 0x00 ∷ 0x0B ∷ []; sized = record { mid = _; count = inl (omega arith, omega arith, refl, refl); items = refl }; body = record { runs = []; mid = _; spelled = record { mid = _; count = inl (omega arith, omega arith, refl, refl); items = refl }; locals = refl; few = omega arith; code = refl } }, refl)) }
 
-data_spelled : TakesVec TakesData everything.data_segments data_contents []
+data_spelled : TakesVec (TakesData One) everything.data_segments data_contents []
 unfolding shape
 data_spelled = record { mid = _; count = inl (omega arith, omega arith, refl, refl); items = (_, record { after_memory = _; after_offset = _; memory = inl (omega arith, omega arith, refl, refl); offset = (_, record { opcode = 0x23; after = _; leads = refl; follows = (0, refl, inl (omega arith, omega arith, refl, refl)) }, refl); contents = record { mid = _; count = inl (omega arith, omega arith, refl, refl); items = refl } }, refl) }
 
-everything_is_spelled : Spells (0x00 ∷ 0x61 ∷ 0x73 ∷ 0x6D ∷ 0x01 ∷ 0x00 ∷ 0x00 ∷ 0x00 ∷ after_header) everything
+everything_is_spelled : Spells One (0x00 ∷ 0x61 ∷ 0x73 ∷ 0x6D ∷ 0x01 ∷ 0x00 ∷ 0x00 ∷ 0x00 ∷ after_header) everything
 everything_is_spelled = record {
   after = after_header;
   sections = sections;
@@ -193,5 +194,6 @@ everything_is_spelled = record {
     element_segments = elements_spelled;
     bodies = bodies_spelled;
     data_segments = data_spelled;
+    data_count = tt;
   };
 }

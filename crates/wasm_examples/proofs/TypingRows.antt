@@ -253,6 +253,42 @@ memory_grow_by_64-row = refl
 memory_grow_without-row : need_if_typed (around [] one) 0 (Plain (instr.Const (I32 1)) (Plain (instr.MemoryGrow) (End))) ≡ None
 memory_grow_without-row = refl
 
+memory_copy-row : need_if_typed both 3 (Plain (instr.Const (I32 0)) (Plain (instr.Const (I32 0)) (Plain (instr.Const (I32 0)) (Plain (instr.MemoryCopy) (End))))) ≡ Some 6
+memory_copy-row = refl
+
+memory_copy_of_two-row : need_if_typed both 3 (Plain (instr.Const (I32 0)) (Plain (instr.Const (I32 0)) (Plain (instr.MemoryCopy) (End)))) ≡ None
+memory_copy_of_two-row = refl
+
+memory_copy_gives_nothing-row : need_if_typed both 0 (Plain (instr.Const (I32 0)) (Plain (instr.Const (I32 0)) (Plain (instr.Const (I32 0)) (Plain (instr.MemoryCopy) (End))))) ≡ None
+memory_copy_gives_nothing-row = refl
+
+memory_copy_by_64-row : need_if_typed both 3 (Plain (instr.Const (I32 0)) (Plain (instr.Const (I32 0)) (Plain (instr.Const (I64 0)) (Plain (instr.MemoryCopy) (End))))) ≡ None
+memory_copy_by_64-row = refl
+
+memory_copy_without-row : need_if_typed (around [] one) 3 (Plain (instr.Const (I32 0)) (Plain (instr.Const (I32 0)) (Plain (instr.Const (I32 0)) (Plain (instr.MemoryCopy) (End))))) ≡ None
+memory_copy_without-row = refl
+
+memory_fill-row : need_if_typed both 3 (Plain (instr.Const (I32 0)) (Plain (instr.Const (I32 0)) (Plain (instr.Const (I32 0)) (Plain (instr.MemoryFill) (End))))) ≡ Some 6
+memory_fill-row = refl
+
+memory_fill_of_two-row : need_if_typed both 3 (Plain (instr.Const (I32 0)) (Plain (instr.Const (I32 0)) (Plain (instr.MemoryFill) (End)))) ≡ None
+memory_fill_of_two-row = refl
+
+memory_fill_of_64-row : need_if_typed both 3 (Plain (instr.Const (I32 0)) (Plain (instr.Const (I64 0)) (Plain (instr.Const (I32 0)) (Plain (instr.MemoryFill) (End))))) ≡ None
+memory_fill_of_64-row = refl
+
+memory_fill_without-row : need_if_typed (around [] one) 3 (Plain (instr.Const (I32 0)) (Plain (instr.Const (I32 0)) (Plain (instr.Const (I32 0)) (Plain (instr.MemoryFill) (End))))) ≡ None
+memory_fill_without-row = refl
+
+extend8-row : need_if_typed both 0 (Plain (instr.Const (I32 1)) (Plain (instr.Unary W32 (unary_op.ExtendS Pack8)) (End))) ≡ Some 4
+extend8-row = refl
+
+extend32-row : need_if_typed both 2 (Plain (instr.Const (I64 1)) (Plain (instr.Unary W64 (unary_op.ExtendS Pack32)) (End))) ≡ Some 4
+extend32-row = refl
+
+extend32_of_32-row : need_if_typed both 2 (Plain (instr.Const (I32 1)) (Plain (instr.Unary W64 (unary_op.ExtendS Pack32)) (End))) ≡ None
+extend32_of_32-row = refl
+
 eqz-row : need_if_typed both 0 (Plain (instr.Const (I32 1)) (Plain (instr.Eqz W32) (End))) ≡ Some 4
 eqz-row = refl
 

@@ -1,5 +1,5 @@
 -- A valid module with every part, and an invalid one for each condition.
-use Rattle.std.proofs.Common.{◌≡◌, ◌≢◌, ℕ, zero, suc, ◌≤◌, List, [], ◌∷◌, Bool, true, false, Option, Some, None, length, refl, arith}
+use Rattle.std.proofs.Common.{◌≡◌, ◌≢◌, ℕ, zero, suc, ◌≤◌, List, [], ◌∷◌, Bool, true, false, Option, Some, None, length, refl, ap, ◌∙◌, arith}
 use Rattle.std.specs.Prelude.{All, AllPairs, slice_get, IsSome, codes}
 use Rattle.std.proofs.lemmas.List.Elements.{All-nil, All-cons}
 use Rattle.wasm_types.specs.declared.types.ValType.TheVariants as type
@@ -14,7 +14,7 @@ use Rattle.wasm_types.specs.declared.module.ExportDesc.TheVariants as desc
 use Rattle.wasm_types.specs.declared.module.ImportDesc.TheVariants as import
 use Rattle.wasm_types.specs.Tree.{Code, End, FunctionTree, GlobalTree, ElementTree, DataTree, ModuleTree}
 use Rattle.wasm_spec.specs.Typing.{IsTypedFunction}
-use Rattle.wasm_spec.specs.Validity.{IsValid, IsSupported, IsDefined, IsInitialised, IsElementSegment, IsDataSegment, IsMemoryType, AreOrdered, Exports}
+use Rattle.wasm_spec.specs.Validity.{IsValid, IsSupported, IsDefined, IsInitialised, IsElementSegment, IsDataSegment, IsMemoryType, AreOrdered, IsStart, Exports}
 use Rattle.wasm_examples.proofs.Modules.{straight, i32_const, function_type, function_of, empty_type, unary_type}
 
 -- ---- a valid module with every part
@@ -122,6 +122,9 @@ whole_is_supported = record { no_import = refl; no_float = refl }
 an_import_is_unsupported : IsSupported (record whole { imports = record { module_name = []; item_name = []; desc = import.Func 0 } ∷ [] }) → ⊥
 an_import_is_unsupported s = let e = s.no_import in cc (e)
 
+a_float_is_unsupported : IsSupported (record whole { types = empty_type ∷ function_type [] (type.F32 ∷ []) ∷ [] }) → ⊥
+a_float_is_unsupported s = let e : true ≡ false = s.no_float in cc (e)
+
 -- ---- an invalid module for each condition
 
 two_results : IsValid (record whole { types = empty_type ∷ function_type [] (type.I32 ∷ type.I32 ∷ []) ∷ [] }) → ⊥
@@ -205,17 +208,21 @@ data_past_the_globals v = let e = (v.data_segments 0 (data_at at_constant) (omeg
 data_at_two_instructions : IsValid (with_data (data_at (straight (i32_const 0 ∷ instr.Nop ∷ []) End))) → ⊥
 data_at_two_instructions v = let e = (v.data_segments 0 (data_at at_constant) (omega arith)).offset in cc (e)
 
-abbrev starting_with : FuncType → ModuleTree
-starting_with t = record whole { types = t ∷ [] }
+abbrev starting_with : FuncType → Code → ModuleTree
+starting_with t body = record whole { types = t ∷ []; functions = function_of 0 body ∷ [] }
 
-start_with_a_parameter : IsValid (starting_with (function_type (type.I32 ∷ []) [])) → ⊥
+start_with_a_parameter : IsValid (starting_with (function_type (type.I32 ∷ []) []) End) → ⊥
 start_with_a_parameter v = let s = v.start in let there = s.there in let none = s.no_params in cc (there, none)
 
-start_with_a_result : IsValid (starting_with (function_type [] (type.I32 ∷ []))) → ⊥
+start_with_a_result : IsValid (starting_with (function_type [] (type.I32 ∷ [])) (straight (i32_const 0 ∷ []) End)) → ⊥
 start_with_a_result v = let s = v.start in let there = s.there in let none = s.no_results in cc (there, none)
 
 no_such_start : IsValid (record whole { start = Some 1 }) → ⊥
 no_such_start v = let there = v.start.there in cc (there)
+
+-- a function's number is not that of its type
+start_of_another_type_number : IsStart (record whole { types = unary_type ∷ empty_type ∷ []; functions = function_of 1 End ∷ [] }) 0
+start_of_another_type_number = record { type = empty_type; there = refl; no_params = refl; no_results = refl }
 
 abbrev exporting : ExportDesc → ModuleTree
 exporting what = record whole { exports = exports_as (codes "x") what ∷ [] }
@@ -232,8 +239,21 @@ no_such_exported_memory v = let e = v.exports 0 (exports_as [] (desc.Func 1)) (o
 no_such_exported_global : IsValid (exporting (desc.Global 2)) → ⊥
 no_such_exported_global v = let e = v.exports 0 (exports_as [] (desc.Func 1)) (omega arith) in cc (e)
 
+-- nothing of another kind stands for what is missing
+no_function_but_others : IsValid (record (exporting (desc.Func 0)) { functions = []; start = None; element_segments = [] }) → ⊥
+no_function_but_others v = let e = v.exports 0 (exports_as [] (desc.Func 0)) (omega arith) in cc (e)
+
+no_table_but_others : IsValid (record (exporting (desc.Table 0)) { tables = []; element_segments = [] }) → ⊥
+no_table_but_others v = let e = v.exports 0 (exports_as [] (desc.Func 0)) (omega arith) in cc (e)
+
+no_memory_but_others : IsValid (record (exporting (desc.Memory 0)) { memories = []; data_segments = [] }) → ⊥
+no_memory_but_others v = let e = v.exports 0 (exports_as [] (desc.Func 0)) (omega arith) in cc (e)
+
+no_global_but_others : IsValid (record (exporting (desc.Global 0)) { globals = []; element_segments = []; data_segments = [] }) → ⊥
+no_global_but_others v = let e = v.exports 0 (exports_as [] (desc.Func 0)) (omega arith) in cc (e)
+
 -- also where they are of two kinds
-two_exports_of_one_name : IsValid (record whole { exports = exports_as (codes "a") (desc.Func 0) ∷ exports_as (codes "b") (desc.Func 0) ∷ exports_as (codes "a") (desc.Memory 0) ∷ [] }) → ⊥
+two_exports_of_one_name : IsValid (record whole { exports = exports_as (codes "a") (desc.Func 0) ∷ exports_as (codes "b") (desc.Table 0) ∷ exports_as (codes "a") (desc.Memory 0) ∷ [] }) → ⊥
 two_exports_of_one_name v = v.names_differ 0 2 (exports_as [] (desc.Func 0)) (omega arith) (omega arith) refl
 
 -- ---- exports by name: the function, and not the table of that name
@@ -247,3 +267,12 @@ table_at x (suc place) e there function = cc (there)
 
 table_is_no_function : (x : ℕ) → Exports (exports_as (codes "t") (desc.Table 1) ∷ []) (codes "t") x → ⊥
 table_is_no_function x e = table_at x e.place e.export e.there e.function
+
+named_at : (place : ℕ) (e : Export) → slice_get (exports_as (codes "f") (desc.Func 7) ∷ []) place ≡ Some e → e.name ≡ codes "g" → ⊥
+named_at zero e there named =
+    let same : exports_as (codes "f") (desc.Func 7) ≡ e = cc (there) in
+    differ 102 103 [] [] (omega arith) (ap (λ (y : Export). y.name) same ∙ named)
+named_at (suc place) e there named = cc (there)
+
+function_of_another_name : (x : ℕ) → Exports (exports_as (codes "f") (desc.Func 7) ∷ []) (codes "g") x → ⊥
+function_of_another_name x e = named_at e.place e.export e.there e.named

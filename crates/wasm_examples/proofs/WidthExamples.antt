@@ -1,5 +1,6 @@
 -- No number of more than 32 bits, wherever the binary format asks for one of 32, and no constant that is too wide.
 use Rattle.std.proofs.Common.{◌≡◌, ℕ, suc, length, List, [], ◌∷◌, map, Option, Some, None, inl, inr, subst, sym, arith}
+use Rattle.wasm_types.specs.declared.profile.Profile.TheVariants.{One}
 use Rattle.wasm_types.specs.declared.instr.Instr.{Instr}
 use Rattle.wasm_types.specs.declared.module.LocalRun.{LocalRun}
 use Rattle.wasm_types.specs.declared.module.ImportDesc.TheVariants as import
@@ -7,8 +8,8 @@ use Rattle.wasm_types.specs.declared.module.ExportDesc.TheVariants as export
 use Rattle.wasm_types.specs.Tree.{End, Call, CallIndirect, FunctionTree, ElementTree, DataTree}
 use Rattle.wasm_spec.specs.Numbers.{TakesUnsigned, TakesVec, TakesBytes}
 use Rattle.wasm_spec.specs.TypeGrammar.{TakesRange}
-use Rattle.wasm_spec.specs.InstrGrammar.{shape, TakesShape, TakesCode, ByEnd}
-use Rattle.wasm_spec.specs.Grammar.{TakesImportDesc, TakesExportDesc, TakesElement, TakesData, TakesLocalRun, SpellsStart, SpellsFields, type_index_of}
+use Rattle.wasm_spec.specs.InstrGrammar.{shape, TakesShape, TakesPrefixed, TakesCode, ByEnd}
+use Rattle.wasm_spec.specs.Grammar.{TakesImportDesc, TakesExportDesc, TakesElement, TakesData, TakesLocalRun, SpellsStart, SpellsCount, SpellsFields, type_index_of}
 use Rattle.wasm_examples.proofs.Modules.{bare}
 use Rattle.wasm_examples.proofs.NumberExamples.{unused_bits_are_not_zero, sign_is_not_copied, sign_of_64_is_not_copied}
 
@@ -89,55 +90,61 @@ exported_memory x behind rest h = refuted x behind h.0 rest (cc (h.1)) h.2
 exported_global : (x : ℕ) (behind rest : List ℕ) → TakesExportDesc (export.Global x) (3 ∷ too_great behind) rest → ⊥
 exported_global x behind rest h = refuted x behind h.0 rest (cc (h.1)) h.2
 
-table_of_a_segment : (s : ElementTree) (behind rest : List ℕ) → TakesElement s (too_great behind) rest → ⊥
+table_of_a_segment : (s : ElementTree) (behind rest : List ℕ) → TakesElement One s (too_great behind) rest → ⊥
 table_of_a_segment s behind rest h = unused_bits_are_not_zero s.table behind h.after_table h.table
 
 -- a segment of one function, of which table and offset are spelled before
-function_of_a_segment : (s : ElementTree) (bytes behind rest : List ℕ) → (h : TakesElement s bytes rest) → h.after_offset ≡ 1 ∷ too_great behind → ⊥
+function_of_a_segment : (s : ElementTree) (bytes behind rest : List ℕ) → (h : TakesElement One s bytes rest) → h.after_offset ≡ 1 ∷ too_great behind → ⊥
 function_of_a_segment s bytes behind rest h e = number_of_a_vector s.functions behind rest (subst (λ (l : List ℕ). TakesVec (TakesUnsigned 32) s.functions l rest) e h.functions)
 
 -- of one function, whatever its body is
 type_of_a_function : (xs : List FunctionTree) (bodies : List ℕ)
-    → SpellsFields (record { id = 3; contents = 1 ∷ too_great [] } ∷ record { id = 10; contents = bodies } ∷ []) (record (bare [] [] []) { functions = xs }) → ⊥
+    → SpellsFields One (record { id = 3; contents = 1 ∷ too_great [] } ∷ record { id = 10; contents = bodies } ∷ []) (record (bare [] [] []) { functions = xs }) → ⊥
 type_of_a_function xs bodies h = number_of_a_vector (map type_index_of xs) [] [] h.function_types
 
-memory_of_a_segment : (s : DataTree) (behind rest : List ℕ) → TakesData s (too_great behind) rest → ⊥
+memory_of_a_segment : (s : DataTree) (behind rest : List ℕ) → TakesData One s (too_great behind) rest → ⊥
 memory_of_a_segment s behind rest h = unused_bits_are_not_zero s.memory behind h.after_memory h.memory
 
-index_of_a_local : (i : Instr) (behind rest : List ℕ) → TakesShape (shape 0x20) i (too_great behind) rest → ⊥
+index_of_a_local : (i : Instr) (behind rest : List ℕ) → TakesShape (shape One 0x20) i (too_great behind) rest → ⊥
 unfolding shape
 index_of_a_local i behind rest h = unused_bits_are_not_zero h.0 behind rest h.2
 
-labels_of_a_table : (i : Instr) (behind rest : List ℕ) → TakesShape (shape 0x0E) i (too_great behind) rest → ⊥
+labels_of_a_table : (i : Instr) (behind rest : List ℕ) → TakesShape (shape One 0x0E) i (too_great behind) rest → ⊥
 unfolding shape
 labels_of_a_table i behind rest h = count_of_a_vector h.0 behind h.2 h.4
 
-label_in_a_table : (i : Instr) (behind rest : List ℕ) → TakesShape (shape 0x0E) i (1 ∷ too_great behind) rest → ⊥
+label_in_a_table : (i : Instr) (behind rest : List ℕ) → TakesShape (shape One 0x0E) i (1 ∷ too_great behind) rest → ⊥
 unfolding shape
 label_in_a_table i behind rest h = number_of_a_vector h.0 behind h.2 h.4
 
-last_label_of_a_table : (i : Instr) (behind rest : List ℕ) → TakesShape (shape 0x0E) i (0 ∷ too_great behind) rest → ⊥
+last_label_of_a_table : (i : Instr) (behind rest : List ℕ) → TakesShape (shape One 0x0E) i (0 ∷ too_great behind) rest → ⊥
 unfolding shape
 last_label_of_a_table i behind rest h = no_labels h.0 h.1 behind h.2 rest h.4 h.5
 
-alignment : (i : Instr) (behind rest : List ℕ) → TakesShape (shape 0x28) i (too_great behind) rest → ⊥
+alignment : (i : Instr) (behind rest : List ℕ) → TakesShape (shape One 0x28) i (too_great behind) rest → ⊥
 unfolding shape
 alignment i behind rest h = unused_bits_are_not_zero h.0.align behind h.1 h.3
 
-offset : (i : Instr) (behind rest : List ℕ) → TakesShape (shape 0x28) i (0 ∷ too_great behind) rest → ⊥
+offset : (i : Instr) (behind rest : List ℕ) → TakesShape (shape One 0x28) i (0 ∷ too_great behind) rest → ⊥
 unfolding shape
 offset i behind rest h = behind_zero h.0.align h.0.offset behind h.1 rest h.3 h.4
 
-called_function : (x : ℕ) (behind rest : List ℕ) → TakesCode ByEnd (Call x End) (0x10 ∷ too_great behind) rest → ⊥
+called_function : (x : ℕ) (behind rest : List ℕ) → TakesCode One ByEnd (Call x End) (0x10 ∷ too_great behind) rest → ⊥
 called_function x behind rest h = refuted x behind h.0 h.2 (cc (h.1)) h.3
 
-type_of_a_call : (x : ℕ) (behind rest : List ℕ) → TakesCode ByEnd (CallIndirect x End) (0x11 ∷ too_great behind) rest → ⊥
+type_of_a_call : (x : ℕ) (behind rest : List ℕ) → TakesCode One ByEnd (CallIndirect x End) (0x11 ∷ too_great behind) rest → ⊥
 type_of_a_call x behind rest h = refuted x behind h.0 (0 ∷ h.2) (cc (h.1)) h.3
 
-constant_of_33_bits : (i : Instr) (rest : List ℕ) → TakesShape (shape 0x41) i (0x80 ∷ 0x80 ∷ 0x80 ∷ 0x80 ∷ 0x08 ∷ []) rest → ⊥
+constant_of_33_bits : (i : Instr) (rest : List ℕ) → TakesShape (shape One 0x41) i (0x80 ∷ 0x80 ∷ 0x80 ∷ 0x80 ∷ 0x08 ∷ []) rest → ⊥
 unfolding shape
 constant_of_33_bits i rest h = sign_is_not_copied h.0 rest h.2
 
-constant_of_65_bits : (i : Instr) (rest : List ℕ) → TakesShape (shape 0x42) i (0x80 ∷ 0x80 ∷ 0x80 ∷ 0x80 ∷ 0x80 ∷ 0x80 ∷ 0x80 ∷ 0x80 ∷ 0x80 ∷ 0x01 ∷ []) rest → ⊥
+constant_of_65_bits : (i : Instr) (rest : List ℕ) → TakesShape (shape One 0x42) i (0x80 ∷ 0x80 ∷ 0x80 ∷ 0x80 ∷ 0x80 ∷ 0x80 ∷ 0x80 ∷ 0x80 ∷ 0x80 ∷ 0x01 ∷ []) rest → ⊥
 unfolding shape
 constant_of_65_bits i rest h = sign_of_64_is_not_copied h.0 rest h.2
+
+number_behind_the_prefix : (i : Instr) (behind rest : List ℕ) → TakesPrefixed i (too_great behind) rest → ⊥
+number_behind_the_prefix i behind rest h = unused_bits_are_not_zero h.number behind h.mid h.spelled
+
+count_of_data_segments : (n : ℕ) (behind : List ℕ) → SpellsCount n (Some (record { id = 12; contents = too_great behind })) → ⊥
+count_of_data_segments n behind h = unused_bits_are_not_zero n behind [] h

@@ -1,6 +1,7 @@
 -- The bytes of the worked modules, spelled: the tree of each is what the examples of calls are about.
 use Rattle.std.proofs.Common.{ℕ, inl, inr, List, [], ◌∷◌, ◌++◌, map, refl, arith, pos}
 use Rattle.std.specs.Prelude.{negsuc}
+use Rattle.wasm_types.specs.declared.profile.Profile.TheVariants.{One}
 use Rattle.wasm_spec.specs.Numbers.{TakesUnsigned, TakesEach, TakesVec}
 use Rattle.wasm_spec.specs.TypeGrammar.{TakesFuncType, TakesTableType, TakesMemoryType}
 use Rattle.wasm_spec.specs.InstrGrammar.{shape}
@@ -49,11 +50,11 @@ add_export_spelled : TakesVec TakesExport add_module.exports add_export []
 unfolding lib.Utf8.encode
 add_export_spelled = record { mid = _; count = inl (omega arith, omega arith, refl, refl); items = (_, record { mid = _; name = record { spelled = record { mid = _; count = inl (omega arith, omega arith, refl, refl); items = refl }; utf8 = (97 ∷ 100 ∷ 100 ∷ [], (refl, refl)) }; desc = (_, refl, inl (omega arith, omega arith, refl, refl)) }, refl) }
 
-add_code_spelled : TakesVec TakesSizedBody (map body_of add_module.functions) add_code []
+add_code_spelled : TakesVec (TakesSizedBody One) (map body_of add_module.functions) add_code []
 unfolding shape
 add_code_spelled = record { mid = _; count = inl (omega arith, omega arith, refl, refl); items = (_, record { contents = 0x00 ∷ 0x20 ∷ 0x00 ∷ 0x20 ∷ 0x01 ∷ 0x6A ∷ 0x0B ∷ []; sized = record { mid = _; count = inl (omega arith, omega arith, refl, refl); items = refl }; body = record { runs = []; mid = _; spelled = record { mid = _; count = inl (omega arith, omega arith, refl, refl); items = refl }; locals = refl; few = omega arith; code = (_, record { opcode = 0x20; after = _; leads = refl; follows = (0, refl, inl (omega arith, omega arith, refl, refl)) }, (_, record { opcode = 0x20; after = _; leads = refl; follows = (1, refl, inl (omega arith, omega arith, refl, refl)) }, (_, record { opcode = 0x6A; after = _; leads = refl; follows = (refl, refl) }, refl))) } }, refl) }
 
-add_is_spelled : Spells (0x00 ∷ 0x61 ∷ 0x73 ∷ 0x6D ∷ 0x01 ∷ 0x00 ∷ 0x00 ∷ 0x00 ∷ add_from_type) add_module
+add_is_spelled : Spells One (0x00 ∷ 0x61 ∷ 0x73 ∷ 0x6D ∷ 0x01 ∷ 0x00 ∷ 0x00 ∷ 0x00 ∷ add_from_type) add_module
 add_is_spelled = record {
   after = add_from_type;
   sections = add_sections;
@@ -72,6 +73,7 @@ add_is_spelled = record {
     element_segments = refl;
     bodies = add_code_spelled;
     data_segments = refl;
+    data_count = tt;
   };
 }
 
@@ -126,11 +128,11 @@ bump_export_spelled : TakesVec TakesExport bump_module.exports bump_export []
 unfolding lib.Utf8.encode
 bump_export_spelled = record { mid = _; count = inl (omega arith, omega arith, refl, refl); items = (_, record { mid = _; name = record { spelled = record { mid = _; count = inl (omega arith, omega arith, refl, refl); items = refl }; utf8 = (98 ∷ 117 ∷ 109 ∷ 112 ∷ [], (refl, refl)) }; desc = (_, refl, inl (omega arith, omega arith, refl, refl)) }, refl) }
 
-bump_code_spelled : TakesVec TakesSizedBody (map body_of bump_module.functions) bump_code []
+bump_code_spelled : TakesVec (TakesSizedBody One) (map body_of bump_module.functions) bump_code []
 unfolding shape
 bump_code_spelled = record { mid = _; count = inl (omega arith, omega arith, refl, refl); items = (_, record { contents = 0x00 ∷ 0x41 ∷ 0x00 ∷ 0x41 ∷ 0x00 ∷ 0x28 ∷ 0x02 ∷ 0x00 ∷ 0x41 ∷ 0x01 ∷ 0x6A ∷ 0x36 ∷ 0x02 ∷ 0x00 ∷ 0x41 ∷ 0x00 ∷ 0x28 ∷ 0x02 ∷ 0x00 ∷ 0x0B ∷ []; sized = record { mid = _; count = inl (omega arith, omega arith, refl, refl); items = refl }; body = record { runs = []; mid = _; spelled = record { mid = _; count = inl (omega arith, omega arith, refl, refl); items = refl }; locals = refl; few = omega arith; code = (_, record { opcode = 0x41; after = _; leads = refl; follows = (pos 0, refl, inl (omega arith, omega arith, refl, refl)) }, (_, record { opcode = 0x41; after = _; leads = refl; follows = (pos 0, refl, inl (omega arith, omega arith, refl, refl)) }, (_, record { opcode = 0x28; after = _; leads = refl; follows = (record { align = 2; offset = 0 }, _, refl, inl (omega arith, omega arith, refl, refl), inl (omega arith, omega arith, refl, refl)) }, (_, record { opcode = 0x41; after = _; leads = refl; follows = (pos 1, refl, inl (omega arith, omega arith, refl, refl)) }, (_, record { opcode = 0x6A; after = _; leads = refl; follows = (refl, refl) }, (_, record { opcode = 0x36; after = _; leads = refl; follows = (record { align = 2; offset = 0 }, _, refl, inl (omega arith, omega arith, refl, refl), inl (omega arith, omega arith, refl, refl)) }, (_, record { opcode = 0x41; after = _; leads = refl; follows = (pos 0, refl, inl (omega arith, omega arith, refl, refl)) }, (_, record { opcode = 0x28; after = _; leads = refl; follows = (record { align = 2; offset = 0 }, _, refl, inl (omega arith, omega arith, refl, refl), inl (omega arith, omega arith, refl, refl)) }, refl)))))))) } }, refl) }
 
-bump_is_spelled : Spells (0x00 ∷ 0x61 ∷ 0x73 ∷ 0x6D ∷ 0x01 ∷ 0x00 ∷ 0x00 ∷ 0x00 ∷ bump_from_type) bump_module
+bump_is_spelled : Spells One (0x00 ∷ 0x61 ∷ 0x73 ∷ 0x6D ∷ 0x01 ∷ 0x00 ∷ 0x00 ∷ 0x00 ∷ bump_from_type) bump_module
 bump_is_spelled = record {
   after = bump_from_type;
   sections = bump_sections;
@@ -149,6 +151,7 @@ bump_is_spelled = record {
     element_segments = refl;
     bodies = bump_code_spelled;
     data_segments = refl;
+    data_count = tt;
   };
 }
 
@@ -203,11 +206,11 @@ poke_export_spelled : TakesVec TakesExport poke_module.exports poke_export []
 unfolding lib.Utf8.encode
 poke_export_spelled = record { mid = _; count = inl (omega arith, omega arith, refl, refl); items = (_, record { mid = _; name = record { spelled = record { mid = _; count = inl (omega arith, omega arith, refl, refl); items = refl }; utf8 = (112 ∷ 111 ∷ 107 ∷ 101 ∷ [], (refl, refl)) }; desc = (_, refl, inl (omega arith, omega arith, refl, refl)) }, refl) }
 
-poke_code_spelled : TakesVec TakesSizedBody (map body_of poke_module.functions) poke_code []
+poke_code_spelled : TakesVec (TakesSizedBody One) (map body_of poke_module.functions) poke_code []
 unfolding shape
 poke_code_spelled = record { mid = _; count = inl (omega arith, omega arith, refl, refl); items = (_, record { contents = 0x00 ∷ 0x20 ∷ 0x00 ∷ 0x20 ∷ 0x01 ∷ 0x36 ∷ 0x02 ∷ 0x00 ∷ 0x0B ∷ []; sized = record { mid = _; count = inl (omega arith, omega arith, refl, refl); items = refl }; body = record { runs = []; mid = _; spelled = record { mid = _; count = inl (omega arith, omega arith, refl, refl); items = refl }; locals = refl; few = omega arith; code = (_, record { opcode = 0x20; after = _; leads = refl; follows = (0, refl, inl (omega arith, omega arith, refl, refl)) }, (_, record { opcode = 0x20; after = _; leads = refl; follows = (1, refl, inl (omega arith, omega arith, refl, refl)) }, (_, record { opcode = 0x36; after = _; leads = refl; follows = (record { align = 2; offset = 0 }, _, refl, inl (omega arith, omega arith, refl, refl), inl (omega arith, omega arith, refl, refl)) }, refl))) } }, refl) }
 
-poke_is_spelled : Spells (0x00 ∷ 0x61 ∷ 0x73 ∷ 0x6D ∷ 0x01 ∷ 0x00 ∷ 0x00 ∷ 0x00 ∷ poke_from_type) poke_module
+poke_is_spelled : Spells One (0x00 ∷ 0x61 ∷ 0x73 ∷ 0x6D ∷ 0x01 ∷ 0x00 ∷ 0x00 ∷ 0x00 ∷ poke_from_type) poke_module
 poke_is_spelled = record {
   after = poke_from_type;
   sections = poke_sections;
@@ -226,6 +229,7 @@ poke_is_spelled = record {
     element_segments = refl;
     bodies = poke_code_spelled;
     data_segments = refl;
+    data_count = tt;
   };
 }
 
@@ -280,11 +284,11 @@ wrap_export_spelled : TakesVec TakesExport wrap_module.exports wrap_export []
 unfolding lib.Utf8.encode
 wrap_export_spelled = record { mid = _; count = inl (omega arith, omega arith, refl, refl); items = (_, record { mid = _; name = record { spelled = record { mid = _; count = inl (omega arith, omega arith, refl, refl); items = refl }; utf8 = (119 ∷ [], (refl, refl)) }; desc = (_, refl, inl (omega arith, omega arith, refl, refl)) }, refl) }
 
-wrap_code_spelled : TakesVec TakesSizedBody (map body_of wrap_module.functions) wrap_code []
+wrap_code_spelled : TakesVec (TakesSizedBody One) (map body_of wrap_module.functions) wrap_code []
 unfolding shape
 wrap_code_spelled = record { mid = _; count = inl (omega arith, omega arith, refl, refl); items = (_, record { contents = 0x00 ∷ 0x20 ∷ 0x00 ∷ 0x28 ∷ 0x02 ∷ 0xFF ∷ 0xFF ∷ 0xFF ∷ 0xFF ∷ 0x0F ∷ 0x0B ∷ []; sized = record { mid = _; count = inl (omega arith, omega arith, refl, refl); items = refl }; body = record { runs = []; mid = _; spelled = record { mid = _; count = inl (omega arith, omega arith, refl, refl); items = refl }; locals = refl; few = omega arith; code = (_, record { opcode = 0x20; after = _; leads = refl; follows = (0, refl, inl (omega arith, omega arith, refl, refl)) }, (_, record { opcode = 0x28; after = _; leads = refl; follows = (record { align = 2; offset = 4294967295 }, _, refl, inl (omega arith, omega arith, refl, refl), inr (omega arith, omega arith, 33554431, inr (omega arith, omega arith, 262143, inr (omega arith, omega arith, 2047, inr (omega arith, omega arith, 15, inl (omega arith, omega arith, refl, refl), refl), refl), refl), refl)) }, refl)) } }, refl) }
 
-wrap_is_spelled : Spells (0x00 ∷ 0x61 ∷ 0x73 ∷ 0x6D ∷ 0x01 ∷ 0x00 ∷ 0x00 ∷ 0x00 ∷ wrap_from_type) wrap_module
+wrap_is_spelled : Spells One (0x00 ∷ 0x61 ∷ 0x73 ∷ 0x6D ∷ 0x01 ∷ 0x00 ∷ 0x00 ∷ 0x00 ∷ wrap_from_type) wrap_module
 wrap_is_spelled = record {
   after = wrap_from_type;
   sections = wrap_sections;
@@ -303,6 +307,7 @@ wrap_is_spelled = record {
     element_segments = refl;
     bodies = wrap_code_spelled;
     data_segments = refl;
+    data_count = tt;
   };
 }
 
@@ -357,11 +362,11 @@ grown_export_spelled : TakesVec TakesExport grown_module.exports grown_export []
 unfolding lib.Utf8.encode
 grown_export_spelled = record { mid = _; count = inl (omega arith, omega arith, refl, refl); items = (_, record { mid = _; name = record { spelled = record { mid = _; count = inl (omega arith, omega arith, refl, refl); items = refl }; utf8 = (100 ∷ 105 ∷ 114 ∷ 116 ∷ 121 ∷ [], (refl, refl)) }; desc = (_, refl, inl (omega arith, omega arith, refl, refl)) }, (_, record { mid = _; name = record { spelled = record { mid = _; count = inl (omega arith, omega arith, refl, refl); items = refl }; utf8 = (108 ∷ 111 ∷ 111 ∷ 107 ∷ [], (refl, refl)) }; desc = (_, refl, inl (omega arith, omega arith, refl, refl)) }, refl)) }
 
-grown_code_spelled : TakesVec TakesSizedBody (map body_of grown_module.functions) grown_code []
+grown_code_spelled : TakesVec (TakesSizedBody One) (map body_of grown_module.functions) grown_code []
 unfolding shape
 grown_code_spelled = record { mid = _; count = inl (omega arith, omega arith, refl, refl); items = (_, record { contents = 0x00 ∷ 0x41 ∷ 0x01 ∷ 0x40 ∷ 0x00 ∷ 0x1A ∷ 0x41 ∷ 0xFF ∷ 0xFF ∷ 0x07 ∷ 0x41 ∷ 0x7F ∷ 0x3A ∷ 0x00 ∷ 0x00 ∷ 0x03 ∷ 0x40 ∷ 0x0C ∷ 0x00 ∷ 0x0B ∷ 0x0B ∷ []; sized = record { mid = _; count = inl (omega arith, omega arith, refl, refl); items = refl }; body = record { runs = []; mid = _; spelled = record { mid = _; count = inl (omega arith, omega arith, refl, refl); items = refl }; locals = refl; few = omega arith; code = (_, record { opcode = 0x41; after = _; leads = refl; follows = (pos 1, refl, inl (omega arith, omega arith, refl, refl)) }, (_, record { opcode = 0x40; after = _; leads = refl; follows = (refl, refl) }, (_, record { opcode = 0x1A; after = _; leads = refl; follows = (refl, refl) }, (_, record { opcode = 0x41; after = _; leads = refl; follows = (pos 131071, refl, inr (inr (omega arith, omega arith, pos 1023, inr (inr (omega arith, omega arith, pos 7, inl (omega arith, omega arith, refl, refl), refl)), refl))) }, (_, record { opcode = 0x41; after = _; leads = refl; follows = (negsuc 0, refl, inr (inl (omega arith, omega arith, omega arith, refl, refl))) }, (_, record { opcode = 0x3A; after = _; leads = refl; follows = (record { align = 0; offset = 0 }, _, refl, inl (omega arith, omega arith, refl, refl), inl (omega arith, omega arith, refl, refl)) }, (_, refl, _, refl, _, (_, record { opcode = 0x0C; after = _; leads = refl; follows = (0, refl, inl (omega arith, omega arith, refl, refl)) }, refl), refl))))))) } }, (_, record { contents = 0x00 ∷ 0x41 ∷ 0x01 ∷ 0x40 ∷ 0x00 ∷ 0x1A ∷ 0x41 ∷ 0xFF ∷ 0xFF ∷ 0x07 ∷ 0x2D ∷ 0x00 ∷ 0x00 ∷ 0x0B ∷ []; sized = record { mid = _; count = inl (omega arith, omega arith, refl, refl); items = refl }; body = record { runs = []; mid = _; spelled = record { mid = _; count = inl (omega arith, omega arith, refl, refl); items = refl }; locals = refl; few = omega arith; code = (_, record { opcode = 0x41; after = _; leads = refl; follows = (pos 1, refl, inl (omega arith, omega arith, refl, refl)) }, (_, record { opcode = 0x40; after = _; leads = refl; follows = (refl, refl) }, (_, record { opcode = 0x1A; after = _; leads = refl; follows = (refl, refl) }, (_, record { opcode = 0x41; after = _; leads = refl; follows = (pos 131071, refl, inr (inr (omega arith, omega arith, pos 1023, inr (inr (omega arith, omega arith, pos 7, inl (omega arith, omega arith, refl, refl), refl)), refl))) }, (_, record { opcode = 0x2D; after = _; leads = refl; follows = (record { align = 0; offset = 0 }, _, refl, inl (omega arith, omega arith, refl, refl), inl (omega arith, omega arith, refl, refl)) }, refl))))) } }, refl)) }
 
-grown_is_spelled : Spells (0x00 ∷ 0x61 ∷ 0x73 ∷ 0x6D ∷ 0x01 ∷ 0x00 ∷ 0x00 ∷ 0x00 ∷ grown_from_type) grown_module
+grown_is_spelled : Spells One (0x00 ∷ 0x61 ∷ 0x73 ∷ 0x6D ∷ 0x01 ∷ 0x00 ∷ 0x00 ∷ 0x00 ∷ grown_from_type) grown_module
 grown_is_spelled = record {
   after = grown_from_type;
   sections = grown_sections;
@@ -380,6 +385,7 @@ grown_is_spelled = record {
     element_segments = refl;
     bodies = grown_code_spelled;
     data_segments = refl;
+    data_count = tt;
   };
 }
 
@@ -434,11 +440,11 @@ grow_export_spelled : TakesVec TakesExport grow_module.exports grow_export []
 unfolding lib.Utf8.encode
 grow_export_spelled = record { mid = _; count = inl (omega arith, omega arith, refl, refl); items = (_, record { mid = _; name = record { spelled = record { mid = _; count = inl (omega arith, omega arith, refl, refl); items = refl }; utf8 = (103 ∷ 114 ∷ 111 ∷ 119 ∷ [], (refl, refl)) }; desc = (_, refl, inl (omega arith, omega arith, refl, refl)) }, refl) }
 
-grow_code_spelled : TakesVec TakesSizedBody (map body_of grow_module.functions) grow_code []
+grow_code_spelled : TakesVec (TakesSizedBody One) (map body_of grow_module.functions) grow_code []
 unfolding shape
 grow_code_spelled = record { mid = _; count = inl (omega arith, omega arith, refl, refl); items = (_, record { contents = 0x00 ∷ 0x20 ∷ 0x00 ∷ 0x40 ∷ 0x00 ∷ 0x0B ∷ []; sized = record { mid = _; count = inl (omega arith, omega arith, refl, refl); items = refl }; body = record { runs = []; mid = _; spelled = record { mid = _; count = inl (omega arith, omega arith, refl, refl); items = refl }; locals = refl; few = omega arith; code = (_, record { opcode = 0x20; after = _; leads = refl; follows = (0, refl, inl (omega arith, omega arith, refl, refl)) }, (_, record { opcode = 0x40; after = _; leads = refl; follows = (refl, refl) }, refl)) } }, refl) }
 
-grow_is_spelled : Spells (0x00 ∷ 0x61 ∷ 0x73 ∷ 0x6D ∷ 0x01 ∷ 0x00 ∷ 0x00 ∷ 0x00 ∷ grow_from_type) grow_module
+grow_is_spelled : Spells One (0x00 ∷ 0x61 ∷ 0x73 ∷ 0x6D ∷ 0x01 ∷ 0x00 ∷ 0x00 ∷ 0x00 ∷ grow_from_type) grow_module
 grow_is_spelled = record {
   after = grow_from_type;
   sections = grow_sections;
@@ -457,6 +463,7 @@ grow_is_spelled = record {
     element_segments = refl;
     bodies = grow_code_spelled;
     data_segments = refl;
+    data_count = tt;
   };
 }
 
@@ -502,11 +509,11 @@ div_export_spelled : TakesVec TakesExport div_module.exports div_export []
 unfolding lib.Utf8.encode
 div_export_spelled = record { mid = _; count = inl (omega arith, omega arith, refl, refl); items = (_, record { mid = _; name = record { spelled = record { mid = _; count = inl (omega arith, omega arith, refl, refl); items = refl }; utf8 = (100 ∷ [], (refl, refl)) }; desc = (_, refl, inl (omega arith, omega arith, refl, refl)) }, (_, record { mid = _; name = record { spelled = record { mid = _; count = inl (omega arith, omega arith, refl, refl); items = refl }; utf8 = (114 ∷ [], (refl, refl)) }; desc = (_, refl, inl (omega arith, omega arith, refl, refl)) }, refl)) }
 
-div_code_spelled : TakesVec TakesSizedBody (map body_of div_module.functions) div_code []
+div_code_spelled : TakesVec (TakesSizedBody One) (map body_of div_module.functions) div_code []
 unfolding shape
 div_code_spelled = record { mid = _; count = inl (omega arith, omega arith, refl, refl); items = (_, record { contents = 0x00 ∷ 0x20 ∷ 0x00 ∷ 0x20 ∷ 0x01 ∷ 0x6D ∷ 0x0B ∷ []; sized = record { mid = _; count = inl (omega arith, omega arith, refl, refl); items = refl }; body = record { runs = []; mid = _; spelled = record { mid = _; count = inl (omega arith, omega arith, refl, refl); items = refl }; locals = refl; few = omega arith; code = (_, record { opcode = 0x20; after = _; leads = refl; follows = (0, refl, inl (omega arith, omega arith, refl, refl)) }, (_, record { opcode = 0x20; after = _; leads = refl; follows = (1, refl, inl (omega arith, omega arith, refl, refl)) }, (_, record { opcode = 0x6D; after = _; leads = refl; follows = (refl, refl) }, refl))) } }, (_, record { contents = 0x00 ∷ 0x20 ∷ 0x00 ∷ 0x20 ∷ 0x01 ∷ 0x6F ∷ 0x0B ∷ []; sized = record { mid = _; count = inl (omega arith, omega arith, refl, refl); items = refl }; body = record { runs = []; mid = _; spelled = record { mid = _; count = inl (omega arith, omega arith, refl, refl); items = refl }; locals = refl; few = omega arith; code = (_, record { opcode = 0x20; after = _; leads = refl; follows = (0, refl, inl (omega arith, omega arith, refl, refl)) }, (_, record { opcode = 0x20; after = _; leads = refl; follows = (1, refl, inl (omega arith, omega arith, refl, refl)) }, (_, record { opcode = 0x6F; after = _; leads = refl; follows = (refl, refl) }, refl))) } }, refl)) }
 
-div_is_spelled : Spells (0x00 ∷ 0x61 ∷ 0x73 ∷ 0x6D ∷ 0x01 ∷ 0x00 ∷ 0x00 ∷ 0x00 ∷ div_from_type) div_module
+div_is_spelled : Spells One (0x00 ∷ 0x61 ∷ 0x73 ∷ 0x6D ∷ 0x01 ∷ 0x00 ∷ 0x00 ∷ 0x00 ∷ div_from_type) div_module
 div_is_spelled = record {
   after = div_from_type;
   sections = div_sections;
@@ -525,6 +532,7 @@ div_is_spelled = record {
     element_segments = refl;
     bodies = div_code_spelled;
     data_segments = refl;
+    data_count = tt;
   };
 }
 
@@ -585,15 +593,15 @@ indirect_export_spelled : TakesVec TakesExport indirect_module.exports indirect_
 unfolding lib.Utf8.encode
 indirect_export_spelled = record { mid = _; count = inl (omega arith, omega arith, refl, refl); items = (_, record { mid = _; name = record { spelled = record { mid = _; count = inl (omega arith, omega arith, refl, refl); items = refl }; utf8 = (105 ∷ [], (refl, refl)) }; desc = (_, refl, inl (omega arith, omega arith, refl, refl)) }, refl) }
 
-indirect_element_spelled : TakesVec TakesElement indirect_module.element_segments indirect_element []
+indirect_element_spelled : TakesVec (TakesElement One) indirect_module.element_segments indirect_element []
 unfolding shape
 indirect_element_spelled = record { mid = _; count = inl (omega arith, omega arith, refl, refl); items = (_, record { after_table = _; after_offset = _; table = inl (omega arith, omega arith, refl, refl); offset = (_, record { opcode = 0x41; after = _; leads = refl; follows = (pos 0, refl, inl (omega arith, omega arith, refl, refl)) }, refl); functions = record { mid = _; count = inl (omega arith, omega arith, refl, refl); items = (_, inl (omega arith, omega arith, refl, refl), (_, inl (omega arith, omega arith, refl, refl), refl)) } }, refl) }
 
-indirect_code_spelled : TakesVec TakesSizedBody (map body_of indirect_module.functions) indirect_code []
+indirect_code_spelled : TakesVec (TakesSizedBody One) (map body_of indirect_module.functions) indirect_code []
 unfolding shape
 indirect_code_spelled = record { mid = _; count = inl (omega arith, omega arith, refl, refl); items = (_, record { contents = 0x00 ∷ 0x41 ∷ 0x07 ∷ 0x0B ∷ []; sized = record { mid = _; count = inl (omega arith, omega arith, refl, refl); items = refl }; body = record { runs = []; mid = _; spelled = record { mid = _; count = inl (omega arith, omega arith, refl, refl); items = refl }; locals = refl; few = omega arith; code = (_, record { opcode = 0x41; after = _; leads = refl; follows = (pos 7, refl, inl (omega arith, omega arith, refl, refl)) }, refl) } }, (_, record { contents = 0x00 ∷ 0x0B ∷ []; sized = record { mid = _; count = inl (omega arith, omega arith, refl, refl); items = refl }; body = record { runs = []; mid = _; spelled = record { mid = _; count = inl (omega arith, omega arith, refl, refl); items = refl }; locals = refl; few = omega arith; code = refl } }, (_, record { contents = 0x00 ∷ 0x20 ∷ 0x00 ∷ 0x11 ∷ 0x00 ∷ 0x00 ∷ 0x0B ∷ []; sized = record { mid = _; count = inl (omega arith, omega arith, refl, refl); items = refl }; body = record { runs = []; mid = _; spelled = record { mid = _; count = inl (omega arith, omega arith, refl, refl); items = refl }; locals = refl; few = omega arith; code = (_, record { opcode = 0x20; after = _; leads = refl; follows = (0, refl, inl (omega arith, omega arith, refl, refl)) }, (_, refl, _, inl (omega arith, omega arith, refl, refl), refl)) } }, refl))) }
 
-indirect_is_spelled : Spells (0x00 ∷ 0x61 ∷ 0x73 ∷ 0x6D ∷ 0x01 ∷ 0x00 ∷ 0x00 ∷ 0x00 ∷ indirect_from_type) indirect_module
+indirect_is_spelled : Spells One (0x00 ∷ 0x61 ∷ 0x73 ∷ 0x6D ∷ 0x01 ∷ 0x00 ∷ 0x00 ∷ 0x00 ∷ indirect_from_type) indirect_module
 indirect_is_spelled = record {
   after = indirect_from_type;
   sections = indirect_sections;
@@ -612,6 +620,7 @@ indirect_is_spelled = record {
     element_segments = indirect_element_spelled;
     bodies = indirect_code_spelled;
     data_segments = refl;
+    data_count = tt;
   };
 }
 
@@ -657,11 +666,11 @@ recursive_export_spelled : TakesVec TakesExport recursive_module.exports recursi
 unfolding lib.Utf8.encode
 recursive_export_spelled = record { mid = _; count = inl (omega arith, omega arith, refl, refl); items = (_, record { mid = _; name = record { spelled = record { mid = _; count = inl (omega arith, omega arith, refl, refl); items = refl }; utf8 = (114 ∷ 101 ∷ 99 ∷ [], (refl, refl)) }; desc = (_, refl, inl (omega arith, omega arith, refl, refl)) }, refl) }
 
-recursive_code_spelled : TakesVec TakesSizedBody (map body_of recursive_module.functions) recursive_code []
+recursive_code_spelled : TakesVec (TakesSizedBody One) (map body_of recursive_module.functions) recursive_code []
 unfolding shape
 recursive_code_spelled = record { mid = _; count = inl (omega arith, omega arith, refl, refl); items = (_, record { contents = 0x00 ∷ 0x20 ∷ 0x00 ∷ 0x45 ∷ 0x04 ∷ 0x7F ∷ 0x41 ∷ 0x00 ∷ 0x05 ∷ 0x20 ∷ 0x00 ∷ 0x41 ∷ 0x01 ∷ 0x6B ∷ 0x10 ∷ 0x00 ∷ 0x0B ∷ 0x0B ∷ []; sized = record { mid = _; count = inl (omega arith, omega arith, refl, refl); items = refl }; body = record { runs = []; mid = _; spelled = record { mid = _; count = inl (omega arith, omega arith, refl, refl); items = refl }; locals = refl; few = omega arith; code = (_, record { opcode = 0x20; after = _; leads = refl; follows = (0, refl, inl (omega arith, omega arith, refl, refl)) }, (_, record { opcode = 0x45; after = _; leads = refl; follows = (refl, refl) }, (_, refl, _, refl, _, inr (_, (_, record { opcode = 0x41; after = _; leads = refl; follows = (pos 0, refl, inl (omega arith, omega arith, refl, refl)) }, refl), (_, record { opcode = 0x20; after = _; leads = refl; follows = (0, refl, inl (omega arith, omega arith, refl, refl)) }, (_, record { opcode = 0x41; after = _; leads = refl; follows = (pos 1, refl, inl (omega arith, omega arith, refl, refl)) }, (_, record { opcode = 0x6B; after = _; leads = refl; follows = (refl, refl) }, (_, refl, _, inl (omega arith, omega arith, refl, refl), refl))))), refl))) } }, refl) }
 
-recursive_is_spelled : Spells (0x00 ∷ 0x61 ∷ 0x73 ∷ 0x6D ∷ 0x01 ∷ 0x00 ∷ 0x00 ∷ 0x00 ∷ recursive_from_type) recursive_module
+recursive_is_spelled : Spells One (0x00 ∷ 0x61 ∷ 0x73 ∷ 0x6D ∷ 0x01 ∷ 0x00 ∷ 0x00 ∷ 0x00 ∷ recursive_from_type) recursive_module
 recursive_is_spelled = record {
   after = recursive_from_type;
   sections = recursive_sections;
@@ -680,6 +689,7 @@ recursive_is_spelled = record {
     element_segments = refl;
     bodies = recursive_code_spelled;
     data_segments = refl;
+    data_count = tt;
   };
 }
 
@@ -731,11 +741,11 @@ start_export_spelled : TakesVec TakesExport start_module.exports start_export []
 unfolding lib.Utf8.encode
 start_export_spelled = record { mid = _; count = inl (omega arith, omega arith, refl, refl); items = (_, record { mid = _; name = record { spelled = record { mid = _; count = inl (omega arith, omega arith, refl, refl); items = refl }; utf8 = (115 ∷ [], (refl, refl)) }; desc = (_, refl, inl (omega arith, omega arith, refl, refl)) }, refl) }
 
-start_code_spelled : TakesVec TakesSizedBody (map body_of start_module.functions) start_code []
+start_code_spelled : TakesVec (TakesSizedBody One) (map body_of start_module.functions) start_code []
 unfolding shape
 start_code_spelled = record { mid = _; count = inl (omega arith, omega arith, refl, refl); items = (_, record { contents = 0x00 ∷ 0x00 ∷ 0x0B ∷ []; sized = record { mid = _; count = inl (omega arith, omega arith, refl, refl); items = refl }; body = record { runs = []; mid = _; spelled = record { mid = _; count = inl (omega arith, omega arith, refl, refl); items = refl }; locals = refl; few = omega arith; code = (_, record { opcode = 0x00; after = _; leads = refl; follows = (refl, refl) }, refl) } }, refl) }
 
-start_is_spelled : Spells (0x00 ∷ 0x61 ∷ 0x73 ∷ 0x6D ∷ 0x01 ∷ 0x00 ∷ 0x00 ∷ 0x00 ∷ start_from_type) start_module
+start_is_spelled : Spells One (0x00 ∷ 0x61 ∷ 0x73 ∷ 0x6D ∷ 0x01 ∷ 0x00 ∷ 0x00 ∷ 0x00 ∷ start_from_type) start_module
 start_is_spelled = record {
   after = start_from_type;
   sections = start_sections;
@@ -754,6 +764,7 @@ start_is_spelled = record {
     element_segments = refl;
     bodies = start_code_spelled;
     data_segments = refl;
+    data_count = tt;
   };
 }
 
@@ -805,11 +816,11 @@ spin_export_spelled : TakesVec TakesExport spin_module.exports spin_export []
 unfolding lib.Utf8.encode
 spin_export_spelled = record { mid = _; count = inl (omega arith, omega arith, refl, refl); items = (_, record { mid = _; name = record { spelled = record { mid = _; count = inl (omega arith, omega arith, refl, refl); items = refl }; utf8 = (115 ∷ [], (refl, refl)) }; desc = (_, refl, inl (omega arith, omega arith, refl, refl)) }, refl) }
 
-spin_code_spelled : TakesVec TakesSizedBody (map body_of spin_module.functions) spin_code []
+spin_code_spelled : TakesVec (TakesSizedBody One) (map body_of spin_module.functions) spin_code []
 unfolding shape
 spin_code_spelled = record { mid = _; count = inl (omega arith, omega arith, refl, refl); items = (_, record { contents = 0x00 ∷ 0x03 ∷ 0x40 ∷ 0x0C ∷ 0x00 ∷ 0x0B ∷ 0x0B ∷ []; sized = record { mid = _; count = inl (omega arith, omega arith, refl, refl); items = refl }; body = record { runs = []; mid = _; spelled = record { mid = _; count = inl (omega arith, omega arith, refl, refl); items = refl }; locals = refl; few = omega arith; code = (_, refl, _, refl, _, (_, record { opcode = 0x0C; after = _; leads = refl; follows = (0, refl, inl (omega arith, omega arith, refl, refl)) }, refl), refl) } }, refl) }
 
-spin_is_spelled : Spells (0x00 ∷ 0x61 ∷ 0x73 ∷ 0x6D ∷ 0x01 ∷ 0x00 ∷ 0x00 ∷ 0x00 ∷ spin_from_type) spin_module
+spin_is_spelled : Spells One (0x00 ∷ 0x61 ∷ 0x73 ∷ 0x6D ∷ 0x01 ∷ 0x00 ∷ 0x00 ∷ 0x00 ∷ spin_from_type) spin_module
 spin_is_spelled = record {
   after = spin_from_type;
   sections = spin_sections;
@@ -828,6 +839,7 @@ spin_is_spelled = record {
     element_segments = refl;
     bodies = spin_code_spelled;
     data_segments = refl;
+    data_count = tt;
   };
 }
 
@@ -854,11 +866,11 @@ misfit_follows = (_, record { after = _; id = refl; sized = record { mid = misfi
 misfit_memory_spelled : TakesVec TakesMemoryType misfit_module.memories misfit_memory []
 misfit_memory_spelled = record { mid = _; count = inl (omega arith, omega arith, refl, refl); items = (_, (_, refl, inl (omega arith, omega arith, refl, refl)), refl) }
 
-misfit_data_spelled : TakesVec TakesData misfit_module.data_segments misfit_data []
+misfit_data_spelled : TakesVec (TakesData One) misfit_module.data_segments misfit_data []
 unfolding shape
 misfit_data_spelled = record { mid = _; count = inl (omega arith, omega arith, refl, refl); items = (_, record { after_memory = _; after_offset = _; memory = inl (omega arith, omega arith, refl, refl); offset = (_, record { opcode = 0x41; after = _; leads = refl; follows = (pos 65535, refl, inr (inr (omega arith, omega arith, pos 511, inr (inr (omega arith, omega arith, pos 3, inl (omega arith, omega arith, refl, refl), refl)), refl))) }, refl); contents = record { mid = _; count = inl (omega arith, omega arith, refl, refl); items = refl } }, refl) }
 
-misfit_is_spelled : Spells (0x00 ∷ 0x61 ∷ 0x73 ∷ 0x6D ∷ 0x01 ∷ 0x00 ∷ 0x00 ∷ 0x00 ∷ misfit_from_memory) misfit_module
+misfit_is_spelled : Spells One (0x00 ∷ 0x61 ∷ 0x73 ∷ 0x6D ∷ 0x01 ∷ 0x00 ∷ 0x00 ∷ 0x00 ∷ misfit_from_memory) misfit_module
 misfit_is_spelled = record {
   after = misfit_from_memory;
   sections = misfit_sections;
@@ -877,6 +889,7 @@ misfit_is_spelled = record {
     element_segments = refl;
     bodies = refl;
     data_segments = misfit_data_spelled;
+    data_count = tt;
   };
 }
 
@@ -922,11 +935,11 @@ count_export_spelled : TakesVec TakesExport count_module.exports count_export []
 unfolding lib.Utf8.encode
 count_export_spelled = record { mid = _; count = inl (omega arith, omega arith, refl, refl); items = (_, record { mid = _; name = record { spelled = record { mid = _; count = inl (omega arith, omega arith, refl, refl); items = refl }; utf8 = (99 ∷ [], (refl, refl)) }; desc = (_, refl, inl (omega arith, omega arith, refl, refl)) }, refl) }
 
-count_code_spelled : TakesVec TakesSizedBody (map body_of count_module.functions) count_code []
+count_code_spelled : TakesVec (TakesSizedBody One) (map body_of count_module.functions) count_code []
 unfolding shape
 count_code_spelled = record { mid = _; count = inl (omega arith, omega arith, refl, refl); items = (_, record { contents = 0x00 ∷ 0x03 ∷ 0x40 ∷ 0x20 ∷ 0x00 ∷ 0x41 ∷ 0x01 ∷ 0x6B ∷ 0x22 ∷ 0x00 ∷ 0x0D ∷ 0x00 ∷ 0x0B ∷ 0x20 ∷ 0x00 ∷ 0x0B ∷ []; sized = record { mid = _; count = inl (omega arith, omega arith, refl, refl); items = refl }; body = record { runs = []; mid = _; spelled = record { mid = _; count = inl (omega arith, omega arith, refl, refl); items = refl }; locals = refl; few = omega arith; code = (_, refl, _, refl, _, (_, record { opcode = 0x20; after = _; leads = refl; follows = (0, refl, inl (omega arith, omega arith, refl, refl)) }, (_, record { opcode = 0x41; after = _; leads = refl; follows = (pos 1, refl, inl (omega arith, omega arith, refl, refl)) }, (_, record { opcode = 0x6B; after = _; leads = refl; follows = (refl, refl) }, (_, record { opcode = 0x22; after = _; leads = refl; follows = (0, refl, inl (omega arith, omega arith, refl, refl)) }, (_, record { opcode = 0x0D; after = _; leads = refl; follows = (0, refl, inl (omega arith, omega arith, refl, refl)) }, refl))))), (_, record { opcode = 0x20; after = _; leads = refl; follows = (0, refl, inl (omega arith, omega arith, refl, refl)) }, refl)) } }, refl) }
 
-count_is_spelled : Spells (0x00 ∷ 0x61 ∷ 0x73 ∷ 0x6D ∷ 0x01 ∷ 0x00 ∷ 0x00 ∷ 0x00 ∷ count_from_type) count_module
+count_is_spelled : Spells One (0x00 ∷ 0x61 ∷ 0x73 ∷ 0x6D ∷ 0x01 ∷ 0x00 ∷ 0x00 ∷ 0x00 ∷ count_from_type) count_module
 count_is_spelled = record {
   after = count_from_type;
   sections = count_sections;
@@ -945,6 +958,7 @@ count_is_spelled = record {
     element_segments = refl;
     bodies = count_code_spelled;
     data_segments = refl;
+    data_count = tt;
   };
 }
 
@@ -992,7 +1006,7 @@ next_type_spelled = record { mid = _; count = inl (omega arith, omega arith, ref
 next_function_spelled : TakesVec (TakesUnsigned 32) (map type_index_of next_module.functions) next_function []
 next_function_spelled = record { mid = _; count = inl (omega arith, omega arith, refl, refl); items = (_, inl (omega arith, omega arith, refl, refl), refl) }
 
-next_global_spelled : TakesVec TakesGlobal next_module.globals next_global []
+next_global_spelled : TakesVec (TakesGlobal One) next_module.globals next_global []
 unfolding shape
 next_global_spelled = record { mid = _; count = inl (omega arith, omega arith, refl, refl); items = (_, record { mid = _; global_type = refl; init = (_, record { opcode = 0x41; after = _; leads = refl; follows = (pos 0, refl, inl (omega arith, omega arith, refl, refl)) }, refl) }, refl) }
 
@@ -1000,11 +1014,11 @@ next_export_spelled : TakesVec TakesExport next_module.exports next_export []
 unfolding lib.Utf8.encode
 next_export_spelled = record { mid = _; count = inl (omega arith, omega arith, refl, refl); items = (_, record { mid = _; name = record { spelled = record { mid = _; count = inl (omega arith, omega arith, refl, refl); items = refl }; utf8 = (110 ∷ [], (refl, refl)) }; desc = (_, refl, inl (omega arith, omega arith, refl, refl)) }, refl) }
 
-next_code_spelled : TakesVec TakesSizedBody (map body_of next_module.functions) next_code []
+next_code_spelled : TakesVec (TakesSizedBody One) (map body_of next_module.functions) next_code []
 unfolding shape
 next_code_spelled = record { mid = _; count = inl (omega arith, omega arith, refl, refl); items = (_, record { contents = 0x00 ∷ 0x23 ∷ 0x00 ∷ 0x41 ∷ 0x01 ∷ 0x6A ∷ 0x24 ∷ 0x00 ∷ 0x23 ∷ 0x00 ∷ 0x0B ∷ []; sized = record { mid = _; count = inl (omega arith, omega arith, refl, refl); items = refl }; body = record { runs = []; mid = _; spelled = record { mid = _; count = inl (omega arith, omega arith, refl, refl); items = refl }; locals = refl; few = omega arith; code = (_, record { opcode = 0x23; after = _; leads = refl; follows = (0, refl, inl (omega arith, omega arith, refl, refl)) }, (_, record { opcode = 0x41; after = _; leads = refl; follows = (pos 1, refl, inl (omega arith, omega arith, refl, refl)) }, (_, record { opcode = 0x6A; after = _; leads = refl; follows = (refl, refl) }, (_, record { opcode = 0x24; after = _; leads = refl; follows = (0, refl, inl (omega arith, omega arith, refl, refl)) }, (_, record { opcode = 0x23; after = _; leads = refl; follows = (0, refl, inl (omega arith, omega arith, refl, refl)) }, refl))))) } }, refl) }
 
-next_is_spelled : Spells (0x00 ∷ 0x61 ∷ 0x73 ∷ 0x6D ∷ 0x01 ∷ 0x00 ∷ 0x00 ∷ 0x00 ∷ next_from_type) next_module
+next_is_spelled : Spells One (0x00 ∷ 0x61 ∷ 0x73 ∷ 0x6D ∷ 0x01 ∷ 0x00 ∷ 0x00 ∷ 0x00 ∷ next_from_type) next_module
 next_is_spelled = record {
   after = next_from_type;
   sections = next_sections;
@@ -1023,5 +1037,6 @@ next_is_spelled = record {
     element_segments = refl;
     bodies = next_code_spelled;
     data_segments = refl;
+    data_count = tt;
   };
 }

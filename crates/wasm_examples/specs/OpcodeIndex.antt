@@ -7,7 +7,7 @@ use Rattle.wasm_types.specs.declared.instr.PackSize.TheVariants.{Pack8, Pack16, 
 use Rattle.wasm_types.specs.declared.instr.UnaryOp.TheVariants as unary
 use Rattle.wasm_types.specs.declared.instr.BinaryOp.TheVariants as binary
 use Rattle.wasm_types.specs.declared.instr.CompareOp.TheVariants as compare
-use Rattle.wasm_spec.specs.InstrGrammar.{Shape, Alone, WithIndex, WithLabels, WithAddress, WithZero, WithI32, WithI64, WithBytes}
+use Rattle.wasm_spec.specs.InstrGrammar.{Shape, Alone, WithIndex, WithLabels, WithAddress, WithZero, WithI32, WithI64, WithBytes, Prefixed}
 
 pub record Row : Type 0 where
   pub opcode : ℕ
@@ -186,6 +186,17 @@ index =
     ∷ row 0xBF (codes "f64.reinterpret_i64") (Alone instr.Float)
     ∷ []
 
+-- what version 2.0 lists besides (appendix A.7), of what profile 2 has
+abbrev pub added_index : List Row
+added_index =
+    row 0xC0 (codes "i32.extend8_s") (Alone (instr.Unary W32 (unary.ExtendS Pack8)))
+    ∷ row 0xC1 (codes "i32.extend16_s") (Alone (instr.Unary W32 (unary.ExtendS Pack16)))
+    ∷ row 0xC2 (codes "i64.extend8_s") (Alone (instr.Unary W64 (unary.ExtendS Pack8)))
+    ∷ row 0xC3 (codes "i64.extend16_s") (Alone (instr.Unary W64 (unary.ExtendS Pack16)))
+    ∷ row 0xC4 (codes "i64.extend32_s") (Alone (instr.Unary W64 (unary.ExtendS Pack32)))
+    ∷ row 0xFC (codes "prefix") Prefixed
+    ∷ []
+
 -- so many numbers from one on
 abbrev numbers : ℕ → ℕ → List ℕ
 numbers first zero = []
@@ -194,3 +205,7 @@ numbers first (suc n) = first ∷ numbers (first + 1) n
 -- The bytes that stand in no row: blocks, calls, what closes a block, and those that are no instruction.
 abbrev pub other_bytes : List ℕ
 other_bytes = numbers 0x02 10 ++ numbers 0x10 10 ++ numbers 0x1C 4 ++ numbers 0x25 3 ++ numbers 0xC0 64
+
+-- and in profile 2
+abbrev pub left_bytes : List ℕ
+left_bytes = numbers 0x02 10 ++ numbers 0x10 10 ++ numbers 0x1C 4 ++ numbers 0x25 3 ++ numbers 0xC5 55 ++ numbers 0xFD 3

@@ -1,6 +1,7 @@
 -- One call of `add`, which has no memory and no table: it needs a ticket alone.
 use Rattle.std.proofs.Common.{◌≡◌, true, true≢false, List, [], ◌∷◌, refl, sym, arith}
 use Rattle.std.specs.Prelude.{Option, Some, None}
+use Rattle.wasm_types.specs.declared.profile.Profile.TheVariants.{One}
 use Rattle.wasm_types.specs.declared.outcome.Val.{Val}
 use Rattle.wasm_types.specs.declared.outcome.Val.TheVariants.{I32}
 use Rattle.wasm_types.specs.declared.outcome.Outcome.{Outcome}
@@ -48,7 +49,7 @@ abbrev events : List WorldEvent
 events = Step Ticket (Claim 0 0) ∷ Step Ticket (Out 0 0) ∷ Begin 0 request ∷ Turn 0 [] ∷ Turn 0 [] ∷ Turn 0 [] ∷ End 0 ∷ []
 
 is_module : IsModule world named
-is_module = record { on_shelf = refl; bytes = add_bytes; loads = add_loads }
+is_module = record { on_shelf = refl; profile = One; bytes = add_bytes; loads = add_loads }
 
 callable : IsCallable request
 callable = record {

@@ -1,7 +1,8 @@
 -- A small module with a memory and a table: its function `f` gives what stood at address 0, and writes 7 there.
-use Rattle.std.proofs.Common.{ℕ, ◌≢◌, ◌≤◌, inl, inr, List, [], ◌∷◌, ◌++◌, length, map, refl, arith, pos}
-use Rattle.std.specs.Prelude.{None, Ok, AllPairs, All, slice_get, IsSome}
+use Rattle.std.proofs.Common.{ℕ, ◌≤◌, inl, inr, List, [], ◌∷◌, ◌++◌, length, map, refl, arith, pos}
+use Rattle.std.specs.Prelude.{None, Ok, All, slice_get, IsSome}
 use Rattle.std.proofs.lemmas.List.Elements.{All-nil, All-cons}
+use Rattle.wasm_types.specs.declared.profile.Profile.TheVariants.{One}
 use Rattle.wasm_types.specs.declared.limits.LoadLimits.{LoadLimits}
 use Rattle.wasm_types.specs.declared.types.ValType.TheVariants as type
 use Rattle.wasm_types.specs.declared.types.FuncType.{FuncType}
@@ -147,7 +148,7 @@ sections_follow = (
   ),
 )
 
-sections_rise : IsOrderedAbove 0 sections
+sections_rise : IsOrderedAbove One 0 sections
 sections_rise = inr (
   omega arith,
   omega arith,
@@ -208,7 +209,7 @@ export_spelled = record {
   );
 }
 
-element_spelled : TakesVec TakesElement keeper.element_segments element_contents []
+element_spelled : TakesVec (TakesElement One) keeper.element_segments element_contents []
 unfolding shape
 element_spelled = record {
   mid = _;
@@ -226,7 +227,7 @@ element_spelled = record {
   );
 }
 
-code_spelled : TakesExpr body expression []
+code_spelled : TakesExpr One body expression []
 unfolding shape
 code_spelled = (
   _,
@@ -246,7 +247,7 @@ code_spelled = (
   ),
 )
 
-body_spelled : TakesVec TakesSizedBody (map body_of keeper.functions) code_contents []
+body_spelled : TakesVec (TakesSizedBody One) (map body_of keeper.functions) code_contents []
 body_spelled = record {
   mid = _;
   count = short 1 _ (omega arith);
@@ -271,7 +272,7 @@ body_spelled = record {
 abbrev pub keeper_bytes : List ℕ
 keeper_bytes = 0x00 ∷ 0x61 ∷ 0x73 ∷ 0x6D ∷ 0x01 ∷ 0x00 ∷ 0x00 ∷ 0x00 ∷ after_header
 
-keeper_spelled : Spells keeper_bytes keeper
+keeper_spelled : Spells One keeper_bytes keeper
 keeper_spelled = record {
   after = after_header;
   sections = sections;
@@ -290,6 +291,7 @@ keeper_spelled = record {
     element_segments = element_spelled;
     bodies = body_spelled;
     data_segments = refl;
+    data_count = tt;
   };
 }
 
@@ -316,9 +318,6 @@ typed = (
 one : {X : Type 0} (P : X → Type 0) (x : X) → P x → All P (x ∷ [])
 one P x p = All-cons P x [] p (All-nil P)
 
-one_pair : {X : Type 0} (R : X → X → Type 0) (x : X) → AllPairs R (x ∷ [])
-one_pair R x i j d lt le = absurd (omega arith)
-
 element_segment : IsElementSegment keeper elements
 element_segment = record { table = refl; offset = refl; functions = one (λ x. IsSome (slice_get keeper.functions x)) 0 refl }
 
@@ -335,7 +334,7 @@ valid = record {
   data_segments = All-nil _;
   start = tt;
   exports = one (λ (e : Export). IsDefined keeper e.desc) f_export refl;
-  names_differ = one_pair (λ (a b : Export). a.name ≢ b.name) f_export;
+  names_differ = λ i j d lt le. absurd (omega arith);
 }
 
 supported : IsSupported keeper
@@ -344,5 +343,5 @@ supported = record { no_import = refl; no_float = refl }
 abbrev pub keeper_limits : LoadLimits
 keeper_limits = record { pages = 1; elements = 1; frame = 8 }
 
-pub keeper_loads : Loads keeper_bytes keeper_limits (Ok keeper)
+pub keeper_loads : Loads One keeper_bytes keeper_limits (Ok keeper)
 keeper_loads = record { tree = keeper; spells = keeper_spelled; answers = (record { runs = supported; valid = valid; late_is = refl }, refl) }

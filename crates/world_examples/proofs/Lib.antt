@@ -4,3 +4,8 @@ pub mod Story
 mod Unfitting
 mod Refusals
 mod Addition
+mod StoryHistories
+mod Preparing
+mod FreshCalls
+mod ShortCalls
+mod Callers

@@ -3,6 +3,7 @@ use Rattle.std.proofs.Common.{◌≡◌, ℕ, zero, suc, Bool, true, false, ◌&
 use Rattle.std.specs.Prelude.{Option, Some, None, is_none, ◌==◌, slice_index, slice_index_or}
 use Rattle.std.specs.List.{list_any}
 use Rattle.std.proofs.lemmas.Bool.{and_parts, or_parts, eqb-true}
+use Rattle.wasm_types.specs.declared.profile.Profile.TheVariants.{One}
 use Rattle.wasm_types.specs.declared.outcome.Val.TheVariants.{I32}
 use Rattle.pool_core.specs.declared.events.Event.{Event}
 use Rattle.pool_core.specs.declared.events.Event.TheVariants.{Release}
@@ -28,7 +29,7 @@ abbrev pub world : World
 world = record { limits = record { pages = 1; elements = 1; frame = 8; depth = 4 }; shelf = module_at; seats = λ k i. i; apart = λ k i j e. e }
 
 pub is_module : (n : ℕ) → IsModule world (module_at n)
-is_module n = record { on_shelf = refl; bytes = keeper_bytes; loads = keeper_loads }
+is_module n = record { on_shelf = refl; profile = One; bytes = keeper_bytes; loads = keeper_loads }
 
 -- its function `f` is called on this fuel, of which it needs five
 abbrev pub request_of : Named → ℕ → Request

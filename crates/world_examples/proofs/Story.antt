@@ -9,7 +9,7 @@ use Rattle.wasm_types.specs.declared.outcome.Outcome.TheVariants as outcome
 use Rattle.wasm_spec.specs.Execution.{exec}
 use Rattle.pool_core.specs.declared.words.State.TheVariants.{Awaiting, Warm}
 use Rattle.pool_core.specs.declared.words.Target.{Target}
-use Rattle.pool_core.specs.declared.events.Event.TheVariants.{AwaitDown, AwaitUp, Claim, Home, Out, Release, Split, Stamp, WarmDown, WarmUp}
+use Rattle.pool_core.specs.declared.events.Event.TheVariants.{AwaitDown, AwaitUp, Claim, Home, Load, Out, Release, Split, Stamp, WarmDown, WarmUp}
 use Rattle.pool_core.specs.StateWords.{cold_target}
 use Rattle.pool_worlds.specs.Contents.{Kind, Ticket, Memory, Table, MemoryContents, memory_image, is_marked, rewritten_from, restored as restored_contents, Marks, Matches}
 use Rattle.pool_worlds.specs.PoolMachine.{Machine, WorldEvent, Step, Prepare, Restore, Clear, Begin, Turn, End, HasOut, held_by, after, after_all, AllMayHappen}
@@ -18,10 +18,10 @@ use Rattle.pool_worlds.specs.Worlds.{IsSameRequest, answers}
 use Rattle.pool_worlds.proofs.Bytes.{rewritten-is}
 use Rattle.world_examples.proofs.Scenes.{first, second, world, is_module, request_of, callable, cold, cold_is, opened, is_free, unmarked, steps_happen, Plays, plays, plays_on, and_then, beyond_four}
 
-abbrev awaiting : (tag stamp : ℕ) → Target
+abbrev pub awaiting : (tag stamp : ℕ) → Target
 awaiting tag stamp = record { state = Awaiting; tag = tag; stamp = stamp }
 
-abbrev warm : (tag stamp : ℕ) → Target
+abbrev pub warm : (tag stamp : ℕ) → Target
 warm tag stamp = record { state = Warm; tag = tag; stamp = stamp }
 
 -- the bytes of one page past its first four
@@ -32,6 +32,7 @@ zeros = replicate 65532 0
 
 abbrev takes : List WorldEvent
 takes = Step Ticket (Split 0 1) ∷ Step Memory (Split 0 1) ∷ Step Table (Split 0 1)
+    ∷ Step Ticket (Load 0 0) ∷ Step Ticket (Load 0 1)
     ∷ Step Ticket (Claim 0 0) ∷ Step Ticket (Out 0 0) ∷ Step Memory (Claim 0 0) ∷ Step Memory (Out 0 0) ∷ Step Table (Claim 0 0) ∷ Step Table (Out 0 0)
     ∷ Step Ticket (Claim 1 1) ∷ Step Ticket (Out 1 1) ∷ Step Memory (Claim 1 1) ∷ Step Memory (Out 1 1)
     ∷ Step Table (Claim 1 0) ∷ Step Table (Claim 1 1) ∷ Step Table (Out 1 1) ∷ []

@@ -1,14 +1,12 @@
 use Rattle.std.proofs.Common.{refl}
-use Rattle.wasm_spec.specs.InstrGrammar.{shape}
+use Rattle.wasm_examples.proofs.OpcodeExamples.{rows, others}
 use Rattle.wasm_examples.proofs.laws.opcodes_are_those_of_the_index.Goals as goal
 
 pub returns-clause-rows : goal.returns-clause-rows
-unfolding shape
-returns-clause-rows c = refl
+returns-clause-rows c = rows
 
 pub returns-clause-others : goal.returns-clause-others
-unfolding shape
-returns-clause-others c = refl
+returns-clause-others c = others
 
 pub returns-clause-all : goal.returns-clause-all
 returns-clause-all c = refl
