@@ -5,21 +5,22 @@ ghost use Rattle.pool_host.specs.Hosts.{IsHostPass, IsNewHostPass, IsShare};
 ghost use Rattle.call_workers.specs.Crews.{IsDone, IsNewCrew, IsNewWorker};
 ghost use Rattle.call_workers.specs.Entries.{AreNumbered};
 
-use crate::calls::{Due, Item};
+use crate::calls::Due;
 use crate::members::{Crew, Done, Worker};
 use crate::shared::Shared;
 use crate::working::work;
 use host_edge::Gate;
-use job_queue::{JobPass, Jobs};
+use job_queue::Jobs;
 use module_store::{ModuleStore, Naming};
-use pool_host::{Host, HostPass, MOST_PASSES};
+use pool_host::{Host, MOST_PASSES};
 use pool_limits::Share;
 use std::alloc::Global;
 use std::sync::Wait;
 use std::thread::{self, Threads};
 use wasm_types::NoMemory;
 
-/// So many workers over a host with these slots, and a queue for these calls.
+/// So many workers over a host with these slots, and a queue for these calls: for each pass of the host a worker, which takes one
+/// of the queue's.
 ///
 /// # Errors
 ///
@@ -37,41 +38,20 @@ pub fn open_crew<N: Naming>(
     requires few { length calls.items < 2 ^ 32 }
     ensures { IfOk result (IsNewCrew N.config share calls.items count) }
 {
-    let (host, passes) = Host::open(alloc, store, share, count)?;
-    let (jobs, putter, takers) = Jobs::open(alloc, calls.len() as u32, count)?;
-    let workers = workers(alloc, &host, passes, &jobs, takers)?;
+    let (host, mut passes) = Host::open(alloc, store, share, count)?;
+    let (jobs, putter, mut takers) = Jobs::open(alloc, calls.len() as u32, count)?;
+    let mut workers = Vec::new(alloc);
+    while let Some(pass) = passes.pop() {
+        let own = takers.pop().unwrap();
+        workers.reserve(1).map_err(|_| NoMemory)?;
+        workers.push_reserved(Worker { pass, own });
+    }
     let shared = Shared { host, jobs, calls };
     Ok(Crew {
         shared,
         putter,
         workers,
     })
-}
-
-// A worker for each pass of the host, which takes one of the queue's.
-fn workers<N: Naming>(
-    alloc: Global,
-    host: &Host<N>,
-    mut passes: Vec<HostPass<N>>,
-    jobs: &Jobs<Item<N>>,
-    mut owns: Vec<JobPass<Item<N>>>,
-) -> Result<Vec<Worker<N>>, NoMemory>
-    requires passes { All (IsHostPass host.now) passes.items }
-    requires new { All (IsNewHostPass host.now) passes.items }
-    requires owns { All (IsNewPassOf false jobs.now) owns.items }
-    requires many { length passes.items ≡ length owns.items }
-    ensures count { IfOk result (λ workers. length workers.items ≡ length owns.items) }
-    ensures workers { IfOk result (λ workers. All (IsNewWorker host.now jobs.now) workers.items) }
-{
-    let _ = host;
-    let _ = jobs;
-    let mut workers = Vec::new(alloc);
-    while let Some(pass) = passes.pop() {
-        let own = owns.pop().unwrap();
-        workers.reserve(1).map_err(|_| NoMemory)?;
-        workers.push_reserved(Worker { pass, own });
-    }
-    Ok(workers)
 }
 
 // The work of one worker, whose passes are given back with what it made.

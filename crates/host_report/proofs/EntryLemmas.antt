@@ -24,8 +24,8 @@ entry_told limits bytes (Ok named) h = record { loaded = Ok named.tree; loads = 
 entry_told limits bytes (Err line) h = record { loaded = Err h.0; loads = h.1; shows = h.2 }
 
 -- what became of a module is its entry
-pub entry_of_loaded : (limits : Limits) (bytes : List ℕ) (loaded : Result Named LoadFault) (r : Result Entry NoMemory) → IfOk loaded (λ named. Loads bytes (load_limits limits) (Ok named.tree))
-    → IfErr loaded (IsRefusal bytes (load_limits limits)) → IsEntryOf loaded r → IfOk r (IsEntry limits bytes)
+pub entry_of_loaded : (limits : Limits) (bytes : List ℕ) (loaded : Result Named LoadFault) (r : Result Entry NoMemory) → IfOk loaded (λ named. Loads limits.profile bytes (load_limits limits) (Ok named.tree))
+    → IfErr loaded (IsRefusal limits.profile bytes (load_limits limits)) → IsEntryOf loaded r → IfOk r (IsEntry limits bytes)
 entry_of_loaded limits bytes (Ok named) r loads h is = rw is loads
 entry_of_loaded limits bytes (Err fault.TooMany) r loads h is = absurd is
 entry_of_loaded limits bytes (Err fault.Malformed) r loads h is = rw is (loading.Malformed, h, refl)

@@ -4,6 +4,7 @@ use Rattle.wasm_types.specs.declared.limits.LoadLimits.{LoadLimits}
 use Rattle.std.proofs.Common.{◌≡◌, ℕ, zero, suc, ◌+◌, List, [], ◌∷◌, Some, Ok, Err, take, sym, ap, ◌∙◌, subst, arith}
 use Rattle.std.specs.Prelude.{Result, slice_get}
 use Rattle.wasm_types.specs.declared.outcome.Val.{Val}
+use Rattle.wasm_types.specs.declared.profile.Profile.{Profile}
 use Rattle.wasm_types.specs.Tree.{ModuleTree}
 use Rattle.wasm_spec.specs.Loading.{Loads, Refusal}
 use Rattle.wasm_spec.specs.Validity.{IsValid}
@@ -22,10 +23,10 @@ use Rattle.host_report.proofs.CallLemmas.{call_count-call, call_count-module}
 
 -- the laws of the layers below: bytes load to one answer, what loads is within its limits, and a call of a valid module has one answer
 abbrev pub LoadsOnce : Type 0
-LoadsOnce = (bytes : List ℕ) (limits : LoadLimits) (a b : Result ModuleTree Refusal) → Loads bytes limits a → Loads bytes limits b → a ≡ b
+LoadsOnce = (profile : Profile) (bytes : List ℕ) (limits : LoadLimits) (a b : Result ModuleTree Refusal) → Loads profile bytes limits a → Loads profile bytes limits b → a ≡ b
 
 abbrev pub LoadsWithin : Type 0
-LoadsWithin = (bytes : List ℕ) (limits : LoadLimits) (m : ModuleTree) → Loads bytes limits (Ok m) → IsWithin limits m
+LoadsWithin = (profile : Profile) (bytes : List ℕ) (limits : LoadLimits) (m : ModuleTree) → Loads profile bytes limits (Ok m) → IsWithin limits m
 
 abbrev pub AnswersOnce : Type 0
 AnswersOnce = (m : ModuleTree) (limits : RunLimits) (export : List ℕ) (args : List Val) (fuel : ℕ) (a b : LaneAnswer) → IsValid m
@@ -33,20 +34,20 @@ AnswersOnce = (m : ModuleTree) (limits : RunLimits) (export : List ℕ) (args : 
 
 pub one_module_line : LoadsOnce → (limits : Limits) (bytes : List ℕ) (a b : ModuleLine) → IsModuleLine limits bytes a → IsModuleLine limits bytes b → a ≡ b
 one_module_line one_load limits bytes a b h g =
-    let same : h.loaded ≡ g.loaded = one_load bytes (load_limits limits) h.loaded g.loaded h.loads g.loads in
+    let same : h.loaded ≡ g.loaded = one_load limits.profile bytes (load_limits limits) h.loaded g.loaded h.loads g.loads in
     h.shows ∙ ap loading_line same ∙ sym g.shows
 
 module _ (one_load : LoadsOnce) (within : LoadsWithin) (one_answer : AnswersOnce) where
   shown_once : (limits : Limits) (bytes export : List ℕ) (fuel : ℕ) (args : List Val) (loaded : Result ModuleTree Refusal) (a b : CallLine)
-      → Loads bytes (load_limits limits) loaded → ShowsCall limits loaded export fuel args a → ShowsCall limits loaded export fuel args b → a ≡ b
+      → Loads limits.profile bytes (load_limits limits) loaded → ShowsCall limits loaded export fuel args a → ShowsCall limits loaded export fuel args b → a ≡ b
   shown_once limits bytes export fuel args (Err why) a b loads h g = h ∙ sym g
   shown_once limits bytes export fuel args (Ok m) a b loads (p, answer, is) (q, answer', is') =
-      is ∙ ap answer_line (one_answer m (run_limits limits) export args fuel p q (within bytes (load_limits limits) m loads).valid answer answer') ∙ sym is'
+      is ∙ ap answer_line (one_answer m (run_limits limits) export args fuel p q (within limits.profile bytes (load_limits limits) m loads).valid answer answer') ∙ sym is'
 
   pub one_call_line : (limits : Limits) (bytes export : List ℕ) (fuel : ℕ) (args : List Val) (a b : CallLine)
       → IsCallLine limits bytes export fuel args a → IsCallLine limits bytes export fuel args b → a ≡ b
   one_call_line limits bytes export fuel args a b h g =
-      let same : g.loaded ≡ h.loaded = one_load bytes (load_limits limits) g.loaded h.loaded g.loads h.loads in
+      let same : g.loaded ≡ h.loaded = one_load limits.profile bytes (load_limits limits) g.loaded h.loaded g.loads h.loads in
       shown_once limits bytes export fuel args h.loaded a b h.loads h.shows (subst (λ (r : Result ModuleTree Refusal). ShowsCall limits r export fuel args b) same g.shows)
 
   one_line : (limits : Limits) (modules : List (List ℕ)) (number : ℕ) (d : Directive) (a b : ReportLine) → IsLine limits modules number d a → IsLine limits modules number d b → a ≡ b

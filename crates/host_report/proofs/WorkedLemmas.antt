@@ -8,6 +8,7 @@ use Rattle.std.proofs.lemmas.List.Elements.{All-cons, All-filter, All-get_or, Al
 use Rattle.std.proofs.lemmas.List.Sorted.{All-permutation, sum_by-IsPermutation}
 use Rattle.std.proofs.lemmas.List.Sums.{sum_by-cons}
 use Rattle.wasm_types.specs.declared.outcome.Val.{Val}
+use Rattle.wasm_types.specs.declared.profile.Profile.{Profile}
 use Rattle.pool_limits.specs.declared.numbers.Numbers.{Numbers}
 use Rattle.pool_worlds.specs.Contents.{Named}
 use Rattle.pool_host.specs.declared.answers.Answer.{Answer}
@@ -35,51 +36,51 @@ use Rattle.host_report.proofs.PutLemmas.{IsPair, IsPairAt, put_below, put_once, 
 
 -- ---- the line of one call
 
-module _ (config : Numbers) (bytes : List ℕ) (due : Due) (line : CallLine) where
-  answered_line : (named : Named) (a : Option Answer) → IsEntry (limits_in config) bytes (Ok named) → IsAnswered config due (Some named) a → line_of a ≡ Some line
-      → IsCallLine (limits_in config) bytes due.export due.fuel due.args line
+module _ (profile : Profile) (config : Numbers) (bytes : List ℕ) (due : Due) (line : CallLine) where
+  answered_line : (named : Named) (a : Option Answer) → IsEntry (limits_in profile config) bytes (Ok named) → IsAnswered config due (Some named) a → line_of a ≡ Some line
+      → IsCallLine (limits_in profile config) bytes due.export due.fuel due.args line
   answered_line named None entry answered shown = absurd answered
   answered_line named (Some (answer.Done outcome)) entry answered shown =
-      accepted_call (limits_in config) bytes (Ok named) named due.export due.fuel due.args (lane.Done outcome) line refl entry answered (cc)
+      accepted_call (limits_in profile config) bytes (Ok named) named due.export due.fuel due.args (lane.Done outcome) line refl entry answered (cc)
   answered_line named (Some answer.NoExport) entry answered shown =
-      accepted_call (limits_in config) bytes (Ok named) named due.export due.fuel due.args lane.NoExport line refl entry answered (cc)
+      accepted_call (limits_in profile config) bytes (Ok named) named due.export due.fuel due.args lane.NoExport line refl entry answered (cc)
   answered_line named (Some answer.BadArgs) entry answered shown =
-      accepted_call (limits_in config) bytes (Ok named) named due.export due.fuel due.args lane.BadArgs line refl entry answered (cc)
+      accepted_call (limits_in profile config) bytes (Ok named) named due.export due.fuel due.args lane.BadArgs line refl entry answered (cc)
   answered_line named (Some (answer.Full kind)) entry answered shown = cc
 
-  worked_line : (entry : Entry) (m : Option Named) (a : Option Answer) → IsEntry (limits_in config) bytes entry → m ≡ module_of entry → IsAnswered config due m a → line_of a ≡ Some line
-      → IsCallLine (limits_in config) bytes due.export due.fuel due.args line
+  worked_line : (entry : Entry) (m : Option Named) (a : Option Answer) → IsEntry (limits_in profile config) bytes entry → m ≡ module_of entry → IsAnswered config due m a → line_of a ≡ Some line
+      → IsCallLine (limits_in profile config) bytes due.export due.fuel due.args line
   worked_line (Ok named) m a entry is answered shown =
       answered_line named a entry (subst (λ (x : Option Named). IsAnswered config due x a) is answered) shown
   worked_line (Err told) m a entry is answered shown =
       let none : a ≡ None = subst (λ (x : Option Named). IsAnswered config due x a) is answered in
       let shows : Some call_line.NoModule ≡ Some line = ap line_of (sym none) ∙ shown in
       let is_line : call_line.NoModule ≡ line = cc in
-      subst (λ (l : CallLine). IsCallLine (limits_in config) bytes due.export due.fuel due.args l) is_line
-      (refused_call (limits_in config) bytes (Err told) told due.export due.fuel due.args refl entry)
+      subst (λ (l : CallLine). IsCallLine (limits_in profile config) bytes due.export due.fuel due.args l) is_line
+      (refused_call (limits_in profile config) bytes (Err told) told due.export due.fuel due.args refl entry)
 
 some_entry : (entries : List Entry) (i : ℕ) → i < length entries → (e : Entry) × (slice_get entries i ≡ Some e)
 some_entry [] i lt = absurd (omega arith)
 some_entry (e ∷ entries) zero lt = (e, refl)
 some_entry (e ∷ entries) (suc i) lt = some_entry entries i (omega arith)
 
-module _ (config : Numbers) (requests : List Directive) (entries : List Entry) (are : AreEntries (limits_in config) (modules_of requests) entries) where
+module _ (profile : Profile) (config : Numbers) (requests : List Directive) (entries : List Entry) (are : AreEntries (limits_in profile config) (modules_of requests) entries) where
   line_right : (at : ℕ) (m : Option Named) (due : Due) (a : Option Answer) (line : CallLine) → IsPairAt entries requests requests at m
-      → slice_get (dues_from 1 requests) at ≡ Some due → IsAnswered config due m a → line_of a ≡ Some line → IsLineOf (limits_in config) requests at line
+      → slice_get (dues_from 1 requests) at ≡ Some due → IsAnswered config due m a → line_of a ≡ Some line → IsLineOf (limits_in profile config) requests at line
   line_right at m due a line p due_is answered shown =
-      let limits = limits_in config in
+      let limits = limits_in profile config in
       let d = due_at_call 1 requests at due p.place p.export p.fuel p.args due_is p.call in
       let (entry, stands) = some_entry entries p.place (entry_there limits (modules_of requests) entries p.place p.bytes are p.there) in
       let is_entry = entry_at limits (modules_of requests) entries p.place p.bytes entry are p.there stands in
       let module_is : m ≡ module_of entry = p.module_is ∙ rw stands refl in
-      let told : IsCallLine limits p.bytes due.export due.fuel due.args line = worked_line config p.bytes due line entry m a is_entry module_is answered shown in
+      let told : IsCallLine limits p.bytes due.export due.fuel due.args line = worked_line profile config p.bytes due line entry m a is_entry module_is answered shown in
       let goes : IsCallLine limits p.bytes p.export p.fuel p.args line = rw (d.export_is, d.fuel_is, d.args_is) at told in
       rw p.call (record { bytes = p.bytes; there = p.there; goes = goes })
 
   -- ---- entries and pairs
 
   found : (pairs : List Pair) (all : List Worked) → AllZip (worked.IsEntry config (dues_from 1 requests)) pairs all → All (λ (pair : Pair). 0 < pair.0) pairs → All (IsPair entries requests) pairs
-      → (at : ℕ) (line : CallLine) (i : ℕ) (one : Worked) → slice_get all i ≡ Some one → one.number ≡ at + 1 → line_of one.answer ≡ Some line → IsLineOf (limits_in config) requests at line
+      → (at : ℕ) (line : CallLine) (i : ℕ) (one : Worked) → slice_get all i ≡ Some one → one.number ≡ at + 1 → line_of one.answer ≡ Some line → IsLineOf (limits_in profile config) requests at line
   found [] [] zip counted known at line i one one_is number_is line_is = cc
   found [] (w ∷ all) zip counted known at line i one one_is number_is line_is = absurd zip
   found (pair ∷ pairs) [] zip counted known at line i one one_is number_is line_is = absurd zip
@@ -146,8 +147,8 @@ times_called k (pair ∷ pairs) = times_more k pair pairs (pair.0 == 0) refl (ti
 
 -- ---- all entries
 
-module _ (config : Numbers) (requests : List Directive) (entries : List Entry) (workers : ℕ) (all : List Worked)
-    (are : AreEntries (limits_in config) (modules_of requests) entries) (placed : ArePlacedBelow (length (modules_of requests)) requests)
+module _ (profile : Profile) (config : Numbers) (requests : List Directive) (entries : List Entry) (workers : ℕ) (all : List Worked)
+    (are : AreEntries (limits_in profile config) (modules_of requests) entries) (placed : ArePlacedBelow (length (modules_of requests)) requests)
     (h : AnswersAll config (dues_from 1 requests) (pairs_put entries requests workers) all) where
   pub of_calls : AreOfCalls (call_count requests) all
   of_calls = record {
@@ -162,9 +163,9 @@ module _ (config : Numbers) (requests : List Directive) (entries : List Entry) (
         let d = put_once entries requests workers k some in omega arith;
   }
 
-  pub lines_of_calls : (at : ℕ) (line : CallLine) → IsOfWorked all at line → IsLineOf (limits_in config) requests at line
+  pub lines_of_calls : (at : ℕ) (line : CallLine) → IsOfWorked all at line → IsLineOf (limits_in profile config) requests at line
   lines_of_calls at line w =
-      found config requests entries are (called h.given) all h.made (called_counted h.given)
+      found profile config requests entries are (called h.given) all h.made (called_counted h.given)
       (All-filter (λ (pair : Pair). not (pair.0 == 0)) (IsPair entries requests) h.given
       (All-permutation (IsPair entries requests) (pairs_put entries requests workers) h.given h.all (put_pairs entries requests workers placed)))
       at line w.place w.one w.one_is w.number_is w.line_is

@@ -26,8 +26,8 @@ IsEntryOf (Err fault.NoMemory) entry = IsErr entry
 
 -- an entry for the module line of these bytes
 abbrev pub IsEntry : Limits → List ℕ → Entry → Type 0
-IsEntry limits bytes (Ok named) = Loads bytes (load_limits limits) (Ok named.tree)
-IsEntry limits bytes (Err line) = (why : Refusal) × Loads bytes (load_limits limits) (Err why) × (line ≡ loading_line (Err why))
+IsEntry limits bytes (Ok named) = Loads limits.profile bytes (load_limits limits) (Ok named.tree)
+IsEntry limits bytes (Err line) = (why : Refusal) × Loads limits.profile bytes (load_limits limits) (Err why) × (line ≡ loading_line (Err why))
 
 -- one for each of these modules, in their order
 abbrev pub AreEntries : Limits → List (List ℕ) → List Entry → Type 0

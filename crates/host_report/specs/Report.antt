@@ -3,6 +3,7 @@ use Rattle.wasm_types.specs.declared.limits.RunLimits.{RunLimits}
 use Rattle.wasm_types.specs.declared.limits.LoadLimits.{LoadLimits}
 use Rattle.std.specs.Prelude.{◌≡◌, ℕ, ◌+◌, List, [], ◌∷◌, Some, Result, Ok, Err, slice_get}
 use Rattle.wasm_types.specs.declared.outcome.Val.{Val}
+use Rattle.wasm_types.specs.declared.profile.Profile.{Profile}
 use Rattle.wasm_types.specs.Tree.{ModuleTree}
 use Rattle.wasm_spec.specs.Loading as loading
 use Rattle.wasm_spec.specs.Loading.{Loads, Refusal}
@@ -18,17 +19,18 @@ use Rattle.request_text.specs.declared.report.CallLine.{CallLine}
 use Rattle.request_text.specs.declared.report.CallLine.TheVariants as call_line
 use Rattle.request_text.specs.declared.report.ReportLine.{ReportLine}
 use Rattle.request_text.specs.declared.report.ReportLine.TheVariants as report
-use Rattle.request_text.specs.Text.{modules_of}
+use Rattle.request_text.specs.Text.{Asked, modules_of}
 
--- what bounds a module and a call: nothing else of a configuration does
+-- the profile of WebAssembly in which a module is read, and what bounds it and its calls: nothing else of a configuration does
 pub record Limits : Type 0 where
+  pub profile : Profile
   pub pages : ℕ
   pub elements : ℕ
   pub depth : ℕ
   pub frame : ℕ
 
-abbrev pub limits_in : Numbers → Limits
-limits_in n = record { pages = n.pages; elements = n.elements; depth = n.depth; frame = n.frame }
+abbrev pub limits_in : Profile → Numbers → Limits
+limits_in profile n = record { profile = profile; pages = n.pages; elements = n.elements; depth = n.depth; frame = n.frame }
 
 abbrev pub load_limits : Limits → LoadLimits
 load_limits l = record { pages = l.pages; elements = l.elements; frame = l.frame }
@@ -49,7 +51,7 @@ loading_line (Err (loading.Segment extent)) = module_line.Segment
 -- how the loading of these bytes goes
 pub record IsModuleLine (limits : Limits) (bytes : List ℕ) (line : ModuleLine) : Type 0 where
   pub loaded : Result ModuleTree Refusal
-  pub loads : Loads bytes (load_limits limits) loaded
+  pub loads : Loads limits.profile bytes (load_limits limits) loaded
   pub shows : line ≡ loading_line loaded
 
 -- ---- the line of a call
@@ -65,10 +67,10 @@ ShowsCall limits (Err refusal) export fuel args line = line ≡ call_line.NoModu
 ShowsCall limits (Ok m) export fuel args line =
     (a : LaneAnswer) × IsAnswer m (run_limits limits) export args fuel a × (line ≡ answer_line a)
 
--- how a call goes: this is fixed by the limits, the bytes of its module, its export, its fuel and its arguments
+-- how a call goes: this is fixed by the limits, its profile of WebAssembly, the bytes of its module, its export, its fuel and its arguments
 pub record IsCallLine (limits : Limits) (bytes export : List ℕ) (fuel : ℕ) (args : List Val) (line : CallLine) : Type 0 where
   pub loaded : Result ModuleTree Refusal
-  pub loads : Loads bytes (load_limits limits) loaded
+  pub loads : Loads limits.profile bytes (load_limits limits) loaded
   pub shows : ShowsCall limits loaded export fuel args line
 
 -- ---- all lines
@@ -99,5 +101,5 @@ AreLines limits modules number (directive ∷ requests) (line ∷ lines) =
     IsLine limits modules number directive line × AreLines limits modules (next_number number directive) requests lines
 
 -- the report on a request file that asks for this; calls are numbered from 1
-abbrev pub IsReport : Numbers → List Directive → List ReportLine → Type 0
-IsReport numbers requests lines = AreLines (limits_in numbers) (modules_of requests) 1 requests lines
+abbrev pub IsReport : Numbers → Asked → List ReportLine → Type 0
+IsReport numbers requests lines = AreLines (limits_in requests.profile numbers) (modules_of requests.directives) 1 requests.directives lines

@@ -1,6 +1,7 @@
 //! The calls of a request file, and those of them that the lane makes.
 ghost use Rattle.std.specs.Prelude.{◌≡◌, ◌-◌, ◌<◌, ◌≤◌, ℕ, List, IfSome, Some, is_none, length, slice_get};
-ghost use Rattle.request_text.specs.Text.{AreRequests, modules_of};
+ghost use Rattle.wasm_types.specs.declared.profile.Profile.{Profile};
+ghost use Rattle.request_text.specs.Text.{modules_of};
 ghost use Rattle.host_report.specs.Answers.{AreAnswers};
 ghost use Rattle.host_report.specs.Collected.{AreCollected, IsBoard, lines_on};
 ghost use Rattle.host_report.specs.Entries.{AreEntries, IsEntry};
@@ -14,7 +15,7 @@ use host_edge::Gate;
 use job_queue::Board;
 use module_store::{ModuleStore, Naming};
 use pool_host::{LaneAnswer, LaneHost};
-use request_text::{CallLine, Directive};
+use request_text::{CallLine, Directive, Requests};
 use wasm_types::Val;
 
 fn answer_line(answer: LaneAnswer) -> CallLine
@@ -40,8 +41,8 @@ fn call_line<N: Naming, G: Gate>(
 ) -> CallLine
     ensures lane { lane.new.host ≡ lane.old.host }
     ensures made { MadeOnLane N.config lane.old.host (module_of entry.now) lane.old.pass.passes lane.new.pass.passes }
-    ensures line { (bytes : List ℕ) → IsEntry (limits_in N.config) bytes entry.now
-        → IsCallLine (limits_in N.config) bytes export.now fuel args.now result }
+    ensures line { (profile : Profile) (bytes : List ℕ) → IsEntry (limits_in profile N.config) bytes entry.now
+        → IsCallLine (limits_in profile N.config) bytes export.now fuel args.now result }
 {
     match entry {
         Ok(module) => {
@@ -71,22 +72,22 @@ fn is_left(board: &Board, number: u32) -> bool
 // Makes each call of which the board has no line on the lane, in file order, and no other. The board then has the line of each.
 pub(crate) fn make_left<N: Naming, G: Gate>(
     store: &ModuleStore<N>,
-    requests: &[Directive],
+    requests: &Requests,
     entries: &[Entry<N>],
     board: &mut Board,
     lane: &mut LaneHost<N>,
     gate: &G,
 )
-    requires lawful { AreRequests requests.now }
-    requires entries { AreEntries (limits_in N.config) (modules_of requests.now) entries.now }
-    requires board { IsBoard (limits_in N.config) requests.now board.old }
+    requires entries { AreEntries (limits_in requests.now.profile N.config) (modules_of requests.now.directives) entries.now }
+    requires board { IsBoard (limits_in requests.now.profile N.config) requests.now.directives board.old }
     ensures all { AreCollected board.new (lines_on board.new) }
-    ensures right { AreAnswers (limits_in N.config) (modules_of requests.now) requests.now (lines_on board.new) }
+    ensures right { AreAnswers (limits_in requests.now.profile N.config) (modules_of requests.now.directives) requests.now.directives (lines_on board.new) }
     ensures lane { lane.new.host ≡ lane.old.host }
-    ensures made { MadeLeft N.config lane.old.host entries.now board.old 0 requests.now lane.old.pass.passes lane.new.pass.passes }
+    ensures made { MadeLeft N.config lane.old.host entries.now board.old 0 requests.now.directives lane.old.pass.passes lane.new.pass.passes }
 {
+    let directives = requests.directives();
     let mut number = 0u32;
-    for directive in requests {
+    for directive in directives {
         if let Directive::Call {
             module,
             export,

@@ -6,16 +6,15 @@ ghost use Rattle.request_text.specs.declared.report.CallLine.{CallLine};
 ghost use Rattle.request_text.specs.declared.report.ModuleLine.{ModuleLine};
 ghost use Rattle.request_text.specs.declared.report.ReportLine.{ReportLine};
 ghost use Rattle.request_text.specs.declared.report.ReportLine.TheVariants.{Call as LineOfCall};
-ghost use Rattle.request_text.specs.declared.request.Directive.{Directive};
 ghost use Rattle.request_text.specs.declared.request.Directive.TheVariants.{Call};
-ghost use Rattle.request_text.specs.Text.{call_count, modules_of};
+ghost use Rattle.request_text.specs.Text.{Asked, call_count, modules_of};
 ghost use Rattle.host_report.specs.Report.{IsCallLine, IsModuleLine, IsReport, Limits, limits_in};
 
 use loaded_modules::laws::a_loaded_module_is_within_its_limits;
 use pool_host::laws::a_call_has_one_answer;
 use wasm_spec::laws::loading_has_at_most_one_answer;
 
-/// The line of a module is decided by the limits and its bytes.
+/// The line of a module is decided by the limits, its profile of WebAssembly and its bytes.
 pub fn same_module_line()
     ensures { (limits : Limits) (bytes : List ℕ) (a b : ModuleLine)
         → IsModuleLine limits bytes a → IsModuleLine limits bytes b → a ≡ b }
@@ -23,7 +22,8 @@ pub fn same_module_line()
     loading_has_at_most_one_answer();
 }
 
-/// The line of a call is decided by the limits, the bytes of its module, its export, its fuel and its arguments.
+/// The line of a call is decided by the limits, its profile of WebAssembly, the bytes of its module, its export, its fuel
+/// and its arguments.
 pub fn a_call_has_one_line()
     ensures { (limits : Limits) (bytes export : List ℕ) (fuel : ℕ) (args : List Val) (a b : CallLine)
         → IsCallLine limits bytes export fuel args a → IsCallLine limits bytes export fuel args b → a ≡ b }
@@ -35,7 +35,7 @@ pub fn a_call_has_one_line()
 
 /// What a file asks for has at most one report under the numbers of a configuration.
 pub fn at_most_one_report()
-    ensures { (numbers : Numbers) (requests : List Directive) (a b : List ReportLine)
+    ensures { (numbers : Numbers) (requests : Asked) (a b : List ReportLine)
         → IsReport numbers requests a → IsReport numbers requests b → a ≡ b }
 {
     loading_has_at_most_one_answer();
@@ -46,10 +46,10 @@ pub fn at_most_one_report()
 /// In a report each call has its line, at the call's place in the file, after the call's number: one more than the calls
 /// before it.
 pub fn each_call_has_its_line()
-    ensures { (numbers : Numbers) (requests : List Directive) (lines : List ReportLine)
+    ensures { (numbers : Numbers) (requests : Asked) (lines : List ReportLine)
         (at place : ℕ) (bytes export : List ℕ) (fuel : ℕ) (args : List Val)
-        → IsReport numbers requests lines → slice_get requests at ≡ Some (Call place export fuel args)
-        → slice_get (modules_of requests) place ≡ Some bytes
-        → (how : CallLine) × IsCallLine (limits_in numbers) bytes export fuel args how
-        × (slice_get lines at ≡ Some (LineOfCall (1 + call_count (take at requests)) how)) }
+        → IsReport numbers requests lines → slice_get requests.directives at ≡ Some (Call place export fuel args)
+        → slice_get (modules_of requests.directives) place ≡ Some bytes
+        → (how : CallLine) × IsCallLine (limits_in requests.profile numbers) bytes export fuel args how
+        × (slice_get lines at ≡ Some (LineOfCall (1 + call_count (take at requests.directives)) how)) }
 {}

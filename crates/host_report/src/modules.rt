@@ -6,10 +6,10 @@ ghost use Rattle.host_report.specs.Entries.{AreEntries, IsEntry, IsEntryOf, entr
 ghost use Rattle.host_report.specs.Report.{limits_in};
 
 use module_store::{Desk, LoadFault, ModuleRef, ModuleStore, Naming};
-use request_text::{Directive, ModuleLine};
+use request_text::{Directive, ModuleLine, Requests};
 use std::alloc::Global;
 use std::sync::Wait;
-use wasm_types::NoMemory;
+use wasm_types::{NoMemory, Profile};
 
 // What became of a module line: a module that may be called, or the line that tells why it is refused.
 pub(crate) type Entry<N> = Result<ModuleRef<N>, ModuleLine>;
@@ -47,13 +47,14 @@ pub(crate) fn register<N: Naming, R: Wait>(
     alloc: Global,
     store: &ModuleStore<N>,
     desk: &mut Desk<N>,
+    profile: Profile,
     bytes: &[u8],
 ) -> Result<Entry<N>, NoMemory>
     requires { desk.old < MOST_MODULES }
-    ensures entry { IfOk result (λ entry. IsEntry (limits_in N.config) bytes.now entry) }
+    ensures entry { IfOk result (λ entry. IsEntry (limits_in profile N.config) bytes.now entry) }
     ensures desk { desk.new ≤ desk.old + 1 }
 {
-    entry_of(store.register(rt, alloc, desk, bytes))
+    entry_of(store.register(rt, alloc, desk, profile, bytes))
 }
 
 // The entries of all module lines, in their order.
@@ -62,15 +63,17 @@ pub(crate) fn register_all<N: Naming, R: Wait>(
     alloc: Global,
     store: &ModuleStore<N>,
     desk: &mut Desk<N>,
-    requests: &[Directive],
+    requests: &Requests,
 ) -> Result<Vec<Entry<N>>, NoMemory>
-    requires { desk.old + length (module_names requests.now) ≤ MOST_MODULES }
-    ensures { IfOk result (λ entries. AreEntries (limits_in N.config) (modules_of requests.now) entries.items) }
+    requires { desk.old + length (module_names requests.now.directives) ≤ MOST_MODULES }
+    ensures { IfOk result (λ entries. AreEntries (limits_in requests.now.profile N.config) (modules_of requests.now.directives) entries.items) }
 {
+    let profile = requests.profile();
+    let directives = requests.directives();
     let mut entries = Vec::new(alloc);
-    for directive in requests {
+    for directive in directives {
         if let Directive::Module { bytes, .. } = directive {
-            let entry = register(rt, alloc, store, desk, bytes.as_slice())?;
+            let entry = register(rt, alloc, store, desk, profile, bytes.as_slice())?;
             entries.push(entry).map_err(|_| NoMemory)?;
         }
     }

@@ -2,7 +2,7 @@
 ghost use Rattle.std.specs.Prelude.{◌≡◌, ◌+◌, ◌≤◌, List, [], ◌++◌, IfOk, None, length, replicate};
 ghost use Rattle.job_queue.specs.Accounts.{with_put};
 ghost use Rattle.job_queue.specs.Passes.{IsJobPass, IsPutter, account_of, capacity_of, count_of, put_by};
-ghost use Rattle.request_text.specs.Text.{AreRequests, call_count, modules_of};
+ghost use Rattle.request_text.specs.Text.{call_count, modules_of};
 ghost use Rattle.call_workers.specs.Entries.{Pair};
 ghost use Rattle.host_report.specs.Entries.{AreEntries};
 ghost use Rattle.host_report.specs.Put.{HasPut, module_of, pairs_from, pairs_put};
@@ -14,7 +14,7 @@ use crate::shares::worker_count;
 use call_workers::Item;
 use job_queue::{JobPass, Jobs};
 use module_store::{Desk, ModuleStore, Naming};
-use request_text::Directive;
+use request_text::{Directive, Requests};
 use std::alloc::Global;
 use std::sync::Wait;
 use wasm_types::NoMemory;
@@ -37,28 +37,29 @@ fn put_calls<N: Naming, R: Wait>(
     desk: &mut Desk<N>,
     jobs: &Jobs<Item<N>>,
     own: &mut JobPass<Item<N>>,
-    requests: &[Directive],
+    requests: &Requests,
 ) -> Result<Vec<Entry<N>>, NoMemory>
-    requires lawful { AreRequests requests.now }
     requires desk { desk.old ≡ 0 }
     requires own { IsJobPass jobs.now own.old }
     requires putter { IsPutter own.old }
     requires none { put_by own.old ≡ [] }
-    requires count { call_count requests.now ≤ count_of jobs.now }
-    requires room { call_count requests.now ≤ capacity_of jobs.now }
+    requires count { call_count requests.now.directives ≤ count_of jobs.now }
+    requires room { call_count requests.now.directives ≤ capacity_of jobs.now }
     ensures own { IsJobPass jobs.now own.new }
     ensures putter { IsPutter own.new }
-    ensures many { length (put_by own.new) ≤ call_count requests.now }
-    ensures entries { IfOk result (λ entries. AreEntries (limits_in N.config) (modules_of requests.now) entries.items) }
-    ensures put { IfOk result (λ entries. HasPut (pairs_from entries.items 1 requests.now) (account_of own.old) (account_of own.new)) }
+    ensures many { length (put_by own.new) ≤ call_count requests.now.directives }
+    ensures entries { IfOk result (λ entries. AreEntries (limits_in requests.now.profile N.config) (modules_of requests.now.directives) entries.items) }
+    ensures put { IfOk result (λ entries. HasPut (pairs_from entries.items 1 requests.now.directives) (account_of own.old) (account_of own.new)) }
 {
+    let profile = requests.profile();
+    let directives = requests.directives();
     let mut entries = Vec::new(alloc);
     let mut number = 0u32;
-    for directive in requests {
+    for directive in directives {
         match directive {
             Directive::Module { bytes, .. } => {
                 entries.reserve(1).map_err(|_| NoMemory)?;
-                let entry = register(rt, alloc, store, desk, bytes.as_slice())?;
+                let entry = register(rt, alloc, store, desk, profile, bytes.as_slice())?;
                 entries.push_reserved(entry);
             }
             Directive::Call { module, .. } => {
@@ -104,19 +105,18 @@ pub(crate) fn put_all<N: Naming, R: Wait>(
     mut desk: Desk<N>,
     jobs: &Jobs<Item<N>>,
     mut own: JobPass<Item<N>>,
-    requests: &[Directive],
+    requests: &Requests,
 ) -> Put<N>
-    requires lawful { AreRequests requests.now }
     requires desk { desk ≡ 0 }
     requires own { IsJobPass jobs.now own }
     requires putter { IsPutter own }
     requires none { put_by own ≡ [] }
-    requires count { call_count requests.now ≤ count_of jobs.now }
-    requires room { call_count requests.now + N.config.workers ≤ capacity_of jobs.now }
+    requires count { call_count requests.now.directives ≤ count_of jobs.now }
+    requires room { call_count requests.now.directives + N.config.workers ≤ capacity_of jobs.now }
     ensures own { IsJobPass jobs.now result.own }
     ensures ends { (pairs : List Pair) × (put_by result.own ≡ pairs ++ replicate N.config.workers (0, None)) }
-    ensures entries { IfOk result.entries (λ entries. AreEntries (limits_in N.config) (modules_of requests.now) entries.items) }
-    ensures put { IfOk result.entries (λ entries. HasPut (pairs_put entries.items requests.now N.config.workers) (account_of own) (account_of result.own)) }
+    ensures entries { IfOk result.entries (λ entries. AreEntries (limits_in requests.now.profile N.config) (modules_of requests.now.directives) entries.items) }
+    ensures put { IfOk result.entries (λ entries. HasPut (pairs_put entries.items requests.now.directives N.config.workers) (account_of own) (account_of result.own)) }
 {
     let entries = put_calls(rt, alloc, store, &mut desk, jobs, &mut own, requests);
     let workers = worker_count(store);

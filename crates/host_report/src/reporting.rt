@@ -1,7 +1,7 @@
 //! The report on what a request file asks for.
 ghost use Rattle.std.specs.Prelude.{◌≡◌, ◌<◌, IfOk, Some, length, slice_get};
 ghost use Rattle.module_store.specs.Names.{Bears};
-ghost use Rattle.request_text.specs.Text.{AreRequests, modules_of};
+ghost use Rattle.request_text.specs.Text.{modules_of};
 ghost use Rattle.host_report.specs.Answers.{AreAnswers};
 ghost use Rattle.host_report.specs.Collected.{AreCollected, lines_on};
 ghost use Rattle.host_report.specs.Entries.{AreEntries};
@@ -74,22 +74,22 @@ fn next_line<N: Naming>(
 // A line for each directive, from the entries of its modules and the lines of its calls on the board.
 fn lines<N: Naming>(
     alloc: Global,
-    requests: &[Directive],
+    requests: &Requests,
     entries: &[Entry<N>],
     board: &[Option<CallLine>],
 ) -> Result<Vec<ReportLine>, NoMemory>
-    requires lawful { AreRequests requests.now }
-    requires entries { AreEntries (limits_in N.config) (modules_of requests.now) entries.now }
+    requires entries { AreEntries (limits_in requests.now.profile N.config) (modules_of requests.now.directives) entries.now }
     requires all { AreCollected board.now (lines_on board.now) }
-    requires right { AreAnswers (limits_in N.config) (modules_of requests.now) requests.now (lines_on board.now) }
-    ensures { IfOk result (λ lines. AreLines (limits_in N.config) (modules_of requests.now) 1 requests.now lines.items) }
+    requires right { AreAnswers (limits_in requests.now.profile N.config) (modules_of requests.now.directives) requests.now.directives (lines_on board.now) }
+    ensures { IfOk result (λ lines. AreLines (limits_in requests.now.profile N.config) (modules_of requests.now.directives) 1 requests.now.directives lines.items) }
 {
+    let directives = requests.directives();
     let mut counts = Counts {
         modules: 0,
         calls: 0,
     };
     let mut lines = Vec::new(alloc);
-    for directive in requests {
+    for directive in directives {
         let line = next_line(alloc, directive, entries, board, &mut counts)?;
         lines.push(line).map_err(|_| NoMemory)?;
     }
@@ -102,12 +102,11 @@ fn report_in<N: Naming + Send + Sync, R: Threads + Wait + Sync, G: Gate>(
     rt: &R,
     alloc: Global,
     opened: Opened,
-    requests: &[Directive],
+    requests: &Requests,
     gate: &G,
 ) -> Result<Vec<ReportLine>, NoMemory>
     requires name { Bears opened N.shelves N.config }
-    requires lawful { AreRequests requests.now }
-    ensures { IfOk result (λ lines. AreLines (limits_in N.config) (modules_of requests.now) 1 requests.now lines.items) }
+    ensures { IfOk result (λ lines. AreLines (limits_in requests.now.profile N.config) (modules_of requests.now.directives) 1 requests.now.directives lines.items) }
 {
     let (store, desk) = opened.named::<N>();
     let Collected { entries, mut board } = gather(rt, alloc, &store, desk, requests, gate)?;
@@ -131,6 +130,5 @@ pub fn report<R: Threads + Wait + Sync, G: Gate>(
     ensures { IfOk result (λ lines. IsReport config requests.now lines.items) }
 {
     let opened = Opened::open(alloc, config)?;
-    let directives = requests.directives();
-    report_in::<Brand, R, G>(rt, alloc, opened, directives, gate)
+    report_in::<Brand, R, G>(rt, alloc, opened, requests, gate)
 }

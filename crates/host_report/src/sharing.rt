@@ -18,7 +18,7 @@ use call_workers::{Crew, Done, Worked, finish, work_all};
 use host_edge::Gate;
 use job_queue::Board;
 use module_store::{Desk, ModuleStore, Naming};
-use request_text::Directive;
+use request_text::{Directive, Requests};
 use std::alloc::Global;
 use std::sync::Wait;
 use std::thread::{self, Threads};
@@ -38,25 +38,24 @@ fn worked_on<N: Naming + Send + Sync, R: Threads + Wait + Sync, G: Gate>(
     alloc: Global,
     store: &ModuleStore<N>,
     desk: Desk<N>,
-    requests: &[Directive],
+    requests: &Requests,
     crew: Crew<N>,
     gate: &G,
 ) -> Result<(Vec<Entry<N>>, Vec<Worked>), NoMemory>
-    requires lawful { AreRequests requests.now }
     requires desk { desk ≡ 0 }
     requires workers { All (IsNewWorker crew.shared.host crew.shared.jobs) crew.workers.items }
     requires own { IsJobPass crew.shared.jobs crew.putter }
     requires putter { IsPutter crew.putter }
     requires none { put_by crew.putter ≡ [] }
-    requires count { call_count requests.now ≤ count_of crew.shared.jobs }
-    requires room { call_count requests.now + N.config.workers ≤ capacity_of crew.shared.jobs }
+    requires count { call_count requests.now.directives ≤ count_of crew.shared.jobs }
+    requires room { call_count requests.now.directives + N.config.workers ≤ capacity_of crew.shared.jobs }
     requires new { IsUnused (account_of crew.putter) }
-    requires calls { crew.shared.calls.items ≡ dues_from 1 requests.now }
+    requires calls { crew.shared.calls.items ≡ dues_from 1 requests.now.directives }
     requires some { 0 < N.config.workers }
     requires many { length crew.workers.items ≡ N.config.workers }
     requires passes { passes_of crew.shared.jobs ≡ N.config.workers + 1 }
-    ensures entries { IfOk result (λ r. AreEntries (limits_in N.config) (modules_of requests.now) r.0.items) }
-    ensures answers { IfOk result (λ r. AnswersAll N.config (dues_from 1 requests.now) (pairs_put r.0.items requests.now N.config.workers) r.1.items) }
+    ensures entries { IfOk result (λ r. AreEntries (limits_in requests.now.profile N.config) (modules_of requests.now.directives) r.0.items) }
+    ensures answers { IfOk result (λ r. AnswersAll N.config (dues_from 1 requests.now.directives) (pairs_put r.0.items requests.now.directives N.config.workers) r.1.items) }
 {
     let Crew {
         shared,
@@ -72,16 +71,15 @@ fn worked_on<N: Naming + Send + Sync, R: Threads + Wait + Sync, G: Gate>(
             ensures done { IfOk result (λ done. All (IsDone N.config shared.entry.now) done.items) }
         { work_all(rt, alloc, store, shared, workers, gate) },
         move || -> Put<N>
-            requires lawful { AreRequests requests.now }
             requires desk { desk ≡ 0 }
             requires own { IsJobPass shared.now.jobs putter }
             requires putter { IsPutter putter }
             requires none { put_by putter ≡ [] }
-            requires count { call_count requests.now ≤ count_of shared.now.jobs }
-            requires room { call_count requests.now + N.config.workers ≤ capacity_of shared.now.jobs }
+            requires count { call_count requests.now.directives ≤ count_of shared.now.jobs }
+            requires room { call_count requests.now.directives + N.config.workers ≤ capacity_of shared.now.jobs }
             ensures own { IsJobPass shared.entry.now.jobs result.own }
-            ensures entries { IfOk result.entries (λ entries. AreEntries (limits_in N.config) (modules_of requests.entry.now) entries.items) }
-            ensures put { IfOk result.entries (λ entries. HasPut (pairs_put entries.items requests.entry.now N.config.workers) (account_of putter) (account_of result.own)) }
+            ensures entries { IfOk result.entries (λ entries. AreEntries (limits_in requests.entry.now.profile N.config) (modules_of requests.entry.now.directives) entries.items) }
+            ensures put { IfOk result.entries (λ entries. HasPut (pairs_put entries.items requests.entry.now.directives N.config.workers) (account_of putter) (account_of result.own)) }
         { put_all(rt, alloc, store, desk, &shared.jobs, putter, requests) },
     );
     let Put { own, entries } = put;
@@ -96,17 +94,17 @@ fn by_workers<N: Naming + Send + Sync, R: Threads + Wait + Sync, G: Gate>(
     alloc: Global,
     store: &ModuleStore<N>,
     desk: Desk<N>,
-    requests: &[Directive],
+    requests: &Requests,
     gate: &G,
 ) -> Result<Collected<N>, NoMemory>
     requires several { N.config.workers ≢ 1 }
-    requires lawful { AreRequests requests.now }
     requires desk { desk ≡ 0 }
-    ensures entries { IfOk result (λ c. AreEntries (limits_in N.config) (modules_of requests.now) c.entries.items) }
-    ensures board { IfOk result (λ c. IsBoard (limits_in N.config) requests.now c.board) }
+    ensures entries { IfOk result (λ c. AreEntries (limits_in requests.now.profile N.config) (modules_of requests.now.directives) c.entries.items) }
+    ensures board { IfOk result (λ c. IsBoard (limits_in requests.now.profile N.config) requests.now.directives c.board) }
 {
-    let calls = dues(alloc, requests)?;
-    let mut board = Board::open(alloc, count_calls(requests))?;
+    let directives = requests.directives();
+    let calls = dues(alloc, directives)?;
+    let mut board = Board::open(alloc, count_calls(directives))?;
     let crew = open_workers(alloc, store, calls)?;
     let (entries, worked) = worked_on(rt, alloc, store, desk, requests, crew, gate)?;
     collect_all(&mut board, &worked);
@@ -119,14 +117,13 @@ fn by_none<N: Naming, R: Wait>(
     alloc: Global,
     store: &ModuleStore<N>,
     mut desk: Desk<N>,
-    requests: &[Directive],
+    requests: &Requests,
 ) -> Result<Collected<N>, NoMemory>
-    requires lawful { AreRequests requests.now }
     requires desk { desk ≡ 0 }
-    ensures entries { IfOk result (λ c. AreEntries (limits_in N.config) (modules_of requests.now) c.entries.items) }
-    ensures board { IfOk result (λ c. IsBoard (limits_in N.config) requests.now c.board) }
+    ensures entries { IfOk result (λ c. AreEntries (limits_in requests.now.profile N.config) (modules_of requests.now.directives) c.entries.items) }
+    ensures board { IfOk result (λ c. IsBoard (limits_in requests.now.profile N.config) requests.now.directives c.board) }
 {
-    let board = Board::open(alloc, count_calls(requests))?;
+    let board = Board::open(alloc, count_calls(requests.directives()))?;
     let entries = register_all(rt, alloc, store, &mut desk, requests)?;
     Ok(Collected { entries, board })
 }
@@ -156,13 +153,12 @@ pub(crate) fn gather<N: Naming + Send + Sync, R: Threads + Wait + Sync, G: Gate>
     alloc: Global,
     store: &ModuleStore<N>,
     desk: Desk<N>,
-    requests: &[Directive],
+    requests: &Requests,
     gate: &G,
 ) -> Result<Collected<N>, NoMemory>
-    requires lawful { AreRequests requests.now }
     requires desk { desk ≡ 0 }
-    ensures entries { IfOk result (λ c. AreEntries (limits_in N.config) (modules_of requests.now) c.entries.items) }
-    ensures board { IfOk result (λ c. IsBoard (limits_in N.config) requests.now c.board) }
+    ensures entries { IfOk result (λ c. AreEntries (limits_in requests.now.profile N.config) (modules_of requests.now.directives) c.entries.items) }
+    ensures board { IfOk result (λ c. IsBoard (limits_in requests.now.profile N.config) requests.now.directives c.board) }
 {
     if store.config().numbers().workers == 1 {
         by_none(rt, alloc, store, desk, requests)

@@ -2,9 +2,8 @@
 use Rattle.std.proofs.Common.{◌≡◌, ℕ, List, Bool, Option, Some, None, Ok, Err, refl, sym, ap, ◌∙◌}
 use Rattle.std.specs.Prelude.{Result}
 use Rattle.pool_limits.specs.declared.numbers.Numbers.{Numbers}
-use Rattle.request_text.specs.declared.request.Directive.{Directive}
 use Rattle.request_text.specs.declared.report.ReportLine.{ReportLine}
-use Rattle.request_text.specs.Text.{FileRefusal, requests_of}
+use Rattle.request_text.specs.Text.{Asked, FileRefusal, requests_of}
 use Rattle.command_line.specs.Words.{command_of}
 use Rattle.command_line.specs.declared.words.Command.{Command}
 use Rattle.command_line.specs.declared.words.Command.TheVariants.{Make, Run}
@@ -13,13 +12,13 @@ use Rattle.host_run.specs.Serving.{Answer, IsDue, IsFileAnswer, lines_text}
 
 -- what a file asks for has at most one report
 abbrev pub ReportsOnce : Type 0
-ReportsOnce = (numbers : Numbers) (requests : List Directive) (a b : List ReportLine) → IsReport numbers requests a → IsReport numbers requests b → a ≡ b
+ReportsOnce = (numbers : Numbers) (requests : Asked) (a b : List ReportLine) → IsReport numbers requests a → IsReport numbers requests b → a ≡ b
 
 module _ (one_report : ReportsOnce) where
   abbrev answer_of : ℕ → List ℕ → Answer
   answer_of status text = record { status = status; text = text }
 
-  answered_once : (numbers : Numbers) (summary : Bool) (requests : Result (List Directive) FileRefusal) (bytes : List ℕ) (a b : Answer) → requests_of bytes ≡ requests
+  answered_once : (numbers : Numbers) (summary : Bool) (requests : Result Asked FileRefusal) (bytes : List ℕ) (a b : Answer) → requests_of bytes ≡ requests
       → IsFileAnswer numbers summary bytes a → IsFileAnswer numbers summary bytes b → a ≡ b
   answered_once numbers summary (Ok requests) bytes a b is h g =
       let first = rw is at h in

@@ -3,8 +3,7 @@ use Rattle.std.proofs.Common.{◌≡◌, ◌≤◌, ◌⊎◌, ℕ, Bool, List, 
 use Rattle.std.specs.Prelude.{Result}
 use Rattle.std.specs.Io.KnownBytes.{IsAtEnd}
 use Rattle.pool_limits.specs.declared.numbers.Numbers.{Numbers}
-use Rattle.request_text.specs.declared.request.Directive.{Directive}
-use Rattle.request_text.specs.Text.{FileRefusal, requests_of}
+use Rattle.request_text.specs.Text.{Asked, FileRefusal, requests_of}
 use Rattle.command_line.specs.declared.words.Command.TheVariants.{Run}
 use Rattle.host_run.specs.declared.due.Due.{Due}
 use Rattle.host_run.specs.Owed.{Owes}
@@ -13,13 +12,13 @@ use Rattle.host_run.specs.Streams.{ReadsInput}
 use Rattle.host_run.proofs.DueLemmas.{at_end_of_report, due_of_all, no_longer}
 
 -- the answer to a file has status 0 or 2
-file_status : (numbers : Numbers) (summary : Bool) (bytes : List ℕ) (answer : Answer) (requests : Result (List Directive) FileRefusal) → requests_of bytes ≡ requests
+file_status : (numbers : Numbers) (summary : Bool) (bytes : List ℕ) (answer : Answer) (requests : Result Asked FileRefusal) → requests_of bytes ≡ requests
     → IsFileAnswer numbers summary bytes answer → (answer.status ≡ 0) ⊎ (answer.status ≡ 2)
 file_status numbers summary bytes answer (Ok requests) asks is = let report = rw asks at is in inl report.status
 file_status numbers summary bytes answer (Err why) asks is = let refusal = rw asks at is in inr (ap (λ a. a.status) refusal)
 
 -- a file of 16 MiB at most is read to its end
-all_read : (before after : Option (List ℕ)) (bytes : List ℕ) → ReadsInput before after bytes → IfSome before (λ all. length all ≤ 16777216 → IsAtEnd after)
+all_read : (before after : Option (List ℕ)) (bytes : List ℕ) → ReadsInput before after bytes → IfSome before (λ all. length all ≤ 67108864 → IsAtEnd after)
 all_read None after bytes read = tt
 all_read (Some all) after bytes read = λ few. let fewer = no_longer all bytes after read.taken in read.end (omega arith)
 

@@ -4,34 +4,33 @@ use Rattle.std.specs.Prelude.{slice_get}
 use Rattle.std.specs.List.{flat_map}
 use Rattle.wasm_types.specs.declared.outcome.Val.{Val}
 use Rattle.pool_limits.specs.declared.numbers.Numbers.{Numbers}
-use Rattle.request_text.specs.declared.request.Directive.{Directive}
 use Rattle.request_text.specs.declared.request.Directive.TheVariants.{Call}
 use Rattle.request_text.specs.declared.report.CallLine.{CallLine}
 use Rattle.request_text.specs.declared.report.ReportLine.{ReportLine}
 use Rattle.request_text.specs.Lines.{call_line, call_text, line_text}
-use Rattle.request_text.specs.Text.{modules_of}
+use Rattle.request_text.specs.Text.{Asked, modules_of}
 use Rattle.host_report.specs.Report.{IsCallLine, IsReport, Limits, limits_in}
 use Rattle.host_run.specs.Tenants.{CallsAt, HasReport, TellsAt, WritesAt}
 
 -- a call has its line in a report, and one line only
 abbrev pub CallsTold : Type 0
-CallsTold = (numbers : Numbers) (requests : List Directive) (lines : List ReportLine) (at place : ℕ) (bytes export : List ℕ) (fuel : ℕ) (args : List Val)
-    → IsReport numbers requests lines → slice_get requests at ≡ Some (Call place export fuel args) → slice_get (modules_of requests) place ≡ Some bytes
-    → (how : CallLine) × IsCallLine (limits_in numbers) bytes export fuel args how × TellsAt requests lines at how
+CallsTold = (numbers : Numbers) (requests : Asked) (lines : List ReportLine) (at place : ℕ) (bytes export : List ℕ) (fuel : ℕ) (args : List Val)
+    → IsReport numbers requests lines → slice_get requests.directives at ≡ Some (Call place export fuel args) → slice_get (modules_of requests.directives) place ≡ Some bytes
+    → (how : CallLine) × IsCallLine (limits_in requests.profile numbers) bytes export fuel args how × TellsAt requests lines at how
 
 abbrev pub CallsOnce : Type 0
 CallsOnce = (limits : Limits) (bytes export : List ℕ) (fuel : ℕ) (args : List Val) (a b : CallLine)
     → IsCallLine limits bytes export fuel args a → IsCallLine limits bytes export fuel args b → a ≡ b
 
-pub same_told : CallsTold → CallsOnce → (words words' : List (List ℕ)) (numbers numbers' : Numbers) (bytes bytes' : List ℕ) (requests requests' : List Directive) (lines lines' : List ReportLine)
-    (at at' : ℕ) (module_bytes export : List ℕ) (fuel : ℕ) (args : List Val) → limits_in numbers ≡ limits_in numbers'
+pub same_told : CallsTold → CallsOnce → (words words' : List (List ℕ)) (numbers numbers' : Numbers) (bytes bytes' : List ℕ) (requests requests' : Asked) (lines lines' : List ReportLine)
+    (at at' : ℕ) (module_bytes export : List ℕ) (fuel : ℕ) (args : List Val) → limits_in requests.profile numbers ≡ limits_in requests'.profile numbers'
     → HasReport words numbers bytes requests lines → HasReport words' numbers' bytes' requests' lines'
     → CallsAt requests at module_bytes export fuel args → CallsAt requests' at' module_bytes export fuel args
     → (how : CallLine) × TellsAt requests lines at how × TellsAt requests' lines' at' how
 same_told call_told one_call words words' numbers numbers' bytes bytes' requests requests' lines lines' at at' module_bytes export fuel args limits r r' c c' =
     let (how, told, is) = call_told numbers requests lines at c.place module_bytes export fuel args r.report c.call c.module_bytes in
     let (how', told', is') = call_told numbers' requests' lines' at' c'.place module_bytes export fuel args r'.report c'.call c'.module_bytes in
-    let same : how' ≡ how = one_call (limits_in numbers') module_bytes export fuel args how' how told'
+    let same : how' ≡ how = one_call (limits_in requests'.profile numbers') module_bytes export fuel args how' how told'
     (subst (λ (l : Limits). IsCallLine l module_bytes export fuel args how) limits told) in
     (how, is, subst (λ (l : CallLine). TellsAt requests' lines' at' l) same is')
 
@@ -46,12 +45,12 @@ texts-at text (y ∷ ys) (suc at) x is =
     let more = texts-at text ys at x is in
     ap (λ l. text y ++ l) more ∙ grind (arith, append_assoc)
 
-pub written : (requests : List Directive) (lines : List ReportLine) (at : ℕ) (how : CallLine) → TellsAt requests lines at how → WritesAt requests lines at (call_text how)
+pub written : (requests : Asked) (lines : List ReportLine) (at : ℕ) (how : CallLine) → TellsAt requests lines at how → WritesAt requests lines at (call_text how)
 unfolding call_line
 written requests lines at how is = rw (add-one at) (texts-at line_text lines at _ is)
 
-pub same_written : CallsTold → CallsOnce → (words words' : List (List ℕ)) (numbers numbers' : Numbers) (bytes bytes' : List ℕ) (requests requests' : List Directive) (lines lines' : List ReportLine)
-    (at at' : ℕ) (module_bytes export : List ℕ) (fuel : ℕ) (args : List Val) → limits_in numbers ≡ limits_in numbers'
+pub same_written : CallsTold → CallsOnce → (words words' : List (List ℕ)) (numbers numbers' : Numbers) (bytes bytes' : List ℕ) (requests requests' : Asked) (lines lines' : List ReportLine)
+    (at at' : ℕ) (module_bytes export : List ℕ) (fuel : ℕ) (args : List Val) → limits_in requests.profile numbers ≡ limits_in requests'.profile numbers'
     → HasReport words numbers bytes requests lines → HasReport words' numbers' bytes' requests' lines'
     → CallsAt requests at module_bytes export fuel args → CallsAt requests' at' module_bytes export fuel args
     → (told : List ℕ) × WritesAt requests lines at told × WritesAt requests' lines' at' told

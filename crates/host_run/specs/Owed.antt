@@ -23,9 +23,9 @@ pub record Owes {S : Type 0} (left : S → Option (List ℕ)) (faults : S → �
   -- how much is read
   pub unread : reads_source asked ≡ false → after ≡ before
   pub end : IfOk result (λ due. due.status ≡ 0 → reads_source asked ≡ true → IsAtEnd (left after))
-  pub all_read : IfOk result (λ _. reads_source asked ≡ true → IfSome (left before) (λ bytes. length bytes ≤ 16777216 → IsAtEnd (left after)))
-  pub at_most : TakesAtMost (left before) (left after) 16777217
-  pub short : OnErr result (TakesAtMost (left before) (left after) 16777216)
+  pub all_read : IfOk result (λ _. reads_source asked ≡ true → IfSome (left before) (λ bytes. length bytes ≤ 67108864 → IsAtEnd (left after)))
+  pub at_most : TakesAtMost (left before) (left after) 67108865
+  pub short : OnErr result (TakesAtMost (left before) (left after) 67108864)
   -- the cause of a fault
   pub failed : IsErrOf result Failed → Rose (faults before) (faults after) × (reads_source asked ≡ true)
   pub spared : IsErrOf result NoMemory → faults after ≡ faults before

@@ -6,10 +6,9 @@ use Rattle.std.specs.declared.option.Option.{Option}
 use Rattle.std.specs.Io.KnownBytes.{Appends}
 use Rattle.host_run.specs.Streams.{AppendsPart}
 use Rattle.host_report.specs.Report.{IsReport}
-use Rattle.request_text.specs.declared.request.Directive.{Directive}
 use Rattle.request_text.specs.declared.report.ReportLine.{ReportLine}
 use Rattle.request_text.specs.Lines.{refusal_line, report_text}
-use Rattle.request_text.specs.Text.{requests_of}
+use Rattle.request_text.specs.Text.{Asked, requests_of}
 use Rattle.request_text.specs.Summary.{summary_text}
 use Rattle.load_maker.specs.Load.{made_file}
 use Rattle.pool_limits.specs.declared.numbers.Numbers.{Numbers}
@@ -40,7 +39,7 @@ abbrev pub lines_text : (summary : Bool) → List ReportLine → List ℕ
 lines_text summary lines = if summary then summary_text lines else report_text lines
 
 -- the answer is what a run writes on a report, with status 0
-pub record IsReported (numbers : Numbers) (summary : Bool) (requests : List Directive) (answer : Answer) : Type 0 where
+pub record IsReported (numbers : Numbers) (summary : Bool) (requests : Asked) (answer : Answer) : Type 0 where
   pub status : answer.status ≡ 0
   pub lines : List ReportLine
   pub report : IsReport numbers requests lines

@@ -6,8 +6,8 @@ use Rattle.std.specs.Io.KnownBytes.{Appends, Consumes, IsAtEnd}
 -- these bytes were taken: all that were left, or one more than the 16 MiB of the longest file
 pub record ReadsInput (left_before left_after : Option (List ℕ)) (bytes : List ℕ) : Type 0 where
   pub taken : Consumes left_before left_after bytes
-  pub size : length bytes ≤ 16777217
-  pub end : length bytes ≤ 16777216 → IsAtEnd left_after
+  pub size : length bytes ≤ 67108865
+  pub end : length bytes ≤ 67108864 → IsAtEnd left_after
 
 -- the first bytes of the text were appended, and not all of them
 abbrev pub AppendsPart : Option (List ℕ) → Option (List ℕ) → List ℕ → Type 0

@@ -3,7 +3,7 @@ ghost use Rattle.std.specs.Prelude.{◌≡◌, ℕ, List};
 ghost use Rattle.wasm_types.specs.declared.outcome.Val.{Val};
 ghost use Rattle.request_text.specs.declared.report.CallLine.{CallLine};
 ghost use Rattle.request_text.specs.declared.report.ReportLine.{ReportLine};
-ghost use Rattle.request_text.specs.declared.request.Directive.{Directive};
+ghost use Rattle.request_text.specs.Text.{Asked};
 ghost use Rattle.pool_limits.specs.declared.numbers.Numbers.{Numbers};
 ghost use Rattle.host_report.specs.Report.{limits_in};
 ghost use Rattle.host_run.specs.Tenants.{CallsAt, HasReport, TellsAt, WritesAt};
@@ -11,13 +11,13 @@ ghost use Rattle.host_run.specs.Serving.{Answer, IsDue};
 
 use host_report::laws::{a_call_has_one_line, at_most_one_report, each_call_has_its_line};
 
-/// Two request files that were reported on, without `--summary`, under the same pages, elements, depth and frame, and in
-/// each a call of the same export of a module of the same bytes, on the same fuel and arguments: after the call's number its
-/// line tells the same in both reports, whatever else the files ask for.
+/// Two request files of the same profile that were reported on, without `--summary`, under the same pages, elements, depth
+/// and frame, and in each a call of the same export of a module of the same bytes, on the same fuel and arguments: after the
+/// call's number its line tells the same in both reports, whatever else the files ask for.
 pub fn same_line()
-    ensures { (words words' : List (List ℕ)) (numbers numbers' : Numbers) (bytes bytes' : List ℕ) (requests requests' : List Directive)
+    ensures { (words words' : List (List ℕ)) (numbers numbers' : Numbers) (bytes bytes' : List ℕ) (requests requests' : Asked)
         (lines lines' : List ReportLine) (at at' : ℕ) (module_bytes export : List ℕ) (fuel : ℕ) (args : List Val)
-        → limits_in numbers ≡ limits_in numbers'
+        → limits_in requests.profile numbers ≡ limits_in requests'.profile numbers'
         → HasReport words numbers bytes requests lines → HasReport words' numbers' bytes' requests' lines'
         → CallsAt requests at module_bytes export fuel args → CallsAt requests' at' module_bytes export fuel args
         → (how : CallLine) × TellsAt requests lines at how × TellsAt requests' lines' at' how }
@@ -29,9 +29,9 @@ pub fn same_line()
 /// The same of the bytes that are written: the line of the call is its number, a space, the same bytes for both files, and
 /// LF. It stands behind the text of the lines before it.
 pub fn same_bytes()
-    ensures { (words words' : List (List ℕ)) (numbers numbers' : Numbers) (bytes bytes' : List ℕ) (requests requests' : List Directive)
+    ensures { (words words' : List (List ℕ)) (numbers numbers' : Numbers) (bytes bytes' : List ℕ) (requests requests' : Asked)
         (lines lines' : List ReportLine) (at at' : ℕ) (module_bytes export : List ℕ) (fuel : ℕ) (args : List Val)
-        → limits_in numbers ≡ limits_in numbers'
+        → limits_in requests.profile numbers ≡ limits_in requests'.profile numbers'
         → HasReport words numbers bytes requests lines → HasReport words' numbers' bytes' requests' lines'
         → CallsAt requests at module_bytes export fuel args → CallsAt requests' at' module_bytes export fuel args
         → (told : List ℕ) × WritesAt requests lines at told × WritesAt requests' lines' at' told }

@@ -22,8 +22,8 @@ use std::sync::Wait;
 use std::thread::Threads;
 
 /// Runs the host on the words of a command line, of which the first is the program's name. `run` reads the source, makes
-/// the calls that it asks for, and writes the report on them, or its summary; `make` writes a request file and reads
-/// nothing. The whole text stands before the first write.
+/// the calls that it asks for, in the file's profile of WebAssembly, and writes the report on them, or its summary; `make`
+/// writes a request file and reads nothing. The whole text stands before the first write.
 ///
 /// The result is the program's exit status: 0 where what was asked for was written, 2 after the reason of a refusal, 3
 /// where the source failed, 4 where the sink failed, 5 for want of memory. `gate` is told of each call.

@@ -1,7 +1,7 @@
 //! Whole runs over sources and sinks in memory.
 use crate::{refuse_words, serve};
 use host_edge::{Failed, Gate, MemSink, MemSource, OpenGate, Sink};
-use request_text::{MOST_CALLS, MOST_MODULES};
+use request_text::MOST_CALLS;
 use std::alloc::Global;
 use std::process::Abort;
 use std::sync::Wait;
@@ -161,10 +161,19 @@ call cnt c 19 i32:3
 call cnt c 18 i32:3
 ";
 
-const RUNS: [Run; 8] = [
+const RUNS: [Run; 9] = [
     // a call of an addition
     Run {
         words: RUN,
+        bytes: ADDITION,
+        source: (4096, &[]),
+        sink: (4096, &[]),
+        status: 0,
+        written: b"module add ok\n1 ok i32:5\n",
+    },
+    // as many memories as there may be
+    Run {
+        words: &["poolhost", "run", "--memories", "1024", "--pages", "1"],
         bytes: ADDITION,
         source: (4096, &[]),
         sink: (4096, &[]),
@@ -240,7 +249,7 @@ const RUNS: [Run; 8] = [
 ];
 
 // Refusals, and sources and sinks that fail.
-const ENDS: [Run; 9] = [
+const ENDS: [Run; 10] = [
     // an unknown module
     Run {
         words: RUN,
@@ -289,6 +298,15 @@ const ENDS: [Run; 9] = [
     // several workers and one memory, unread
     Run {
         words: &["poolhost", "run", "--workers", "2", "--memories", "1"],
+        bytes: b"abc",
+        source: (16, &[1]),
+        sink: (4096, &[]),
+        status: 2,
+        written: b"refused words\n",
+    },
+    // one memory too many, unread
+    Run {
+        words: &["poolhost", "run", "--memories", "1025"],
         bytes: b"abc",
         source: (16, &[1]),
         sink: (4096, &[]),
@@ -408,6 +426,110 @@ const INSTANCES: [Run; 9] = [
         sink: (4096, &[]),
         status: 0,
         written: b"module over refused segment\nmodule wide ok\nmodule long ok\n1 refused module\n2 refused export\n",
+    },
+];
+
+// Numbers of which the low eight bits are taken as signed.
+const EXTENSION: &[u8] = b"profile 2
+module ext 0061736d0100000001060160017f017f03020100070501016500000a070105002000c00b
+call ext e 2 i32:127
+call ext e 2 i32:128
+call ext e 2 i32:255
+call ext e 2 i32:256
+";
+
+const EXTENSION_IN_PROFILE_1: &[u8] =
+    b"module ext 0061736d0100000001060160017f017f03020100070501016500000a070105002000c00b
+call ext e 2 i32:127
+";
+
+// A memory of one page, filled from an address on.
+const FILL: &[u8] = b"# another profile
+
+profile 2
+module fill 0061736d0100000001060160027f7f00030201000503010001070501016600000a0d010b00200041072001fc0b000b
+call fill f 4 i32:0 i32:65536
+call fill f 4 i32:65536 i32:0
+call fill f 4 i32:65536 i32:1
+call fill f 4 i32:65537 i32:0
+call fill f 4 i32:-1 i32:2
+call fill f 3 i32:0 i32:65536
+";
+
+// A count of data segments, of which there is none.
+const DATA_COUNTS: &[u8] = b"profile 2
+module none 0061736d010000000c0100
+module one 0061736d010000000c0101
+";
+
+const DATA_COUNT_IN_PROFILE_1: &[u8] = b"profile 1
+module none 0061736d010000000c0100
+";
+
+// Runs in each profile.
+const PROFILES: [Run; 7] = [
+    // signs that are extended
+    Run {
+        words: RUN,
+        bytes: EXTENSION,
+        source: (4096, &[]),
+        sink: (4096, &[]),
+        status: 0,
+        written: b"module ext ok\n1 ok i32:127\n2 ok i32:-128\n3 ok i32:-1\n4 ok i32:0\n",
+    },
+    // which profile 1 lacks
+    Run {
+        words: RUN,
+        bytes: EXTENSION_IN_PROFILE_1,
+        source: (4096, &[]),
+        sink: (4096, &[]),
+        status: 0,
+        written: b"module ext refused malformed\n1 refused module\n",
+    },
+    // memories that are filled, to their end and past it
+    Run {
+        words: RUN,
+        bytes: FILL,
+        source: (4096, &[]),
+        sink: (4096, &[]),
+        status: 0,
+        written: b"module fill ok\n1 ok\n2 ok\n3 trap memory\n4 trap memory\n5 trap memory\n6 fuel\n",
+    },
+    // counts of data segments
+    Run {
+        words: RUN,
+        bytes: DATA_COUNTS,
+        source: (4096, &[]),
+        sink: (4096, &[]),
+        status: 0,
+        written: b"module none ok\nmodule one refused malformed\n",
+    },
+    // which profile 1 lacks
+    Run {
+        words: RUN,
+        bytes: DATA_COUNT_IN_PROFILE_1,
+        source: (4096, &[]),
+        sink: (4096, &[]),
+        status: 0,
+        written: b"module none refused malformed\n",
+    },
+    // a profile behind a module
+    Run {
+        words: RUN,
+        bytes: b"module e 0061736d01000000\nprofile 2\n",
+        source: (4096, &[]),
+        sink: (4096, &[]),
+        status: 2,
+        written: b"line 2: late profile\n",
+    },
+    // a profile that is none
+    Run {
+        words: RUN,
+        bytes: b"profile 9\n",
+        source: (4096, &[]),
+        sink: (4096, &[]),
+        status: 2,
+        written: b"line 1: bad profile\n",
     },
 ];
 
@@ -556,12 +678,18 @@ fn each_call_runs_on_a_fresh_instance(rt: HostRuntime) -> Result<(), Fail> {
     check_runs(&rt, rt.alloc(), &ONE_SLOT, &[])
 }
 
-// A stream gives 4,096 bytes at a time, and would fail behind the byte past 16 MiB, which is the last that is read.
 #[test]
-fn a_file_of_more_than_16_mib_is_refused_with_ample_memory(rt: HostRuntime) -> Result<(), Fail> {
+fn modules_are_read_in_the_profile_of_their_file(rt: HostRuntime) -> Result<(), Fail> {
+    check_runs(&rt, rt.alloc(), &PROFILES, &[])?;
+    check_runs(&rt, rt.alloc(), &PROFILES, FOUR_WORKERS)
+}
+
+// A stream gives 4,096 bytes at a time, and would fail behind the byte past 64 MiB, which is the last that is read.
+#[test]
+fn a_file_of_more_than_64_mib_is_refused_with_ample_memory(rt: HostRuntime) -> Result<(), Fail> {
     let alloc = rt.alloc();
-    let bytes = vec![in alloc; b'#'; 16_777_217]?;
-    let mut source = MemSource::new(bytes, 4096, vec![in alloc; 4_098]?);
+    let bytes = vec![in alloc; b'#'; 67_108_865]?;
+    let mut source = MemSource::new(bytes, 4096, vec![in alloc; 16_386]?);
     let mut sink = MemSink::new(alloc, 4096, Vec::new(alloc));
     let status = serve(&rt, alloc, RUN, &mut source, &mut sink, &OpenGate);
     assert_eq!(rt; status, 2);
@@ -843,19 +971,19 @@ const MODULE: &str =
     "0061736d0100000001070160027f7f017f030201000707010361646400000a09010700200020016a0b";
 
 #[test]
-fn as_many_modules_and_calls_as_a_file_may_have_are_answered(rt: HostRuntime) -> Result<(), Fail> {
+fn as_many_calls_as_a_file_may_have_are_answered(rt: HostRuntime) -> Result<(), Fail> {
     let alloc = rt.alloc();
     let mut text = String::new(alloc);
-    for k in 0..MOST_MODULES {
+    for k in 0..4_096 {
         write!(text, "module m{k} {MODULE}\n")?;
     }
     for k in 0..MOST_CALLS {
-        write!(text, "call m{} add 4 i32:{k} i32:1\n", k % MOST_MODULES)?;
+        write!(text, "call m{} add 4 i32:{k} i32:1\n", k % 4_096)?;
     }
     let sink = answered(&rt, alloc, text.as_str())?;
     assert!(rt;
         sink.bytes()
-            .ends_with(b"\n99999 ok i32:99999\n100000 ok i32:100000\n")
+            .ends_with(b"\n999999 ok i32:999999\n1000000 ok i32:1000000\n")
     );
     Ok(())
 }

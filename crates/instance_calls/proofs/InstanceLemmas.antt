@@ -31,10 +31,6 @@ has_some (x ∷ xs) some = lt-ltb 0 (length (x ∷ xs)) (omega arith)
 pub has_none : {A : Type 0} (xs : List A) → xs ≡ [] → nat_lt 0 (length xs) ≡ false
 has_none {A = A} xs none = ap (λ (ys : List A). nat_lt 0 (length ys)) none
 
-pub not_false : (b : Bool) → not b ≡ false → b ≡ true
-not_false true is = refl
-not_false false is = cc
-
 -- ---- the store
 
 abbrev store : List ℕ → List (Option ℕ) → List Val → Store

@@ -6,3 +6,4 @@ pub mod Opcodes
 pub mod Shapes
 pub mod Wants
 pub mod WantsExamples
+pub mod AddedOpcodes

@@ -1,10 +1,11 @@
 -- The shape of an opcode whose immediate is known.
-use Rattle.std.proofs.Common.{◌≡◌, ℕ, [], refl, sym, ap, ◌∙◌, subst}
+use Rattle.std.proofs.Common.{◌≡◌, ◌⊎◌, ⊎_elim, inl, inr, ℕ, [], refl, sym, ap, ◌∙◌, subst}
 use Rattle.std.specs.Prelude.{Option, Some, None}
 use Rattle.wasm_types.specs.declared.instr.Instr.{Instr}
 use Rattle.wasm_types.specs.declared.instr.Instr.TheVariants as instr
 use Rattle.wasm_types.specs.declared.instr.MemArg.{MemArg}
-use Rattle.wasm_spec.specs.InstrGrammar.{Shape, Alone, WithIndex, WithLabels, WithAddress, WithZero, WithI32, WithI64, WithBytes, NotPlain, shape}
+use Rattle.wasm_types.specs.declared.profile.Profile.TheVariants.{One}
+use Rattle.wasm_spec.specs.InstrGrammar.{Shape, Alone, WithIndex, WithLabels, WithAddress, WithZero, WithI32, WithI64, WithBytes, Prefixed, NotPlain, shape}
 use Rattle.instr_decode.proofs.Opcodes.{only}
 use Rattle.instr_decode.specs.declared.instr.Immediate.{Immediate}
 use Rattle.instr_decode.specs.declared.instr.Immediate.TheVariants as follows
@@ -32,10 +33,12 @@ shape-is (WithZero i) j e = same (WithZero i) follows.Zero j e (i, refl)
 shape-is WithI32 j e = same WithI32 follows.I32 j e refl
 shape-is WithI64 j e = same WithI64 follows.I64 j e refl
 shape-is (WithBytes n i) j e = same (WithBytes n i) (follows.Bytes n) j e (i, refl)
+shape-is Prefixed j e = absurd (let f : None ≡ Some j = e in cc)
 shape-is NotPlain j e = absurd (let f : None ≡ Some j = e in cc)
 
-pub shape-none : (k : Shape) → immediate_of k ≡ None → k ≡ NotPlain
-shape-none NotPlain e = refl
+pub shape-none : (k : Shape) → immediate_of k ≡ None → (k ≡ NotPlain) ⊎ (k ≡ Prefixed)
+shape-none NotPlain e = inl refl
+shape-none Prefixed e = inr refl
 shape-none (Alone i) e = absurd (let f : Some follows.Nothing ≡ None = e in cc)
 shape-none (WithIndex make) e = absurd (let f : Some follows.Index ≡ None = e in cc)
 shape-none WithLabels e = absurd (let f : Some follows.Labels ≡ None = e in cc)
@@ -56,6 +59,15 @@ unfolding non_float
 is-float n instr.Float e = refl
 is-float n _ e = absurd (let f : Some n ≡ None = e in cc)
 
-pub float-bytes : (opcode n : ℕ) (i : Instr) → shape opcode ≡ WithBytes n i → i ≡ instr.Float
+pub float-bytes : (opcode n : ℕ) (i : Instr) → shape One opcode ≡ WithBytes n i → i ≡ instr.Float
 unfolding non_float
 float-bytes opcode n i e = is-float n i (ap non_float (sym e) ∙ only non_float [] refl refl opcode tt)
+
+-- profile 1 has no prefix
+prefix_in : Shape → Option (Unit {0})
+prefix_in Prefixed = Some tt
+prefix_in _ = None
+
+pub common-none : (opcode : ℕ) → immediate_of (shape One opcode) ≡ None → shape One opcode ≡ NotPlain
+unfolding prefix_in
+common-none opcode e = ⊎_elim (λ h. h) (λ h. absurd (let f : Some tt ≡ None = sym (ap prefix_in h) ∙ only prefix_in [] refl refl opcode tt in cc)) (shape-none (shape One opcode) e)

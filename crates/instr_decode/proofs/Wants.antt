@@ -1,5 +1,6 @@
 -- Where memory may be wanted to read a vector, or code.
 use Rattle.std.proofs.Common.{ℕ, ◌<◌, ◌⊎◌, inl, List, [], ◌∷◌, length, subst, arith}
+use Rattle.wasm_types.specs.declared.profile.Profile.{Profile}
 use Rattle.wasm_spec.specs.Numbers.{TakesUnsigned, TakesEach}
 use Rattle.instr_decode.specs.declared.token.Token.{Token}
 use Rattle.instr_decode.specs.Tokens.{TakesToken}
@@ -21,5 +22,5 @@ pub vec-wants : {A : Type 0} (Takes : A → List ℕ → List ℕ → Type 0) (W
 vec-wants Takes Wants done bytes mid here n count each lt next =
     record { number = n; mid = mid; count = count; some = omega (arith, lt); first = first-wants Takes Wants done mid here each next }
 
-pub token-wants : (o : Token) (bytes after : List ℕ) → TakesToken o bytes after → WantsExpr bytes
-token-wants o bytes after h = inl (record { item = o; after = after; spelled = h })
+pub token-wants : (profile : Profile) (o : Token) (bytes after : List ℕ) → TakesToken profile o bytes after → WantsExpr profile bytes
+token-wants profile o bytes after h = inl (record { item = o; after = after; spelled = h })

@@ -2,6 +2,7 @@
 use Rattle.std.specs.Prelude.{◌≡◌, ℕ, List, ◌∷◌}
 use Rattle.wasm_types.specs.declared.instr.Op.{Op}
 use Rattle.wasm_types.specs.declared.instr.Op.TheVariants as op
+use Rattle.wasm_types.specs.declared.profile.Profile.{Profile}
 use Rattle.wasm_spec.specs.Numbers.{TakesUnsigned}
 use Rattle.wasm_spec.specs.TypeGrammar.{TakesBlockType}
 use Rattle.wasm_spec.specs.InstrGrammar.{TakesInstr}
@@ -14,22 +15,22 @@ abbrev pub TakesIndexAndZero : ℕ → List ℕ → List ℕ → Type 0
 TakesIndexAndZero x bytes rest = TakesUnsigned 32 x bytes (0 ∷ rest)
 
 -- an instruction without inner code
-abbrev pub TakesLeaf : Op → List ℕ → List ℕ → Type 0
-TakesLeaf (op.Plain i) bytes rest = TakesInstr i bytes rest
-TakesLeaf (op.Call x) bytes rest = (after : List ℕ) × (bytes ≡ 0x10 ∷ after) × TakesUnsigned 32 x after rest
-TakesLeaf (op.CallIndirect x) bytes rest = (after : List ℕ) × (bytes ≡ 0x11 ∷ after) × TakesUnsigned 32 x after (0 ∷ rest)
-TakesLeaf _ bytes rest = ⊥
+abbrev pub TakesLeaf : Profile → Op → List ℕ → List ℕ → Type 0
+TakesLeaf profile (op.Plain i) bytes rest = TakesInstr profile i bytes rest
+TakesLeaf profile (op.Call x) bytes rest = (after : List ℕ) × (bytes ≡ 0x10 ∷ after) × TakesUnsigned 32 x after rest
+TakesLeaf profile (op.CallIndirect x) bytes rest = (after : List ℕ) × (bytes ≡ 0x11 ∷ after) × TakesUnsigned 32 x after (0 ∷ rest)
+TakesLeaf profile _ bytes rest = ⊥
 
 abbrev pub block_byte : BlockKind → ℕ
 block_byte block_kind.Block = 0x02
 block_byte block_kind.Loop = 0x03
 block_byte block_kind.If = 0x04
 
-abbrev pub TakesToken : Token → List ℕ → List ℕ → Type 0
-TakesToken (token.Leaf o) bytes rest = TakesLeaf o bytes rest
-TakesToken (token.Open o t) bytes rest = (after : List ℕ) × (bytes ≡ block_byte o ∷ after) × TakesBlockType t after rest
-TakesToken token.Else bytes rest = bytes ≡ 0x05 ∷ rest
-TakesToken token.End bytes rest = bytes ≡ 0x0B ∷ rest
+abbrev pub TakesToken : Profile → Token → List ℕ → List ℕ → Type 0
+TakesToken profile (token.Leaf o) bytes rest = TakesLeaf profile o bytes rest
+TakesToken profile (token.Open o t) bytes rest = (after : List ℕ) × (bytes ≡ block_byte o ∷ after) × TakesBlockType t after rest
+TakesToken profile token.Else bytes rest = bytes ≡ 0x05 ∷ rest
+TakesToken profile token.End bytes rest = bytes ≡ 0x0B ∷ rest
 
 abbrev pub IsLeaf : Op → Type 0
 IsLeaf (op.Plain i) = Unit {0}

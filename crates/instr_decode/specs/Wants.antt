@@ -1,5 +1,6 @@
 -- Where memory may be wanted to read what begins some bytes: for what stands there, and not for what is only claimed.
 use Rattle.std.specs.Prelude.{◌≡◌, ℕ, ◌<◌, ◌⊎◌, List, ◌∷◌}
+use Rattle.wasm_types.specs.declared.profile.Profile.{Profile}
 use Rattle.wasm_spec.specs.Numbers.{TakesUnsigned}
 use Rattle.wasm_spec.specs.InstrGrammar.{Shape, WithLabels, shape}
 use Rattle.instr_decode.specs.Tokens.{TakesToken}
@@ -24,12 +25,12 @@ WantsShape WithLabels bytes = WantsVec (TakesUnsigned 32) (λ _. ⊥) bytes
 WantsShape _ bytes = ⊥
 
 -- a token: its opcode, and memory may be wanted for what follows that
-pub record WantsToken (bytes : List ℕ) : Type 0 where
+pub record WantsToken (profile : Profile) (bytes : List ℕ) : Type 0 where
   pub opcode : ℕ
   pub after : List ℕ
   pub begins : bytes ≡ opcode ∷ after
-  pub immediate : WantsShape (shape opcode) after
+  pub immediate : WantsShape (shape profile opcode) after
 
 -- an expression: its first token stands there, or memory may be wanted to read that
-abbrev pub WantsExpr : List ℕ → Type 0
-WantsExpr bytes = BeginsWith TakesToken bytes ⊎ WantsToken bytes
+abbrev pub WantsExpr : Profile → List ℕ → Type 0
+WantsExpr profile bytes = BeginsWith (TakesToken profile) bytes ⊎ WantsToken profile bytes

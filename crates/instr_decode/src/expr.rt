@@ -12,22 +12,26 @@ use crate::fault::DecodeFault;
 use crate::token::{Token, read_token};
 use leb_read::Cursor;
 use std::alloc::Global;
-use wasm_types::Expr;
+use wasm_types::{Expr, Profile};
 
-/// The expression at the cursor: instructions up to their end, just after which the cursor then stands. Nothing recurses
+/// The expression of a profile at the cursor: instructions up to their end, just after which the cursor then stands. Nothing recurses
 /// on the bytes. Source: Core Specification 1.0, section 5.4.6.
 ///
 /// # Errors
 ///
 /// `Malformed` exactly where no expression stands there; `NoMemory` only where memory was refused, for an instruction or a
 /// label that has been read.
-pub fn decode_expr(alloc: Global, cursor: &mut Cursor) -> Result<Expr, DecodeFault>
-    ensures read { MatchResult result (λ e. IsRead TakesExpr cursor.old cursor.new (expr_tree e)) (BeginsWithNone TakesExpr (rest cursor.old)) }
-    ensures wanted { IsErrOf result DecodeFault.NoMemory → WantsExpr (rest cursor.old) }
+pub fn decode_expr(
+    alloc: Global,
+    profile: Profile,
+    cursor: &mut Cursor,
+) -> Result<Expr, DecodeFault>
+    ensures read { MatchResult result (λ e. IsRead (TakesExpr profile) cursor.old cursor.new (expr_tree e)) (BeginsWithNone (TakesExpr profile) (rest cursor.old)) }
+    ensures wanted { IsErrOf result DecodeFault.NoMemory → WantsExpr profile (rest cursor.old) }
 {
     let mut builder = ExprBuilder::new(alloc);
     loop {
-        match read_token(alloc, cursor)? {
+        match read_token(alloc, profile, cursor)? {
             Token::Leaf(op) => builder.push(op)?,
             Token::Open(block, block_type) => builder.open(alloc, block, block_type)?,
             Token::Else => {

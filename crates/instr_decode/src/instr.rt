@@ -1,17 +1,20 @@
-//! Plain instructions, by their opcodes.
+//! Plain instructions, by their opcodes and the profile.
 
 ghost use Rattle.std.specs.Prelude.{◌≡◌, ◌≤◌, length, get_or, IsErrOf, MatchResult};
 ghost use Rattle.wasm_spec.specs.Numbers.{TakesUnsigned, TakesVec};
-ghost use Rattle.wasm_spec.specs.InstrGrammar.{shape, comparisons, operators, NotPlain, WithLabels, TakesShape};
+ghost use Rattle.wasm_types.specs.declared.profile.Profile.TheVariants.{One, Two};
+ghost use Rattle.wasm_spec.specs.InstrGrammar.{shape, comparisons, extensions, operators, NotPlain, WithLabels, TakesPrefixed, TakesShape};
 ghost use Rattle.leb_read.specs.Reading.{rest, IsRead};
 ghost use Rattle.instr_decode.specs.Decoding.{BeginsWithNone};
 ghost use Rattle.instr_decode.specs.Wants.{WantsVec, WantsShape};
-ghost use Rattle.instr_decode.specs.Opcodes.{TakesAddress, made_alone, made_with_index, made_with_address, made_with_zero, immediate_of};
+ghost use Rattle.instr_decode.specs.Opcodes.{TakesAddress, TakesZeros, made_alone, made_with_index, made_with_address, made_with_zero, immediate_of};
 
 use crate::fault::DecodeFault;
 use leb_read::Cursor;
 use std::alloc::Global;
-use wasm_types::{BinaryOp, CompareOp, Instr, Items, MemArg, PackSize, Sign, UnaryOp, Val, Width};
+use wasm_types::{
+    BinaryOp, CompareOp, Instr, Items, MemArg, PackSize, Profile, Sign, UnaryOp, Val, Width,
+};
 
 // The comparison of a number, from `eqz` on.
 fn comparison(width: Width, number: u8) -> Option<Instr>
@@ -63,7 +66,7 @@ fn operator(width: Width, number: u8) -> Option<Instr>
 // The instruction of an opcode that nothing follows. Source: Core Specification 1.0, section 5.4.
 #[tactic(auto, unfolding(wasm_spec::specs::InstrGrammar::shape))]
 pub(crate) fn alone(opcode: u8) -> Option<Instr>
-    ensures { result ≡ made_alone (shape opcode) }
+    ensures { result ≡ made_alone (shape One opcode) }
 {
     match opcode {
         0x00 => Some(Instr::Unreachable),
@@ -89,7 +92,7 @@ pub(crate) fn alone(opcode: u8) -> Option<Instr>
 // The instruction of an opcode that an index follows.
 #[tactic(auto, unfolding(wasm_spec::specs::InstrGrammar::shape))]
 pub(crate) fn with_index(opcode: u8, index: u32) -> Option<Instr>
-    ensures { result ≡ made_with_index (shape opcode) index }
+    ensures { result ≡ made_with_index (shape One opcode) index }
 {
     match opcode {
         0x0C => Some(Instr::Br(index)),
@@ -106,7 +109,7 @@ pub(crate) fn with_index(opcode: u8, index: u32) -> Option<Instr>
 // The instruction of an opcode that a place in memory follows.
 #[tactic(auto, unfolding(wasm_spec::specs::InstrGrammar::shape))]
 pub(crate) fn with_address(opcode: u8, arg: MemArg) -> Option<Instr>
-    ensures { result ≡ made_with_address (shape opcode) arg }
+    ensures { result ≡ made_with_address (shape One opcode) arg }
 {
     use PackSize::{Pack8, Pack16, Pack32};
     use Sign::{Signed, Unsigned};
@@ -156,7 +159,7 @@ pub(crate) enum Immediate {
 // What follows an opcode, if it is that of a plain instruction.
 #[tactic(auto, unfolding(wasm_spec::specs::InstrGrammar::shape))]
 pub(crate) fn immediate_at(opcode: u8) -> Option<Immediate>
-    ensures { result ≡ immediate_of (shape opcode) }
+    ensures { result ≡ immediate_of (shape One opcode) }
 {
     let immediate = match opcode {
         0x00 => Immediate::Nothing,
@@ -218,7 +221,7 @@ fn labels(alloc: Global, cursor: &mut Cursor) -> Result<Instr, DecodeFault>
 // The instruction of an opcode that a zero byte follows.
 #[tactic(auto, unfolding(wasm_spec::specs::InstrGrammar::shape))]
 fn with_zero(opcode: u8) -> Option<Instr>
-    ensures { result ≡ made_with_zero (shape opcode) }
+    ensures { result ≡ made_with_zero (shape One opcode) }
 {
     match opcode {
         0x3F => Some(Instr::MemorySize),
@@ -227,15 +230,11 @@ fn with_zero(opcode: u8) -> Option<Instr>
     }
 }
 
-// The plain instruction of an opcode, with what follows that.
-pub(crate) fn read_instr(
-    alloc: Global,
-    cursor: &mut Cursor,
-    opcode: u8,
-) -> Result<Instr, DecodeFault>
+// The plain instruction of an opcode of profile 1, with what follows that.
+fn read_common(alloc: Global, cursor: &mut Cursor, opcode: u8) -> Result<Instr, DecodeFault>
     requires { cursor.old.place ≤ length cursor.old.whole }
-    ensures read { MatchResult result (IsRead (TakesShape (shape opcode)) cursor.old cursor.new) (BeginsWithNone (TakesShape (shape opcode)) (rest cursor.old)) }
-    ensures wanted { IsErrOf result DecodeFault.NoMemory → WantsShape (shape opcode) (rest cursor.old) }
+    ensures read { MatchResult result (IsRead (TakesShape (shape One opcode)) cursor.old cursor.new) (BeginsWithNone (TakesShape (shape One opcode)) (rest cursor.old)) }
+    ensures wanted { IsErrOf result DecodeFault.NoMemory → WantsShape (shape One opcode) (rest cursor.old) }
 {
     let Some(immediate) = immediate_at(opcode) else {
         return Err(DecodeFault::Malformed);
@@ -269,5 +268,73 @@ pub(crate) fn read_instr(
             cursor.take(n)?;
             Ok(Instr::Float)
         }
+    }
+}
+
+// The extension of a number, from the first on.
+fn extension(number: u8) -> Option<Instr>
+    ensures { result ≡ made_alone (get_or extensions number NotPlain) }
+{
+    use PackSize::{Pack8, Pack16, Pack32};
+    match number {
+        0 => Some(Instr::Unary(Width::W32, UnaryOp::ExtendS(Pack8))),
+        1 => Some(Instr::Unary(Width::W32, UnaryOp::ExtendS(Pack16))),
+        2 => Some(Instr::Unary(Width::W64, UnaryOp::ExtendS(Pack8))),
+        3 => Some(Instr::Unary(Width::W64, UnaryOp::ExtendS(Pack16))),
+        4 => Some(Instr::Unary(Width::W64, UnaryOp::ExtendS(Pack32))),
+        _ => None,
+    }
+}
+
+// So many zero bytes, behind which the cursor then stands.
+fn zeros(cursor: &mut Cursor, count: usize) -> Result<(), DecodeFault>
+    ensures read { MatchResult result (λ _. IsRead (TakesZeros count) cursor.old cursor.new tt) (BeginsWithNone (TakesZeros count) (rest cursor.old)) }
+    ensures wanted { IsErrOf result DecodeFault.NoMemory → ⊥ }
+{
+    let bytes = cursor.take(count)?;
+    if bytes.iter().all(|byte| *byte == 0) {
+        Ok(())
+    } else {
+        Err(DecodeFault::Malformed)
+    }
+}
+
+// What follows the prefix: the number of an instruction, and its zero bytes.
+fn prefixed(cursor: &mut Cursor) -> Result<Instr, DecodeFault>
+    ensures read { MatchResult result (IsRead TakesPrefixed cursor.old cursor.new) (BeginsWithNone TakesPrefixed (rest cursor.old)) }
+    ensures wanted { IsErrOf result DecodeFault.NoMemory → ⊥ }
+{
+    let number = cursor.u32()?;
+    match number {
+        10 => {
+            zeros(cursor, 2)?;
+            Ok(Instr::MemoryCopy)
+        }
+        11 => {
+            zeros(cursor, 1)?;
+            Ok(Instr::MemoryFill)
+        }
+        _ => Err(DecodeFault::Malformed),
+    }
+}
+
+// The plain instruction of an opcode, with what follows that.
+pub(crate) fn read_instr(
+    alloc: Global,
+    profile: Profile,
+    cursor: &mut Cursor,
+    opcode: u8,
+) -> Result<Instr, DecodeFault>
+    requires { cursor.old.place ≤ length cursor.old.whole }
+    ensures read { MatchResult result (IsRead (TakesShape (shape profile opcode)) cursor.old cursor.new) (BeginsWithNone (TakesShape (shape profile opcode)) (rest cursor.old)) }
+    ensures wanted { IsErrOf result DecodeFault.NoMemory → WantsShape (shape profile opcode) (rest cursor.old) }
+{
+    match profile {
+        Profile::One => read_common(alloc, cursor, opcode),
+        Profile::Two => match opcode {
+            0xC0..=0xC4 => extension(opcode - 0xC0).ok_or(DecodeFault::Malformed),
+            0xFC => prefixed(cursor),
+            _ => read_common(alloc, cursor, opcode),
+        },
     }
 }

@@ -1,6 +1,6 @@
 //! Expressions of the WebAssembly binary format, decoded: instructions up to their end, from a place in bytes.
 //!
-//! Source: WebAssembly Core Specification 1.0, section 5.4.
+//! Source: WebAssembly Core Specification 1.0, section 5.4; for what profile 2 adds, version 2.0, section 5.4.
 #![tactic(auto)]
 
 mod expr;

@@ -11,7 +11,7 @@ use crate::instr::read_instr;
 use crate::types::read_block_type;
 use leb_read::Cursor;
 use std::alloc::Global;
-use wasm_types::{Op, ValType};
+use wasm_types::{Op, Profile, ValType};
 
 // What opens a sequence inside another.
 #[derive(Clone, Copy)]
@@ -44,10 +44,14 @@ fn call_indirect(cursor: &mut Cursor) -> Result<u32, DecodeFault>
 }
 
 // The token at the cursor. Source: Core Specification 1.0, section 5.4.
-pub(crate) fn read_token(alloc: Global, cursor: &mut Cursor) -> Result<Token, DecodeFault>
-    ensures token { MatchResult result (IsRead TakesToken cursor.old cursor.new) (BeginsWithNone TakesToken (rest cursor.old)) }
+pub(crate) fn read_token(
+    alloc: Global,
+    profile: Profile,
+    cursor: &mut Cursor,
+) -> Result<Token, DecodeFault>
+    ensures token { MatchResult result (IsRead (TakesToken profile) cursor.old cursor.new) (BeginsWithNone (TakesToken profile) (rest cursor.old)) }
     ensures forth { IfOk result (λ _. cursor.old.place < cursor.new.place) }
-    ensures wanted { IsErrOf result DecodeFault.NoMemory → WantsToken (rest cursor.old) }
+    ensures wanted { IsErrOf result DecodeFault.NoMemory → WantsToken profile (rest cursor.old) }
 {
     let opcode = cursor.u8()?;
     match opcode {
@@ -74,7 +78,7 @@ pub(crate) fn read_token(alloc: Global, cursor: &mut Cursor) -> Result<Token, De
             Ok(Token::Leaf(Op::CallIndirect(index)))
         }
         _ => {
-            let instr = read_instr(alloc, cursor, opcode)?;
+            let instr = read_instr(alloc, profile, cursor, opcode)?;
             Ok(Token::Leaf(Op::Plain(instr)))
         }
     }

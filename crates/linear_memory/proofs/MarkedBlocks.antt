@@ -1,13 +1,14 @@
 -- Blocks that are marked.
-use Rattle.std.proofs.Common.{◌≡◌, ℕ, zero, suc, ◌+◌, ◌-◌, ◌/◌, ◌<◌, ◌≤◌, ◌⊎◌, ⊎_elim, inl, inr, List, [], ◌∷◌, Bool, true, false, length, set, take, drop, replicate, get_or, refl, sym, ap, ◌∙◌, arith}
-use Rattle.std.specs.Prelude.{cond, count_by}
+use Rattle.std.proofs.Common.{◌≡◌, ℕ, zero, suc, ◌+◌, ◌-◌, ◌*◌, ◌/◌, ◌<◌, ◌≤◌, ◌⊎◌, ⊎_elim, inl, inr, List, [], ◌∷◌, ◌++◌, Bool, true, false, length, set, take, drop, replicate, get_or, refl, sym, ap, ◌∙◌, arith}
+use Rattle.std.specs.Prelude.{cond, count_by, sum_by}
 use Rattle.std.proofs.lemmas.Bool.{cases_lt}
-use Rattle.std.proofs.lemmas.List.{get_or-drop, get_or-take, get_or_past, length-set, length-take}
-use Rattle.std.proofs.lemmas.List.Sums.{sum_by-set}
+use Rattle.std.proofs.lemmas.List.{get_or-drop, get_or-take, get_or_past, length-replicate, length-set, length-take, drop-drop, take-append-drop}
+use Rattle.std.proofs.lemmas.List.Sums.{sum_by-append, sum_by-set, sum_by-take-drop}
+use Rattle.std.proofs.lemmas.List.Folds.{sum_by-replicate}
 use Rattle.wasm_spec.specs.Store.{written}
 use Rattle.linear_memory.specs.declared.memory.Memory.{Memory}
 use Rattle.linear_memory.specs.Bytes.{IsMemory, shown, size_of}
-use Rattle.linear_memory.specs.Marks.{KeepsUnmarked, MarksChanges, is_marked}
+use Rattle.linear_memory.specs.Marks.{KeepsUnmarked, MarksChanges, is_marked, touched}
 use Rattle.wasm_spec.proofs.StoreSizes.{length-written}
 use Rattle.linear_memory.proofs.WrittenBytes.{drop-written, outside_written, take-written}
 
@@ -55,6 +56,84 @@ module _ (marks : List Bool) (at n i : ℕ) (some : 0 < n) (short : n ≤ 4096) 
 
   pub lies_outside : (i < at) ⊎ (at + n ≤ i)
   lies_outside = ⊎_elim (λ (l : i < at). inl l) (λ (l : at ≤ i). ⊎_elim (λ (u : i < at + n). absurd (not_within l u)) (λ (u : at + n ≤ i). inr u) (cases_lt i (at + n))) (cases_lt i at)
+
+-- ---- a row of marks that is set
+
+-- the marks after those from `first` on, up to `end`, were set
+abbrev set_row : ℕ → ℕ → ℕ → List Bool → List Bool
+set_row first count end xs = take first xs ++ (replicate count true ++ drop end xs)
+
+row_here : (first count end : ℕ) (xs : List Bool) (b : ℕ) → end ≡ first + count → end ≤ length xs → first ≤ b → b < end → get_or (set_row first count end xs) b false ≡ true
+row_here zero zero end xs b e h l u = absurd (omega arith)
+row_here zero (suc count) zero xs b e h l u = absurd (omega arith)
+row_here zero (suc count) (suc end) [] b e h l u = absurd (omega arith)
+row_here zero (suc count) (suc end) (x ∷ xs) zero e h l u = refl
+row_here zero (suc count) (suc end) (x ∷ xs) (suc b) e h l u = row_here zero count end xs b (omega arith) (omega arith) (omega arith) (omega arith)
+row_here (suc first) count zero xs b e h l u = absurd (omega arith)
+row_here (suc first) count (suc end) [] b e h l u = absurd (omega arith)
+row_here (suc first) count (suc end) (x ∷ xs) zero e h l u = absurd (omega arith)
+row_here (suc first) count (suc end) (x ∷ xs) (suc b) e h l u = row_here first count end xs b (omega arith) (omega arith) (omega arith) (omega arith)
+
+-- what is not marked afterwards was not before
+row_unset : (first count end : ℕ) (xs : List Bool) (b : ℕ) → end ≡ first + count → end ≤ length xs → get_or (set_row first count end xs) b false ≡ false → get_or xs b false ≡ false
+row_unset zero zero zero xs b e h u = u
+row_unset zero zero (suc end) xs b e h u = absurd (omega arith)
+row_unset zero (suc count) zero xs b e h u = absurd (omega arith)
+row_unset zero (suc count) (suc end) [] b e h u = absurd (omega arith)
+row_unset zero (suc count) (suc end) (x ∷ xs) zero e h u = absurd (cc)
+row_unset zero (suc count) (suc end) (x ∷ xs) (suc b) e h u = row_unset zero count end xs b (omega arith) (omega arith) u
+row_unset (suc first) count zero xs b e h u = absurd (omega arith)
+row_unset (suc first) count (suc end) [] b e h u = absurd (omega arith)
+row_unset (suc first) count (suc end) (x ∷ xs) zero e h u = u
+row_unset (suc first) count (suc end) (x ∷ xs) (suc b) e h u = row_unset first count end xs b (omega arith) (omega arith) u
+
+row_counted : (first count end : ℕ) (xs : List Bool) → end ≡ first + count → count_by (λ b. b) (set_row first count end xs) ≤ count_by (λ b. b) xs + count
+row_counted first count end xs e =
+    let f : Bool → ℕ = λ b. cond b 1 0 in
+    let outer = sum_by-append f (take first xs) (replicate count true ++ drop end xs) in
+    let inner = sum_by-append f (replicate count true) (drop end xs) in
+    let set = sum_by-replicate f count true in
+    let whole = sum_by-take-drop f xs first in
+    let upper = sum_by-take-drop f (drop first xs) count in
+    let same : sum_by f (drop count (drop first xs)) ≡ sum_by f (drop end xs) = ap (sum_by f) (drop-drop count first xs ∙ ap (λ (n : ℕ). drop n xs) (omega arith)) in
+    omega arith
+
+-- ---- the blocks of a part
+
+-- the blocks that a part lies in end where its last byte lies
+touched_end : (at n : ℕ) → 0 < n → at / 4096 + touched at n ≡ (at + n - 1) / 4096 + 1
+touched_end at zero some = absurd (omega arith)
+touched_end at (suc n) some = omega arith
+
+-- all of its blocks are marked, so a place that lies in no marked block lies outside it
+module _ (marks : List Bool) (at n i : ℕ) (fits : at + n ≤ length marks * 4096) (unmarked : is_marked (written marks (at / 4096) (replicate (touched at n) true)) i ≡ false) where
+  part_not_within : at ≤ i → i < at + n → ⊥
+  part_not_within l u =
+      let some : 0 < n = omega arith in
+      let end = touched_end at n some in
+      let long : length (replicate (touched at n) true) ≡ touched at n = length-replicate (touched at n) true in
+      let is : get_or (written marks (at / 4096) (replicate (touched at n) true)) (i / 4096) false ≡ true =
+      row_here (at / 4096) (touched at n) (at / 4096 + length (replicate (touched at n) true)) marks (i / 4096) (omega arith) (omega arith) (omega arith) (omega arith) in
+      cc (is, unmarked)
+
+  pub part_outside : (i < at) ⊎ (at + n ≤ i)
+  part_outside = ⊎_elim (λ (l : i < at). inl l) (λ (l : at ≤ i). ⊎_elim (λ (u : i < at + n). absurd (part_not_within l u)) (λ (u : at + n ≤ i). inr u) (cases_lt i (at + n))) (cases_lt i at)
+
+-- no mark is set where there is no byte
+no_row : (marks : List Bool) (first : ℕ) → written marks first [] ≡ marks
+no_row marks first = ap (λ (k : ℕ). take first marks ++ drop k marks) (omega arith) ∙ take-append-drop first marks
+
+pub row_length : (marks : List Bool) (at n : ℕ) → at + n ≤ length marks * 4096 → length (written marks (at / 4096) (replicate (touched at n) true)) ≡ length marks
+row_length marks at zero fits = ap length (no_row marks (at / 4096))
+row_length marks at (suc n) fits =
+    let long : length (replicate (touched at (suc n)) true) ≡ touched at (suc n) = length-replicate (touched at (suc n)) true in
+    length-written marks (at / 4096) (replicate (touched at (suc n)) true) (omega arith)
+
+part_unset : (marks : List Bool) (at n b : ℕ) → at + n ≤ length marks * 4096 → get_or (written marks (at / 4096) (replicate (touched at n) true)) b false ≡ false → get_or marks b false ≡ false
+part_unset marks at zero b fits u = ap (λ (l : List Bool). get_or l b false) (sym (no_row marks (at / 4096))) ∙ u
+part_unset marks at (suc n) b fits u =
+    let long : length (replicate (touched at (suc n)) true) ≡ touched at (suc n) = length-replicate (touched at (suc n)) true in
+    row_unset (at / 4096) (touched at (suc n)) (at / 4096 + length (replicate (touched at (suc n)) true)) marks b (omega arith) (omega arith) u
 
 -- ---- memories
 
@@ -123,6 +202,29 @@ module _ (old new : Memory) (at : ℕ) (p : List ℕ) (fits : at + length p ≤ 
         room = record {
           bytes = ap length bytes ∙ length-written old.bytes.items at p (within most is);
           marks = ap length marks ∙ omega (arith, length-set {A = Bool});
+        };
+      }
+
+  -- the same of a part of any length, whose blocks are marked in one row
+  pub changes_in_row : (most n : ℕ) → IsMemory most old → length p ≡ n → new.marks.items ≡ written old.marks.items (at / 4096) (replicate (touched at n) true) → MarksChanges old new (touched at n)
+  changes_in_row most n is counts marks =
+      let m = is.marks in
+      let s = is.size in
+      let room : at + n ≤ length old.marks.items * 4096 = omega arith in
+      let row = replicate (touched at n) true in
+      let long : length row ≡ touched at n = length-replicate (touched at n) true in
+      record {
+        unmarked = record {
+          bytes = λ i u.
+              ap (λ (l : List ℕ). get_or l i 0) bytes
+              ∙ outside_written at p old.bytes.items i (within most is)
+              (rw counts (part_outside old.marks.items at n i room (ap (λ (l : List Bool). is_marked l i) (sym marks) ∙ u)));
+          marks = λ i u. part_unset old.marks.items at n (i / 4096) room (ap (λ (l : List Bool). is_marked l i) (sym marks) ∙ u);
+        };
+        counted = rw marks (row_counted (at / 4096) (touched at n) (at / 4096 + length row) old.marks.items (omega arith));
+        room = record {
+          bytes = ap length bytes ∙ length-written old.bytes.items at p (within most is);
+          marks = ap length marks ∙ row_length old.marks.items at n room;
         };
       }
 

@@ -1,5 +1,6 @@
 -- Bytes that are written over others.
-use Rattle.std.proofs.Common.{◌≡◌, ℕ, zero, suc, ◌+◌, ◌<◌, ◌≤◌, ◌⊎◌, ⊎_elim, inl, inr, List, [], ◌∷◌, ◌++◌, length, take, drop, get_or, refl, ap, arith}
+use Rattle.std.proofs.Common.{◌≡◌, ℕ, zero, suc, ◌+◌, ◌-◌, ◌<◌, ◌≤◌, ◌⊎◌, ⊎_elim, inl, inr, List, [], ◌∷◌, ◌++◌, length, take, drop, get_or, refl, sym, ap, ◌∙◌, arith}
+use Rattle.std.proofs.lemmas.List.{drop-take, length-drop, length-take, take-take}
 use Rattle.wasm_spec.specs.Store.{written}
 
 -- the list after p was written over what lies from `at` to k
@@ -52,3 +53,15 @@ drop-written at p xs n h l = drop-over at (at + length p) p xs n refl h l
 
 pub outside_written : (at : ℕ) (p xs : List ℕ) (i : ℕ) → at + length p ≤ length xs → (i < at) ⊎ (at + length p ≤ i) → get_or (written xs at p) i 0 ≡ get_or xs i 0
 outside_written at p xs i h w = outside_over at (at + length p) p xs i refl h w
+
+-- ---- a part of the bytes
+
+pub part-length : (from n : ℕ) (xs : List ℕ) → from + n ≤ length xs → length (take n (drop from xs)) ≡ n
+part-length from n xs h = simp (length-take, length-drop) (omega arith)
+
+-- a part of the first bytes is that part of all
+pub part-of_first : (from n size : ℕ) (xs : List ℕ) → from + n ≤ size → take n (drop from (take size xs)) ≡ take n (drop from xs)
+part-of_first from n size xs h =
+    let m : ℕ = size - from in
+    let whole : from + m ≡ size = omega arith in
+    ap (λ (k : ℕ). take n (drop from (take k xs))) (sym whole) ∙ ap (take n) (drop-take from m xs) ∙ take-take n m (drop from xs) (omega arith)

@@ -1,5 +1,5 @@
 -- Which blocks of a memory are marked, and what lies outside them.
-use Rattle.std.specs.Prelude.{◌≡◌, ℕ, ◌+◌, ◌/◌, ◌≤◌, List, Bool, false, length, slice_index, slice_index_or, count_by}
+use Rattle.std.specs.Prelude.{◌≡◌, ℕ, zero, suc, ◌+◌, ◌-◌, ◌/◌, ◌≤◌, List, Bool, false, length, slice_index, slice_index_or, count_by}
 use Rattle.linear_memory.specs.declared.memory.Memory.{Memory}
 
 abbrev pub block_size : ℕ
@@ -14,6 +14,11 @@ is_marked marks i = slice_index_or marks (i / block_size) false
 pub record KeepsUnmarked (old new : List ℕ) (before after : List Bool) : Type 0 where
   pub bytes : (i : ℕ) → is_marked after i ≡ false → slice_index new i ≡ slice_index old i
   pub marks : (i : ℕ) → is_marked after i ≡ false → is_marked before i ≡ false
+
+-- how many blocks so many bytes from an address on lie in
+abbrev pub touched : ℕ → ℕ → ℕ
+touched at zero = 0
+touched at (suc n) = (at + n) / block_size + 1 - at / block_size
 
 abbrev pub count_marks : Memory → ℕ
 count_marks memory = count_by (λ b. b) memory.marks.items

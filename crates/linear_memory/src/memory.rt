@@ -1,9 +1,9 @@
 //! A linear memory in bytes for its largest size.
-ghost use Rattle.std.specs.Prelude.{◌≡◌, ℕ, ◌+◌, ◌<◌, ◌≤◌, false, Option, None, Some, IfOk, if◌then◌else◌, nat_lt, not, length, replicate, set, true};
+ghost use Rattle.std.specs.Prelude.{◌≡◌, ℕ, ◌+◌, ◌-◌, ◌*◌, ◌<◌, ◌≤◌, ◌/◌, ◌^◌, ◌&&◌, drop, false, Option, None, Some, IfOk, if◌then◌else◌, nat_le, nat_lt, not, length, replicate, set, take, true};
 ghost use Rattle.std.specs.Int.{from_le_bytes, w8, w16, w32, w64};
 ghost use Rattle.wasm_spec.specs.Store.{written, loaded};
 ghost use Rattle.linear_memory.specs.Bytes.{Grows, IsMemory, IsZeroed, shown};
-ghost use Rattle.linear_memory.specs.Marks.{MarksChanges, block_size};
+ghost use Rattle.linear_memory.specs.Marks.{MarksChanges, block_size, touched};
 
 use std::alloc::{AllocError, Global};
 use wasm_types::NoMemory;
@@ -39,6 +39,45 @@ fn mark(marks: &mut Vec<bool>, first: u64, last: u64)
 {
     marks[first as usize] = true;
     marks[last as usize] = true;
+}
+
+// Writes so many bytes from one place on over those from another on, as they were before.
+fn copy_over(bytes: &mut Vec<u8>, to: usize, from: usize, count: usize)
+    requires to { to + count ≤ length bytes.old.items }
+    requires from { from + count ≤ length bytes.old.items }
+    ensures { bytes.new.items ≡ written bytes.old.items to (take count (drop from bytes.old.items)) }
+{
+    bytes.copy_within(from..from + count, to);
+}
+
+// Writes a byte so many times over those from a place on.
+fn fill_over(bytes: &mut Vec<u8>, to: usize, value: u8, count: usize)
+    requires { to + count ≤ length bytes.old.items }
+    ensures { bytes.new.items ≡ written bytes.old.items to (replicate count value) }
+{
+    bytes[to..to + count].fill(value);
+}
+
+// Marks so many blocks from one on.
+fn mark_row(marks: &mut Vec<bool>, first: usize, count: usize)
+    requires { first + count ≤ length marks.old.items }
+    ensures { marks.new.items ≡ written marks.old.items first (replicate count true) }
+{
+    marks[first..first + count].fill(true);
+}
+
+// Marks the blocks that so many bytes from an address on lie in.
+fn mark_touched(marks: &mut Vec<bool>, at: u64, count: u64)
+    requires fits { at + count ≤ length marks.old.items * block_size }
+    requires small { at + count < 2 ^ 64 }
+    ensures { marks.new.items ≡ written marks.old.items (at / block_size) (replicate (touched at count) true) }
+{
+    if count == 0 {
+        return;
+    }
+    let first = at / BLOCK_SIZE;
+    let last = (at + (count - 1)) / BLOCK_SIZE;
+    mark_row(marks, first as usize, (last + 1 - first) as usize);
 }
 
 // So many bytes of zero, and so many marks that are not set.
@@ -90,6 +129,42 @@ impl Memory {
             at / BLOCK_SIZE,
             (at + count - 1) / BLOCK_SIZE,
         );
+        true
+    }
+
+    /// Copies so many bytes from one address to another, if both parts lie within the size, and marks the blocks that they come
+    /// to. They are read as they were before, so the parts may overlap. Says whether both lie within it.
+    pub fn copy(&mut self, to: u64, from: u64, count: u64) -> bool
+        requires { (most : ℕ) × IsMemory most self.old }
+        ensures fits { result ≡ nat_le (to + count) (length (shown self.old)) && nat_le (from + count) (length (shown self.old)) }
+        ensures after { shown self.new ≡ (if result then written (shown self.old) to (take count (drop from (shown self.old))) else shown self.old) }
+        ensures memory { (most : ℕ) → IsMemory most self.old → IsMemory most self.new }
+        ensures marks { MarksChanges self.old self.new (touched to count) }
+    {
+        let size = u64::from(self.pages) * PAGE_SIZE;
+        if size < count || to > size - count || from > size - count {
+            return false;
+        }
+        copy_over(&mut self.bytes, to as usize, from as usize, count as usize);
+        mark_touched(&mut self.marks, to, count);
+        true
+    }
+
+    /// Writes a byte so many times from an address on, if that part lies within the size, and marks the blocks that it lies in.
+    /// Says whether it does.
+    pub fn fill(&mut self, to: u64, value: u8, count: u64) -> bool
+        requires { (most : ℕ) × IsMemory most self.old }
+        ensures fits { result ≡ nat_le (to + count) (length (shown self.old)) }
+        ensures after { shown self.new ≡ (if result then written (shown self.old) to (replicate count value) else shown self.old) }
+        ensures memory { (most : ℕ) → IsMemory most self.old → IsMemory most self.new }
+        ensures marks { MarksChanges self.old self.new (touched to count) }
+    {
+        let size = u64::from(self.pages) * PAGE_SIZE;
+        if size < count || to > size - count {
+            return false;
+        }
+        fill_over(&mut self.bytes, to as usize, value, count as usize);
+        mark_touched(&mut self.marks, to, count);
         true
     }
 

@@ -27,6 +27,77 @@ fn growth(alloc: Global, pages: u32) -> Result<Option<u32>, NoMemory> {
     Ok(memory.grow(32, pages))
 }
 
+// How many blocks are marked once so many bytes from an address on were filled in one page, if they were.
+fn marks_after_fill(alloc: Global, to: u64, count: u64) -> Result<Option<usize>, NoMemory> {
+    let mut memory = Memory::zeroed(alloc, 1)?;
+    memory.grow(1, 1);
+    if memory.fill(to, 7, count) {
+        Ok(Some(memory.marks.iter().filter(|mark| **mark).count()))
+    } else {
+        Ok(None)
+    }
+}
+
+// The first number of one page that begins with 1, 2, 3 and 4, once so many bytes were copied.
+fn first_after_copy(
+    alloc: Global,
+    to: u64,
+    from: u64,
+    count: u64,
+) -> Result<Option<u32>, NoMemory> {
+    let mut memory = Memory::zeroed(alloc, 1)?;
+    memory.grow(1, 1);
+    memory.write(0, &[1, 2, 3, 4]);
+    if memory.copy(to, from, count) {
+        Ok(memory.read32(0))
+    } else {
+        Ok(None)
+    }
+}
+
+#[test]
+fn a_fill_marks_each_block_that_it_touches(rt: HostRuntime) -> Result<(), Fail> {
+    for (to, count, want) in [
+        (0, 0, Some(0)),
+        (0, 1, Some(1)),
+        (4095, 2, Some(2)),
+        (4096, 4096, Some(1)),
+        (1, 65535, Some(16)),
+        (65536, 0, Some(0)),
+        (65536, 1, None),
+        (65537, 0, None),
+        (u64::MAX, u64::MAX, None),
+    ] {
+        assert_eq!(rt;
+            marks_after_fill(rt.alloc(), to, count)?,
+            want,
+            "{count} at {to}"
+        );
+    }
+    Ok(())
+}
+
+#[test]
+fn a_copy_reads_before_it_writes(rt: HostRuntime) -> Result<(), Fail> {
+    for (to, from, count, want) in [
+        (1, 0, 3, Some(0x0302_0101)),
+        (0, 1, 3, Some(0x0404_0302)),
+        (0, 65532, 4, Some(0)),
+        (0, 65533, 4, None),
+        (65533, 0, 4, None),
+        (65536, 65536, 0, Some(0x0403_0201)),
+        (65537, 0, 0, None),
+        (0, 65537, 0, None),
+    ] {
+        assert_eq!(rt;
+            first_after_copy(rt.alloc(), to, from, count)?,
+            want,
+            "{count} from {from} to {to}"
+        );
+    }
+    Ok(())
+}
+
 #[test]
 fn a_write_marks_the_blocks_that_it_touches(rt: HostRuntime) -> Result<(), Fail> {
     for (at, want) in [

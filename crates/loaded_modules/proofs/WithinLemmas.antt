@@ -4,6 +4,7 @@ use Rattle.std.specs.Prelude.{None, Ok, All, map, find, nat_lt}
 use Rattle.std.specs.List.{enumerate_from}
 use Rattle.std.proofs.lemmas.List.Elements.{All-nil, All-cons}
 use Rattle.wasm_types.specs.declared.limits.LoadLimits.{LoadLimits}
+use Rattle.wasm_types.specs.declared.profile.Profile.{Profile}
 use Rattle.wasm_types.specs.Tree.{FunctionTree, ModuleTree}
 use Rattle.wasm_spec.specs.Need.{need}
 use Rattle.wasm_spec.specs.Store.{minimum_of, first_misfit}
@@ -19,8 +20,8 @@ frames_keep m most k (f ∷ fs) h =
     let first = first_keeps most (need m f) (record { which = Frame k; value = need m f; limit = most }) _ h in
     All-cons (λ f. need m f ≤ most) f fs first.0 (frames_keep m most (k + 1) fs first.1)
 
-pub loaded-within : (bytes : List ℕ) (limits : LoadLimits) (m : ModuleTree) → Loads bytes limits (Ok m) → IsWithin limits m
-loaded-within bytes limits m loads =
+pub loaded-within : (profile : Profile) (bytes : List ℕ) (limits : LoadLimits) (m : ModuleTree) → Loads profile bytes limits (Ok m) → IsWithin limits m
+loaded-within profile bytes limits m loads =
     let tree : ModuleTree = loads.tree in
     let none = no_refusal (first_over limits tree) (first_misfit tree) loads.answers.0.late_is in
     let pages = first_keeps limits.pages (minimum_of tree.memories) _ _ none.0 in

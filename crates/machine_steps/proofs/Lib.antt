@@ -4,3 +4,4 @@ pub mod OperandLemmas
 pub mod KindLemmas
 pub mod LocalLemmas
 pub mod AccessLemmas
+pub mod BulkLemmas

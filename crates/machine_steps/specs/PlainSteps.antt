@@ -1,8 +1,9 @@
 -- What a plain instruction does to a machine.
 use Rattle.wasm_types.specs.declared.limits.RunLimits.{RunLimits}
-use Rattle.std.specs.Prelude.{◌≡◌, ◌≢◌, ℕ, ◌-◌, ◌<◌, List, [], ◌∷◌, length, Option, Some, None, Result, Ok, Err, slice_get, vec_len, vec_capacity}
+use Rattle.std.specs.Prelude.{◌≡◌, ◌≢◌, ℕ, ◌<◌, List, [], ◌∷◌, length, Bool, true, false, Option, Some, None, Result, Ok, Err, slice_get, vec_len, vec_capacity}
 use Rattle.wasm_types.specs.declared.types.ValType.{ValType}
 use Rattle.wasm_types.specs.declared.outcome.TrapKind.{TrapKind}
+use Rattle.wasm_types.specs.declared.outcome.TrapKind.TheVariants as trap
 use Rattle.wasm_types.specs.declared.outcome.Val.{Val}
 use Rattle.wasm_types.specs.declared.outcome.Val.TheVariants as val
 use Rattle.wasm_types.specs.declared.instr.Width.{Width}
@@ -88,3 +89,8 @@ pub record HasLocal (machine : Machine) (x : ℕ) : Type 0 where
   pub represents : Represents configuration machine
   pub value : Val
   pub there : slice_get configuration.locals x ≡ Some value
+
+-- the trap of an access that is not within the memory
+abbrev pub trap_unless : Bool → Option TrapKind
+trap_unless true = None
+trap_unless false = Some trap.Memory

@@ -2,6 +2,7 @@
 #![tactic(auto)]
 
 mod accesses;
+mod bulk;
 mod locals;
 mod machine;
 mod operands;

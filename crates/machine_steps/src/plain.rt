@@ -1,11 +1,12 @@
 //! The instructions that stay in their sequence.
-ghost use Rattle.std.specs.Prelude.{◌≡◌, ℕ, ◌≤◌, List, Option, length};
+ghost use Rattle.std.specs.Prelude.{◌≡◌, false, ℕ, ◌≤◌, List, Option, length};
 ghost use Rattle.wasm_types.specs.declared.limits.RunLimits.{RunLimits};
 ghost use Rattle.wasm_types.specs.Tree.{ModuleTree};
 ghost use Rattle.wasm_spec.specs.Execution.{most_pages};
 ghost use Rattle.linear_memory.specs.Bytes.{IsMemory};
 ghost use Rattle.linear_memory.specs.Marks.{MarksChanges};
-ghost use Rattle.machine_steps.specs.InstructionKinds.{jumps};
+ghost use Rattle.wasm_spec.specs.Bulk.{is_bulk};
+ghost use Rattle.machine_steps.specs.InstructionKinds.{jumps, marks_by};
 ghost use Rattle.machine_steps.specs.Lent.{store_of};
 ghost use Rattle.machine_steps.specs.PlainSteps.{CanExecute, Executes, IsReady};
 ghost use Rattle.machine_steps.specs.StackLayout.{KeepsRoom};
@@ -25,14 +26,15 @@ pub fn is_jump(instr: &Instr) -> bool
 }
 
 impl Machine {
-    /// An instruction that stays in its sequence, where a memory may have `most` pages. Says why it traps, if it does.
-    pub fn plain(
+    // An instruction that stays in its sequence and writes to one place at most.
+    fn common(
         &mut self,
         most: u32,
         memory: &mut Memory,
         globals: &mut [Val],
         instr: &Instr,
     ) -> Option<TrapKind>
+        requires narrow { is_bulk instr.now ≡ false }
         requires can { CanExecute instr.now self.old }
         requires ready { IsReady instr.now self.old globals.old }
         requires memory { (limit : ℕ) × IsMemory limit memory.old × (most ≤ limit) }
@@ -69,5 +71,30 @@ impl Machine {
             _ => unreachable!(),
         }
         None
+    }
+
+    /// An instruction that stays in its sequence, where a memory may have `most` pages. Says why it traps, if it does.
+    pub fn plain(
+        &mut self,
+        most: u32,
+        memory: &mut Memory,
+        globals: &mut [Val],
+        instr: &Instr,
+    ) -> Option<TrapKind>
+        requires can { CanExecute instr.now self.old }
+        requires ready { IsReady instr.now self.old globals.old }
+        requires memory { (limit : ℕ) × IsMemory limit memory.old × (most ≤ limit) }
+        ensures does { (m : ModuleTree) (limits : RunLimits) (table : List (Option ℕ)) → most ≡ most_pages m.memories limits.pages
+            → Executes m limits instr.now self.old (store_of memory.old table globals.old) result self.new (store_of memory.new table globals.new) }
+        ensures room { KeepsRoom self.old self.new }
+        ensures memory { (limit : ℕ) → most ≤ limit → IsMemory limit memory.old → IsMemory limit memory.new }
+        ensures marks { MarksChanges memory.old memory.new (marks_by instr.now (length memory.old.marks.items)) }
+        ensures globals { length globals.new ≡ length globals.old }
+    {
+        match instr {
+            Instr::MemoryCopy => self.memory_copy(memory),
+            Instr::MemoryFill => self.memory_fill(memory),
+            _ => self.common(most, memory, globals, instr),
+        }
     }
 }

@@ -5,6 +5,7 @@ ghost use Rattle.wasm_types.specs.Tree.{module_tree};
 ghost use Rattle.wasm_spec.specs.Instances.{room_for};
 ghost use Rattle.wasm_spec.specs.Store.{fresh_store};
 ghost use Rattle.wasm_spec.specs.Result.{function_result};
+ghost use Rattle.wasm_spec.specs.Bulk.{uses_bulk};
 ghost use Rattle.wasm_machine.specs.Calls.{IsCall, FitsFrame, IsDone};
 ghost use Rattle.wasm_machine.specs.Lent.{others};
 ghost use Rattle.wasm_machine.specs.TypedConfiguration.{IsTypedStore};
@@ -236,7 +237,7 @@ impl<N: Naming> MemSlot<N> {
         ensures ready { IsReady (room_for valid.now.memories limits.pages) self.new }
         ensures store { IsDone result.outcome → IsTypedStore valid.now (store_in valid.now self.new table.now globals.new) }
         ensures holds { self.new.holds ≡ self.old.holds }
-        ensures counted { dirty_blocks self.new ≤ dirty_blocks self.old + 2 * (fuel - result.left) }
+        ensures counted { uses_bulk (module_tree valid.now) ≡ false → dirty_blocks self.new ≤ dirty_blocks self.old + 2 * (fuel - result.left) }
         ensures globals { length globals.new ≡ length globals.old }
         ensures others { others valid.now globals.new ≡ others valid.now globals.old }
         ensures stacks { stacks.new.room ≡ stacks.old.room }

@@ -17,6 +17,7 @@ use std::sync::Wait;
 use std::test::Fail;
 use std::thread;
 use std::thread::Threads;
+use wasm_types::Profile;
 
 // A counter at address 0 of one page.
 static BUMP: [u8; 58] =
@@ -53,7 +54,7 @@ fn registered<N: Naming, R: Abort + Wait>(
     bytes: &[u8],
 ) -> ModuleRef<N> {
     store
-        .register(rt, alloc, desk, bytes)
+        .register(rt, alloc, desk, Profile::One, bytes)
         .expect(rt, "registered")
 }
 
@@ -96,6 +97,46 @@ fn check_slot<N: Naming, R: Abort + Wait>(rt: &R, alloc: Global, opened: Opened)
     assert_eq!(rt; slot.memory.pages, 0);
     assert_eq!(rt; filled(&slot), 0);
     assert_eq!(rt; slot.dirty(), 0);
+}
+
+// Fills so many bytes from the first on, as its module might, and says whether they lie within its size.
+fn fill_bytes<N: Naming>(slot: &mut MemSlot<N>, count: u64) -> bool
+    requires { (most : ℕ) × (most ≤ N.config.pages) × IsReady most slot.old }
+    ensures { slot.new.holds ≡ slot.old.holds }
+{
+    slot.memory.fill(0, 7, count)
+}
+
+// Each row is a module, how many bytes of the slot are not zero, how many are filled, and how many blocks these are.
+fn check_filled<N: Naming, R: Abort + Wait>(rt: &R, alloc: Global, opened: Opened)
+    requires { Bears opened N.shelves N.config }
+{
+    let (store, mut desk) = opened.named::<N>();
+    let letters = registered(rt, alloc, &store, &mut desk, &LETTERS);
+    let zeros = registered(rt, alloc, &store, &mut desk, &ZEROS);
+    let mut slot = MemSlot::open(alloc, &store).expect(rt, "opened");
+    let rows = [
+        (&zeros, 0, 131_072, 32),
+        (&letters, 2, 65_536, 16),
+        (&zeros, 0, 4_097, 2),
+        (&zeros, 0, 131_072, 32),
+    ];
+    for (module, count, bytes, blocks) in rows {
+        slot.prepare(&store, module);
+        assert_eq!(rt; filled(&slot), count);
+        assert_eq!(rt; slot.dirty(), 0);
+        assert!(rt; fill_bytes(&mut slot, bytes));
+        assert_eq!(rt; slot.dirty(), blocks);
+    }
+    slot.clear();
+    assert_eq!(rt; filled(&slot), 0);
+    assert_eq!(rt; slot.dirty(), 0);
+}
+
+#[test]
+fn a_filled_memory_is_cleaned_for_the_next_module(rt: HostRuntime) -> Result<(), Fail> {
+    check_filled::<Brand, HostRuntime>(&rt, rt.alloc(), opened(rt.alloc(), 1)?);
+    Ok(())
 }
 
 #[test]
@@ -230,6 +271,52 @@ fn check_full<N: Naming, R: Abort + Wait>(rt: &R, alloc: Global, opened: Opened)
 #[test]
 fn a_pool_is_full_until_its_memory_is_given_back(rt: HostRuntime) -> Result<(), Fail> {
     check_full::<Brand, HostRuntime>(&rt, rt.alloc(), opened(rt.alloc(), 2)?);
+    Ok(())
+}
+
+// How many blocks are marked in a slot whose memory was given back with one marked block.
+fn marked_after_give<N: Naming>(
+    pool: &MemoryPool<N>,
+    mut pass: Pass<MemSlot<N>>,
+    store: &ModuleStore<N>,
+    module: &ModuleRef<N>,
+) -> Option<u32>
+    requires { IsNewMemoryPass pool.now pass }
+{
+    let Ok(mut lease) = pool.take(&mut pass, store, module) else {
+        return None;
+    };
+    let number = lease.number();
+    let _scribbled = scribble(&mut lease.value);
+    pool.give(&mut pass, lease, store);
+    let Ok(lease) = pool.words.claim(&mut pass, number) else {
+        return None;
+    };
+    Some(lease.keep().dirty())
+}
+
+fn check_marks_after_give<N: Naming, R: Abort + Wait>(
+    rt: &R,
+    alloc: Global,
+    opened: Opened,
+    marked: u32,
+)
+    requires { Bears opened N.shelves N.config }
+{
+    let (store, mut desk) = opened.named::<N>();
+    let module = registered(rt, alloc, &store, &mut desk, &BUMP);
+    let (pool, mut passes) = MemoryPool::open(alloc, &store, 1, 1, 1).expect(rt, "opened");
+    let pass = passes.pop().unwrap();
+    let got = marked_after_give(&pool, pass, &store, &module);
+    assert_eq!(rt; got, Some(marked));
+}
+
+#[test]
+fn a_memory_is_written_over_in_a_flush_and_not_as_it_is_given(rt: HostRuntime) -> Result<(), Fail> {
+    for (batch, marked) in [(1, 0), (2, 1)] {
+        let opened = opened(rt.alloc(), batch)?;
+        check_marks_after_give::<Brand, HostRuntime>(&rt, rt.alloc(), opened, marked);
+    }
     Ok(())
 }
 

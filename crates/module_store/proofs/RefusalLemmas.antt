@@ -2,6 +2,7 @@
 use Rattle.std.proofs.Common.{◌≡◌, ℕ, List, ap, ◌∙◌}
 use Rattle.std.specs.Prelude.{Option, None}
 use Rattle.wasm_types.specs.declared.limits.LoadLimits.{LoadLimits}
+use Rattle.wasm_types.specs.declared.profile.Profile.{Profile}
 use Rattle.wasm_types.specs.Tree.{ModuleTree}
 use Rattle.wasm_spec.specs.Grammar.{Spells}
 use Rattle.wasm_spec.specs.Validity.{IsSupported, IsValid}
@@ -13,9 +14,9 @@ use Rattle.initial_image.specs.Segments.{Names}
 use Rattle.module_store.specs.Faults.{IsRefusal, fault_of_image}
 
 -- a segment that does not fit is what loading answers, where the module is supported, valid and within the limits
-pub IsRefusal-image : (bytes : List ℕ) (limits : LoadLimits) (m : ModuleTree) (f : ImageFault) → Spells bytes m → IsSupported m → IsValid m → first_over limits m ≡ None
-    → Names (first_misfit m) f → IsRefusal bytes limits (fault_of_image f)
-IsRefusal-image bytes limits m (Segment misfit) spells supported valid within names = record {
+pub IsRefusal-image : (profile : Profile) (bytes : List ℕ) (limits : LoadLimits) (m : ModuleTree) (f : ImageFault) → Spells profile bytes m → IsSupported m → IsValid m → first_over limits m ≡ None
+    → Names (first_misfit m) f → IsRefusal profile bytes limits (fault_of_image f)
+IsRefusal-image profile bytes limits m (Segment misfit) spells supported valid within names = record {
   tree = m;
   spells = spells;
   answers = record {
@@ -24,4 +25,4 @@ IsRefusal-image bytes limits m (Segment misfit) spells supported valid within na
     late_is = ap (λ (d : Option Demand). refusal_of d (first_misfit m)) within ∙ ap (refusal_of None) names;
   };
 }
-IsRefusal-image bytes limits m NoMemory spells supported valid within names = tt
+IsRefusal-image profile bytes limits m NoMemory spells supported valid within names = tt

@@ -1,5 +1,6 @@
 -- What each fault says of the bytes.
 use Rattle.wasm_types.specs.declared.limits.LoadLimits.{LoadLimits}
+use Rattle.wasm_types.specs.declared.profile.Profile.{Profile}
 use Rattle.std.specs.Prelude.{ℕ, List, Err}
 use Rattle.wasm_spec.specs.Loading as loading
 use Rattle.wasm_spec.specs.Loading.{Loads}
@@ -28,11 +29,11 @@ fault_of_image (image.Segment misfit) = Segment misfit
 fault_of_image image.NoMemory = NoMemory
 
 -- the refusal that a fault names is what loading answers; too many modules and want of memory say nothing of the bytes
-abbrev pub IsRefusal : List ℕ → LoadLimits → LoadFault → Type 0
-IsRefusal bytes limits TooMany = Unit {0}
-IsRefusal bytes limits Malformed = Loads bytes limits (Err loading.Malformed)
-IsRefusal bytes limits Unsupported = Loads bytes limits (Err loading.Unsupported)
-IsRefusal bytes limits Invalid = Loads bytes limits (Err loading.Invalid)
-IsRefusal bytes limits (OverLimit over) = Loads bytes limits (Err (loading.OverLimit (demand_of over)))
-IsRefusal bytes limits (Segment misfit) = Loads bytes limits (Err (loading.Segment (extent_of misfit)))
-IsRefusal bytes limits NoMemory = Unit {0}
+abbrev pub IsRefusal : Profile → List ℕ → LoadLimits → LoadFault → Type 0
+IsRefusal profile bytes limits TooMany = Unit {0}
+IsRefusal profile bytes limits Malformed = Loads profile bytes limits (Err loading.Malformed)
+IsRefusal profile bytes limits Unsupported = Loads profile bytes limits (Err loading.Unsupported)
+IsRefusal profile bytes limits Invalid = Loads profile bytes limits (Err loading.Invalid)
+IsRefusal profile bytes limits (OverLimit over) = Loads profile bytes limits (Err (loading.OverLimit (demand_of over)))
+IsRefusal profile bytes limits (Segment misfit) = Loads profile bytes limits (Err (loading.Segment (extent_of misfit)))
+IsRefusal profile bytes limits NoMemory = Unit {0}

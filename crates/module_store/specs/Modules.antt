@@ -1,5 +1,6 @@
 -- What lies in a store.
 use Rattle.std.specs.Prelude.{◌≡◌, ◌<◌, ℕ, List, Ok}
+use Rattle.wasm_types.specs.declared.profile.Profile.{Profile}
 use Rattle.wasm_types.specs.Tree.{ModuleTree, module_tree}
 use Rattle.wasm_spec.specs.Loading.{Loads}
 use Rattle.initial_image.specs.Image.{IsImageOf}
@@ -8,10 +9,11 @@ use Rattle.pool_limits.specs.Limits.{load_limits}
 use Rattle.module_store.specs.declared.desk.TheConstants.{MOST_MODULES}
 use Rattle.module_store.specs.declared.reference.Loaded.{Loaded}
 
--- loading gives the module from some bytes under the limits
+-- loading gives the module from some bytes in some profile under the limits
 pub record IsLoaded (config : Numbers) (tree : ModuleTree) : Type 0 where
+  pub profile : Profile
   pub bytes : List ℕ
-  pub loads : Loads bytes (load_limits config) (Ok tree)
+  pub loads : Loads profile bytes (load_limits config) (Ok tree)
 
 -- a loaded module with its image, under this tag
 pub record IsKept (config : Numbers) (tag : ℕ) (l : Loaded) : Type 0 where

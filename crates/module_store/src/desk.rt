@@ -3,7 +3,7 @@ use crate::naming::Naming;
 use std::marker::{Model, PhantomData};
 
 /// How many modules a desk registers at most.
-pub const MOST_MODULES: u32 = 4_096;
+pub const MOST_MODULES: u32 = 1_048_576;
 
 /// The one registrar of a store. Contracts see how many modules it registered.
 #[derive(Drop)]

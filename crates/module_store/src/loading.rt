@@ -12,20 +12,23 @@ use initial_image::{Image, build};
 use pool_limits::PoolConfig;
 use std::alloc::Global;
 use wasm_decode::decode;
+use wasm_types::Profile;
 use wasm_validate::{Valid, validate};
 
-// The module that the bytes spell, where it is supported, valid and within the limits, and its image. `TooMany` is no answer.
+// The module that the bytes spell in a profile, where it is supported, valid and within the limits, and its image. `TooMany` is
+// no answer.
 pub(crate) fn load(
     alloc: Global,
     config: &PoolConfig,
+    profile: Profile,
     bytes: &[u8],
 ) -> Result<(Valid, Image), LoadFault>
-    ensures loaded { IfOk result (λ l. Loads bytes.now (load_limits config.now) (Ok (module_tree l.0))) }
+    ensures loaded { IfOk result (λ l. Loads profile bytes.now (load_limits config.now) (Ok (module_tree l.0))) }
     ensures image { IfOk result (λ l. IsImageOf (module_tree l.0) l.1) }
-    ensures refused { IfErr result (IsRefusal bytes.now (load_limits config.now)) }
+    ensures refused { IfErr result (IsRefusal profile bytes.now (load_limits config.now)) }
     ensures counted { IfErr result (λ e. e ≢ fault.TooMany) }
 {
-    let module = decode(alloc, bytes)?;
+    let module = decode(alloc, profile, bytes)?;
     let valid = validate(alloc, module)?;
     config.check(&valid)?;
     let image = build(alloc, &valid)?;

@@ -19,7 +19,7 @@ use pool_limits::PoolConfig;
 use std::alloc::{AllocError, Global};
 use std::marker::{Model, PhantomData};
 use std::sync::Wait;
-use wasm_types::NoMemory;
+use wasm_types::{NoMemory, Profile};
 use wasm_validate::Valid;
 
 /// A store that has no name yet.
@@ -85,7 +85,8 @@ impl Opened {
 }
 
 impl<N: Naming> ModuleStore<N> {
-    /// Loads the module that the bytes spell, and shows it to all threads. Other threads may look and call meanwhile.
+    /// Loads the module that the bytes spell in a profile, and shows it to all threads. Other threads may look and call
+    /// meanwhile.
     ///
     /// # Errors
     ///
@@ -97,18 +98,19 @@ impl<N: Naming> ModuleStore<N> {
         rt: &R,
         alloc: Global,
         desk: &mut Desk<N>,
+        profile: Profile,
         bytes: &[u8],
     ) -> Result<ModuleRef<N>, LoadFault>
         ensures too_many { IsErrOf result LoadFault.TooMany ↔ (desk.old ≡ MOST_MODULES) }
-        ensures loaded { IfOk result (λ r. Loads bytes.now (load_limits N.config) (Ok r.tree)) }
+        ensures loaded { IfOk result (λ r. Loads profile bytes.now (load_limits N.config) (Ok r.tree)) }
         ensures tag { IfOk result (λ r. (r.tag ≡ desk.old) × (desk.new ≡ desk.old + 1)) }
-        ensures refused { IfErr result (IsRefusal bytes.now (load_limits N.config)) }
+        ensures refused { IfErr result (IsRefusal profile bytes.now (load_limits N.config)) }
         ensures desk { OnErr result (desk.new ≡ desk.old) }
     {
         if desk.registered == MOST_MODULES {
             return Err(LoadFault::TooMany);
         }
-        let (valid, image) = load(alloc, &self.config, bytes)?;
+        let (valid, image) = load(alloc, &self.config, profile, bytes)?;
         let tag = desk.registered;
         let Ok(seen) = self.modules.push_shown(rt, Loaded { tag, valid, image }) else {
             return Err(LoadFault::NoMemory);

@@ -15,7 +15,7 @@ use std::sync::Wait;
 use std::test::Fail;
 use std::thread;
 use std::thread::Threads;
-use wasm_types::Val;
+use wasm_types::{Profile, Val};
 
 const USUAL: Numbers = Numbers {
     workers: 1,
@@ -51,9 +51,10 @@ fn answer<N: Naming, R: Wait>(
     alloc: Global,
     store: &ModuleStore<N>,
     desk: &mut Desk<N>,
+    profile: Profile,
     bytes: &[u8],
 ) -> Result<(usize, u32), LoadFault> {
-    let module = store.register(rt, alloc, desk, bytes)?;
+    let module = store.register(rt, alloc, desk, profile, bytes)?;
     Ok((module.number(), module.tag()))
 }
 
@@ -107,7 +108,7 @@ fn check_answers<N: Naming, R: Abort + Wait>(rt: &R, alloc: Global, opened: Open
     ];
     for (bytes, expected) in rows {
         assert_eq!(rt;
-            answer(rt, alloc, &store, &mut desk, bytes),
+            answer(rt, alloc, &store, &mut desk, Profile::One, bytes),
             expected,
             "{bytes:?}"
         );
@@ -118,6 +119,46 @@ fn check_answers<N: Naming, R: Abort + Wait>(rt: &R, alloc: Global, opened: Open
 fn bytes_are_registered_or_refused(rt: HostRuntime) -> Result<(), Fail> {
     let opened = open(rt.alloc())?;
     check_answers::<Brand, HostRuntime>(&rt, rt.alloc(), opened);
+    Ok(())
+}
+
+// An extension of the lowest 8 bits by their sign, and a fill.
+static EXTEND: [u8; 36] =
+    *b"\0asm\x01\0\0\0\x01\x06\x01\x60\x01\x7f\x01\x7f\x03\x02\x01\0\x07\x05\x01\x01e\0\0\x0a\x07\x01\x05\0\x20\0\xc0\x0b";
+
+static FILL: [u8; 47] =
+    *b"\0asm\x01\0\0\0\x01\x06\x01\x60\x02\x7f\x7f\0\x03\x02\x01\0\x05\x03\x01\0\x01\x07\x05\x01\x01f\0\0\x0a\x0d\x01\x0b\0\x20\0\x41\x07\x20\x01\xfc\x0b\0\x0b";
+
+fn check_profiles<N: Naming, R: Abort + Wait>(rt: &R, alloc: Global, opened: Opened)
+    requires { Bears opened N.shelves N.config }
+{
+    use Profile::{One, Two};
+    let (store, mut desk) = opened.named::<N>();
+    let malformed = Err(LoadFault::Malformed);
+    // the last two count no data segments, and one that isn't there
+    let rows = [
+        (One, EXTEND.as_slice(), malformed),
+        (Two, EXTEND.as_slice(), Ok((0, 0))),
+        (One, FILL.as_slice(), malformed),
+        (Two, FILL.as_slice(), Ok((1, 1))),
+        (One, ADD.as_slice(), Ok((2, 2))),
+        (Two, ADD.as_slice(), Ok((3, 3))),
+        (One, b"\0asm\x01\0\0\0\x0c\x01\0".as_slice(), malformed),
+        (Two, b"\0asm\x01\0\0\0\x0c\x01\0".as_slice(), Ok((4, 4))),
+        (Two, b"\0asm\x01\0\0\0\x0c\x01\x01".as_slice(), malformed),
+    ];
+    for (profile, bytes, expected) in rows {
+        let got = answer(rt, alloc, &store, &mut desk, profile, bytes);
+        assert_eq!(rt; got, expected, "{profile:?}: {bytes:?}");
+    }
+}
+
+#[test]
+fn some_bytes_are_refused_in_one_profile_and_loaded_in_the_other(
+    rt: HostRuntime,
+) -> Result<(), Fail> {
+    let opened = open(rt.alloc())?;
+    check_profiles::<Brand, HostRuntime>(&rt, rt.alloc(), opened);
     Ok(())
 }
 
@@ -132,7 +173,14 @@ fn check_prefixes<N: Naming, R: Abort + Wait>(rt: &R, alloc: Global, opened: Ope
     ];
     for (bytes, whole) in rows {
         for length in 0..bytes.len() {
-            let refused = answer(rt, alloc, &store, &mut desk, &bytes[..length]).err();
+            let refused = answer(
+                rt,
+                alloc,
+                &store,
+                &mut desk,
+                Profile::One,
+                &bytes[..length],
+            ).err();
             let expected = if whole.contains(&length) {
                 None
             } else {
@@ -155,10 +203,24 @@ fn check_most<N: Naming, R: Abort + Wait>(rt: &R, alloc: Global, opened: Opened)
 {
     let (store, mut desk) = opened.named::<N>();
     for tag in 0..MOST_MODULES {
-        let module = answer(rt, alloc, &store, &mut desk, b"\0asm\x01\0\0\0".as_slice());
+        let module = answer(
+            rt,
+            alloc,
+            &store,
+            &mut desk,
+            Profile::One,
+            b"\0asm\x01\0\0\0".as_slice(),
+        );
         assert_eq!(rt; module, Ok((tag as usize, tag)));
     }
-    let more = answer(rt, alloc, &store, &mut desk, b"no module".as_slice());
+    let more = answer(
+        rt,
+        alloc,
+        &store,
+        &mut desk,
+        Profile::One,
+        b"no module".as_slice(),
+    );
     assert_eq!(rt; more, Err(LoadFault::TooMany));
 }
 
@@ -184,7 +246,7 @@ fn register_all<N: Naming, R: Abort + Wait>(
     desk: &mut Desk<N>,
 ) {
     for value in 1..61u8 {
-        let module = store.register(rt, alloc, desk, with_global(value).as_slice());
+        let module = store.register(rt, alloc, desk, Profile::One, with_global(value).as_slice());
         let module = module.expect(rt, "registered");
         assert_eq!(rt; module.tag(), value as u32);
         assert_eq!(rt;
@@ -217,14 +279,20 @@ fn check_threads<N: Naming + Send + Sync, R: Abort + Threads + Wait + Sync>(
     requires { Bears opened N.shelves N.config }
 {
     let (store, mut desk) = opened.named::<N>();
-    let first = store.register(rt, alloc, &mut desk, with_global(0).as_slice());
+    let first = store.register(
+        rt,
+        alloc,
+        &mut desk,
+        Profile::One,
+        with_global(0).as_slice(),
+    );
     let first = first.expect(rt, "registered");
     thread::join(
         rt,
         || read_all(rt, &store, &first),
         || register_all(rt, alloc, &store, &mut desk),
     );
-    let last = answer(rt, alloc, &store, &mut desk, ADD.as_slice());
+    let last = answer(rt, alloc, &store, &mut desk, Profile::One, ADD.as_slice());
     assert_eq!(rt; last, Ok((61, 61)));
 }
 

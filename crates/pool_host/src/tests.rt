@@ -20,7 +20,7 @@ use std::sync::atomic::{AtomicBool, Ordering};
 use std::test::Fail;
 use std::thread;
 use std::thread::Threads;
-use wasm_types::{Outcome, Val};
+use wasm_types::{Outcome, Profile, TrapKind, Val};
 
 // A counter in memory, a store at an address, a memory that is grown and written to, an addition, a counter in a global,
 // and a table.
@@ -67,7 +67,7 @@ fn register<N: Naming, R: Abort + Wait>(
     bytes: &[u8],
 ) -> ModuleRef<N> {
     store
-        .register(rt, alloc, desk, bytes)
+        .register(rt, alloc, desk, Profile::One, bytes)
         .expect(rt, "registered")
 }
 
@@ -417,6 +417,101 @@ fn each_call_of_a_lane_is_on_a_fresh_instance(rt: HostRuntime) -> Result<(), Fai
     Ok(())
 }
 
+// An extension and a fill, of profile 2, and a load at an address.
+static EXTEND: [u8; 36] =
+    *b"\0asm\x01\0\0\0\x01\x06\x01\x60\x01\x7f\x01\x7f\x03\x02\x01\0\x07\x05\x01\x01e\0\0\x0a\x07\x01\x05\0\x20\0\xc0\x0b";
+
+static FILL: [u8; 47] =
+    *b"\0asm\x01\0\0\0\x01\x06\x01\x60\x02\x7f\x7f\0\x03\x02\x01\0\x05\x03\x01\0\x01\x07\x05\x01\x01f\0\0\x0a\x0d\x01\x0b\0\x20\0\x41\x07\x20\x01\xfc\x0b\0\x0b";
+
+static PEEK: [u8; 43] =
+    *b"\0asm\x01\0\0\0\x01\x06\x01\x60\x01\x7f\x01\x7f\x03\x02\x01\0\x05\x03\x01\0\x01\x07\x05\x01\x01p\0\0\x0a\x09\x01\x07\0\x20\0\x28\x02\0\x0b";
+
+fn register_two<N: Naming, R: Abort + Wait>(
+    rt: &R,
+    alloc: Global,
+    store: &ModuleStore<N>,
+    desk: &mut Desk<N>,
+    bytes: &[u8],
+) -> ModuleRef<N> {
+    store
+        .register(rt, alloc, desk, Profile::Two, bytes)
+        .expect(rt, "registered")
+}
+
+// Calls of an extension and of a fill, on just enough fuel and on less.
+fn check_profile_2<N: Naming, R: Abort + Wait>(rt: &R, alloc: Global, opened: Opened)
+    requires { Bears opened N.shelves N.config }
+{
+    let (store, mut desk) = opened.named::<N>();
+    let extend = register_two(rt, alloc, &store, &mut desk, EXTEND.as_slice());
+    let fill = register_two(rt, alloc, &store, &mut desk, FILL.as_slice());
+    let share = Share {
+        instances: 1,
+        memories: 1,
+        tables: 1,
+    };
+    let mut lane = LaneHost::open(alloc, &store, share).expect(rt, "opened");
+    for (a, want) in [(127, 127), (128, 0xffff_ff80), (255, u32::MAX), (256, 0)] {
+        let got = lane.call(&store, &extend, b"e", &[Val::I32(a)], 2, 1, &OpenGate);
+        let want = Outcome::Done(Some(Val::I32(want)));
+        assert_eq!(rt; got, LaneAnswer::Done(want), "{a}");
+    }
+    let done = Outcome::Done(None);
+    let trap = Outcome::Trap(TrapKind::Memory);
+    let rows = [
+        (0, 65_536, 4, done),
+        (65_536, 0, 4, done),
+        (65_536, 1, 4, trap),
+        (65_537, 0, 4, trap),
+        (u32::MAX, 2, 4, trap),
+        (0, 65_536, 3, Outcome::Fuel),
+    ];
+    for (to, count, fuel, want) in rows {
+        let args = [Val::I32(to), Val::I32(count)];
+        let got = lane.call(&store, &fill, b"f", &args, fuel, 2, &OpenGate);
+        assert_eq!(rt; got, LaneAnswer::Done(want), "{count} at {to}");
+    }
+}
+
+#[test]
+fn extensions_and_fills_are_called(rt: HostRuntime) -> Result<(), Fail> {
+    check_profile_2::<Brand, HostRuntime>(&rt, rt.alloc(), open(rt.alloc(), 1, 1)?);
+    Ok(())
+}
+
+// One slot of each kind: a module fills all of its memory, and then another looks at it.
+fn check_filled<N: Naming, R: Abort + Wait>(rt: &R, alloc: Global, opened: Opened)
+    requires { Bears opened N.shelves N.config }
+{
+    let (store, mut desk) = opened.named::<N>();
+    let fill = register_two(rt, alloc, &store, &mut desk, FILL.as_slice());
+    let peek = register(rt, alloc, &store, &mut desk, PEEK.as_slice());
+    let share = Share {
+        instances: 1,
+        memories: 1,
+        tables: 1,
+    };
+    let mut lane = LaneHost::open(alloc, &store, share).expect(rt, "opened");
+    let done = |value| LaneAnswer::Done(Outcome::Done(value));
+    let all = [Val::I32(0), Val::I32(65_536)];
+    for at in [0, 4_092, 4_096, 65_532] {
+        let filled = lane.call(&store, &fill, b"f", &all, 4, 1, &OpenGate);
+        assert_eq!(rt; filled, done(None));
+        let seen = lane.call(&store, &peek, b"p", &[Val::I32(at)], 2, 2, &OpenGate);
+        assert_eq!(rt; seen, done(Some(Val::I32(0))), "at {at}");
+    }
+}
+
+#[test]
+fn a_call_sees_nothing_of_a_fill_before_it(rt: HostRuntime) -> Result<(), Fail> {
+    for batch in [1, 4] {
+        let opened = open(rt.alloc(), 1, batch)?;
+        check_filled::<Brand, HostRuntime>(&rt, rt.alloc(), opened);
+    }
+    Ok(())
+}
+
 static GROW: [u8; 45] =
     *b"\0asm\x01\0\0\0\x01\x06\x01\x60\x01\x7f\x01\x7f\x03\x02\x01\0\x05\x03\x01\0\x01\x07\x08\x01\x04grow\0\0\x0a\x08\x01\x06\0\x20\0\x40\0\x0b";
 
@@ -483,20 +578,23 @@ fn check_marks<N: Naming, R: Abort + Wait>(rt: &R, alloc: Global, opened: Opened
         register(rt, alloc, &store, &mut desk, POKE.as_slice()),
         register(rt, alloc, &store, &mut desk, GROWN.as_slice()),
         register(rt, alloc, &store, &mut desk, GROW.as_slice()),
+        register_two(rt, alloc, &store, &mut desk, FILL.as_slice()),
     ];
     let (host, mut pass) = one_caller(rt, alloc, &store);
     // the module, the export, how many of the two arguments, the first of them, the fuel, how the call ends, and the blocks
     let none = Outcome::Done(None);
-    let rows: [(usize, &str, usize, u32, u64, Outcome, u32); 5] = [
+    let rows: [(usize, &str, usize, u32, u64, Outcome, u32); 7] = [
         (0, "bump", 0, 0, 100, ONE, 1),
         (1, "poke", 2, 4094, 100, none, 2),
         (1, "poke", 2, 4092, 100, none, 1),
         (2, "dirty", 0, 0, 50, Outcome::Fuel, 1),
         (3, "grow", 1, 3, 100, ONE, 0),
+        (4, "f", 2, 4092, 4, none, 2),
+        (4, "f", 2, 4096, 4, none, 1),
     ];
     for (module, export, count, first, fuel, outcome, blocks) in rows {
         let args = [Val::I32(first), Val::I32(7)];
-        let module = &modules[module % 4];
+        let module = &modules[module % 5];
         let args = &args[..count.min(2)];
         let (marks, back) = marked_by(&host, pass, &store, module, export.as_bytes(), args, fuel);
         assert_eq!(rt; marks, Some((outcome, Some(blocks))), "at {export}");

@@ -1,4 +1,5 @@
 -- A pool in use: its slots, its callers' running calls, and the events that change them.
+use Rattle.wasm_types.specs.declared.profile.Profile.{Profile}
 use Rattle.wasm_types.specs.declared.limits.RunLimits.{RunLimits}
 use Rattle.wasm_types.specs.declared.limits.LoadLimits.{LoadLimits}
 use Rattle.std.specs.Prelude.{◌≡◌, ℕ, ◌+◌, ◌<◌, ◌==◌, ◌&&◌, Bool, true, false, if◌then◌else◌, List, [], ◌∷◌, Option, Some, None, is_some, unwrap_or, map}
@@ -174,8 +175,9 @@ pub record HasOut (p : Machine) (k : Kind) (s : ℕ) : Type 0 where
 -- it stands on the shelf, and loading gives it
 pub record IsModule (w : World) (m : Named) : Type 0 where
   pub on_shelf : w.shelf m.number ≡ m
+  pub profile : Profile
   pub bytes : List ℕ
-  pub loads : Loads bytes (load_limits w.limits) (Ok m.tree)
+  pub loads : Loads profile bytes (load_limits w.limits) (Ok m.tree)
 
 -- the module exports the function, whose parameters have the arguments' types
 pub record IsCallable (q : Request) : Type 0 where

@@ -6,3 +6,4 @@ pub mod SummaryLemmas
 pub mod PlaceLemmas
 pub mod LineExamples
 pub mod TextExamples
+pub mod ProfileExamples

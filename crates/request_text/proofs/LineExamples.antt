@@ -45,8 +45,8 @@ traps_are = refl
 abbrev refused_for : Reason → List ℕ
 refused_for reason = refusal_line (BadLine 12 reason)
 
-reasons_are : refused_for why.BadByte ++ refused_for why.UnknownDirective ++ refused_for why.BadWords ++ refused_for why.BadName ++ refused_for why.BadHex ++ refused_for why.NameUsedTwice
-    ≡ codes "line 12: bad byte\nline 12: unknown directive\nline 12: bad words\nline 12: bad name\nline 12: bad hex\nline 12: name used twice\n"
+reasons_are : refused_for why.BadByte ++ refused_for why.UnknownDirective ++ refused_for why.LateProfile ++ refused_for why.BadProfile ++ refused_for why.BadWords ++ refused_for why.BadName ++ refused_for why.BadHex ++ refused_for why.NameUsedTwice
+    ≡ codes "line 12: bad byte\nline 12: unknown directive\nline 12: late profile\nline 12: bad profile\nline 12: bad words\nline 12: bad name\nline 12: bad hex\nline 12: name used twice\n"
 unfolding digits
 reasons_are = refl
 

@@ -2,10 +2,9 @@
 use Rattle.std.proofs.Common.{◌≡◌, ◌+◌, ◌<◌, ◌≤◌, ℕ, suc, List, ◌∷◌, length, get_or, drop, refl, sym, ap, ◌∙◌, Result, Ok, arith}
 use Rattle.std.proofs.Math.Seq.{drop-cons}
 use Rattle.std.proofs.lemmas.List.{drop_all}
-use Rattle.request_text.specs.declared.request.Directive.{Directive}
 use Rattle.request_text.specs.declared.directive.LineFault.{LineFault}
 use Rattle.request_text.specs.declared.directive.LineFault.TheVariants.{Refused, NoMemory}
-use Rattle.request_text.specs.Text.{FileRefusal, requests_after, requests_from}
+use Rattle.request_text.specs.Text.{ReadLines, FileRefusal, requests_after, requests_from}
 use Rattle.request_text.specs.Reading.{Explains, fault_at, Reports}
 
 -- the line that is next, and those after it
@@ -15,13 +14,13 @@ next_line lines n line within here =
     drop-cons lines n line within ∙ ap (λ l. l ∷ drop (suc n) lines) (sym here) ∙ ap (λ k. line ∷ drop k lines) one
 
 -- a line that is refused, by its number
-refused_here : (number : ℕ) (before : List Directive) (line : List ℕ) (lines : List (List ℕ)) (fault : LineFault) → Explains fault (requests_after before line)
+refused_here : (number : ℕ) (before : ReadLines) (line : List ℕ) (lines : List (List ℕ)) (fault : LineFault) → Explains fault (requests_after before line)
     → Reports (fault_at number fault) (requests_from number before (line ∷ lines))
 refused_here number before line lines (Refused reason) refused = rw refused refl
 refused_here number before line lines NoMemory refused = tt
 
 -- k lines are read, and the next one gives `now`
-pub one_read : (lines : List (List ℕ)) (n k : ℕ) (before now : List Directive) (line : List ℕ) (whole : Result (List Directive) FileRefusal)
+pub one_read : (lines : List (List ℕ)) (n k : ℕ) (before now : ReadLines) (line : List ℕ) (whole : Result ReadLines FileRefusal)
     → n ≡ k → (k < length lines) × (line ≡ get_or lines k line) → whole ≡ requests_from (n + 1) before (drop n lines) → requests_after before line ≡ Ok now
     → whole ≡ requests_from (n + 1 + 1) now (drop (n + 1) lines)
 one_read lines n k before now line whole same turn left read =
@@ -30,7 +29,7 @@ one_read lines n k before now line whole same turn left read =
     left ∙ ap (requests_from (n + 1) before) (next_line lines n line within here) ∙ rw read refl
 
 -- k lines are read, and the next one is refused
-pub one_refused : (lines : List (List ℕ)) (n k : ℕ) (before : List Directive) (line : List ℕ) (fault : LineFault) (whole : Result (List Directive) FileRefusal)
+pub one_refused : (lines : List (List ℕ)) (n k : ℕ) (before : ReadLines) (line : List ℕ) (fault : LineFault) (whole : Result ReadLines FileRefusal)
     → n ≡ k → (k < length lines) × (line ≡ get_or lines k line) → whole ≡ requests_from (n + 1) before (drop n lines) → Explains fault (requests_after before line)
     → Reports (fault_at (n + 1) fault) whole
 one_refused lines n k before line fault whole same turn left refused =
@@ -40,7 +39,7 @@ one_refused lines n k before line fault whole same turn left refused =
     rw is (refused_here (n + 1) before line (drop (n + 1) lines) fault refused)
 
 -- all lines are read
-pub all_read : (lines : List (List ℕ)) (n k : ℕ) (before : List Directive) (whole : Result (List Directive) FileRefusal)
+pub all_read : (lines : List (List ℕ)) (n k : ℕ) (before : ReadLines) (whole : Result ReadLines FileRefusal)
     → n ≡ k → k ≡ length lines → whole ≡ requests_from (n + 1) before (drop n lines) → whole ≡ Ok before
 all_read lines n k before whole same end left =
     let past : length lines ≤ n = omega arith in

@@ -4,7 +4,7 @@ use Rattle.std.proofs.lemmas.List.Elements.{filter_map-append}
 use Rattle.std.proofs.lemmas.List.Sums.{sum_by-append}
 use Rattle.request_text.specs.declared.request.Directive.{Directive}
 use Rattle.request_text.specs.declared.request.Directive.TheVariants.{Module, Call}
-use Rattle.request_text.specs.Text.{AreRequests, Declared, IsPlacedFrom, call_count, declared_after, declared_by, is_call, module_name, module_names}
+use Rattle.request_text.specs.Text.{AreRequests, Declared, IsPlacedFrom, call_count, declared_after, declared_by, is_call, module_name, module_names, most_calls, most_modules}
 use Rattle.request_text.specs.Reading.{HasRoom}
 
 module_names-more : (before : List Directive) (directive : Directive) → module_names (before ++ directive ∷ []) ≡ module_names before ++ module_names (directive ∷ [])
@@ -26,11 +26,11 @@ declared_by-more before (Call place export fuel args) =
     ap (λ (names : List (List ℕ)). declared names (call_count (before ++ d ∷ []))) (module_names-more before d ∙ append-nil (module_names before))
     ∙ ap (declared (module_names before)) (call_count-more before d)
 
-few_names_after : (before : Declared) (directive : Directive) → HasRoom before directive → length before.names ≤ 4096 → length (declared_after before directive).names ≤ 4096
+few_names_after : (before : Declared) (directive : Directive) → HasRoom before directive → length before.names ≤ most_modules → length (declared_after before directive).names ≤ most_modules
 few_names_after before (Module name bytes) room few = omega (arith, room.0, length-append before.names (name ∷ []))
 few_names_after before (Call place export fuel args) room few = few
 
-few_calls_after : (before : Declared) (directive : Directive) → HasRoom before directive → before.calls ≤ 100000 → (declared_after before directive).calls ≤ 100000
+few_calls_after : (before : Declared) (directive : Directive) → HasRoom before directive → before.calls ≤ most_calls → (declared_after before directive).calls ≤ most_calls
 few_calls_after before (Module name bytes) room few = few
 few_calls_after before (Call place export fuel args) room few = omega (arith, room.0)
 
@@ -54,6 +54,6 @@ requests_with before directive room are =
     let more = sym (declared_by-more before directive) in
     record {
       placed = placed_after before directive room are.placed;
-      few_modules = subst (λ (d : Declared). length d.names ≤ 4096) more (few_names_after (declared_by before) directive room are.few_modules);
-      few_calls = subst (λ (d : Declared). d.calls ≤ 100000) more (few_calls_after (declared_by before) directive room are.few_calls);
+      few_modules = subst (λ (d : Declared). length d.names ≤ most_modules) more (few_names_after (declared_by before) directive room are.few_modules);
+      few_calls = subst (λ (d : Declared). d.calls ≤ most_calls) more (few_calls_after (declared_by before) directive room are.few_calls);
     }

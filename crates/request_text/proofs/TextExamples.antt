@@ -1,8 +1,13 @@
 -- The ladder where two reasons apply: worked by hand.
-use Rattle.std.proofs.Common.{◌≡◌, ℕ, List, [], ◌∷◌, refl, codes, Err, Result}
-use Rattle.std.specs.Prelude.{replicate}
+use Rattle.std.proofs.Common.{◌≡◌, ◌+◌, ℕ, zero, suc, length, Bool, true, false, if◌then◌else◌, List, [], ◌∷◌, ap, refl, codes, Ok, Err, Result, arith}
+use Rattle.std.specs.Prelude.{None, Some, nat_lt, replicate}
+use Rattle.std.specs.List.{position_or_len}
+use Rattle.std.specs.Str.{bytes_eq}
+use Rattle.std.proofs.lemmas.Bool.{le-ltb, lt-ltb}
+use Rattle.std.proofs.lemmas.List.{length-replicate}
 use Rattle.hex.specs.Hex.{decode_pairs}
 use Rattle.request_text.specs.declared.request.Directive.{Directive}
+use Rattle.request_text.specs.declared.request.Directive.TheVariants.{Module}
 use Rattle.request_text.specs.declared.request.Reason.{Reason}
 use Rattle.request_text.specs.declared.request.Reason.TheVariants.{BadHex, BadName, NameUsedTwice, TooManyModules, UnknownModule, BadFuel, BadArgument, TooManyCalls}
 use Rattle.request_text.specs.Text.{Declared, argument_of, call_directive_of, integer_of, module_directive_of, number_up_to, place_of}
@@ -14,37 +19,63 @@ declared modules calls = record { names = replicate modules (codes "m"); calls =
 abbrev module_after : ℕ → (name digits : List ℕ) → Result Directive Reason
 module_after modules name digits = module_directive_of (declared modules 0) (name ∷ digits ∷ [])
 
-long_name : module_after 4096 (replicate 65 110) (codes "0") ≡ Err BadName
+-- however many modules stand before
+long_name : (n : ℕ) → module_after n (replicate 65 110) (codes "0") ≡ Err BadName
 unfolding module_directive_of
-long_name = refl
+long_name n = refl
 
-hex_before_name : module_after 4096 (codes "m") (codes "0") ≡ Err BadHex
+hex_before_name : (n : ℕ) → module_after n (codes "m") (codes "0") ≡ Err BadHex
 unfolding module_directive_of
-hex_before_name = refl
+hex_before_name n = refl
 
-name_before_number : module_after 4096 (codes "m") (codes "00") ≡ Err NameUsedTwice
-unfolding module_directive_of place_of decode_pairs
-name_before_number = refl
+own_name : (n : ℕ) → place_of (replicate (suc n) (codes "m")) (codes "m") ≡ Some 0
+unfolding place_of
+own_name n = rw (lt-ltb 0 (length (replicate (suc n) (codes "m"))) (omega (arith, length-replicate (suc n) (codes "m")))) refl
 
-number_of_modules : module_after 4096 (codes "n") (codes "00") ≡ Err TooManyModules
-unfolding module_directive_of place_of decode_pairs
-number_of_modules = refl
+name_before_number : (n : ℕ) → module_after (suc n) (codes "m") (codes "00") ≡ Err NameUsedTwice
+unfolding module_directive_of decode_pairs
+name_before_number n = rw (own_name n) refl
+
+-- no other module has the name
+abbrev is_n : List ℕ → Bool
+is_n other = bytes_eq other (codes "n")
+
+passes_all : (n : ℕ) → position_or_len is_n (replicate n (codes "m")) ≡ n
+passes_all zero = refl
+passes_all (suc n) =
+    let one_more : position_or_len is_n (replicate (suc n) (codes "m")) ≡ 1 + position_or_len is_n (replicate n (codes "m")) = refl in
+    omega (arith, one_more, passes_all n)
+
+another_name : (n : ℕ) → place_of (replicate n (codes "m")) (codes "n") ≡ None
+unfolding place_of
+another_name n = rw (passes_all n, length-replicate n (codes "m"), le-ltb n n (omega arith)) refl
+
+after_so_many : (n : ℕ) (b : Bool) → nat_lt n 1048576 ≡ b → module_after n (codes "n") (codes "00") ≡ (if b then Ok (Module (codes "n") (0 ∷ [])) else Err TooManyModules)
+unfolding module_directive_of decode_pairs
+after_so_many n true few = rw (another_name n, length-replicate n (codes "m"), few) refl
+after_so_many n false many = rw (another_name n, length-replicate n (codes "m"), many) refl
+
+last_module : module_after 1048575 (codes "n") (codes "00") ≡ Ok (Module (codes "n") (0 ∷ []))
+last_module = after_so_many 1048575 true refl
+
+one_module_more : module_after 1048576 (codes "n") (codes "00") ≡ Err TooManyModules
+one_module_more = after_so_many 1048576 false refl
 
 abbrev call_after : ℕ → (name fuel arg : List ℕ) → Result Directive Reason
 call_after calls name fuel arg = call_directive_of (declared 1 calls) (name ∷ codes "f" ∷ fuel ∷ arg ∷ [])
 
-module_before_fuel : call_after 100000 (codes "n") (codes "x") (codes "x") ≡ Err UnknownModule
+module_before_fuel : call_after 1000000 (codes "n") (codes "x") (codes "x") ≡ Err UnknownModule
 unfolding call_directive_of place_of
 module_before_fuel = refl
 
-fuel_before_arguments : call_after 100000 (codes "m") (codes "4294967296") (codes "x") ≡ Err BadFuel
+fuel_before_arguments : call_after 1000000 (codes "m") (codes "4294967296") (codes "x") ≡ Err BadFuel
 unfolding call_directive_of place_of number_up_to
 fuel_before_arguments = refl
 
-arguments_before_number : call_after 100000 (codes "m") (codes "1") (codes "x") ≡ Err BadArgument
+arguments_before_number : call_after 1000000 (codes "m") (codes "1") (codes "x") ≡ Err BadArgument
 unfolding call_directive_of place_of number_up_to argument_of
 arguments_before_number = refl
 
-number_of_calls : call_after 100000 (codes "m") (codes "1") (codes "i32:1") ≡ Err TooManyCalls
+number_of_calls : call_after 1000000 (codes "m") (codes "1") (codes "i32:1") ≡ Err TooManyCalls
 unfolding call_directive_of place_of number_up_to argument_of integer_of
 number_of_calls = refl

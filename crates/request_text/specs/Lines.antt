@@ -80,6 +80,8 @@ report_text lines = flat_map line_text lines
 abbrev pub reason_text : Reason → List ℕ
 reason_text why.BadByte = codes "bad byte"
 reason_text why.UnknownDirective = codes "unknown directive"
+reason_text why.LateProfile = codes "late profile"
+reason_text why.BadProfile = codes "bad profile"
 reason_text why.BadWords = codes "bad words"
 reason_text why.BadName = codes "bad name"
 reason_text why.BadHex = codes "bad hex"

@@ -11,7 +11,7 @@ use Rattle.request_text.specs.declared.directive.LineFault.{LineFault}
 use Rattle.request_text.specs.declared.request.ParseFault.{ParseFault}
 use Rattle.request_text.specs.declared.request.ParseFault.TheVariants.{TextFault, TooLong, NoMemory}
 use Rattle.request_text.specs.declared.directive.LineFault.TheVariants as judged
-use Rattle.request_text.specs.Text.{BadLine, Declared, FileRefusal, place_of}
+use Rattle.request_text.specs.Text.{BadLine, Declared, FileRefusal, most_calls, most_modules, place_of}
 use Rattle.std.specs.BTreeMap.{BTreeMap, get_by}
 use Rattle.std.specs.Cmp.Lexicographic.{slice_cmp}
 use Rattle.std.specs.Ordering.{nat_cmp}
@@ -36,7 +36,7 @@ fault_at line (judged.Refused reason) = TextFault line reason
 fault_at line judged.NoMemory = NoMemory
 
 -- the parser's answer for lines is the definition's, but for want of memory
-abbrev pub Reports : ParseFault → Result (List Directive) FileRefusal → Type 0
+abbrev pub Reports : {A : Type 0} → ParseFault → Result A FileRefusal → Type 0
 Reports (TextFault line reason) meaning = meaning ≡ Err (BadLine line reason)
 Reports TooLong meaning = ⊥
 Reports NoMemory meaning = ⊤
@@ -47,5 +47,5 @@ ArePlaces places names = (name : List ℕ) → get_by (λ key. slice_cmp nat_cmp
 
 -- one more directive keeps within the numbers of modules and calls; a module's name is new, and a call is of one of the modules
 abbrev pub HasRoom : Declared → Directive → Type 0
-HasRoom before (Module name bytes) = (length before.names < 4096) × (place_of before.names name ≡ None)
-HasRoom before (Call place export fuel args) = (before.calls < 100000) × (place < length before.names)
+HasRoom before (Module name bytes) = (length before.names < most_modules) × (place_of before.names name ≡ None)
+HasRoom before (Call place export fuel args) = (before.calls < most_calls) × (place < length before.names)

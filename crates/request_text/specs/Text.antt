@@ -1,5 +1,5 @@
 -- The request text: the lines of a file, the words of a line, and the ladder of reasons for which a line is refused.
-use Rattle.std.specs.Prelude.{◌<◌, ◌≤◌, ℕ, ◌+◌, ◌-◌, ◌%◌, ◌^◌, ◌==◌, ◌&&◌, ◌||◌, nat_lt, nat_le, Bool, true, false, not, if◌then◌else◌, List, [], ◌∷◌, ◌++◌, length, take, drop, codes, filter, filter_map, count_by, position, Option, Some, None, is_none, option_and_then, Result, Ok, Err}
+use Rattle.std.specs.Prelude.{◌<◌, ◌≤◌, ℕ, ◌+◌, ◌-◌, ◌%◌, ◌^◌, ◌==◌, ◌&&◌, ◌||◌, nat_lt, nat_le, Bool, true, false, not, if◌then◌else◌, List, [], ◌∷◌, ◌++◌, length, take, drop, codes, filter, filter_map, count_by, position, Option, Some, None, is_none, unwrap_or, option_and_then, Result, Ok, Err}
 use Rattle.std.specs.List.{slice_split, list_all}
 use Rattle.std.specs.Option.{option_map, ok_or}
 use Rattle.std.specs.Result.{result_ok}
@@ -9,10 +9,12 @@ use Rattle.std.specs.Str.Parse.{digits_value}
 use Rattle.hex.specs.Hex.{decode_of}
 use Rattle.wasm_types.specs.declared.outcome.Val.{Val}
 use Rattle.wasm_types.specs.declared.outcome.Val.TheVariants.{I32, I64}
+use Rattle.wasm_types.specs.declared.profile.Profile.{Profile}
+use Rattle.wasm_types.specs.declared.profile.Profile.TheVariants.{One, Two}
 use Rattle.request_text.specs.declared.request.Directive.{Directive}
 use Rattle.request_text.specs.declared.request.Directive.TheVariants.{Module, Call}
 use Rattle.request_text.specs.declared.request.Reason.{Reason}
-use Rattle.request_text.specs.declared.request.Reason.TheVariants.{BadByte, UnknownDirective, BadWords, BadName, BadHex, NameUsedTwice, TooManyModules, UnknownModule, BadFuel, BadArgument, TooManyCalls}
+use Rattle.request_text.specs.declared.request.Reason.TheVariants.{BadByte, UnknownDirective, LateProfile, BadProfile, BadWords, BadName, BadHex, NameUsedTwice, TooManyModules, UnknownModule, BadFuel, BadArgument, TooManyCalls}
 use Rattle.request_text.specs.declared.request.ParseFault.{ParseFault}
 use Rattle.request_text.specs.declared.request.ParseFault.TheVariants.{TextFault, TooLong, NoMemory}
 
@@ -94,6 +96,16 @@ abbrev pub demand : Bool → Reason → Result (Unit {0}) Reason
 demand true reason = Ok tt
 demand false reason = Err reason
 
+-- the most that a file has: bytes, module lines and call lines
+abbrev pub most_bytes : ℕ
+most_bytes = 67108864
+
+abbrev pub most_modules : ℕ
+most_modules = 1048576
+
+abbrev pub most_calls : ℕ
+most_calls = 1000000
+
 -- what the lines before have declared: the names of their modules, and how many calls
 pub record Declared : Type 0 where
   pub names : List (List ℕ)
@@ -109,7 +121,7 @@ module_directive_of before (name ∷ digits ∷ []) = do
   _ ← demand (nat_le (length name) 64) BadName
   bytes ← ok_or (hex_bytes digits) BadHex
   _ ← demand (is_none (place_of before.names name)) NameUsedTwice
-  _ ← demand (nat_lt (length before.names) 4096) TooManyModules
+  _ ← demand (nat_lt (length before.names) most_modules) TooManyModules
   Ok (Module name bytes)
 module_directive_of before words = Err BadWords
 
@@ -119,7 +131,7 @@ call_directive_of before (name ∷ export ∷ fuel_word ∷ words) = do
   place ← ok_or (place_of before.names name) UnknownModule
   fuel ← ok_or (fuel_of fuel_word) BadFuel
   args ← ok_or (arguments_of words) BadArgument
-  _ ← demand (nat_lt before.calls 100000) TooManyCalls
+  _ ← demand (nat_lt before.calls most_calls) TooManyCalls
   Ok (Call place export fuel args)
 call_directive_of before words = Err BadWords
 
@@ -170,8 +182,8 @@ IsPlacedFrom modules (Call place export fuel args ∷ rest) = (place < modules) 
 -- what holds of the directives of each file that is read
 pub record AreRequests (directives : List Directive) : Type 0 where
   pub placed : IsPlacedFrom 0 directives
-  pub few_modules : length (module_names directives) ≤ 4096
-  pub few_calls : call_count directives ≤ 100000
+  pub few_modules : length (module_names directives) ≤ most_modules
+  pub few_calls : call_count directives ≤ most_calls
 
 -- what these directives declare
 abbrev pub declared_by : List Directive → Declared
@@ -182,11 +194,56 @@ abbrev pub declared_after : Declared → Directive → Declared
 declared_after before (Module name bytes) = record before { names = before.names ++ name ∷ [] }
 declared_after before (Call place export fuel args) = record before { calls = before.calls + 1 }
 
--- the directives once a line is read, after these of the lines before it
-unfoldable pub requests_after : List Directive → List ℕ → Result (List Directive) Reason
+-- what the lines so far ask for: the profile, if one of them names it, and directives
+pub record ReadLines : Type 0 where
+  pub profile : Option Profile
+  pub directives : List Directive
+
+abbrev pub nothing_read : ReadLines
+nothing_read = record { profile = None; directives = [] }
+
+abbrev pub with_directive : ReadLines → Directive → ReadLines
+with_directive before directive = record before { directives = before.directives ++ directive ∷ [] }
+
+-- ---- the profile
+
+-- these words begin with `profile`
+abbrev pub begins_profile : List (List ℕ) → Bool
+begins_profile [] = false
+begins_profile (word ∷ words) = bytes_eq word (codes "profile")
+
+-- the profile of this number
+abbrev pub profile_named : List ℕ → Result Profile Reason
+profile_named word =
+    if bytes_eq word (codes "1") then Ok One
+    else if bytes_eq word (codes "2") then Ok Two
+    else Err BadProfile
+
+-- the profile that the words of a line name, of which the first is `profile`
+unfoldable pub profile_of : List (List ℕ) → Result Profile Reason
+profile_of (directive ∷ word ∷ []) = profile_named word
+profile_of words = Err BadProfile
+
+-- each line before is skipped
+abbrev pub is_first : ReadLines → Bool
+is_first before = is_none before.profile && is_empty before.directives
+
+-- what is asked for once a line is read that begins with `profile`
+unfoldable pub profile_after : ReadLines → List ℕ → Result ReadLines Reason
+profile_after before line = do
+  _ ← demand (list_all is_printable line) BadByte
+  _ ← demand (is_first before) LateProfile
+  profile ← profile_of (line_words line)
+  Ok (record before { profile = Some profile })
+
+-- ---- the lines in turn
+
+-- what is asked for once a line is read
+unfoldable pub requests_after : ReadLines → List ℕ → Result ReadLines Reason
 requests_after before line =
     if is_skipped line then Ok before
-    else (directive_of (declared_by before) line >>= λ directive. Ok (before ++ directive ∷ []))
+    else if begins_profile (line_words line) then profile_after before line
+    else (directive_of (declared_by before.directives) line >>= λ directive. Ok (with_directive before directive))
 
 -- Why a file is refused: it is too long, or its first bad line, counted from 1, is refused for this reason.
 pub data FileRefusal : Type 0 where
@@ -204,13 +261,24 @@ abbrev pub at_line : {A : Type 0} → ℕ → Result A Reason → Result A FileR
 at_line line (Ok x) = Ok x
 at_line line (Err reason) = Err (BadLine line reason)
 
--- the directives before and those of the further lines, the first of which has this number
-abbrev pub requests_from : ℕ → List Directive → List (List ℕ) → Result (List Directive) FileRefusal
+-- what was asked for before and by the further lines, the first of which has this number
+abbrev pub requests_from : ℕ → ReadLines → List (List ℕ) → Result ReadLines FileRefusal
 requests_from number before [] = Ok before
 requests_from number before (line ∷ lines) = do
-  directives ← at_line number (requests_after before line)
-  requests_from (number + 1) directives lines
+  read ← at_line number (requests_after before line)
+  requests_from (number + 1) read lines
+
+-- what a request file asks for: the profile of its modules, and its directives in file order
+pub record Asked : Type 0 where
+  pub profile : Profile
+  pub directives : List Directive
+
+-- what lines ask for that are all of a file: where none names a profile it is 1
+abbrev pub asked_by : ReadLines → Asked
+asked_by read = record { profile = unwrap_or read.profile One; directives = read.directives }
 
 -- what a request file of these bytes asks for, or why it is refused
-unfoldable pub requests_of : List ℕ → Result (List Directive) FileRefusal
-requests_of text = if nat_lt 16777216 (length text) then Err FileTooLong else requests_from 1 [] (text_lines text)
+unfoldable pub requests_of : List ℕ → Result Asked FileRefusal
+requests_of text =
+    if nat_lt most_bytes (length text) then Err FileTooLong
+    else (requests_from 1 nothing_read (text_lines text) >>= λ read. Ok (asked_by read))

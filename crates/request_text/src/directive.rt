@@ -2,7 +2,7 @@
 ghost use Rattle.std.specs.Prelude.{◌≡◌, IfOk};
 ghost use Rattle.std.specs.List.{list_all};
 ghost use Rattle.std.specs.Option.{ok_or};
-ghost use Rattle.request_text.specs.Text.{arguments_of, call_directive_of, directive_of, directive_of_words, hex_bytes, is_printable, line_words, module_directive_of};
+ghost use Rattle.request_text.specs.Text.{arguments_of, call_directive_of, directive_of, directive_of_words, hex_bytes, is_printable, line_words, module_directive_of, profile_of};
 ghost use Rattle.request_text.specs.Reading.{Agrees, HasRoom};
 
 use crate::numbers::{argument, fuel};
@@ -12,7 +12,7 @@ use crate::words::next_word;
 use hex::FromHexError;
 use std::alloc::{AllocError, Global};
 use thiserror::Error;
-use wasm_types::{Items, Val};
+use wasm_types::{Items, Profile, Val};
 
 // Why a line is not read.
 #[derive(Debug, Drop, Error)]
@@ -139,7 +139,7 @@ fn call_directive(alloc: Global, scope: &Scope, words: &[u8]) -> Result<Directiv
 }
 
 // Whether each byte is printable ASCII.
-fn is_printable(line: &[u8]) -> bool
+pub(crate) fn is_printable(line: &[u8]) -> bool
     ensures { result ≡ list_all is_printable line.now }
 {
     line.iter().all(|byte| b' ' <= *byte && *byte <= b'~')
@@ -177,4 +177,23 @@ pub(crate) fn line_directive(
         return Err(LineFault::Refused(Reason::BadByte));
     }
     words_directive(alloc, scope, line)
+}
+
+// The profile that the words of a line name, the first of which is `profile`.
+#[tactic(auto, unfolding(crate::specs::Text::profile_of))]
+pub(crate) fn line_profile(line: &[u8]) -> Result<Profile, Reason>
+    ensures { result ≡ profile_of (line_words line.now) }
+{
+    let (_, rest) = next_word(line).ok_or(Reason::BadProfile)?;
+    let (word, rest) = next_word(rest).ok_or(Reason::BadProfile)?;
+    if next_word(rest).is_some() {
+        return Err(Reason::BadProfile);
+    }
+    if word == b"1".as_slice() {
+        Ok(Profile::One)
+    } else if word == b"2".as_slice() {
+        Ok(Profile::Two)
+    } else {
+        Err(Reason::BadProfile)
+    }
 }

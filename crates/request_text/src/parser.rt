@@ -1,6 +1,6 @@
 //! A request file is read line by line.
-ghost use Rattle.std.specs.Prelude.{◌≡◌, ◌↔◌, ◌<◌, ◌≤◌, [], length, IfOk, IfErr, IfSome, IsErrOf};
-ghost use Rattle.request_text.specs.Text.{text_lines, requests_from, requests_of, file_refusal_of};
+ghost use Rattle.std.specs.Prelude.{◌≡◌, ◌↔◌, ◌<◌, ◌≤◌, length, IfOk, IfErr, IfSome, IsErrOf};
+ghost use Rattle.request_text.specs.Text.{text_lines, nothing_read, requests_from, requests_of, file_refusal_of};
 ghost use Rattle.request_text.specs.Reading.{fault_at, Reports};
 
 use crate::directive::LineFault;
@@ -19,10 +19,10 @@ fn at_line(line: u32, fault: LineFault) -> ParseFault
 }
 
 // Reads the lines of a request file.
-fn read_lines(alloc: Global, text: &[u8]) -> Result<Requests, ParseFault>
+fn read_lines(alloc: Global, text: &[u8]) -> Result<Reading, ParseFault>
     requires { length text.now ≤ MOST_BYTES }
-    ensures requests { IfOk result (λ requests. requests_from 1 [] (text_lines text.now) ≡ Ok requests) }
-    ensures refused { IfErr result (λ fault. Reports fault (requests_from 1 [] (text_lines text.now))) }
+    ensures read { IfOk result (λ reading. requests_from 1 nothing_read (text_lines text.now) ≡ Ok reading) }
+    ensures refused { IfErr result (λ fault. Reports fault (requests_from 1 nothing_read (text_lines text.now))) }
 {
     let mut reading = Reading::new(alloc);
     let mut number = 0u32;
@@ -33,11 +33,11 @@ fn read_lines(alloc: Global, text: &[u8]) -> Result<Requests, ParseFault>
             Err(fault) => return Err(at_line(number, fault)),
         };
     }
-    Ok(reading.requests())
+    Ok(reading)
 }
 
-/// Reads a request file of at most `MOST_BYTES` bytes: its directives in file order. Source: `specs/Text.antt`,
-/// `requests_of`.
+/// Reads a request file of at most `MOST_BYTES` bytes: the profile of its modules, and its directives in file order.
+/// Source: `specs/Text.antt`, `requests_of`.
 ///
 /// # Errors
 ///
@@ -52,5 +52,6 @@ pub fn parse(alloc: Global, text: &[u8]) -> Result<Requests, ParseFault>
     if text.len() > MOST_BYTES {
         return Err(ParseFault::TooLong);
     }
-    read_lines(alloc, text)
+    let reading = read_lines(alloc, text)?;
+    Ok(reading.requests())
 }

@@ -1,30 +1,31 @@
-//! The directives that were read so far.
-ghost use Rattle.std.specs.Prelude.{◌≡◌, [], ◌∷◌, ◌++◌, IfOk, IfErr};
-ghost use Rattle.request_text.specs.Text.{declared_by, requests_after};
+//! What was read so far.
+ghost use Rattle.std.specs.Prelude.{◌≡◌, IfOk, IfErr};
+ghost use Rattle.request_text.specs.Text.{asked_by, declared_by, nothing_read, profile_after, requests_after, with_directive};
 ghost use Rattle.request_text.specs.Reading.{Explains, HasRoom};
 
-use crate::directive::{LineFault, line_directive};
-use crate::request::{Directive, Requests};
+use crate::directive::{LineFault, is_printable, line_directive, line_profile};
+use crate::request::{Directive, Reason, Requests};
 use crate::scope::Scope;
-use crate::words::is_skipped;
+use crate::words::{begins_profile, is_skipped};
 use std::alloc::Global;
 use std::marker::Model;
+use wasm_types::Profile;
 
-// The directives that were read so far, and what the next line is judged by.
+// The profile and the directives that were read so far, and what the next line is judged by.
 #[derive(Drop)]
 pub(crate) struct Reading {
+    profile: Option<Profile>,
     directives: Vec<Directive>,
     scope: Scope,
 }
 
 impl Model for Reading {
-    ghost use Rattle.std.specs.Prelude.{◌≡◌, List};
-    ghost use Rattle.request_text.specs.declared.request.Directive.{Directive};
-    ghost use Rattle.request_text.specs.Text.{AreRequests, declared_by};
+    ghost use Rattle.std.specs.Prelude.{◌≡◌};
+    ghost use Rattle.request_text.specs.Text.{AreRequests, ReadLines, declared_by};
 
-    ghost Value = { List Directive };
+    ghost Value = { ReadLines };
 
-    ghost view = { λ r. r.directives.items };
+    ghost view = { λ r. record { profile = r.profile; directives = r.directives.items } };
 
     ghost invariant = { λ r. (r.scope ≡ declared_by r.directives.items) × AreRequests r.directives.items };
 }
@@ -32,9 +33,10 @@ impl Model for Reading {
 impl Reading {
     // Nothing is read yet. Takes no memory.
     pub(crate) fn new(alloc: Global) -> Reading
-        ensures { result ≡ [] }
+        ensures { result ≡ nothing_read }
     {
         Reading {
+            profile: None,
             directives: Vec::new(alloc),
             scope: Scope::new(alloc),
         }
@@ -42,17 +44,47 @@ impl Reading {
 
     // The reading with one more directive.
     fn with(self, alloc: Global, directive: Directive) -> Result<Reading, LineFault>
-        requires { HasRoom (declared_by self) directive }
-        ensures more { IfOk result (λ reading. reading ≡ self ++ directive ∷ []) }
+        requires { HasRoom (declared_by self.directives) directive }
+        ensures more { IfOk result (λ reading. reading ≡ with_directive self directive) }
         ensures memory { IfErr result (λ fault. fault ≡ LineFault.NoMemory) }
     {
         let Reading {
+            profile,
             mut directives,
             scope,
         } = self;
         let scope = scope.after(alloc, &directive)?;
         directives.push(directive).map_err(|_| LineFault::NoMemory)?;
-        Ok(Reading { directives, scope })
+        Ok(Reading {
+            profile,
+            directives,
+            scope,
+        })
+    }
+
+    // The reading once this line is read, which begins with `profile`.
+    #[tactic(auto, unfolding(crate::specs::Text::profile_after))]
+    fn with_profile(self, line: &[u8]) -> Result<Reading, LineFault>
+        ensures read { IfOk result (λ reading. profile_after self line.now ≡ Ok reading) }
+        ensures refused { IfErr result (λ fault. Explains fault (profile_after self line.now)) }
+    {
+        if !is_printable(line) {
+            return Err(LineFault::Refused(Reason::BadByte));
+        }
+        if self.profile.is_some() || !self.directives.is_empty() {
+            return Err(LineFault::Refused(Reason::LateProfile));
+        }
+        let profile = line_profile(line)?;
+        let Reading {
+            profile: _,
+            directives,
+            scope,
+        } = self;
+        Ok(Reading {
+            profile: Some(profile),
+            directives,
+            scope,
+        })
     }
 
     // The reading once this line is read.
@@ -64,14 +96,17 @@ impl Reading {
         if is_skipped(line) {
             return Ok(self);
         }
+        if begins_profile(line) {
+            return self.with_profile(line);
+        }
         let directive = line_directive(alloc, &self.scope, line)?;
         self.with(alloc, directive)
     }
 
-    // What was read. Takes no memory.
+    // What a file of the lines that were read asks for. Takes no memory.
     pub(crate) fn requests(self) -> Requests
-        ensures { result ≡ self }
+        ensures { result ≡ asked_by self }
     {
-        Requests::new(self.directives)
+        Requests::new(self.profile.unwrap_or(Profile::One), self.directives)
     }
 }

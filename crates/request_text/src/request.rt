@@ -6,19 +6,19 @@ ghost use Rattle.request_text.specs.Text.{AreRequests};
 use std::fmt;
 use std::marker::Model;
 use thiserror::Error;
-use wasm_types::{Items, Val};
+use wasm_types::{Items, Profile, Val};
 
 /// The greatest size of a request file, in bytes.
-pub const MOST_BYTES: usize = 16_777_216;
+pub const MOST_BYTES: usize = 67_108_864;
 
 /// The greatest length of a module's name, in bytes.
 pub const MOST_NAME_BYTES: usize = 64;
 
 /// The greatest number of module lines of a request file.
-pub const MOST_MODULES: usize = 4_096;
+pub const MOST_MODULES: usize = 1_048_576;
 
 /// The greatest number of call lines of a request file.
-pub const MOST_CALLS: usize = 100_000;
+pub const MOST_CALLS: usize = 1_000_000;
 
 /// One directive of a request file.
 #[derive(Drop)]
@@ -38,52 +38,66 @@ pub enum Directive {
     },
 }
 
-/// What a request file asks for, which contracts see as the list of its directives, in file order. `parse` alone makes
-/// one.
+/// What a request file asks for, which contracts see as the profile of its modules and the list of its directives, in file
+/// order. `parse` alone makes one.
 #[derive(Drop)]
 pub struct Requests {
+    profile: Profile,
     directives: Vec<Directive>,
 }
 
 impl Model for Requests {
-    ghost use Rattle.std.specs.Prelude.{List};
-    ghost use Rattle.request_text.specs.declared.request.Directive.{Directive};
-    ghost use Rattle.request_text.specs.Text.{AreRequests};
+    ghost use Rattle.request_text.specs.Text.{AreRequests, Asked};
 
-    ghost Value = { List Directive };
+    ghost Value = { Asked };
 
-    ghost view = { λ r. r.directives.items };
+    ghost view = { λ r. record { profile = r.profile; directives = r.directives.items } };
 
     ghost invariant = { λ r. AreRequests r.directives.items };
 }
 
 impl Requests {
-    // The requests of these directives. Takes no memory.
-    pub(crate) fn new(directives: Vec<Directive>) -> Self
+    // The requests of these directives, in this profile. Takes no memory.
+    pub(crate) fn new(profile: Profile, directives: Vec<Directive>) -> Self
         requires { AreRequests directives.items }
-        ensures { result ≡ directives.items }
+        ensures profile { result.profile ≡ profile }
+        ensures directives { result.directives ≡ directives.items }
     {
-        Requests { directives }
+        Requests {
+            profile,
+            directives,
+        }
+    }
+
+    /// The profile in which the modules are read.
+    pub fn profile(&self) -> Profile
+        ensures { result ≡ self.now.profile }
+    {
+        self.profile
     }
 
     /// The directives: at most `MOST_MODULES` module lines and `MOST_CALLS` call lines, and the module of each call is a
     /// module line before it.
     pub fn directives(&self) -> &[Directive]
-        ensures all { result.now ≡ self.now }
-        ensures lawful { AreRequests self.now }
+        ensures all { result.now ≡ self.now.directives }
+        ensures lawful { AreRequests self.now.directives }
     {
         self.directives.as_slice()
     }
 }
 
 /// Why a line of a request file is refused: the first of these that applies, in this order. Source:
-/// `specs/Text.antt`, `directive_of`.
+/// `specs/Text.antt`, `profile_after` and `directive_of`.
 #[derive(Clone, Copy, Debug, PartialEq, Eq)]
 pub enum Reason {
     /// A byte is outside 0x20 to 0x7E.
     BadByte,
-    /// The first word is neither `module` nor `call`.
+    /// The first word is none of `profile`, `module` and `call`.
     UnknownDirective,
+    /// `profile` where a line that isn't skipped stands before.
+    LateProfile,
+    /// `profile` without exactly one more word, which is `1` or `2`.
+    BadProfile,
     /// `module` without exactly two more words, or `call` with fewer than three.
     BadWords,
     /// A module's name has more than 64 bytes.
@@ -92,7 +106,7 @@ pub enum Reason {
     BadHex,
     /// An earlier module line has this name.
     NameUsedTwice,
-    /// 4,096 module lines stand before.
+    /// 1,048,576 module lines stand before.
     TooManyModules,
     /// No earlier module line has this name.
     UnknownModule,
@@ -100,7 +114,7 @@ pub enum Reason {
     BadFuel,
     /// An argument is no `i32:n` or `i64:n` with n in the range of its type, read as signed or as unsigned.
     BadArgument,
-    /// 100,000 call lines stand before.
+    /// 1,000,000 call lines stand before.
     TooManyCalls,
 }
 
@@ -112,6 +126,8 @@ impl Reason {
         match self {
             Reason::BadByte => "bad byte",
             Reason::UnknownDirective => "unknown directive",
+            Reason::LateProfile => "late profile",
+            Reason::BadProfile => "bad profile",
             Reason::BadWords => "bad words",
             Reason::BadName => "bad name",
             Reason::BadHex => "bad hex",

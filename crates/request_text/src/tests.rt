@@ -5,7 +5,7 @@ use crate::{
 };
 use std::alloc::{AllocError, Global};
 use std::test::Fail;
-use wasm_types::{Items, Outcome, TrapKind, Val};
+use wasm_types::{Items, Outcome, Profile, TrapKind, Val};
 
 // Pushes a directive as one line: a module's name and bytes, or a call's place, export, fuel and arguments.
 fn push_directive(text: &mut String, directive: &Directive) -> Result<(), AllocError> {
@@ -44,6 +44,9 @@ fn described(alloc: Global, parsed: &Result<Requests, ParseFault>) -> Result<Str
     let mut text = String::new(alloc);
     match parsed {
         Ok(requests) => {
+            if requests.profile() == Profile::Two {
+                text.push_str("profile 2\n")?;
+            }
             for directive in requests.directives() {
                 push_directive(&mut text, directive)?;
             }
@@ -107,6 +110,20 @@ fn texts_are_read_or_refused_at_their_first_bad_line(rt: HostRuntime) -> Result<
             "module a 00\ncall a f 1 i64:-9223372036854775809",
             "line 2: bad argument",
         ),
+        (
+            "# first\n\n profile 2\nmodule a 00",
+            "profile 2\nmodule a 00\n",
+        ),
+        ("profile 1\nmodule a 00", "module a 00\n"),
+        ("module a 00\nprofile 2", "line 2: late profile"),
+        ("profile 1\nprofile 2", "line 2: late profile"),
+        ("module a 00\nprofile", "line 2: late profile"),
+        ("profile 9", "line 1: bad profile"),
+        ("profile", "line 1: bad profile"),
+        ("profile 02", "line 1: bad profile"),
+        ("profile 1 2", "line 1: bad profile"),
+        ("profile 2\t", "line 1: bad byte"),
+        ("profiles 2", "line 1: unknown directive"),
         ("module a 00\ncall a f 1 i32:", "line 2: bad argument"),
         ("module a 00\ncall a f 1 i32:+1", "line 2: bad argument"),
         (
@@ -121,10 +138,10 @@ fn texts_are_read_or_refused_at_their_first_bad_line(rt: HostRuntime) -> Result<
     Ok(())
 }
 
-// A file of 4,096 modules, `m0` to `m4095`.
+// A file of 1,048,576 modules, `m0` to `m1048575`.
 fn most_modules(alloc: Global) -> Result<String, AllocError> {
     let mut text = String::new(alloc);
-    for k in 0..4_096 {
+    for k in 0..1_048_576 {
         write!(text, "module m{k} 00\n")?;
     }
     Ok(text)
@@ -140,8 +157,8 @@ fn the_limits_are_exact(rt: HostRuntime) -> Result<(), Fail> {
     let got = described(alloc, &parse(alloc, text.as_bytes()))?;
     assert_eq!(rt; got.as_str(), "line 1: bad name");
 
-    let mut comment = vec![in alloc; b'#'; 16_777_216]?;
-    assert!(rt; parse(alloc, comment.as_slice()).is_ok(), "16777216 bytes");
+    let mut comment = vec![in alloc; b'#'; 67_108_864]?;
+    assert!(rt; parse(alloc, comment.as_slice()).is_ok(), "67108864 bytes");
     comment.push(b'#')?;
     let got = described(alloc, &parse(alloc, comment.as_slice()))?;
     assert_eq!(rt; got.as_str(), "file too long");
@@ -154,7 +171,7 @@ fn one_module_more_is_refused(rt: HostRuntime) -> Result<(), Fail> {
     let mut text = most_modules(alloc)?;
     text.push_str("module m 00")?;
     let got = described(alloc, &parse(alloc, text.as_bytes()))?;
-    assert_eq!(rt; got.as_str(), "line 4097: too many modules");
+    assert_eq!(rt; got.as_str(), "line 1048577: too many modules");
     Ok(())
 }
 
@@ -162,8 +179,8 @@ fn one_module_more_is_refused(rt: HostRuntime) -> Result<(), Fail> {
 fn as_many_modules_and_calls_as_a_file_may_have_are_read(rt: HostRuntime) -> Result<(), Fail> {
     let alloc = rt.alloc();
     let mut text = most_modules(alloc)?;
-    for _ in 0..100_000 {
-        text.push_str("call m4095 f 1\n")?;
+    for _ in 0..1_000_000 {
+        text.push_str("call m1048575 f 1\n")?;
     }
     let mut places = 0u64;
     for directive in parse(alloc, text.as_bytes())?.directives() {
@@ -171,7 +188,7 @@ fn as_many_modules_and_calls_as_a_file_may_have_are_read(rt: HostRuntime) -> Res
             places = places.saturating_add(u64::from(*module));
         }
     }
-    assert_eq!(rt; places, 409_500_000);
+    assert_eq!(rt; places, 1_048_575_000_000);
     Ok(())
 }
 
@@ -179,11 +196,11 @@ fn as_many_modules_and_calls_as_a_file_may_have_are_read(rt: HostRuntime) -> Res
 fn one_call_more_is_refused(rt: HostRuntime) -> Result<(), Fail> {
     let alloc = rt.alloc();
     let mut text = String::from_str(alloc, "module a 00\n")?;
-    for _ in 0..100_001 {
+    for _ in 0..1_000_001 {
         text.push_str("call a f 1\n")?;
     }
     let got = described(alloc, &parse(alloc, text.as_bytes()))?;
-    assert_eq!(rt; got.as_str(), "line 100002: too many calls");
+    assert_eq!(rt; got.as_str(), "line 1000002: too many calls");
     Ok(())
 }
 

@@ -1,7 +1,7 @@
 //! The words of a line.
 ghost use Rattle.std.specs.Prelude.{◌≡◌, ◌==◌, ◌≤◌, not, [], ◌∷◌, length, take, drop, position, MatchOption, IfSome};
 ghost use Rattle.std.specs.List.{position_or_len};
-ghost use Rattle.request_text.specs.Text.{line_words, is_skipped};
+ghost use Rattle.request_text.specs.Text.{begins_profile, line_words, is_skipped};
 
 // Where the first word of a line begins, if the line has one.
 fn word_start(line: &[u8]) -> Option<usize>
@@ -42,4 +42,14 @@ pub(crate) fn is_skipped(line: &[u8]) -> bool
     ensures { result ≡ is_skipped line.now }
 {
     line.first() == Some(&b'#') || next_word(line).is_none()
+}
+
+// Whether the first word of a line is `profile`.
+pub(crate) fn begins_profile(line: &[u8]) -> bool
+    ensures { result ≡ begins_profile (line_words line.now) }
+{
+    match next_word(line) {
+        Some((word, _)) => word == b"profile".as_slice(),
+        None => false,
+    }
 }

@@ -16,6 +16,7 @@ use std::sync::Wait;
 use std::test::Fail;
 use std::thread;
 use std::thread::Threads;
+use wasm_types::Profile;
 
 // Three elements of which the second is function 0; one element; no table.
 static THREE: [u8; 39] =
@@ -50,7 +51,7 @@ fn registered<N: Naming, R: Abort + Wait>(
     bytes: &[u8],
 ) -> ModuleRef<N> {
     store
-        .register(rt, alloc, desk, bytes)
+        .register(rt, alloc, desk, Profile::One, bytes)
         .expect(rt, "registered")
 }
 

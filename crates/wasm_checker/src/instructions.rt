@@ -50,6 +50,9 @@ impl Checker {
             Instr::StorePacked(w, size, arg) => self.store(m, arg, packed_width(*size), *w),
             Instr::MemorySize => self.with_memory(m, &[], Some(ValType::I32)),
             Instr::MemoryGrow => self.with_memory(m, &[ValType::I32], Some(ValType::I32)),
+            Instr::MemoryCopy | Instr::MemoryFill => {
+                self.with_memory(m, &[ValType::I32, ValType::I32, ValType::I32], None)
+            }
             Instr::Const(v) => self.operate(&[], Some(type_of(*v))),
             Instr::Eqz(w) => self.unary(*w, ValType::I32),
             Instr::Compare(w, _) => self.binary(*w, ValType::I32),

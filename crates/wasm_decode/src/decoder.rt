@@ -7,32 +7,35 @@ ghost use Rattle.instr_decode.specs.Decoding.{IsNone};
 ghost use Rattle.wasm_decode.specs.Sections.{section_of, WantsModule};
 
 use crate::function::{SizedBody, join};
-use crate::section::{Section, are_in_order, decode_section, decode_start, read_sections};
+use crate::section::{
+    Section, are_in_order, decode_section, decode_start, is_counted, read_sections,
+};
 use crate::types::TableType;
 use instr_decode::DecodeFault;
 use std::alloc::{AllocError, Global};
-use wasm_types::{Items, Limits, Module};
+use wasm_types::{DataSegment, Items, Limits, Module, Profile};
 
 // The magic bytes and the version.
 const HEADER: [u8; 8] = [0x00, 0x61, 0x73, 0x6D, 0x01, 0x00, 0x00, 0x00];
 
-/// The module whose tree these bytes spell (`Spells`). Nothing recurses on the bytes, and the memory that is taken grows
-/// with those that have been read. Source: Core Specification 1.0, section 5.5.15.
+/// The module whose tree these bytes spell in a profile (`Spells`). Nothing recurses on the bytes, and the memory that is taken
+/// grows with those that have been read. Source: Core Specification 1.0, section 5.5.15; for the data count section version
+/// 2.0, section 5.5.16.
 ///
 /// # Errors
 ///
 /// `Malformed` exactly where the bytes spell no module; `NoMemory` only where memory was refused, and never before a section
 /// behind the header has been read.
-pub fn decode(alloc: Global, bytes: &[u8]) -> Result<Module, DecodeFault>
-    ensures read { MatchResult result (λ m. Spells bytes.now (module_tree m)) (IsNone (Spells bytes.now)) }
+pub fn decode(alloc: Global, profile: Profile, bytes: &[u8]) -> Result<Module, DecodeFault>
+    ensures read { MatchResult result (λ m. Spells profile bytes.now (module_tree m)) (IsNone (Spells profile bytes.now)) }
     ensures wanted { IsErrOf result DecodeFault.NoMemory → WantsModule bytes.now }
 {
     let Some(after) = after_header(bytes) else {
         return Err(DecodeFault::Malformed);
     };
     let sections = read_sections(alloc, after)?;
-    if are_in_order(sections.as_slice()) {
-        decode_fields(alloc, sections.as_slice())
+    if are_in_order(profile, sections.as_slice()) {
+        decode_fields(alloc, profile, sections.as_slice())
     } else {
         Err(DecodeFault::Malformed)
     }
@@ -58,22 +61,29 @@ fn limits(alloc: Global, tables: &[TableType]) -> Result<Items<Limits>, AllocErr
 }
 
 // The module whose sections these are.
-fn decode_fields(alloc: Global, sections: &[Section]) -> Result<Module, DecodeFault>
-    ensures read { MatchResult result (λ m. SpellsFields (map section_of sections.now) (module_tree m)) (IsNone (SpellsFields (map section_of sections.now))) }
+fn decode_fields(
+    alloc: Global,
+    profile: Profile,
+    sections: &[Section],
+) -> Result<Module, DecodeFault>
+    ensures read { MatchResult result (λ m. SpellsFields profile (map section_of sections.now) (module_tree m)) (IsNone (SpellsFields profile (map section_of sections.now))) }
     ensures wanted { IsErrOf result DecodeFault.NoMemory → 0 < length sections.now }
 {
-    let types = decode_section(alloc, sections, 1)?;
-    let imports = decode_section(alloc, sections, 2)?;
-    let type_indices: Items<u32> = decode_section(alloc, sections, 3)?;
-    let tables: Items<TableType> = decode_section(alloc, sections, 4)?;
-    let memories = decode_section(alloc, sections, 5)?;
-    let globals = decode_section(alloc, sections, 6)?;
-    let exports = decode_section(alloc, sections, 7)?;
-    let start = decode_start(alloc, sections)?;
-    let element_segments = decode_section(alloc, sections, 9)?;
-    let bodies: Items<SizedBody> = decode_section(alloc, sections, 10)?;
-    let data_segments = decode_section(alloc, sections, 11)?;
+    let types = decode_section(alloc, profile, sections, 1)?;
+    let imports = decode_section(alloc, profile, sections, 2)?;
+    let type_indices: Items<u32> = decode_section(alloc, profile, sections, 3)?;
+    let tables: Items<TableType> = decode_section(alloc, profile, sections, 4)?;
+    let memories = decode_section(alloc, profile, sections, 5)?;
+    let globals = decode_section(alloc, profile, sections, 6)?;
+    let exports = decode_section(alloc, profile, sections, 7)?;
+    let start = decode_start(alloc, profile, sections)?;
+    let element_segments = decode_section(alloc, profile, sections, 9)?;
+    let bodies: Items<SizedBody> = decode_section(alloc, profile, sections, 10)?;
+    let data_segments: Items<DataSegment> = decode_section(alloc, profile, sections, 11)?;
     if type_indices.len() != bodies.len() {
+        return Err(DecodeFault::Malformed);
+    }
+    if !is_counted(sections, data_segments.len()) {
         return Err(DecodeFault::Malformed);
     }
     let functions = join(alloc, type_indices.as_slice(), bodies.into_vec())?;

@@ -14,7 +14,7 @@ use crate::item::{Item, decode_whole, read_bytes};
 use instr_decode::{DecodeFault, decode_expr};
 use leb_read::Cursor;
 use std::alloc::{AllocError, Global};
-use wasm_types::{Expr, Function, Items, LocalRun, ValType};
+use wasm_types::{Expr, Function, Items, LocalRun, Profile, ValType};
 
 // Source: Core Specification 1.0, section 5.5.13.
 impl Item for LocalRun {
@@ -22,14 +22,14 @@ impl Item for LocalRun {
 
     ghost tree = { λ run. run };
 
-    ghost Takes = { TakesLocalRun };
+    ghost Takes = { λ _. TakesLocalRun };
 
-    ghost Wants = { λ _. ⊥ };
+    ghost Wants = { λ _ _. ⊥ };
 
-    ghost unique = { local_run-unique };
+    ghost unique = { λ _. local_run-unique };
 
-    fn decode(alloc: Global, cursor: &mut Cursor) -> Result<Self, DecodeFault> {
-        let (count, value) = <(u32, ValType)>::decode(alloc, cursor)?;
+    fn decode(alloc: Global, profile: Profile, cursor: &mut Cursor) -> Result<Self, DecodeFault> {
+        let (count, value) = <(u32, ValType)>::decode(alloc, profile, cursor)?;
         Ok(LocalRun { count, value })
     }
 }
@@ -46,8 +46,8 @@ impl Item for Expr {
 
     ghost unique = { expr-unique };
 
-    fn decode(alloc: Global, cursor: &mut Cursor) -> Result<Self, DecodeFault> {
-        decode_expr(alloc, cursor)
+    fn decode(alloc: Global, profile: Profile, cursor: &mut Cursor) -> Result<Self, DecodeFault> {
+        decode_expr(alloc, profile, cursor)
     }
 }
 
@@ -84,8 +84,8 @@ impl Item for Body {
 
     ghost unique = { body-unique };
 
-    fn decode(alloc: Global, cursor: &mut Cursor) -> Result<Self, DecodeFault> {
-        let (locals, code) = <(Items<LocalRun>, Expr)>::decode(alloc, cursor)?;
+    fn decode(alloc: Global, profile: Profile, cursor: &mut Cursor) -> Result<Self, DecodeFault> {
+        let (locals, code) = <(Items<LocalRun>, Expr)>::decode(alloc, profile, cursor)?;
         if are_few(locals.as_slice()) {
             Ok(Body { locals, code })
         } else {
@@ -107,13 +107,13 @@ impl Item for SizedBody {
 
     ghost Takes = { TakesSizedBody };
 
-    ghost Wants = { WantsSized ⟦<Body as Item>⟧.Wants };
+    ghost Wants = { λ p. WantsSized (⟦<Body as Item>⟧.Wants p) };
 
     ghost unique = { sized_body-unique };
 
-    fn decode(alloc: Global, cursor: &mut Cursor) -> Result<Self, DecodeFault> {
+    fn decode(alloc: Global, profile: Profile, cursor: &mut Cursor) -> Result<Self, DecodeFault> {
         let contents = read_bytes(cursor)?;
-        let body = decode_whole(alloc, contents)?;
+        let body = decode_whole(alloc, profile, contents)?;
         Ok(SizedBody { body })
     }
 }

@@ -1,6 +1,7 @@
 //! Items of the binary format: what stands alone, in a row, and in a vector.
 
 ghost use Rattle.std.specs.Prelude.{◌≡◌, ℕ, List, [], map, IsErrOf, MatchResult};
+ghost use Rattle.wasm_types.specs.declared.profile.Profile.{Profile as AProfile};
 ghost use Rattle.wasm_spec.specs.Numbers.{TakesUnsigned, TakesVec, TakesBytes, IsUnambiguous};
 ghost use Rattle.wasm_spec.proofs.UnambiguousNumbers.{unsigned-unique, vec-unique, byte-unique};
 ghost use Rattle.leb_read.specs.Reading.{rest, IsRead, TakesByte};
@@ -11,26 +12,26 @@ ghost use Rattle.wasm_decode.specs.Pairs.{TakesPair, WantsPair, pair-unique};
 use instr_decode::DecodeFault;
 use leb_read::Cursor;
 use std::alloc::Global;
-use wasm_types::Items;
+use wasm_types::{Items, Profile};
 
 // An item of the binary format.
 pub(crate) trait Item: Sized + Drop {
-    // what the grammar spells, and what this stands for of it
+    // what the grammar of a profile spells, and what this stands for of it
     ghost Tree: { Type 0 };
 
     ghost tree: { Self → Tree };
 
-    ghost Takes: { Tree → List ℕ → List ℕ → Type 0 };
+    ghost Takes: { AProfile → Tree → List ℕ → List ℕ → Type 0 };
 
     // where memory may be wanted to read what begins these bytes
-    ghost Wants: { List ℕ → Type 0 };
+    ghost Wants: { AProfile → List ℕ → Type 0 };
 
     // The item at the cursor, which then stands just after it.
-    fn decode(alloc: Global, cursor: &mut Cursor) -> Result<Self, DecodeFault>
-        ensures read { MatchResult result (λ x. IsRead Takes cursor.old cursor.new (tree x)) (BeginsWithNone Takes (rest cursor.old)) }
-        ensures wanted { IsErrOf result DecodeFault.NoMemory → Wants (rest cursor.old) };
+    fn decode(alloc: Global, profile: Profile, cursor: &mut Cursor) -> Result<Self, DecodeFault>
+        ensures read { MatchResult result (λ x. IsRead (Takes profile) cursor.old cursor.new (tree x)) (BeginsWithNone (Takes profile) (rest cursor.old)) }
+        ensures wanted { IsErrOf result DecodeFault.NoMemory → Wants profile (rest cursor.old) };
 
-    ghost unique: { IsUnambiguous Takes };
+    ghost unique: { (profile : AProfile) → IsUnambiguous (Takes profile) };
 }
 
 impl Item for u8 {
@@ -38,13 +39,13 @@ impl Item for u8 {
 
     ghost tree = { λ x. x };
 
-    ghost Takes = { TakesByte };
+    ghost Takes = { λ _. TakesByte };
 
-    ghost Wants = { λ _. ⊥ };
+    ghost Wants = { λ _ _. ⊥ };
 
-    ghost unique = { byte-unique };
+    ghost unique = { λ _. byte-unique };
 
-    fn decode(_: Global, cursor: &mut Cursor) -> Result<Self, DecodeFault> {
+    fn decode(_: Global, _: Profile, cursor: &mut Cursor) -> Result<Self, DecodeFault> {
         Ok(cursor.u8()?)
     }
 }
@@ -54,13 +55,13 @@ impl Item for u32 {
 
     ghost tree = { λ x. x };
 
-    ghost Takes = { TakesUnsigned 32 };
+    ghost Takes = { λ _. TakesUnsigned 32 };
 
-    ghost Wants = { λ _. ⊥ };
+    ghost Wants = { λ _ _. ⊥ };
 
-    ghost unique = { unsigned-unique 32 };
+    ghost unique = { λ _. unsigned-unique 32 };
 
-    fn decode(_: Global, cursor: &mut Cursor) -> Result<Self, DecodeFault> {
+    fn decode(_: Global, _: Profile, cursor: &mut Cursor) -> Result<Self, DecodeFault> {
         Ok(cursor.u32()?)
     }
 }
@@ -71,15 +72,15 @@ impl<A: Item, B: Item> Item for (A, B) {
 
     ghost tree = { λ p. (A.tree p.0, B.tree p.1) };
 
-    ghost Takes = { TakesPair A.Takes B.Takes };
+    ghost Takes = { λ p. TakesPair (A.Takes p) (B.Takes p) };
 
-    ghost Wants = { WantsPair A.Takes A.Wants B.Wants };
+    ghost Wants = { λ p. WantsPair (A.Takes p) (A.Wants p) (B.Wants p) };
 
-    ghost unique = { pair-unique A.Takes B.Takes A.unique B.unique };
+    ghost unique = { λ p. pair-unique (A.Takes p) (B.Takes p) (A.unique p) (B.unique p) };
 
-    fn decode(alloc: Global, cursor: &mut Cursor) -> Result<Self, DecodeFault> {
-        let first = A::decode(alloc, cursor)?;
-        let second = B::decode(alloc, cursor)?;
+    fn decode(alloc: Global, profile: Profile, cursor: &mut Cursor) -> Result<Self, DecodeFault> {
+        let first = A::decode(alloc, profile, cursor)?;
+        let second = B::decode(alloc, profile, cursor)?;
         Ok((first, second))
     }
 }
@@ -90,17 +91,17 @@ impl<T: Item> Item for Items<T> {
 
     ghost tree = { λ xs. map T.tree xs };
 
-    ghost Takes = { TakesVec T.Takes };
+    ghost Takes = { λ p. TakesVec (T.Takes p) };
 
-    ghost Wants = { WantsVec T.Takes T.Wants };
+    ghost Wants = { λ p. WantsVec (T.Takes p) (T.Wants p) };
 
-    ghost unique = { vec-unique T.Takes T.unique };
+    ghost unique = { λ p. vec-unique (T.Takes p) (T.unique p) };
 
-    fn decode(alloc: Global, cursor: &mut Cursor) -> Result<Self, DecodeFault> {
+    fn decode(alloc: Global, profile: Profile, cursor: &mut Cursor) -> Result<Self, DecodeFault> {
         let count = cursor.u32()?;
         let mut items = Vec::new(alloc);
         for _ in 0..count {
-            let item = T::decode(alloc, cursor)?;
+            let item = T::decode(alloc, profile, cursor)?;
             items.push(item)?;
         }
         Ok(Items::new(items))
@@ -117,12 +118,16 @@ pub(crate) fn read_bytes<'a>(cursor: &mut Cursor<'a>) -> Result<&'a [u8], Decode
 }
 
 // The item that is all of these bytes.
-pub(crate) fn decode_whole<T: Item>(alloc: Global, bytes: &[u8]) -> Result<T, DecodeFault>
-    ensures read { MatchResult result (λ x. T.Takes (T.tree x) bytes.now []) (IsNone (λ x. T.Takes x bytes.now [])) }
-    ensures wanted { IsErrOf result DecodeFault.NoMemory → T.Wants bytes.now }
+pub(crate) fn decode_whole<T: Item>(
+    alloc: Global,
+    profile: Profile,
+    bytes: &[u8],
+) -> Result<T, DecodeFault>
+    ensures read { MatchResult result (λ x. T.Takes profile (T.tree x) bytes.now []) (IsNone (λ x. T.Takes profile x bytes.now [])) }
+    ensures wanted { IsErrOf result DecodeFault.NoMemory → T.Wants profile bytes.now }
 {
     let mut cursor = Cursor::new(bytes);
-    let item = T::decode(alloc, &mut cursor)?;
+    let item = T::decode(alloc, profile, &mut cursor)?;
     if cursor.is_at_end() {
         Ok(item)
     } else {

@@ -19,7 +19,7 @@ use leb_read::Cursor;
 use std::alloc::Global;
 use wasm_types::{
     DataSegment, ElementSegment, Export, ExportDesc, Expr, Global as GlobalItem, GlobalType,
-    Import, ImportDesc, Items, Limits,
+    Import, ImportDesc, Items, Limits, Profile,
 };
 
 // A name, as its bytes.
@@ -34,13 +34,13 @@ impl Item for Name {
 
     ghost tree = { λ n. n.bytes };
 
-    ghost Takes = { TakesName };
+    ghost Takes = { λ _. TakesName };
 
-    ghost Wants = { BeginsWith TakesName };
+    ghost Wants = { λ _. BeginsWith TakesName };
 
-    ghost unique = { name-unique };
+    ghost unique = { λ _. name-unique };
 
-    fn decode(alloc: Global, cursor: &mut Cursor) -> Result<Self, DecodeFault> {
+    fn decode(alloc: Global, _: Profile, cursor: &mut Cursor) -> Result<Self, DecodeFault> {
         let name = cursor.name()?;
         Ok(Name {
             bytes: Items::new(Vec::from_slice(alloc, name)?),
@@ -59,13 +59,13 @@ impl Item for Bytes {
 
     ghost tree = { λ b. b.bytes };
 
-    ghost Takes = { TakesBytes };
+    ghost Takes = { λ _. TakesBytes };
 
-    ghost Wants = { BeginsWith TakesBytes };
+    ghost Wants = { λ _. BeginsWith TakesBytes };
 
-    ghost unique = { bytes-unique };
+    ghost unique = { λ _. bytes-unique };
 
-    fn decode(alloc: Global, cursor: &mut Cursor) -> Result<Self, DecodeFault> {
+    fn decode(alloc: Global, _: Profile, cursor: &mut Cursor) -> Result<Self, DecodeFault> {
         let bytes = read_bytes(cursor)?;
         Ok(Bytes {
             bytes: Items::new(Vec::from_slice(alloc, bytes)?),
@@ -79,13 +79,13 @@ impl Item for ImportDesc {
 
     ghost tree = { λ d. d };
 
-    ghost Takes = { TakesImportDesc };
+    ghost Takes = { λ _. TakesImportDesc };
 
-    ghost Wants = { λ _. ⊥ };
+    ghost Wants = { λ _ _. ⊥ };
 
-    ghost unique = { import_desc-unique };
+    ghost unique = { λ _. import_desc-unique };
 
-    fn decode(alloc: Global, cursor: &mut Cursor) -> Result<Self, DecodeFault> {
+    fn decode(alloc: Global, profile: Profile, cursor: &mut Cursor) -> Result<Self, DecodeFault> {
         let kind = cursor.u8()?;
         match kind {
             0x00 => {
@@ -93,15 +93,15 @@ impl Item for ImportDesc {
                 Ok(ImportDesc::Func(index))
             }
             0x01 => {
-                let table = TableType::decode(alloc, cursor)?;
+                let table = TableType::decode(alloc, profile, cursor)?;
                 Ok(ImportDesc::Table(table.limits))
             }
             0x02 => {
-                let limits = Limits::decode(alloc, cursor)?;
+                let limits = Limits::decode(alloc, profile, cursor)?;
                 Ok(ImportDesc::Memory(limits))
             }
             0x03 => {
-                let global_type = GlobalType::decode(alloc, cursor)?;
+                let global_type = GlobalType::decode(alloc, profile, cursor)?;
                 Ok(ImportDesc::Global(global_type))
             }
             _ => Err(DecodeFault::Malformed),
@@ -115,14 +115,16 @@ impl Item for Import {
 
     ghost tree = { λ i. i };
 
-    ghost Takes = { TakesImport };
+    ghost Takes = { λ _. TakesImport };
 
     ghost Wants = { ⟦<(Name, (Name, ImportDesc)) as Item>⟧.Wants };
 
-    ghost unique = { import-unique };
+    ghost unique = { λ _. import-unique };
 
-    fn decode(alloc: Global, cursor: &mut Cursor) -> Result<Self, DecodeFault> {
-        let (module_name, (item_name, desc)) = <(Name, (Name, ImportDesc))>::decode(alloc, cursor)?;
+    fn decode(alloc: Global, profile: Profile, cursor: &mut Cursor) -> Result<Self, DecodeFault> {
+        let (module_name, (item_name, desc)) = <(Name, (Name, ImportDesc))>::decode(
+            alloc, profile, cursor,
+        )?;
         Ok(Import {
             module_name: module_name.bytes,
             item_name: item_name.bytes,
@@ -137,14 +139,14 @@ impl Item for ExportDesc {
 
     ghost tree = { λ d. d };
 
-    ghost Takes = { TakesExportDesc };
+    ghost Takes = { λ _. TakesExportDesc };
 
-    ghost Wants = { λ _. ⊥ };
+    ghost Wants = { λ _ _. ⊥ };
 
-    ghost unique = { export_desc-unique };
+    ghost unique = { λ _. export_desc-unique };
 
-    fn decode(alloc: Global, cursor: &mut Cursor) -> Result<Self, DecodeFault> {
-        let (kind, index) = <(u8, u32)>::decode(alloc, cursor)?;
+    fn decode(alloc: Global, profile: Profile, cursor: &mut Cursor) -> Result<Self, DecodeFault> {
+        let (kind, index) = <(u8, u32)>::decode(alloc, profile, cursor)?;
         match kind {
             0x00 => Ok(ExportDesc::Func(index)),
             0x01 => Ok(ExportDesc::Table(index)),
@@ -161,14 +163,14 @@ impl Item for Export {
 
     ghost tree = { λ e. e };
 
-    ghost Takes = { TakesExport };
+    ghost Takes = { λ _. TakesExport };
 
     ghost Wants = { ⟦<(Name, ExportDesc) as Item>⟧.Wants };
 
-    ghost unique = { export-unique };
+    ghost unique = { λ _. export-unique };
 
-    fn decode(alloc: Global, cursor: &mut Cursor) -> Result<Self, DecodeFault> {
-        let (name, desc) = <(Name, ExportDesc)>::decode(alloc, cursor)?;
+    fn decode(alloc: Global, profile: Profile, cursor: &mut Cursor) -> Result<Self, DecodeFault> {
+        let (name, desc) = <(Name, ExportDesc)>::decode(alloc, profile, cursor)?;
         Ok(Export {
             name: name.bytes,
             desc,
@@ -188,8 +190,8 @@ impl Item for GlobalItem {
 
     ghost unique = { global-unique };
 
-    fn decode(alloc: Global, cursor: &mut Cursor) -> Result<Self, DecodeFault> {
-        let (global_type, init) = <(GlobalType, Expr)>::decode(alloc, cursor)?;
+    fn decode(alloc: Global, profile: Profile, cursor: &mut Cursor) -> Result<Self, DecodeFault> {
+        let (global_type, init) = <(GlobalType, Expr)>::decode(alloc, profile, cursor)?;
         Ok(GlobalItem { global_type, init })
     }
 }
@@ -206,8 +208,10 @@ impl Item for ElementSegment {
 
     ghost unique = { element-unique };
 
-    fn decode(alloc: Global, cursor: &mut Cursor) -> Result<Self, DecodeFault> {
-        let (table, (offset, functions)) = <(u32, (Expr, Items<u32>))>::decode(alloc, cursor)?;
+    fn decode(alloc: Global, profile: Profile, cursor: &mut Cursor) -> Result<Self, DecodeFault> {
+        let (table, (offset, functions)) = <(u32, (Expr, Items<u32>))>::decode(
+            alloc, profile, cursor,
+        )?;
         Ok(ElementSegment {
             table,
             offset,
@@ -228,8 +232,8 @@ impl Item for DataSegment {
 
     ghost unique = { data-unique };
 
-    fn decode(alloc: Global, cursor: &mut Cursor) -> Result<Self, DecodeFault> {
-        let (memory, (offset, bytes)) = <(u32, (Expr, Bytes))>::decode(alloc, cursor)?;
+    fn decode(alloc: Global, profile: Profile, cursor: &mut Cursor) -> Result<Self, DecodeFault> {
+        let (memory, (offset, bytes)) = <(u32, (Expr, Bytes))>::decode(alloc, profile, cursor)?;
         Ok(DataSegment {
             memory,
             offset,

@@ -1,8 +1,8 @@
 //! The sections of a module.
 
-ghost use Rattle.std.specs.Prelude.{◌≡◌, ◌↔◌, ◌<◌, ℕ, [], IsTrue, IfOk, IsErrOf, map, option_map, MatchResult};
-ghost use Rattle.wasm_spec.specs.Numbers.{TakesEach};
-ghost use Rattle.wasm_spec.specs.Grammar.{TakesSection, IsCustom, IsOrderedAbove, SpellsVec, SpellsStart, section};
+ghost use Rattle.std.specs.Prelude.{◌≡◌, ◌↔◌, ◌<◌, ◌≤◌, ℕ, [], IsTrue, IfOk, IsErrOf, map, option_map, MatchResult};
+ghost use Rattle.wasm_spec.specs.Numbers.{TakesEach, TakesUnsigned};
+ghost use Rattle.wasm_spec.specs.Grammar.{TakesSection, IsCustom, IsOrderedAbove, SpellsVec, SpellsStart, SpellsCount, last_id, place, section};
 ghost use Rattle.leb_read.specs.Reading.{rest, IsRead};
 ghost use Rattle.instr_decode.specs.Decoding.{IsNone, BeginsWithNone};
 ghost use Rattle.instr_decode.specs.Wants.{BeginsWith};
@@ -12,7 +12,7 @@ use crate::item::{Item, decode_whole, read_bytes};
 use instr_decode::DecodeFault;
 use leb_read::Cursor;
 use std::alloc::Global;
-use wasm_types::Items;
+use wasm_types::{Items, Profile};
 
 // A section: its id, and its contents. Source: Core Specification 1.0, section 5.5.2.
 #[derive(Clone, Copy)]
@@ -56,10 +56,29 @@ fn is_custom(contents: &[u8]) -> bool
     Cursor::new(contents).name().is_ok()
 }
 
-// Whether custom sections have names, and the ids of the others rise. Source: section 5.5.15.
-pub(crate) fn are_in_order(sections: &[Section]) -> bool
-    ensures { IsTrue result ↔ IsOrderedAbove 0 (map section_of sections.now) }
+// The greatest id of a section.
+fn last_id(profile: Profile) -> u8
+    ensures { result ≡ last_id profile }
 {
+    match profile {
+        Profile::One => 11,
+        Profile::Two => 12,
+    }
+}
+
+// The place of a section in the order, by its id.
+fn place(id: u8) -> u8
+    requires { id ≤ 12 }
+    ensures { result ≡ place id }
+{
+    if id == 12 { 19 } else { id * 2 }
+}
+
+// Whether custom sections have names, and the others are in order. Source: section 5.5.15.
+pub(crate) fn are_in_order(profile: Profile, sections: &[Section]) -> bool
+    ensures { IsTrue result ↔ IsOrderedAbove profile 0 (map section_of sections.now) }
+{
+    let most = last_id(profile);
     let mut last = 0;
     for section in sections {
         if section.id == 0 {
@@ -67,10 +86,14 @@ pub(crate) fn are_in_order(sections: &[Section]) -> bool
                 return false;
             }
         } else {
-            if section.id <= last || 11 < section.id {
+            if most < section.id {
                 return false;
             }
-            last = section.id;
+            let here = place(section.id);
+            if here <= last {
+                return false;
+            }
+            last = here;
         }
     }
     true
@@ -91,28 +114,54 @@ pub(crate) fn find_contents<'a>(sections: &[Section<'a>], id: u8) -> Option<&'a 
 // The items of the section of an id; none without the section. Source: section 5.5.2.
 pub(crate) fn decode_section<T: Item>(
     alloc: Global,
+    profile: Profile,
     sections: &[Section],
     id: u8,
 ) -> Result<Items<T>, DecodeFault>
-    ensures read { MatchResult result (λ xs. SpellsVec T.Takes (map T.tree xs) (section id (map section_of sections.now))) (IsNone (λ xs. SpellsVec T.Takes xs (section id (map section_of sections.now)))) }
-    ensures wanted { IsErrOf result DecodeFault.NoMemory → WantsSection T.Takes T.Wants (section id (map section_of sections.now)) }
+    ensures read { MatchResult result (λ xs. SpellsVec (T.Takes profile) (map T.tree xs) (section id (map section_of sections.now))) (IsNone (λ xs. SpellsVec (T.Takes profile) xs (section id (map section_of sections.now)))) }
+    ensures wanted { IsErrOf result DecodeFault.NoMemory → WantsSection (T.Takes profile) (T.Wants profile) (section id (map section_of sections.now)) }
 {
     match find_contents(sections, id) {
-        Some(contents) => decode_whole(alloc, contents),
+        Some(contents) => decode_whole(alloc, profile, contents),
         None => Ok(Items::new(Vec::new(alloc))),
     }
 }
 
 // The start function, if there is a start section. Source: section 5.5.11.
-pub(crate) fn decode_start(alloc: Global, sections: &[Section]) -> Result<Option<u32>, DecodeFault>
+pub(crate) fn decode_start(
+    alloc: Global,
+    profile: Profile,
+    sections: &[Section],
+) -> Result<Option<u32>, DecodeFault>
     ensures read { MatchResult result (λ x. SpellsStart x (section 8 (map section_of sections.now))) (IsNone (λ x. SpellsStart x (section 8 (map section_of sections.now)))) }
     ensures wanted { IsErrOf result DecodeFault.NoMemory → ⊥ }
 {
     match find_contents(sections, 8) {
         Some(contents) => {
-            let index = decode_whole(alloc, contents)?;
+            let index = decode_whole(alloc, profile, contents)?;
             Ok(Some(index))
         }
         None => Ok(None),
+    }
+}
+
+// Whether these bytes are a number, and no more.
+fn spells_number(contents: &[u8], number: usize) -> bool
+    ensures { IsTrue result ↔ TakesUnsigned 32 number contents.now [] }
+{
+    let mut cursor = Cursor::new(contents);
+    match cursor.u32() {
+        Ok(n) => n as usize == number && cursor.is_at_end(),
+        Err(_) => false,
+    }
+}
+
+// Whether the data count section, if there is one, says this number. Source: Core Specification 2.0, section 5.5.16.
+pub(crate) fn is_counted(sections: &[Section], number: usize) -> bool
+    ensures { IsTrue result ↔ SpellsCount number (section 12 (map section_of sections.now)) }
+{
+    match find_contents(sections, 12) {
+        Some(contents) => spells_number(contents, number),
+        None => true,
     }
 }

@@ -4,7 +4,7 @@ use crate::{DecodeFault, decode};
 use std::alloc::{AllocError, Global};
 use std::process::Abort;
 use std::test::Fail;
-use wasm_types::{BinaryOp, ExportDesc, Instr, Module, Op, ValType, Width};
+use wasm_types::{BinaryOp, ExportDesc, Instr, Module, Op, Profile, ValType, Width};
 
 // The magic bytes and the version.
 const HEADER: &[u8] = b"\0asm\x01\0\0\0";
@@ -109,6 +109,68 @@ const AFTER_HEADER: &[(&[u8], bool)] = &[
     ),
 ];
 
+// What follows the eight header bytes, and whether it spells a module in profile 2, as node's engine says. In profile 1 none does.
+const OF_PROFILE_2: &[(&[u8], bool)] = &[
+    // a data count section says how many data segments there are: none, and one
+    (b"\x0c\x01\0", true),
+    (b"\x0c\x01\x01", false),
+    (
+        b"\x05\x03\x01\0\x01\x0c\x01\x01\x0b\x07\x01\0\x41\0\x0b\x01a",
+        true,
+    ),
+    (
+        b"\x05\x03\x01\0\x01\x0c\x01\0\x0b\x07\x01\0\x41\0\x0b\x01a",
+        false,
+    ),
+    (
+        b"\x05\x03\x01\0\x01\x0c\x01\x02\x0b\x07\x01\0\x41\0\x0b\x01a",
+        false,
+    ),
+    // a padded number, a byte behind it, and no number
+    (
+        b"\x05\x03\x01\0\x01\x0c\x02\x81\0\x0b\x07\x01\0\x41\0\x0b\x01a",
+        true,
+    ),
+    (b"\x0c\x02\0\0", false),
+    (b"\x0c\0", false),
+    // before the section 9, between 9 and 10, behind 10, behind 11, twice
+    (b"\x0c\x01\0\x09\x01\0", false),
+    (b"\x09\x01\0\x0c\x01\0\x0a\x01\0", true),
+    (b"\x0a\x01\0\x0c\x01\0", false),
+    (b"\x0b\x01\0\x0c\x01\0", false),
+    (b"\x0c\x01\0\x0c\x01\0", false),
+    // a fill, a copy, a copy with one zero byte, and a number behind the prefix that is none of theirs
+    (
+        b"\x01\x04\x01\x60\0\0\x03\x02\x01\0\x05\x03\x01\0\x01\x0a\x0d\x01\x0b\0\x41\0\x41\0\x41\0\xfc\x0b\0\x0b",
+        true,
+    ),
+    (
+        b"\x01\x04\x01\x60\0\0\x03\x02\x01\0\x05\x03\x01\0\x01\x0a\x0e\x01\x0c\0\x41\0\x41\0\x41\0\xfc\x0a\0\0\x0b",
+        true,
+    ),
+    (
+        b"\x01\x04\x01\x60\0\0\x03\x02\x01\0\x05\x03\x01\0\x01\x0a\x0d\x01\x0b\0\x41\0\x41\0\x41\0\xfc\x0a\0\x0b",
+        false,
+    ),
+    (
+        b"\x01\x04\x01\x60\0\0\x03\x02\x01\0\x05\x03\x01\0\x01\x0a\x0d\x01\x0b\0\x41\0\x41\0\x41\0\xfc\x09\0\x0b",
+        false,
+    ),
+    // the first of the sign extensions, the last, and what would be one more
+    (
+        b"\x01\x04\x01\x60\0\0\x03\x02\x01\0\x0a\x08\x01\x06\0\x41\0\xc0\x1a\x0b",
+        true,
+    ),
+    (
+        b"\x01\x04\x01\x60\0\0\x03\x02\x01\0\x0a\x08\x01\x06\0\x42\0\xc4\x1a\x0b",
+        true,
+    ),
+    (
+        b"\x01\x04\x01\x60\0\0\x03\x02\x01\0\x0a\x08\x01\x06\0\x42\0\xc5\x1a\x0b",
+        false,
+    ),
+];
+
 // Modules, and the lengths of their beginnings that spell modules too: those that end behind a section, with no function
 // whose body is missing.
 const MODULES: &[(&[u8], &[usize])] = &[
@@ -195,8 +257,8 @@ const REPEATED: &[(&[u8], &[u8], u32, usize)] = &[
 ];
 
 // Whether these bytes are decoded. There is memory enough, so a refusal is for what they are.
-fn decodes(rt: &impl Abort, alloc: Global, bytes: &[u8]) -> bool {
-    match decode(alloc, bytes) {
+fn decodes(rt: &impl Abort, alloc: Global, profile: Profile, bytes: &[u8]) -> bool {
+    match decode(alloc, profile, bytes) {
         Ok(_) => true,
         Err(fault) => {
             assert_eq!(rt; fault, DecodeFault::Malformed);
@@ -211,7 +273,7 @@ fn sections_and_their_contents(rt: HostRuntime) -> Result<(), Fail> {
         let mut bytes = Vec::from_slice(rt.alloc(), HEADER)?;
         bytes.extend_from_slice(after)?;
         assert_eq!(rt;
-            decodes(&rt, rt.alloc(), bytes.as_slice()),
+            decodes(&rt, rt.alloc(), Profile::One, bytes.as_slice()),
             *spelled,
             "{after:?}"
         );
@@ -220,11 +282,23 @@ fn sections_and_their_contents(rt: HostRuntime) -> Result<(), Fail> {
 }
 
 #[test]
+fn what_profile_2_adds(rt: HostRuntime) -> Result<(), Fail> {
+    for (after, spelled) in OF_PROFILE_2 {
+        let mut bytes = Vec::from_slice(rt.alloc(), HEADER)?;
+        bytes.extend_from_slice(after)?;
+        let one = decodes(&rt, rt.alloc(), Profile::One, bytes.as_slice());
+        let two = decodes(&rt, rt.alloc(), Profile::Two, bytes.as_slice());
+        assert_eq!(rt; (one, two), (false, *spelled), "{after:?}");
+    }
+    Ok(())
+}
+
+#[test]
 fn modules_cut_short(rt: HostRuntime) {
     for (bytes, lengths) in MODULES {
-        assert!(rt; decodes(&rt, rt.alloc(), bytes), "{bytes:?}");
+        assert!(rt; decodes(&rt, rt.alloc(), Profile::One, bytes), "{bytes:?}");
         for length in 0..bytes.len() {
-            let spelled = decodes(&rt, rt.alloc(), &bytes[..length]);
+            let spelled = decodes(&rt, rt.alloc(), Profile::One, &bytes[..length]);
             assert_eq!(rt; spelled, lengths.contains(&length), "{length} of {bytes:?}");
         }
     }
@@ -268,7 +342,7 @@ fn adds(module: &Module) -> bool {
 #[test]
 fn a_function_that_adds(rt: HostRuntime) -> Result<(), Fail> {
     let (bytes, _) = MODULES[0];
-    let module = decode(rt.alloc(), bytes)?;
+    let module = decode(rt.alloc(), Profile::One, bytes)?;
     assert!(rt; takes_two_and_gives_one(&module));
     assert!(rt; exports_add(&module));
     assert!(rt; adds(&module));
@@ -319,7 +393,7 @@ fn code_of_many_instructions(rt: HostRuntime) -> Result<(), Fail> {
     for (opening, closing, times, sequences) in REPEATED {
         let code = repeated(rt.alloc(), opening, closing, *times)?;
         let bytes = module_of(rt.alloc(), code.as_slice())?;
-        let module = decode(rt.alloc(), bytes.as_slice())?;
+        let module = decode(rt.alloc(), Profile::One, bytes.as_slice())?;
         let function = module.functions.as_slice().first().ok_or("no function")?;
         assert_eq!(rt; function.body.sequences.as_slice().len(), *sequences);
     }
@@ -335,7 +409,7 @@ fn two_thousand_types(rt: HostRuntime) -> Result<(), Fail> {
     for _ in 0..2_000 {
         bytes.extend_from_slice(b"\x60\0\0")?;
     }
-    let module = decode(rt.alloc(), bytes.as_slice())?;
+    let module = decode(rt.alloc(), Profile::One, bytes.as_slice())?;
     assert_eq!(rt; module.types.as_slice().len(), 2_000);
     Ok(())
 }

@@ -11,7 +11,7 @@ use crate::item::Item;
 use instr_decode::{DecodeFault, value_type};
 use leb_read::Cursor;
 use std::alloc::Global;
-use wasm_types::{FuncType, GlobalType, Items, Limits, ValType};
+use wasm_types::{FuncType, GlobalType, Items, Limits, Profile, ValType};
 
 // Source: Core Specification 1.0, section 5.3.1.
 impl Item for ValType {
@@ -19,13 +19,13 @@ impl Item for ValType {
 
     ghost tree = { λ t. t };
 
-    ghost Takes = { TakesValType };
+    ghost Takes = { λ _. TakesValType };
 
-    ghost Wants = { λ _. ⊥ };
+    ghost Wants = { λ _ _. ⊥ };
 
-    ghost unique = { val_type-unique };
+    ghost unique = { λ _. val_type-unique };
 
-    fn decode(_: Global, cursor: &mut Cursor) -> Result<Self, DecodeFault> {
+    fn decode(_: Global, _: Profile, cursor: &mut Cursor) -> Result<Self, DecodeFault> {
         let byte = cursor.u8()?;
         value_type(byte).ok_or(DecodeFault::Malformed)
     }
@@ -37,15 +37,15 @@ impl Item for FuncType {
 
     ghost tree = { λ t. t };
 
-    ghost Takes = { TakesFuncType };
+    ghost Takes = { λ _. TakesFuncType };
 
     ghost Wants = { ⟦<(u8, (Items<ValType>, Items<ValType>)) as Item>⟧.Wants };
 
-    ghost unique = { func_type-unique };
+    ghost unique = { λ _. func_type-unique };
 
-    fn decode(alloc: Global, cursor: &mut Cursor) -> Result<Self, DecodeFault> {
+    fn decode(alloc: Global, profile: Profile, cursor: &mut Cursor) -> Result<Self, DecodeFault> {
         let (tag, (params, results)) = <(u8, (Items<ValType>, Items<ValType>))>::decode(
-            alloc, cursor,
+            alloc, profile, cursor,
         )?;
         if tag == 0x60 {
             Ok(FuncType { params, results })
@@ -61,13 +61,13 @@ impl Item for Limits {
 
     ghost tree = { λ l. l };
 
-    ghost Takes = { TakesLimits };
+    ghost Takes = { λ _. TakesLimits };
 
-    ghost Wants = { λ _. ⊥ };
+    ghost Wants = { λ _ _. ⊥ };
 
-    ghost unique = { limits-unique };
+    ghost unique = { λ _. limits-unique };
 
-    fn decode(_: Global, cursor: &mut Cursor) -> Result<Self, DecodeFault> {
+    fn decode(_: Global, _: Profile, cursor: &mut Cursor) -> Result<Self, DecodeFault> {
         let flag = cursor.u8()?;
         let min = cursor.u32()?;
         match flag {
@@ -95,14 +95,14 @@ impl Item for TableType {
 
     ghost tree = { λ t. t.limits };
 
-    ghost Takes = { TakesTableType };
+    ghost Takes = { λ _. TakesTableType };
 
-    ghost Wants = { λ _. ⊥ };
+    ghost Wants = { λ _ _. ⊥ };
 
-    ghost unique = { table_type-unique };
+    ghost unique = { λ _. table_type-unique };
 
-    fn decode(alloc: Global, cursor: &mut Cursor) -> Result<Self, DecodeFault> {
-        let (tag, limits) = <(u8, Limits)>::decode(alloc, cursor)?;
+    fn decode(alloc: Global, profile: Profile, cursor: &mut Cursor) -> Result<Self, DecodeFault> {
+        let (tag, limits) = <(u8, Limits)>::decode(alloc, profile, cursor)?;
         if tag == 0x70 {
             Ok(TableType { limits })
         } else {
@@ -117,14 +117,14 @@ impl Item for GlobalType {
 
     ghost tree = { λ g. g };
 
-    ghost Takes = { TakesGlobalType };
+    ghost Takes = { λ _. TakesGlobalType };
 
-    ghost Wants = { λ _. ⊥ };
+    ghost Wants = { λ _ _. ⊥ };
 
-    ghost unique = { global_type-unique };
+    ghost unique = { λ _. global_type-unique };
 
-    fn decode(alloc: Global, cursor: &mut Cursor) -> Result<Self, DecodeFault> {
-        let (value, mutability) = <(ValType, u8)>::decode(alloc, cursor)?;
+    fn decode(alloc: Global, profile: Profile, cursor: &mut Cursor) -> Result<Self, DecodeFault> {
+        let (value, mutability) = <(ValType, u8)>::decode(alloc, profile, cursor)?;
         match mutability {
             0x00 => Ok(GlobalType {
                 value,

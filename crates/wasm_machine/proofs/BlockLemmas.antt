@@ -1,6 +1,6 @@
 -- Into inner sequences.
 use Rattle.wasm_types.specs.declared.limits.RunLimits.{RunLimits}
-use Rattle.std.proofs.Common.{◌≡◌, ◌≢◌, ℕ, suc, ◌+◌, ◌*◌, ◌≤◌, List, [], ◌∷◌, ◌++◌, length, map, drop, reverse, Option, Some, None, refl, sym, ap, ◌∙◌, subst, arith, length-append}
+use Rattle.std.proofs.Common.{◌≡◌, ◌≢◌, ℕ, suc, ◌+◌, ◌*◌, ◌≤◌, List, [], ◌∷◌, ◌++◌, length, map, drop, reverse, Option, Some, None, refl, sym, ap, ◌∙◌, subst, arith, length-append, false}
 use Rattle.std.specs.Prelude.{slice_get}
 use Rattle.std.proofs.lemmas.List.{length-reverse, length-map}
 use Rattle.wasm_types.specs.declared.types.ValType.{ValType}
@@ -24,6 +24,8 @@ use Rattle.wasm_machine.specs.Remaining.{function_of, after_sequence}
 use Rattle.machine_steps.specs.StackLayout as flat
 use Rattle.machine_steps.specs.StackLayout.{frames_under, labels_of, labels_under, Represents, KeepsRoom}
 use Rattle.wasm_machine.specs.TypedConfiguration.{operand_count, IsTypedCode, AreTypedActivations, IsTypedAt, local_types, context}
+use Rattle.wasm_spec.specs.Bulk.{code_uses_bulk, uses_bulk}
+use Rattle.wasm_spec.proofs.NarrowModules.{neither}
 use Rattle.wasm_machine.specs.Simulation.{HasFetched, Simulates, AtEnd, SimulatesExit, body_of, doing, op_at, paid}
 use Rattle.machine_steps.specs.PlainSteps.{in_block}
 use Rattle.wasm_machine.proofs.RemainingLemmas.{after_sequence-OutOfFuel}
@@ -109,7 +111,7 @@ module _ (m : Module) (limits : RunLimits) (frame : ℕ) where
       let after : highest (operand_count os) C rest (length (result_types t ++ ts)) ≡ highest (operand_count os) C rest (length ts + length (result_types t)) =
       ap (λ (z : ℕ). highest (operand_count os) C rest z) (omega (arith, length-append (result_types t) ts)) in
       let deep : deepest (suc (length os) + 1) body ≡ deepest (length os + 1 + 1) body = ap (λ (z : ℕ). deepest z body) (omega arith) in
-      let resumes : IsTypedAt m frame x os (result_types t ++ ts) k.sequence k.place = record { typed = rest_typed; fits = omega arith } in
+      let resumes : IsTypedAt m frame x os (result_types t ++ ts) k.sequence k.place = record { typed = rest_typed; fits = omega arith; narrow = λ e. (neither (code_uses_bulk body) (code_uses_bulk rest) (b.typed.narrow e)).1 } in
       let d = length k.activations + 1 in
       record {
         configuration = in_block k (result_types t) (result_types t) k.place inner;
@@ -118,6 +120,7 @@ module _ (m : Module) (limits : RunLimits) (frame : ℕ) where
           here = record {
             typed = subst (λ (c : Code). Typed (under (result_types t) C) c [] (result_types t)) (sym named) inside_typed;
             fits = subst (λ (c : Code). length (local_types m frame x) + highest (operand_count os + length k.operands) (under (result_types t) C) c 0 + deepest (suc (length os) + 1) c ≤ frame) (sym named) (omega arith);
+            narrow = subst (λ (c : Code). uses_bulk (module_tree m) ≡ false → code_uses_bulk c ≡ false) (sym named) (λ e. (neither (code_uses_bulk body) (code_uses_bulk rest) (b.typed.narrow e)).0);
           };
           around = record { locals = b.around.locals; blocks = (record { at_end = resumes; at_branch = resumes }, b.around.blocks); activations = b.around.activations; deep = b.around.deep };
         };
@@ -153,7 +156,7 @@ module _ (m : Module) (limits : RunLimits) (frame : ℕ) where
       let after : highest (operand_count os) C rest (length (result_types t ++ ts)) ≡ highest (operand_count os) C rest (length ts + length (result_types t)) =
       ap (λ (z : ℕ). highest (operand_count os) C rest z) (omega (arith, length-append (result_types t) ts)) in
       let deep : deepest (suc (length os) + 1) body ≡ deepest (length os + 1 + 1) body = ap (λ (z : ℕ). deepest z body) (omega arith) in
-      let resumes : IsTypedAt m frame x os (result_types t ++ ts) k.sequence k.place = record { typed = rest_typed; fits = omega arith } in
+      let resumes : IsTypedAt m frame x os (result_types t ++ ts) k.sequence k.place = record { typed = rest_typed; fits = omega arith; narrow = λ e. (neither (code_uses_bulk body) (code_uses_bulk rest) (b.typed.narrow e)).1 } in
       let again : IsTypedAt m frame x os ts k.sequence here = subst (λ (c : Code). IsTypedCode m frame x os c ts) (sym b.is) b.typed in
       let d = length k.activations + 1 in
       record {
@@ -163,6 +166,7 @@ module _ (m : Module) (limits : RunLimits) (frame : ℕ) where
           here = record {
             typed = subst (λ (c : Code). Typed (under [] C) c [] (result_types t)) (sym named) inside_typed;
             fits = subst (λ (c : Code). length (local_types m frame x) + highest (operand_count os + length k.operands) (under [] C) c 0 + deepest (suc (length os) + 1) c ≤ frame) (sym named) (omega arith);
+            narrow = subst (λ (c : Code). uses_bulk (module_tree m) ≡ false → code_uses_bulk c ≡ false) (sym named) (λ e. (neither (code_uses_bulk body) (code_uses_bulk rest) (b.typed.narrow e)).0);
           };
           around = record { locals = b.around.locals; blocks = (record { at_end = resumes; at_branch = again }, b.around.blocks); activations = b.around.activations; deep = b.around.deep };
         };

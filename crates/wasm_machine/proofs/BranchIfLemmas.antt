@@ -112,7 +112,7 @@ module _ (m : Module) (limits : RunLimits) (frame : ℕ) where
       let zero_is : c.n ≡ 0 = sym p.0 ∙ none in
       let e : plain (module_tree m) limits (instr.BrIf l) (state k store) ≡ Next t = branched l c.n (state k store) c.rest c.are ∙ ap (λ (z : ℕ). if_zero z (Next t) (Branch l t)) zero_is in
       let good : HasResultTypes m C (instr.BrIf l) (map type_of k.operands) middle t = record { types = c.types ∙ sym c.gives; counted = c.counted; locals = b.around.locals; stored = b.stored } in
-      done_as m limits frame (Next t) k (instr.BrIf l) middle None old new store store (paid r) good typed b.typed.fits b.around b.room keeps
+      done_as m limits frame (Next t) k (instr.BrIf l) middle None old new store store (paid r) good typed b.typed.fits b.typed.narrow b.around b.room keeps
       (λ g. ap (λ (s : Signal). after_sequence m limits k (and_then s g (resume_at m limits (length k.activations + 1) k.function k.sequence k.place))) (sym e) ∙ jumps m limits frame old store here (instr.BrIf l) r b g)
       (p.1, refl)
 

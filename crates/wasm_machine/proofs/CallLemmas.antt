@@ -29,6 +29,8 @@ use Rattle.wasm_machine.specs.Remaining.{resting, function_of, results, resume_a
 use Rattle.machine_steps.specs.StackLayout as flat
 use Rattle.machine_steps.specs.StackLayout.{frames_under, bottom_of, labels_of, labels_under, position_of, frames_of, Represents, KeepsRoom}
 use Rattle.wasm_machine.specs.TypedConfiguration.{operand_count, IsRunnable, IsTypedAt, context, local_types}
+use Rattle.wasm_spec.specs.Bulk.{code_uses_bulk}
+use Rattle.wasm_spec.proofs.NarrowModules.{narrow_function}
 use Rattle.wasm_machine.specs.Simulation.{SimulatesCall, Simulates, in_function, start_of}
 use Rattle.machine_steps.proofs.StackLists.{cut}
 use Rattle.wasm_machine.proofs.RemainingLemmas.{not_below, after_sequence-Trapped}
@@ -104,7 +106,11 @@ module _ (m : Module) (frame x : ℕ) (f : FunctionTree) (t : FuncType) (run : I
       let named : body_context (module_tree m) f ≡ context m frame x [] =
       ap (λ (o : Option FuncType). context_of m o f.locals) (sym type_is) ∙ ap (λ (g : FunctionTree). context_of m (function_type (module_tree m) x) g.locals) tree_known in
       let here : Fits m frame (context m frame x []) (code_at (function_of m x).body (start_of m x) 0) = subst (λ (C : Context). Fits m frame C (code_at (function_of m x).body (start_of m x) 0)) named (subst (λ (c : Code). Fits m frame (body_context (module_tree m) f) c) tree whole) in
-      record { typed = here.typed; fits = here.fits }
+      record {
+        typed = here.typed;
+        fits = here.fits;
+        narrow = λ e. subst (λ (c : Code). code_uses_bulk c ≡ false) tree (narrow_function (module_tree m).functions x f e there);
+      }
 
 -- ---- the call
 

@@ -1,7 +1,7 @@
 -- Into an arm of an `if`.
 use Rattle.wasm_types.specs.declared.limits.RunLimits.{RunLimits}
-use Rattle.std.proofs.Common.{◌≡◌, ℕ, zero, suc, ◌+◌, ◌-◌, ◌<◌, ◌≤◌, List, [], ◌∷◌, ◌++◌, length, map, Option, refl, sym, ap, ◌∙◌, subst, arith, length-append}
-use Rattle.std.specs.Prelude.{vec_capacity}
+use Rattle.std.proofs.Common.{◌≡◌, ℕ, zero, suc, ◌+◌, ◌-◌, ◌<◌, ◌≤◌, List, [], ◌∷◌, ◌++◌, length, map, Option, refl, sym, ap, ◌∙◌, subst, arith, length-append, false}
+use Rattle.std.specs.Prelude.{vec_capacity, ◌||◌}
 use Rattle.std.proofs.lemmas.List.{length-map}
 use Rattle.wasm_types.specs.declared.types.ValType.{ValType}
 use Rattle.wasm_types.specs.declared.types.ValType.TheVariants as type
@@ -22,6 +22,8 @@ use Rattle.machine_steps.specs.Configuration.{Configuration, state}
 use Rattle.wasm_machine.specs.Remaining.{after_sequence}
 use Rattle.machine_steps.specs.StackLayout.{Represents, KeepsRoom}
 use Rattle.wasm_machine.specs.TypedConfiguration.{operand_count, IsTypedAt, context, ends_of, local_types}
+use Rattle.wasm_spec.specs.Bulk.{code_uses_bulk, uses_bulk}
+use Rattle.wasm_spec.proofs.NarrowModules.{neither}
 use Rattle.wasm_machine.specs.Simulation.{HasFetched, Simulates, body_of, paid, chosen_arm}
 use Rattle.machine_steps.specs.PlainSteps.{HasNumber, in_block}
 use Rattle.machine_steps.proofs.StackLayoutLemmas.{room_kept}
@@ -100,9 +102,14 @@ module _ (m : Module) (limits : RunLimits) (frame : ℕ) where
       ap (λ (z : ℕ). highest (operand_count os) C rest z) (omega (arith, length-append (result_types t) (map type_of cond.rest))) in
       let deep_first : deepest (suc (length os) + 1) (trees n) ≡ deepest (length os + 1 + 1) (trees n) = ap (λ (z : ℕ). deepest z (trees n)) (omega arith) in
       let deep_second : deepest (suc (length os) + 1) (trees j) ≡ deepest (length os + 1 + 1) (trees j) = ap (λ (z : ℕ). deepest z (trees j)) (omega arith) in
+      let parts : uses_bulk (module_tree m) ≡ false → (code_uses_bulk (trees n) || code_uses_bulk (trees j) ≡ false) × (code_uses_bulk rest ≡ false) =
+      λ e. neither (code_uses_bulk (trees n) || code_uses_bulk (trees j)) (code_uses_bulk rest) (b.typed.narrow e) in
+      let arms : uses_bulk (module_tree m) ≡ false → (code_uses_bulk (trees n) ≡ false) × (code_uses_bulk (trees j) ≡ false) =
+      λ e. neither (code_uses_bulk (trees n)) (code_uses_bulk (trees j)) (parts e).0 in
       let resumes : IsTypedAt m frame x os (result_types t ++ map type_of cond.rest) k.sequence k.place = record {
         typed = subst (λ (us : List ValType). Typed C rest (result_types t ++ us) (ends_of m frame x os)) (sym cond.types) rest_typed;
         fits = omega arith;
+        narrow = λ e. (parts e).1;
       } in
       let arm_typed : Typed (under (result_types t) C) (trees (chosen_arm c n j)) [] (result_types t) = either_one (λ (z : Code). Typed (under (result_types t) C) z [] (result_types t)) c trees n j first_typed second_typed in
       let arm_fits : length (local_types m frame x) + highest (operand_count os + length cond.rest) (under (result_types t) C) (trees (chosen_arm c n j)) 0 + deepest (suc (length os) + 1) (trees (chosen_arm c n j)) ≤ frame =
@@ -116,6 +123,8 @@ module _ (m : Module) (limits : RunLimits) (frame : ℕ) where
           here = record {
             typed = subst (λ (z : Code). Typed (under (result_types t) C) z [] (result_types t)) (sym named) arm_typed;
             fits = subst (λ (z : Code). length (local_types m frame x) + highest (operand_count os + length cond.rest) (under (result_types t) C) z 0 + deepest (suc (length os) + 1) z ≤ frame) (sym named) arm_fits;
+            narrow = subst (λ (z : Code). uses_bulk (module_tree m) ≡ false → code_uses_bulk z ≡ false) (sym named)
+                (either_one (λ (z : Code). uses_bulk (module_tree m) ≡ false → code_uses_bulk z ≡ false) c trees n j (λ e. (arms e).0) (λ e. (arms e).1));
           };
           around = record { locals = b.around.locals; blocks = (record { at_end = resumes; at_branch = resumes }, b.around.blocks); activations = b.around.activations; deep = b.around.deep };
         };

@@ -106,7 +106,7 @@ module _ (m : Module) (limits : RunLimits) (frame : ℕ) where
         is = i.is;
         below = i.below;
         index = c;
-        resumes = record { typed = subst (λ (us : List ValType). Typed C rest us (ends_of m frame k.function k.blocks)) i.gives typed; fits = omega arith };
+        resumes = record { typed = subst (λ (us : List ValType). Typed C rest us (ends_of m frame k.function k.blocks)) i.gives typed; fits = omega arith; narrow = b.typed.narrow };
         goes = λ fuel.
             ap (after_sequence m limits k)
             (ap (λ (vs : List Val). pop_index vs (element_call (module_tree m) limits d (exec (module_tree m) limits (d + 1)) (exec (module_tree m) limits d rest) x) (state k store) fuel) (sym c.are)

@@ -7,6 +7,7 @@ pub mod CallLemmas
 pub mod IfLemmas
 pub mod IndirectCallLemmas
 pub mod LabelLemmas
+pub mod MarkLemmas
 pub mod PreservationLemmas
 pub mod ReadyLemmas
 pub mod RemainingLemmas

@@ -1,7 +1,7 @@
 -- What typing says of plain instructions, kind by kind.
 use Rattle.wasm_types.specs.declared.limits.RunLimits.{RunLimits}
 use Rattle.std.proofs.Common.{◌≡◌, ℕ, zero, suc, ◌+◌, ◌^◌, ◌<◌, List, [], ◌∷◌, ◌++◌, Bool, true, false, length, map, set, Option, Some, None, Ok, refl, sym, ap, ◌∙◌, subst, arith, length-append}
-use Rattle.std.specs.Prelude.{slice_get, nat_lt, nat_le, if◌then◌else◌}
+use Rattle.std.specs.Prelude.{slice_get, nat_lt, nat_le, ◌&&◌, if◌then◌else◌, take, drop, replicate}
 use Rattle.std.specs.Option.{option_map}
 use Rattle.std.proofs.lemmas.Option.{slice_get_within}
 use Rattle.std.specs.Int.{byte_len, to_le_bytes}
@@ -21,7 +21,8 @@ use Rattle.wasm_types.specs.Tree.{GlobalTree, module_tree}
 use Rattle.wasm_spec.specs.Typing.{Context, Rule, Fixed, Wrong, Takes, type_of, integer_type, rule, local_get, local_set, local_tee, global_get, global_set, global_type, needs_memory, byte_width, packed_width}
 use Rattle.wasm_spec.specs.Need.{height}
 use Rattle.wasm_spec.specs.Store.{Store, written, loaded}
-use Rattle.wasm_spec.specs.Execution.{State, Signal, Next, Trapped, value, if_zero, with_operands, most_pages, pages_of, plain}
+use Rattle.wasm_spec.specs.Operators.{wrap}
+use Rattle.wasm_spec.specs.Execution.{State, Signal, Next, Trapped, value, if_zero, with_operands, most_pages, pages_of, write_where, lies_within, plain}
 use Rattle.wasm_spec.specs.Execution as execution
 use Rattle.machine_steps.specs.Configuration.{Configuration, state}
 use Rattle.wasm_machine.specs.TypedConfiguration.{IsTypedStore}
@@ -30,6 +31,7 @@ use Rattle.wasm_machine.specs.Simulation.{IsPreserved}
 use Rattle.wasm_machine.proofs.BranchIfLemmas.{value_there}
 use Rattle.machine_steps.proofs.KindLemmas.{Single, Setting, Chosen, one_means, two_means, drop_means, select_means, local_get_means, local_set_means, local_tee_means, global_get_means, global_set_means}
 use Rattle.machine_steps.proofs.AccessLemmas.{One, Pair, load_means, store_means, grow_means}
+use Rattle.machine_steps.proofs.BulkLemmas.{Three, copy_means, fill_means}
 use Rattle.wasm_machine.proofs.TypeLemmas.{has_number, value_type, two_typed, value_preserved}
 
 -- ---- operands of types
@@ -52,6 +54,15 @@ pair_typed w (v ∷ val.I64 b ∷ vs) below e = absurd (cc)
 pair_typed w (v ∷ val.I32 b ∷ vs) below e =
     let (n, is) = has_number w v (cc) in
     (record { top = v; base = b; rest = vs; are = refl; n = n; is = is }, cc)
+
+three_typed : (vs : List Val) (below : List ValType) → map type_of vs ≡ type.I32 ∷ type.I32 ∷ type.I32 ∷ below → (t : Three vs) × (map type_of t.rest ≡ below)
+three_typed [] below e = absurd (cc)
+three_typed (z ∷ []) below e = absurd (cc)
+three_typed (z ∷ y ∷ []) below e = absurd (cc)
+three_typed (val.I64 c ∷ y ∷ x ∷ rest) below e = absurd (cc)
+three_typed (val.I32 c ∷ val.I64 b ∷ x ∷ rest) below e = absurd (cc)
+three_typed (val.I32 c ∷ val.I32 b ∷ val.I64 a ∷ rest) below e = absurd (cc)
+three_typed (val.I32 c ∷ val.I32 b ∷ val.I32 a ∷ rest) below e = (record { first = a; second = b; third = c; rest = rest; are = refl }, cc)
 
 top_typed : (vs : List Val) (t : ValType) (below : List ValType) → map type_of vs ≡ t ∷ below → (v : Val) × (rest : List Val) × (vs ≡ v ∷ rest) × (type_of v ≡ t) × (map type_of rest ≡ below)
 top_typed [] t below e = absurd (cc)
@@ -354,6 +365,36 @@ module _ (m : Module) (limits : RunLimits) (C : Context) (of_module : C.defined 
       (grow_as (nat_lt (most_pages (module_tree m).memories limits.pages) (pages_of store + t.n)) (map type_of k.operands) middle below t.rest _ _ _ (state k store) after types
       (counted_by (rule C instr.MemoryGrow) (type.I32 ∷ []) (type.I32 ∷ []) below (map type_of k.operands) middle a.is before after) locals stored)
 
+  write_as : (b : Bool) (i : Instr) (ts middle : List ValType) (vs : List Val) (to : ℕ) (bytes : List ℕ) (s : State) → map type_of vs ≡ middle → height (rule C i) (length ts) ≡ length middle
+      → map type_of s.locals ≡ C.locals → IsTypedStore m s.store → IsPreserved m C i ts middle (write_where b to bytes vs s)
+  write_as true i ts middle vs to bytes s types counted locals stored =
+      record { types = types; counted = counted; locals = locals; stored = record { globals = stored.globals; table = stored.table } }
+  write_as false i ts middle vs to bytes s types counted locals stored = tt
+
+  copy_preserved : (k : Configuration) (store : Store) (middle : List ValType) → Takes (rule C instr.MemoryCopy) (map type_of k.operands) middle → map type_of k.locals ≡ C.locals → IsTypedStore m store
+      → IsPreserved m C instr.MemoryCopy (map type_of k.operands) middle (plain (module_tree m) limits instr.MemoryCopy (state k store))
+  copy_preserved k store middle takes locals stored =
+      let r : Rule = Fixed (type.I32 ∷ type.I32 ∷ type.I32 ∷ []) [] in
+      let a = memory_there C.defined.memories r (map type_of k.operands) middle takes in
+      let (below, before, after) = a.takes in
+      let (t, types) = three_typed k.operands below before in
+      subst (λ (e : Signal). IsPreserved m C instr.MemoryCopy (map type_of k.operands) middle e) (sym (copy_means (module_tree m) limits k store t))
+      (write_as (lies_within store t.first t.third && lies_within store t.second t.third) instr.MemoryCopy (map type_of k.operands) middle t.rest t.first
+      (take t.third (drop t.second store.memory)) (state k store) (types ∙ sym after)
+      (counted_by (rule C instr.MemoryCopy) (type.I32 ∷ type.I32 ∷ type.I32 ∷ []) [] below (map type_of k.operands) middle a.is before after) locals stored)
+
+  fill_preserved : (k : Configuration) (store : Store) (middle : List ValType) → Takes (rule C instr.MemoryFill) (map type_of k.operands) middle → map type_of k.locals ≡ C.locals → IsTypedStore m store
+      → IsPreserved m C instr.MemoryFill (map type_of k.operands) middle (plain (module_tree m) limits instr.MemoryFill (state k store))
+  fill_preserved k store middle takes locals stored =
+      let r : Rule = Fixed (type.I32 ∷ type.I32 ∷ type.I32 ∷ []) [] in
+      let a = memory_there C.defined.memories r (map type_of k.operands) middle takes in
+      let (below, before, after) = a.takes in
+      let (t, types) = three_typed k.operands below before in
+      subst (λ (e : Signal). IsPreserved m C instr.MemoryFill (map type_of k.operands) middle e) (sym (fill_means (module_tree m) limits k store t))
+      (write_as (lies_within store t.first t.third) instr.MemoryFill (map type_of k.operands) middle t.rest t.first
+      (replicate t.third (wrap 8 t.second)) (state k store) (types ∙ sym after)
+      (counted_by (rule C instr.MemoryFill) (type.I32 ∷ type.I32 ∷ type.I32 ∷ []) [] below (map type_of k.operands) middle a.is before after) locals stored)
+
   -- ---- all of them
 
   nop_preserved : (k : Configuration) (store : Store) (middle : List ValType) → Takes (rule C instr.Nop) (map type_of k.operands) middle → map type_of k.locals ≡ C.locals → IsTypedStore m store
@@ -377,6 +418,8 @@ module _ (m : Module) (limits : RunLimits) (C : Context) (of_module : C.defined 
   plain_preserved (instr.StorePacked w p a) k store middle stays h l s = store_preserved (instr.StorePacked w p a) k store middle tt h l s
   plain_preserved instr.MemorySize k store middle stays h l s = push_preserved instr.MemorySize (state k store) middle (size_pushes (state k store) (map type_of k.operands) middle h) h l s
   plain_preserved instr.MemoryGrow k store middle stays h l s = grow_preserved k store middle h l s
+  plain_preserved instr.MemoryCopy k store middle stays h l s = copy_preserved k store middle h l s
+  plain_preserved instr.MemoryFill k store middle stays h l s = fill_preserved k store middle h l s
   plain_preserved (instr.Const v) k store middle stays h l s = push_preserved (instr.Const v) (state k store) middle (const_pushes v (state k store)) h l s
   plain_preserved (instr.Eqz w) k store middle stays h l s = one_preserved (instr.Eqz w) k store middle tt h l s
   plain_preserved (instr.Unary w o) k store middle stays h l s = one_preserved (instr.Unary w o) k store middle tt h l s

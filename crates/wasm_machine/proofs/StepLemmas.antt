@@ -1,6 +1,6 @@
 -- What an instruction comes to.
 use Rattle.wasm_types.specs.declared.limits.RunLimits.{RunLimits}
-use Rattle.std.proofs.Common.{◌≡◌, ◌≢◌, ℕ, suc, ◌+◌, ◌≤◌, List, ◌++◌, length, map, reverse, Option, Some, None, refl, sym, ap, ◌∙◌, subst, arith, length-append}
+use Rattle.std.proofs.Common.{◌≡◌, ◌≢◌, ℕ, suc, ◌+◌, ◌≤◌, List, ◌++◌, length, map, reverse, Option, Some, None, refl, sym, ap, ◌∙◌, subst, arith, length-append, false}
 use Rattle.std.specs.Prelude.{slice_get, option_and_then}
 use Rattle.wasm_types.specs.declared.types.ValType.{ValType}
 use Rattle.wasm_types.specs.declared.types.FuncType.{FuncType}
@@ -21,6 +21,8 @@ use Rattle.machine_steps.specs.Configuration.{Configuration, state}
 use Rattle.wasm_machine.specs.Remaining.{resume_at, after_sequence}
 use Rattle.machine_steps.specs.StackLayout.{Represents, HasRoom, KeepsRoom}
 use Rattle.wasm_machine.specs.TypedConfiguration.{operand_count, IsTypedContext, IsTypedStore, context, local_types, ends_of}
+use Rattle.wasm_spec.specs.Bulk.{is_bulk, code_uses_bulk, uses_bulk}
+use Rattle.wasm_spec.proofs.NarrowModules.{neither}
 use Rattle.machine_steps.specs.PlainSteps.{EndsAs, with_state}
 use Rattle.wasm_machine.specs.Simulation.{HasFetched, HasLabelOperands, SimulatesCall, SimulatesPlain, IsPreserved, SimulatesExit, ToLabel, ByReturn, body_of, paid}
 use Rattle.wasm_machine.proofs.RemainingLemmas.{after_sequence-Trapped}
@@ -88,7 +90,7 @@ module _ (m : Module) (limits : RunLimits) (frame : ℕ) where
         typed = f.typed;
         below = c.below;
         arguments = c.takes;
-        resumes = record { typed = subst (λ (us : List ValType). Typed C rest us (ends_of m frame k.function k.blocks)) c.gives typed; fits = omega arith };
+        resumes = record { typed = subst (λ (us : List ValType). Typed C rest us (ends_of m frame k.function k.blocks)) c.gives typed; fits = omega arith; narrow = b.typed.narrow };
         goes = λ fuel.
             ap (after_sequence m limits k)
             (sym (exec-Call (module_tree m) limits d x rest (state k store) fuel
@@ -134,11 +136,11 @@ module _ (m : Module) (limits : RunLimits) (frame : ℕ) where
   pub done_as : (e : Signal) (k : Configuration) (i : Instr) (middle : List ValType) (o : Option TrapKind) (old new : Machine) (store store' : Store) (r : ℕ → Ended)
       → let C : Context = context m frame k.function k.blocks in let rest : Code = code_at (body_of m k) k.sequence k.place in
       IsPreserved m C i (map type_of k.operands) middle e → Typed C rest middle (ends_of m frame k.function k.blocks)
-      → length (local_types m frame k.function) + highest (operand_count k.blocks) C (Plain i rest) (length (map type_of k.operands)) + deepest (length k.blocks + 1) rest ≤ frame
+      → length (local_types m frame k.function) + highest (operand_count k.blocks) C (Plain i rest) (length (map type_of k.operands)) + deepest (length k.blocks + 1) rest ≤ frame → (uses_bulk (module_tree m) ≡ false → code_uses_bulk rest ≡ false)
       → IsTypedContext m frame limits.depth k → HasRoom limits.depth frame old → KeepsRoom old new
       → ((g : ℕ) → after_sequence m limits k (and_then e g (resume_at m limits (length k.activations + 1) k.function k.sequence k.place)) ≡ r g)
       → EndsAs e k o new store' → SimulatesPlain o m limits frame new store' r
-  done_as (Next s) k i middle None old new store store' r good typed fits around room keeps goes (represents, same) =
+  done_as (Next s) k i middle None old new store store' r good typed fits narrow around room keeps goes (represents, same) =
       let C : Context = context m frame k.function k.blocks in
       let rest : Code = code_at (body_of m k) k.sequence k.place in
       let count : highest (operand_count k.blocks) C rest (length (map type_of s.operands)) ≡ highest (operand_count k.blocks) C rest (height (rule C i) (length (map type_of k.operands))) =
@@ -147,21 +149,21 @@ module _ (m : Module) (limits : RunLimits) (frame : ℕ) where
         configuration = with_state k s;
         represents = represents;
         typed = record {
-          here = record { typed = subst (λ (us : List ValType). Typed C rest us (ends_of m frame k.function k.blocks)) (sym good.types) typed; fits = omega arith };
+          here = record { typed = subst (λ (us : List ValType). Typed C rest us (ends_of m frame k.function k.blocks)) (sym good.types) typed; fits = omega arith; narrow = narrow };
           around = record { locals = good.locals; blocks = around.blocks; activations = around.activations; deep = around.deep };
         };
         stored = subst (λ (t : Store). IsTypedStore m t) same good.stored;
         room = room_kept limits.depth frame old new room keeps;
         goes = λ g. ap (λ (t : Store). after_sequence m limits k (resume_at m limits (length k.activations + 1) k.function k.sequence k.place (record { locals = s.locals; operands = s.operands; store = t }) g)) (sym same) ∙ goes g;
       }
-  done_as (Next s) k i middle (Some t) old new store store' r good typed fits around room keeps goes after = absurd after
-  done_as (Trapped t before) k i middle None old new store store' r good typed fits around room keeps goes after = absurd after
-  done_as (Trapped t before) k i middle (Some u) old new store store' r good typed fits around room keeps goes (is, same) =
+  done_as (Next s) k i middle (Some t) old new store store' r good typed fits narrow around room keeps goes after = absurd after
+  done_as (Trapped t before) k i middle None old new store store' r good typed fits narrow around room keeps goes after = absurd after
+  done_as (Trapped t before) k i middle (Some u) old new store store' r good typed fits narrow around room keeps goes (is, same) =
       λ g. sym (goes g) ∙ after_sequence-Trapped m limits k t before g ∙ ap (λ (v : TrapKind). ended (Trapped v before) g) (sym is) ∙ ap (λ (st : Store). ended (Trapped u st) g) same
-  done_as (Branch l s) k i middle o old new store store' r good typed fits around room keeps goes after = absurd after
-  done_as (Returned s) k i middle o old new store store' r good typed fits around room keeps goes after = absurd after
-  done_as (OutOfFuel s) k i middle o old new store store' r good typed fits around room keeps goes after = absurd after
-  done_as Stuck k i middle o old new store store' r good typed fits around room keeps goes after = absurd after
+  done_as (Branch l s) k i middle o old new store store' r good typed fits narrow around room keeps goes after = absurd after
+  done_as (Returned s) k i middle o old new store store' r good typed fits narrow around room keeps goes after = absurd after
+  done_as (OutOfFuel s) k i middle o old new store store' r good typed fits narrow around room keeps goes after = absurd after
+  done_as Stuck k i middle o old new store store' r good typed fits narrow around room keeps goes after = absurd after
 
   pub not_stuck : (e : Signal) (k : Configuration) (i : Instr) (middle : List ValType) → IsPreserved m (context m frame k.function k.blocks) i (map type_of k.operands) middle e → e ≢ Stuck
   not_stuck Stuck k i middle h n = h
@@ -181,5 +183,5 @@ module _ (m : Module) (limits : RunLimits) (frame : ℕ) where
       let k = b.configuration in
       let (middle, takes, typed) = b.typed.typed in
       let fine = good k middle takes b.around.locals in
-      done_as (plain (module_tree m) limits i (state k store)) k i middle o old new store store' (paid r) fine typed b.typed.fits b.around b.room keeps (jumps old store here i r b)
+      done_as (plain (module_tree m) limits i (state k store)) k i middle o old new store store' (paid r) fine typed b.typed.fits (λ e. (neither (is_bulk i) (code_uses_bulk (code_at (body_of m k) k.sequence k.place)) (b.typed.narrow e)).1) b.around b.room keeps (jumps old store here i r b)
       (after k b.represents (not_stuck (plain (module_tree m) limits i (state k store)) k i middle fine))

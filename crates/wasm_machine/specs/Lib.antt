@@ -1,4 +1,5 @@
 pub mod Remaining
+pub mod MostMarks
 pub mod TypedConfiguration
 pub mod Simulation
 pub mod Lent

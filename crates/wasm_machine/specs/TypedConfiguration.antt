@@ -1,5 +1,5 @@
 -- Configurations that are typed, and that fit their frames.
-use Rattle.std.specs.Prelude.{◌≡◌, ℕ, ◌+◌, ◌<◌, ◌≤◌, List, [], ◌∷◌, ◌++◌, length, map, slice_get, Some}
+use Rattle.std.specs.Prelude.{◌≡◌, ℕ, ◌+◌, ◌<◌, ◌≤◌, List, [], ◌∷◌, ◌++◌, false, length, map, slice_get, Some}
 use Rattle.wasm_types.specs.declared.types.ValType.{ValType}
 use Rattle.wasm_types.specs.declared.module.Module.{Module}
 use Rattle.wasm_types.specs.Tree.{Code, FunctionTree, function_tree, module_tree}
@@ -11,6 +11,7 @@ use Rattle.wasm_types.specs.Sequences.{code_at}
 use Rattle.wasm_validate.specs.Locals.{HaveNoEmptyRun}
 use Rattle.machine_steps.specs.Configuration.{OpenBlock, Activation, Configuration}
 use Rattle.wasm_machine.specs.Remaining.{function_of, results}
+use Rattle.wasm_spec.specs.Bulk.{code_uses_bulk, uses_bulk}
 
 -- the number of operands under these blocks
 abbrev pub operand_count : List OpenBlock → ℕ
@@ -37,10 +38,12 @@ module _ (m : Module) (frame : ℕ) where
   ends_of x [] = results m x
   ends_of x (o ∷ os) = o.ends
 
-  -- code that takes these operands to the end of its block, and whose frame has room for what it needs
+  -- code that takes these operands to the end of its block, and whose frame has room for what it needs; it copies and fills
+  -- nothing in a module that doesn't
   pub record IsTypedCode (x : ℕ) (os : List OpenBlock) (code : Code) (ts : List ValType) : Type 0 where
     pub typed : Typed (context x os) code ts (ends_of x os)
     pub fits : length (local_types x) + highest (operand_count os) (context x os) code (length ts) + deepest (length os + 1) code ≤ frame
+    pub narrow : uses_bulk (module_tree m) ≡ false → code_uses_bulk code ≡ false
 
   -- with these operands it can go on at this place
   abbrev pub IsTypedAt : (x : ℕ) (os : List OpenBlock) (ts : List ValType) (q place : ℕ) → Type 0

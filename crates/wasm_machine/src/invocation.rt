@@ -1,12 +1,14 @@
 //! A function's run from its beginning to its end.
-ghost use Rattle.std.specs.Prelude.{◌≡◌, ℕ, ◌+◌, ◌-◌, ◌*◌, ◌<◌, ◌≤◌, Option, Some, length, reverse, slice_get};
+ghost use Rattle.std.specs.Prelude.{◌≡◌, ℕ, ◌+◌, ◌-◌, ◌*◌, ◌<◌, ◌≤◌, false, Option, Some, length, reverse, slice_get};
 ghost use Rattle.wasm_types.specs.Tree.{module_tree};
+ghost use Rattle.wasm_spec.specs.Bulk.{uses_bulk};
 ghost use Rattle.wasm_spec.specs.Instances.{room_for};
 ghost use Rattle.wasm_spec.specs.Result.{CallResult, function_result};
 ghost use Rattle.linear_memory.specs.Bytes.{IsMemory};
 ghost use Rattle.linear_memory.specs.Marks.{HasSameRoom, KeepsUnmarked, MarksChanges, count_marks};
 ghost use Rattle.machine_steps.specs.Lent.{store_of};
 ghost use Rattle.machine_steps.specs.StackLayout.{HasRoom, KeepsRoom};
+ghost use Rattle.wasm_machine.specs.MostMarks.{most_marks};
 ghost use Rattle.wasm_machine.specs.Calls.{FitsFrame, IsCall, IsDone};
 ghost use Rattle.wasm_machine.specs.Lent.{lent_store, others};
 ghost use Rattle.wasm_machine.specs.TypedConfiguration.{IsRunnable, IsTypedStore};
@@ -61,7 +63,7 @@ fn run_machine(
         → function_result (module_tree m.now) limits function args.now (store_of memory.old table.now globals.old) turns ≡ Some r
         → KeepsUnmarked memory.old.bytes.items r.store.memory memory.old.marks.items memory.new.marks.items }
     ensures unspent { result.left ≡ fuel → memory.new.marks.items ≡ memory.old.marks.items }
-    ensures marks { MarksChanges memory.old memory.new (2 * (fuel - result.left)) }
+    ensures marks { MarksChanges memory.old memory.new (most_marks (module_tree m.now) (length memory.old.marks.items) * (fuel - result.left)) }
     ensures memory { IsMemory (room_for m.now.memories limits.pages) memory.new }
     ensures globals { length globals.new ≡ length globals.old }
     ensures room { KeepsRoom machine.old machine.new }
@@ -118,7 +120,7 @@ pub fn run(
         → function_result (module_tree valid.now) limits function args.now (lent_store valid.now memory.old table.now globals.old) turns ≡ Some r
         → KeepsUnmarked memory.old.bytes.items r.store.memory memory.old.marks.items memory.new.marks.items }
     ensures unspent { result.left ≡ fuel → memory.new.marks.items ≡ memory.old.marks.items }
-    ensures counted { count_marks memory.new ≤ count_marks memory.old + 2 * (fuel - result.left) }
+    ensures counted { uses_bulk (module_tree valid.now) ≡ false → count_marks memory.new ≤ count_marks memory.old + 2 * (fuel - result.left) }
 
     ensures room { HasSameRoom memory.old memory.new }
     ensures globals { length globals.new ≡ length globals.old }

@@ -10,6 +10,8 @@ ghost use Rattle.linear_memory.specs.Bytes.{IsMemory};
 ghost use Rattle.linear_memory.specs.Marks.{MarksChanges};
 ghost use Rattle.wasm_spec.specs.Instances.{room_for};
 ghost use Rattle.machine_steps.specs.Lent.{store_of};
+ghost use Rattle.wasm_types.specs.Tree.{module_tree};
+ghost use Rattle.wasm_machine.specs.MostMarks.{most_marks};
 ghost use Rattle.wasm_machine.specs.TypedConfiguration.{IsRunnable};
 ghost use Rattle.wasm_machine.specs.Simulation.{AreMarkedBelow, HasFetched, CanContinue, HaltsAs, Simulates, Fetches, SimulatesStep, left_of, op_at, paid, chosen_arm, step_unless_trapped, step_unless_over};
 
@@ -111,7 +113,7 @@ fn execute(
         → SimulatesStep result m.now limits frame machine.new (store_of memory.new table.now globals.new) (paid r) }
     ensures room { KeepsRoom machine.old machine.new }
     ensures memory { IsMemory (room_for m.now.memories limits.pages) memory.new }
-    ensures marks { MarksChanges memory.old memory.new 2 }
+    ensures marks { MarksChanges memory.old memory.new (most_marks (module_tree m.now) (length memory.old.marks.items)) }
     ensures globals { length globals.new ≡ length globals.old }
 {
     let here = machine.at.place;
@@ -167,7 +169,7 @@ fn execute_plain(
         → SimulatesStep result m.now limits frame machine.new (store_of memory.new table.now globals.new) (paid r) }
     ensures room { KeepsRoom machine.old machine.new }
     ensures memory { IsMemory (room_for m.now.memories limits.pages) memory.new }
-    ensures marks { MarksChanges memory.old memory.new 2 }
+    ensures marks { MarksChanges memory.old memory.new (most_marks (module_tree m.now) (length memory.old.marks.items)) }
     ensures globals { length globals.new ≡ length globals.old }
 {
     if is_jump(instr) {
@@ -198,7 +200,7 @@ pub(crate) fn advance(
         → AreMarkedBelow (fuel + 1) r memory.old memory.new }
     ensures left { left_of result ≤ fuel }
     ensures unspent { left_of result ≡ fuel → memory.new.marks.items ≡ memory.old.marks.items }
-    ensures marks { MarksChanges memory.old memory.new (2 * (fuel - left_of result)) }
+    ensures marks { MarksChanges memory.old memory.new (most_marks (module_tree m.now) (length memory.old.marks.items) * (fuel - left_of result)) }
     ensures room { KeepsRoom machine.old machine.new }
     ensures memory { IsMemory (room_for m.now.memories limits.pages) memory.new }
     ensures globals { length globals.new ≡ length globals.old }

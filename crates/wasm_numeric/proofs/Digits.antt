@@ -1,8 +1,8 @@
 -- The binary digits of a number that is put together of two, and of one that is shifted or rotated.
-use Rattle.std.proofs.Common.{◌≡◌, ℕ, zero, suc, ◌+◌, ◌-◌, ◌*◌, ◌/◌, ◌%◌, ◌^◌, ◌<◌, List, ◌∷◌, ◌++◌, length, take, drop, refl, sym, ap, ◌∙◌, subst, arith, zero-add}
-use Rattle.std.proofs.lemmas.Nat.{mod-pow-add, div-add-mod', pow_pos}
+use Rattle.std.proofs.Common.{◌≡◌, ℕ, zero, suc, ◌+◌, ◌-◌, ◌*◌, ◌/◌, ◌%◌, ◌^◌, ◌<◌, List, ◌∷◌, ◌++◌, take, drop, refl, sym, ap, ◌∙◌, subst, arith, zero-add}
+use Rattle.std.proofs.lemmas.Nat.{div-add-mod', pow_pos}
 use Rattle.std.proofs.Math.ListN.{replicate}
-use Rattle.std.proofs.Math.Nat.{pow-suc, add_comm, add-zero, mod-lt, mul-mod_left, mul-div_cancel}
+use Rattle.std.proofs.Math.Nat.{pow-suc, add_comm, mod-lt}
 use Rattle.std.proofs.Math.Path.{ap₂}
 use Rattle.std.proofs.Math.Pow.{shr_lt}
 use Rattle.std.proofs.Math.Seq.{take-append_seam, drop-append_seam}

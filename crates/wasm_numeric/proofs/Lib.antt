@@ -1,5 +1,6 @@
 pub mod Digits
 pub mod Division
 pub mod Shifts
+pub mod Extensions
 pub mod Signed
 pub mod StdOperators

@@ -1,11 +1,10 @@
 -- The operators in the words of std, whose calls the code makes.
-use Rattle.std.proofs.Common.{◌≡◌, ℕ, zero, suc, ◌+◌, ◌-◌, ◌*◌, ◌/◌, ◌%◌, ◌^◌, ◌<◌, ◌≤◌, List, [], ◌∷◌, length, Bool, refl, sym, ap, ◌∙◌, subst, arith, zero-add}
-use Rattle.std.specs.Prelude.{ℤ, pos, negsuc, reverse, ◌==◌, cond, bit_or}
+use Rattle.std.proofs.Common.{◌≡◌, ℕ, zero, suc, ◌+◌, ◌-◌, ◌*◌, ◌/◌, ◌%◌, ◌^◌, ◌<◌, List, [], ◌∷◌, length, Bool, refl, sym, ap, ◌∙◌, subst, arith, zero-add}
+use Rattle.std.specs.Prelude.{reverse, ◌==◌, cond, bit_or}
 use Rattle.std.specs.List.{prefix_len, suffix_len}
-use Rattle.std.specs.Int.{cast_signed, cast_unsigned, rotate_left, rotate_right}
+use Rattle.std.specs.Int.{rotate_left, rotate_right}
 use Rattle.std.specs.Int.Count.{ones, ones_step, count_leading_zeros, leading_of_zero, leading_top, count_trailing_zeros, under}
 use Rattle.std.specs.Int.Bits.{or_shifted, or_shifted_r, or_self}
-use Rattle.std.proofs.lemmas.Int.{ints}
 use Rattle.std.proofs.lemmas.Bool.Decides.{nat_tests}
 use Rattle.std.proofs.lemmas.List.{length-reverse, reverse-append}
 use Rattle.std.proofs.lemmas.List.Folds.{prefix_len-append}
@@ -17,7 +16,7 @@ use Rattle.std.proofs.Math.Pow.{shr_lt}
 use Rattle.wasm_types.specs.declared.instr.Width.{Width}
 use Rattle.wasm_types.specs.declared.instr.Width.TheVariants.{W32, W64}
 use Rattle.wasm_spec.specs.Operators.{int_width}
-use Rattle.wasm_spec.specs.Operators.{bit_width, binary_digits, signed, unsigned, sub, rotl, rotr, clz, ctz, popcnt}
+use Rattle.wasm_spec.specs.Operators.{bit_width, binary_digits, rotl, rotr, clz, ctz, popcnt}
 
 -- ---- counts
 

@@ -5,6 +5,9 @@
 ghost use Rattle.std.specs.Prelude.{◌≡◌};
 ghost use Rattle.wasm_spec.specs.Operators.{binary, compare, unary};
 
+use crate::conversions::{
+    i32_extend8_s, i32_extend16_s, i64_extend8_s, i64_extend16_s, i64_extend32_s,
+};
 use crate::i32_operators::{
     i32_add, i32_and, i32_clz, i32_ctz, i32_div_s, i32_div_u, i32_eq, i32_ge_s, i32_ge_u, i32_gt_s,
     i32_gt_u, i32_le_s, i32_le_u, i32_lt_s, i32_lt_u, i32_mul, i32_ne, i32_or, i32_popcnt,
@@ -15,7 +18,7 @@ use crate::i64_operators::{
     i64_gt_u, i64_le_s, i64_le_u, i64_lt_s, i64_lt_u, i64_mul, i64_ne, i64_or, i64_popcnt,
     i64_rem_s, i64_rem_u, i64_rotl, i64_rotr, i64_shl, i64_shr_s, i64_shr_u, i64_sub, i64_xor,
 };
-use wasm_types::{BinaryOp, CompareOp, TrapKind, UnaryOp};
+use wasm_types::{BinaryOp, CompareOp, PackSize, TrapKind, UnaryOp};
 
 /// The value of an operator of one operand of 32 bits.
 pub fn unary32(op: UnaryOp, a: u32) -> u32
@@ -25,6 +28,9 @@ pub fn unary32(op: UnaryOp, a: u32) -> u32
         UnaryOp::Clz => i32_clz(a),
         UnaryOp::Ctz => i32_ctz(a),
         UnaryOp::Popcnt => i32_popcnt(a),
+        UnaryOp::ExtendS(PackSize::Pack8) => i32_extend8_s(a),
+        UnaryOp::ExtendS(PackSize::Pack16) => i32_extend16_s(a),
+        UnaryOp::ExtendS(PackSize::Pack32) => a,
     }
 }
 
@@ -77,6 +83,9 @@ pub fn unary64(op: UnaryOp, a: u64) -> u64
         UnaryOp::Clz => i64_clz(a),
         UnaryOp::Ctz => i64_ctz(a),
         UnaryOp::Popcnt => i64_popcnt(a),
+        UnaryOp::ExtendS(PackSize::Pack8) => i64_extend8_s(a),
+        UnaryOp::ExtendS(PackSize::Pack16) => i64_extend16_s(a),
+        UnaryOp::ExtendS(PackSize::Pack32) => i64_extend32_s(a),
     }
 }
 

@@ -3,10 +3,11 @@
 //! `binary_digits` lists the digits from the lowest on, so what the standard moves to the left goes towards the list's
 //! end. Source: WebAssembly Core Specification 1.0, section 4.3.2.
 
-ghost use Rattle.std.specs.Prelude.{◌≡◌, ◌↔◌, ℕ, ◌-◌, ◌/◌, ◌%◌, ◌^◌, ◌<◌, ◌++◌, take, drop, replicate, ℤ, pos, ◌+ℤ◌, ◌*ℤ◌, ◌≤ℤ◌, int_div, unsigned_abs};
+ghost use Rattle.std.specs.Prelude.{◌≡◌, ◌↔◌, ℕ, ◌-◌, ◌/◌, ◌%◌, ◌^◌, ◌<◌, ◌≤◌, ◌++◌, take, drop, replicate, ℤ, pos, ◌+ℤ◌, ◌*ℤ◌, ◌≤ℤ◌, int_div, unsigned_abs};
 ghost use Rattle.wasm_types.specs.declared.instr.Width.{Width};
+ghost use Rattle.wasm_types.specs.declared.instr.PackSize.{PackSize};
 ghost use Rattle.wasm_types.specs.declared.outcome.TrapKind.TheVariants as trap;
-ghost use Rattle.wasm_spec.specs.Operators.{binary_digits, bit_width, div_s, rem_s, rotl, rotr, shl, shr_s, shr_u, signed};
+ghost use Rattle.wasm_spec.specs.Operators.{binary_digits, bit_width, div_s, extend_low, pack_bits, rem_s, rotl, rotr, shl, shr_s, shr_u, signed, wrap};
 
 /// A rotation by k places: the k digits that leave at one end come in at the other, in their order.
 pub fn rotations_move_the_digits()
@@ -47,4 +48,14 @@ pub fn signed_division_leaves_the_remainder()
 pub fn signed_division_overflows_at_one_quotient()
     ensures { (w : Width) (a b : ℕ) → a < 2 ^ bit_width w → b < 2 ^ bit_width w → 0 < b
         → (let n = bit_width w in (div_s n a b ≡ Err trap.Overflow) ↔ (int_div (signed n a) (signed n b) ≡ pos (2 ^ (n - 1)))) }
+{}
+
+/// An extension by the sign of the lowest digits: they stay, and all above them are copies of the highest of them; the value
+/// is the signed number that they are.
+pub fn sign_extensions_copy_a_digit()
+    ensures digits { (w : Width) (p : PackSize) (a : ℕ) → pack_bits p ≤ bit_width w
+        → (let n = bit_width w in let m = pack_bits p in let digits = binary_digits n a in
+        binary_digits n (extend_low m n a) ≡ take m digits ++ replicate (n - m) (wrap m a / 2 ^ (m - 1))) }
+    ensures value { (w : Width) (p : PackSize) (a : ℕ) → pack_bits p ≤ bit_width w
+        → (let n = bit_width w in let m = pack_bits p in signed n (extend_low m n a) ≡ signed m (wrap m a)) }
 {}

@@ -1,6 +1,6 @@
-//! The integer operators of WebAssembly 1.0, each equal to its definition for every operand.
+//! The integer operators of WebAssembly 1.0 and the sign extensions of profile 2, each equal to its definition for every operand.
 //!
-//! Source: WebAssembly Core Specification 1.0, sections 4.3.2 and 4.3.4.
+//! Source: WebAssembly Core Specification 1.0, sections 4.3.2 and 4.3.4; for the sign extensions version 2.0, section 4.3.2.
 #![tactic(auto)]
 
 mod by_name;
@@ -10,7 +10,10 @@ mod i64_operators;
 pub mod laws;
 
 pub use by_name::{binary32, binary64, compare32, compare64, unary32, unary64};
-pub use conversions::{i32_wrap_i64, i64_extend_i32_s, i64_extend_i32_u};
+pub use conversions::{
+    i32_extend8_s, i32_extend16_s, i32_wrap_i64, i64_extend_i32_s, i64_extend_i32_u, i64_extend8_s,
+    i64_extend16_s, i64_extend32_s,
+};
 pub use i32_operators::{
     i32_add, i32_and, i32_clz, i32_ctz, i32_div_s, i32_div_u, i32_eq, i32_eqz, i32_ge_s, i32_ge_u,
     i32_gt_s, i32_gt_u, i32_le_s, i32_le_u, i32_lt_s, i32_lt_u, i32_mul, i32_ne, i32_or,

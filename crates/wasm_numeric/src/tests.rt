@@ -8,7 +8,7 @@ use crate::i64_operators::i64_eqz;
 use std::alloc::Global;
 use std::process::Abort;
 use std::test::Fail;
-use wasm_types::{BinaryOp, CompareOp, UnaryOp};
+use wasm_types::{BinaryOp, CompareOp, PackSize, UnaryOp};
 
 const PAIRS_32: [(u32, u32); 10] = [
     (0x7fff_ffff, 1),
@@ -242,6 +242,41 @@ const EXTENDED_S: [u64; 7] = [
 
 const EXTENDED_U: [u64; 7] = [0, 1, 0xffff_ffff, 0x8000_0000, 0x7fff_ffff, 0x00f0_a000, 2];
 
+// The widths of narrow parts, numbers round their highest digits, and what these are, extended by the sign. No opcode stands
+// for the extension of 32 bits to 32, which is the number itself.
+const SIGN_EXTENDED_32: [(PackSize, u32, u32); 12] = [
+    (PackSize::Pack8, 0x7f, 0x7f),
+    (PackSize::Pack8, 0x80, 0xffff_ff80),
+    (PackSize::Pack8, 0xff, 0xffff_ffff),
+    (PackSize::Pack8, 0x100, 0),
+    (PackSize::Pack8, 0x180, 0xffff_ff80),
+    (PackSize::Pack16, 0x7fff, 0x7fff),
+    (PackSize::Pack16, 0x8000, 0xffff_8000),
+    (PackSize::Pack16, 0xffff, 0xffff_ffff),
+    (PackSize::Pack16, 0x10000, 0),
+    (PackSize::Pack16, 0x18000, 0xffff_8000),
+    (PackSize::Pack32, 0x7fff_ffff, 0x7fff_ffff),
+    (PackSize::Pack32, 0x8000_0000, 0x8000_0000),
+];
+
+const SIGN_EXTENDED_64: [(PackSize, u64, u64); 15] = [
+    (PackSize::Pack8, 0x7f, 0x7f),
+    (PackSize::Pack8, 0x80, 0xffff_ffff_ffff_ff80),
+    (PackSize::Pack8, 0xff, 0xffff_ffff_ffff_ffff),
+    (PackSize::Pack8, 0x100, 0),
+    (PackSize::Pack8, 0x180, 0xffff_ffff_ffff_ff80),
+    (PackSize::Pack16, 0x7fff, 0x7fff),
+    (PackSize::Pack16, 0x8000, 0xffff_ffff_ffff_8000),
+    (PackSize::Pack16, 0xffff, 0xffff_ffff_ffff_ffff),
+    (PackSize::Pack16, 0x10000, 0),
+    (PackSize::Pack16, 0x18000, 0xffff_ffff_ffff_8000),
+    (PackSize::Pack32, 0x7fff_ffff, 0x7fff_ffff),
+    (PackSize::Pack32, 0x8000_0000, 0xffff_ffff_8000_0000),
+    (PackSize::Pack32, 0xffff_ffff, 0xffff_ffff_ffff_ffff),
+    (PackSize::Pack32, 0x1_0000_0000, 0),
+    (PackSize::Pack32, 0x1_8000_0000, 0xffff_ffff_8000_0000),
+];
+
 #[test]
 fn operators_agree_with_another_engine(rt: HostRuntime) -> Result<(), Fail> {
     binary_32_agrees(&rt, rt.alloc())?;
@@ -250,6 +285,7 @@ fn operators_agree_with_another_engine(rt: HostRuntime) -> Result<(), Fail> {
     unary_agrees(&rt);
     eqz_agrees(&rt);
     conversions_agree(&rt);
+    sign_extensions_agree(&rt);
     Ok(())
 }
 
@@ -315,5 +351,14 @@ fn conversions_agree(rt: &impl Abort) {
     }
     for i in 0..NUMBERS_64.len() {
         assert_eq!(rt; i32_wrap_i64(NUMBERS_64[i]), WRAPPED[i]);
+    }
+}
+
+fn sign_extensions_agree(rt: &impl Abort) {
+    for (p, a, want) in SIGN_EXTENDED_32 {
+        assert_eq!(rt; unary32(UnaryOp::ExtendS(p), a), want, "{p:?} of {a}");
+    }
+    for (p, a, want) in SIGN_EXTENDED_64 {
+        assert_eq!(rt; unary64(UnaryOp::ExtendS(p), a), want, "{p:?} of {a}");
     }
 }

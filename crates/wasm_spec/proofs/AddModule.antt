@@ -3,6 +3,7 @@ use Rattle.std.proofs.Common.{ℕ, ◌<◌, ◌≢◌, ◌≤◌, inl, inr, List
 use Rattle.std.specs.Prelude.{None, Ok, AllPairs}
 use Rattle.std.proofs.lemmas.List.Elements.{All-nil, All-cons}
 use Rattle.wasm_types.specs.declared.limits.LoadLimits.{LoadLimits}
+use Rattle.wasm_types.specs.declared.profile.Profile.TheVariants.{One}
 use Rattle.wasm_types.specs.declared.types.ValType.TheVariants.{I32}
 use Rattle.wasm_types.specs.declared.types.FuncType.{FuncType}
 use Rattle.wasm_types.specs.declared.instr.Instr.TheVariants as instr
@@ -107,7 +108,7 @@ sections_follow = (
   ),
 )
 
-sections_rise : IsOrderedAbove 0 sections
+sections_rise : IsOrderedAbove One 0 sections
 sections_rise = inr (omega arith, omega arith, inr (omega arith, omega arith, inr (omega arith, omega arith, inr (omega arith, omega arith, tt))))
 
 type_spelled : TakesVec TakesFuncType add.types type_contents []
@@ -146,7 +147,7 @@ export_spelled = record {
   );
 }
 
-code_spelled : TakesExpr sum_of_both (0x20 ∷ 0x00 ∷ 0x20 ∷ 0x01 ∷ 0x6A ∷ 0x0B ∷ []) []
+code_spelled : TakesExpr One sum_of_both (0x20 ∷ 0x00 ∷ 0x20 ∷ 0x01 ∷ 0x6A ∷ 0x0B ∷ []) []
 unfolding shape
 code_spelled = (
   _,
@@ -162,7 +163,7 @@ code_spelled = (
   ),
 )
 
-body_spelled : TakesVec TakesSizedBody (map body_of add.functions) code_contents []
+body_spelled : TakesVec (TakesSizedBody One) (map body_of add.functions) code_contents []
 body_spelled = record {
   mid = _;
   count = short 1 _ (omega arith);
@@ -188,7 +189,7 @@ body_spelled = record {
 abbrev pub add_bytes : List ℕ
 add_bytes = 0x00 ∷ 0x61 ∷ 0x73 ∷ 0x6D ∷ 0x01 ∷ 0x00 ∷ 0x00 ∷ 0x00 ∷ after_header
 
-pub add_spelled : Spells add_bytes add
+pub add_spelled : Spells One add_bytes add
 add_spelled = record {
   after = after_header;
   sections = sections;
@@ -207,6 +208,7 @@ add_spelled = record {
     element_segments = refl;
     bodies = body_spelled;
     data_segments = refl;
+    data_count = tt;
   };
 }
 
@@ -240,5 +242,5 @@ add_supported = record { no_import = refl; no_float = refl }
 abbrev pub add_limits : LoadLimits
 add_limits = record { pages = 1; elements = 0; frame = 8 }
 
-pub add_loads : Loads add_bytes add_limits (Ok add)
+pub add_loads : Loads One add_bytes add_limits (Ok add)
 add_loads = record { tree = add; spells = add_spelled; answers = (record { runs = add_supported; valid = add_valid; late_is = refl }, refl) }

@@ -2,6 +2,8 @@ pub mod UnambiguousNumbers
 pub mod UnambiguousTypes
 pub mod UnambiguousInstrs
 pub mod UnambiguousModules
+pub mod NarrowModules
+pub mod BothProfiles
 pub mod Loading
 pub mod FuelLaws
 pub mod Equations

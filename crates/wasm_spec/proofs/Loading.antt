@@ -3,6 +3,7 @@ use Rattle.std.proofs.Common.{◌≡◌, ℕ, ◌≤◌, Bool, true, false, cond
 use Rattle.std.specs.Prelude.{Result, Ok, Err, nat_lt}
 use Rattle.std.proofs.lemmas.Bool.{ltb-false}
 use Rattle.wasm_types.specs.declared.limits.LoadLimits.{LoadLimits}
+use Rattle.wasm_types.specs.declared.profile.Profile.{Profile}
 use Rattle.wasm_types.specs.Tree.{ModuleTree}
 use Rattle.wasm_spec.specs.Grammar.{Spells}
 use Rattle.wasm_spec.proofs.UnambiguousModules.{spells-unique}
@@ -43,9 +44,9 @@ module _ (Runs : ModuleTree → Type 0) (limits : LoadLimits) (m : ModuleTree) w
   answers-unique (Err (Segment d)) (Err (OverLimit e)) h g = cc (h.late_is, g.late_is)
   answers-unique (Err (Segment d)) (Err (Segment e)) h g = cc (h.late_is, g.late_is)
 
-module _ (Runs : ModuleTree → Type 0) (bytes : List ℕ) (limits : LoadLimits) where
+module _ (Runs : ModuleTree → Type 0) (profile : Profile) (bytes : List ℕ) (limits : LoadLimits) where
   -- loading says either that no module is spelled, or which answer one has
-  answered : (r : Result ModuleTree Refusal) → LoadsBy Runs bytes limits r → ((r ≡ Err Malformed) × ((m : ModuleTree) → Spells bytes m → ⊥)) ⊎ IsAnswered Runs limits bytes r
+  answered : (r : Result ModuleTree Refusal) → LoadsBy Runs profile bytes limits r → ((r ≡ Err Malformed) × ((m : ModuleTree) → Spells profile bytes m → ⊥)) ⊎ IsAnswered Runs limits profile bytes r
   answered (Ok t) h = inr h
   answered (Err Malformed) h = inl (refl, h)
   answered (Err Unsupported) h = inr h
@@ -53,12 +54,12 @@ module _ (Runs : ModuleTree → Type 0) (bytes : List ℕ) (limits : LoadLimits)
   answered (Err (OverLimit d)) h = inr h
   answered (Err (Segment d)) h = inr h
 
-  both_answered : (r s : Result ModuleTree Refusal) → IsAnswered Runs limits bytes r → IsAnswered Runs limits bytes s → r ≡ s
+  both_answered : (r s : Result ModuleTree Refusal) → IsAnswered Runs limits profile bytes r → IsAnswered Runs limits profile bytes s → r ≡ s
   both_answered r s h g =
-      let same : h.tree ≡ g.tree = spells-unique bytes h.tree g.tree h.spells g.spells in
+      let same : h.tree ≡ g.tree = spells-unique profile bytes h.tree g.tree h.spells g.spells in
       answers-unique Runs limits g.tree r s (subst (λ (m : ModuleTree). Answers Runs limits m r) same h.answers) g.answers
 
-  pub loads_by-unique : (r s : Result ModuleTree Refusal) → LoadsBy Runs bytes limits r → LoadsBy Runs bytes limits s → r ≡ s
+  pub loads_by-unique : (r s : Result ModuleTree Refusal) → LoadsBy Runs profile bytes limits r → LoadsBy Runs profile bytes limits s → r ≡ s
   loads_by-unique r s h g = elim (answered r h) [
     | inl a ↦ elim (answered s g) [ inl b ↦ a.0 ∙ sym b.0 | inr b ↦ absurd (a.1 b.tree b.spells) ]
     | inr a ↦ elim (answered s g) [ inl b ↦ absurd (b.1 a.tree a.spells) | inr b ↦ both_answered r s a b ]

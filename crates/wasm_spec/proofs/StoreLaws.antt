@@ -1,9 +1,10 @@
 -- What every instruction keeps of a store, a run keeps.
 use Rattle.std.proofs.Common.{◌≡◌, ℕ, zero, suc, ◌+◌, ◌*◌, ◌≤◌, List, [], ◌∷◌, ◌++◌, length, take, drop, Option, Some, None, Bool, true, false, refl, ap, arith}
-use Rattle.std.specs.Prelude.{Result, Ok, Err, nat_lt, nat_le, slice_get, slice_set, not, replicate, if◌then◌else◌, ◌^◌, ◌-◌}
+use Rattle.std.specs.Prelude.{Result, Ok, Err, nat_lt, nat_le, slice_get, slice_set, not, ◌&&◌, replicate, if◌then◌else◌, ◌^◌, ◌-◌}
 use Rattle.std.specs.Int as int
 use Rattle.std.specs.Int.{byte_len, to_le_bytes, bytes_low_first}
-use Rattle.std.proofs.lemmas.Bool.{ltb-false}
+use Rattle.std.proofs.lemmas.Bool.{and_parts, leb-true, ltb-false}
+use Rattle.std.proofs.lemmas.List.{length-replicate, length-take, length-drop}
 use Rattle.wasm_types.specs.declared.types.FuncType.{FuncType}
 use Rattle.wasm_types.specs.declared.outcome.Val.{Val}
 use Rattle.wasm_types.specs.declared.outcome.Val.TheVariants as val
@@ -18,7 +19,7 @@ use Rattle.wasm_spec.specs.Typing.{function_at}
 use Rattle.wasm_spec.specs.Operators.{bit_width, int_width, pack_width, pack_bits, binary, wrap}
 use Rattle.wasm_spec.specs.Store.{Store, page_size, written}
 use Rattle.wasm_types.specs.declared.limits.RunLimits.{RunLimits}
-use Rattle.wasm_spec.specs.Execution.{State, Signal, Next, Branch, Returned, Trapped, OutOfFuel, Stuck, Ended, Continuation, number, given, with_operands, pop, pop_two, pop_three, if_zero, or_trap, memory_set, store_number, pages_of, most_pages, grow, plain, pay, and_then, unless, keep, leave_by, arity, pop_index, choose, inside, return_by, entered, callee, invoke, if_there, with_type, with_function, with_element, exec_within, exec}
+use Rattle.wasm_spec.specs.Execution.{State, Signal, Next, Branch, Returned, Trapped, OutOfFuel, Stuck, Ended, Continuation, number, given, with_operands, pop, pop_two, pop_three, if_zero, or_trap, memory_set, store_number, pages_of, most_pages, grow, write_where, lies_within, copy_bytes, fill_bytes, pop_numbers, plain, pay, and_then, unless, keep, leave_by, arity, pop_index, choose, inside, return_by, entered, callee, invoke, if_there, with_type, with_function, with_element, exec_within, exec}
 
 -- the store in which a sequence ends has this property
 abbrev pub KeptIn : (Store → Type 0) → Signal → Type 0
@@ -33,7 +34,7 @@ KeptIn P Stuck = Unit {0}
 abbrev pub Keeps : (Store → Type 0) → Continuation → Type 0
 Keeps P next = (s : State) (fuel : ℕ) → P s.store → KeptIn P (next s fuel).signal
 
--- the three ways in which an instruction changes a store keep the property
+-- the ways in which an instruction changes a store keep the property
 pub record IsKeptByChanges (most : ℕ) (P : Store → Type 0) : Type 0 where
   pub global : (store : Store) (x : ℕ) (v : Val) → P store → P (record store { globals = slice_set store.globals x v })
   pub bytes : (store : Store) (at : ℕ) (bytes : List ℕ) → at + length bytes ≤ length store.memory → P store → P (memory_set (written store.memory at bytes) store)
@@ -181,6 +182,27 @@ module _ (P : Store → Type 0) (m : ModuleTree) (limits : RunLimits) (c : IsKep
       (Next (record s { operands = val.I32 old ∷ vs; store = memory_set (s.store.memory ++ replicate (n * page_size) 0) s.store })) p
       (λ e. c.pages s.store n (ltb-false (most_pages m.memories limits.pages) (old + n) e) p)
 
+  placed-keeps : (fits : Bool) (to : ℕ) (bytes : List ℕ) (vs : List Val) (s : State) → P s.store → (fits ≡ true → to + length bytes ≤ length s.store.memory) → KeptIn P (write_where fits to bytes vs s)
+  placed-keeps true to bytes vs s p h = c.bytes s.store to bytes (h refl) p
+  placed-keeps false to bytes vs s p h = p
+
+  copied-keeps : (to from n : ℕ) (vs : List Val) (s : State) → P s.store → KeptIn P (copy_bytes to from n vs s)
+  copied-keeps to from n vs s p =
+      placed-keeps (lies_within s.store to n && lies_within s.store from n) to (take n (drop from s.store.memory)) vs s p
+      (λ e. let both = and_parts (lies_within s.store to n) (lies_within s.store from n) e in
+      let at = leb-true (to + n) (length s.store.memory) both.0 in
+      let long = length-take n (drop from s.store.memory) in
+      let left = length-drop from s.store.memory in
+      omega arith)
+
+  filled-keeps : (to value n : ℕ) (vs : List Val) (s : State) → P s.store → KeptIn P (fill_bytes to value n vs s)
+  filled-keeps to value n vs s p =
+      placed-keeps (lies_within s.store to n) to (replicate n (wrap 8 value)) vs s p
+      (λ e. let at = leb-true (to + n) (length s.store.memory) e in let long = length-replicate n (wrap 8 value) in omega arith)
+
+  numbers-keep : (vs : List Val) (next : ℕ → ℕ → ℕ → List Val → Signal) → ((a b n : ℕ) (r : List Val) → KeptIn P (next a b n r)) → KeptIn P (pop_numbers vs next)
+  numbers-keep vs next h = pop_three-keeps P vs _ (λ x y z r. given-keeps P (number W32 x) _ (λ a. given-keeps P (number W32 y) _ (λ b. given-keeps P (number W32 z) _ (λ n. h a b n r))))
+
   plain-keeps : (i : Instr) (s : State) → P s.store → KeptIn P (plain m limits i s)
   plain-keeps instr.Unreachable s p = p
   plain-keeps instr.Nop s p = p
@@ -201,6 +223,8 @@ module _ (P : Store → Type 0) (m : ModuleTree) (limits : RunLimits) (c : IsKep
   plain-keeps (instr.StorePacked w k a) s p = pop_two-keeps P s.operands _ (λ b v vs. given-keeps P (number W32 b) _ (λ at. given-keeps P (number w v) _ (λ n. written-keeps (pack_width k) (wrap (pack_bits k) n) (at + a.offset) vs s p)))
   plain-keeps instr.MemorySize s p = p
   plain-keeps instr.MemoryGrow s p = pop-keeps P s.operands _ (λ x vs. given-keeps P (number W32 x) _ (λ n. grow-keeps n vs s p))
+  plain-keeps instr.MemoryCopy s p = numbers-keep s.operands _ (λ to from n vs. copied-keeps to from n vs s p)
+  plain-keeps instr.MemoryFill s p = numbers-keep s.operands _ (λ to value n vs. filled-keeps to value n vs s p)
   plain-keeps (instr.Const v) s p = p
   plain-keeps (instr.Eqz w) s p = pop-keeps P s.operands _ (λ x vs. given-keeps P (number w x) _ (λ a. p))
   plain-keeps (instr.Compare w op) s p = pop_two-keeps P s.operands _ (λ x y vs. given-keeps P (number w x) _ (λ a. given-keeps P (number w y) _ (λ b. p)))

@@ -1,6 +1,7 @@
 -- Bytes spell at most one module.
 use Rattle.std.proofs.Common.{◌≡◌, ℕ, List, [], ◌∷◌, length, map, flat_map, refl, sym, ap, ◌∙◌, subst, arith}
 use Rattle.std.specs.Prelude.{Option, Some, None}
+use Rattle.wasm_types.specs.declared.profile.Profile.{Profile}
 use Rattle.wasm_types.specs.declared.types.ValType.{ValType}
 use Rattle.wasm_types.specs.declared.types.Limits.{Limits}
 use Rattle.wasm_types.specs.declared.types.GlobalType.{GlobalType}
@@ -47,10 +48,10 @@ import-unique i j bytes r s a b =
     let make : List ℕ → List ℕ → ImportDesc → Import = λ m n d. record { module_name = m; item_name = n; desc = d } in
     (ap (λ (z : List ℕ). make z i.item_name i.desc) u.0 ∙ ap (λ (z : List ℕ). make j.module_name z i.desc) v.0 ∙ ap (λ (z : ImportDesc). make j.module_name j.item_name z) w.0, w.1)
 
-pub global-unique : IsUnambiguous TakesGlobal
-global-unique g h bytes r s a b =
+pub global-unique : (profile : Profile) → IsUnambiguous (TakesGlobal profile)
+global-unique profile g h bytes r s a b =
     let u = global_type-unique g.global_type h.global_type bytes a.mid b.mid a.global_type b.global_type in
-    let v = expr-unique g.init h.init a.mid r s a.init (subst (λ (l : List ℕ). TakesExpr h.init l s) (sym u.1) b.init) in
+    let v = expr-unique profile g.init h.init a.mid r s a.init (subst (λ (l : List ℕ). TakesExpr profile h.init l s) (sym u.1) b.init) in
     let make : GlobalType → Code → GlobalTree = λ t c. record { global_type = t; init = c } in
     (ap (λ (z : GlobalType). make z g.init) u.0 ∙ ap (λ (z : Code). make h.global_type z) v.0, v.1)
 
@@ -79,11 +80,11 @@ export-unique e f bytes r s a b =
     let make : List ℕ → ExportDesc → Export = λ n d. record { name = n; desc = d } in
     (ap (λ (z : List ℕ). make z e.desc) u.0 ∙ ap (λ (z : ExportDesc). make f.name z) v.0, v.1)
 
-pub element-unique : IsUnambiguous TakesElement
-element-unique e f bytes r s a b =
+pub element-unique : (profile : Profile) → IsUnambiguous (TakesElement profile)
+element-unique profile e f bytes r s a b =
     let u = unsigned-unique 32 e.table f.table bytes a.after_table b.after_table a.table b.table in
-    let v = expr-unique e.offset f.offset a.after_table a.after_offset b.after_offset a.offset
-    (subst (λ (l : List ℕ). TakesExpr f.offset l b.after_offset) (sym u.1) b.offset) in
+    let v = expr-unique profile e.offset f.offset a.after_table a.after_offset b.after_offset a.offset
+    (subst (λ (l : List ℕ). TakesExpr profile f.offset l b.after_offset) (sym u.1) b.offset) in
     let w = vec-unique (TakesUnsigned 32) (unsigned-unique 32) e.functions f.functions a.after_offset r s a.functions
     (subst (λ (l : List ℕ). TakesVec (TakesUnsigned 32) f.functions l s) (sym v.1) b.functions) in
     let make : ℕ → Code → List ℕ → ElementTree = λ t o fs. record { table = t; offset = o; functions = fs } in
@@ -96,25 +97,25 @@ local_run-unique p q bytes r s a b =
     let make : ℕ → ValType → LocalRun = λ n t. record { count = n; value = t } in
     (ap (λ (z : ℕ). make z p.value) u.0 ∙ ap (λ (z : ValType). make q.count z) v.0, v.1)
 
-pub body-unique : IsUnambiguous TakesBody
-body-unique p q bytes r s a b =
+pub body-unique : (profile : Profile) → IsUnambiguous (TakesBody profile)
+body-unique profile p q bytes r s a b =
     let u = vec-unique TakesLocalRun local_run-unique a.runs b.runs bytes a.mid b.mid a.spelled b.spelled in
-    let v = expr-unique p.code q.code a.mid r s a.code (subst (λ (l : List ℕ). TakesExpr q.code l s) (sym u.1) b.code) in
+    let v = expr-unique profile p.code q.code a.mid r s a.code (subst (λ (l : List ℕ). TakesExpr profile q.code l s) (sym u.1) b.code) in
     let w : p.locals ≡ q.locals = a.locals ∙ ap (λ (runs : List LocalRun). flat_map locals_of runs) u.0 ∙ sym b.locals in
     let make : List ValType → Code → Body = λ l c. record { locals = l; code = c } in
     (ap (λ (z : List ValType). make z p.code) w ∙ ap (λ (z : Code). make q.locals z) v.0, v.1)
 
-pub sized_body-unique : IsUnambiguous TakesSizedBody
-sized_body-unique p q bytes r s a b =
+pub sized_body-unique : (profile : Profile) → IsUnambiguous (TakesSizedBody profile)
+sized_body-unique profile p q bytes r s a b =
     let u = bytes-unique a.contents b.contents bytes r s a.sized b.sized in
-    let v = body-unique p q a.contents [] [] a.body (subst (λ (l : List ℕ). TakesBody q l []) (sym u.0) b.body) in
+    let v = body-unique profile p q a.contents [] [] a.body (subst (λ (l : List ℕ). TakesBody profile q l []) (sym u.0) b.body) in
     (v.0, u.1)
 
-pub data-unique : IsUnambiguous TakesData
-data-unique d e bytes r s a b =
+pub data-unique : (profile : Profile) → IsUnambiguous (TakesData profile)
+data-unique profile d e bytes r s a b =
     let u = unsigned-unique 32 d.memory e.memory bytes a.after_memory b.after_memory a.memory b.memory in
-    let v = expr-unique d.offset e.offset a.after_memory a.after_offset b.after_offset a.offset
-    (subst (λ (l : List ℕ). TakesExpr e.offset l b.after_offset) (sym u.1) b.offset) in
+    let v = expr-unique profile d.offset e.offset a.after_memory a.after_offset b.after_offset a.offset
+    (subst (λ (l : List ℕ). TakesExpr profile e.offset l b.after_offset) (sym u.1) b.offset) in
     let w = bytes-unique d.bytes e.bytes a.after_offset r s a.contents (subst (λ (l : List ℕ). TakesBytes e.bytes l s) (sym v.1) b.contents) in
     let make : ℕ → Code → List ℕ → DataTree = λ m o c. record { memory = m; offset = o; bytes = c } in
     (ap (λ (z : ℕ). make z d.offset d.bytes) u.0 ∙ ap (λ (z : Code). make e.memory z d.bytes) v.0 ∙ ap (λ (z : List ℕ). make e.memory e.offset z) w.0, w.1)
@@ -173,19 +174,19 @@ functions-equal (f ∷ fs) (g ∷ gs) e h =
 abbrev eight_off : List ℕ → List ℕ
 eight_off l = tail_of (tail_of (tail_of (tail_of (tail_of (tail_of (tail_of (tail_of l)))))))
 
-pub fields-unique : (sections : List Section) (m n : ModuleTree) → SpellsFields sections m → SpellsFields sections n → m ≡ n
-fields-unique sections m n a b =
+pub fields-unique : (profile : Profile) (sections : List Section) (m n : ModuleTree) → SpellsFields profile sections m → SpellsFields profile sections n → m ≡ n
+fields-unique profile sections m n a b =
     let types = spelled_vec-unique TakesFuncType func_type-unique m.types n.types (section 1 sections) a.types b.types in
     let imports = spelled_vec-unique TakesImport import-unique m.imports n.imports (section 2 sections) a.imports b.imports in
     let indices = spelled_vec-unique (TakesUnsigned 32) (unsigned-unique 32) (map type_index_of m.functions) (map type_index_of n.functions) (section 3 sections) a.function_types b.function_types in
     let tables = spelled_vec-unique TakesTableType table_type-unique m.tables n.tables (section 4 sections) a.tables b.tables in
     let memories = spelled_vec-unique TakesMemoryType limits-unique m.memories n.memories (section 5 sections) a.memories b.memories in
-    let globals = spelled_vec-unique TakesGlobal global-unique m.globals n.globals (section 6 sections) a.globals b.globals in
+    let globals = spelled_vec-unique (TakesGlobal profile) (global-unique profile) m.globals n.globals (section 6 sections) a.globals b.globals in
     let exports = spelled_vec-unique TakesExport export-unique m.exports n.exports (section 7 sections) a.exports b.exports in
     let start = start-unique m.start n.start (section 8 sections) a.start b.start in
-    let elements = spelled_vec-unique TakesElement element-unique m.element_segments n.element_segments (section 9 sections) a.element_segments b.element_segments in
-    let bodies = spelled_vec-unique TakesSizedBody sized_body-unique (map body_of m.functions) (map body_of n.functions) (section 10 sections) a.bodies b.bodies in
-    let datas = spelled_vec-unique TakesData data-unique m.data_segments n.data_segments (section 11 sections) a.data_segments b.data_segments in
+    let elements = spelled_vec-unique (TakesElement profile) (element-unique profile) m.element_segments n.element_segments (section 9 sections) a.element_segments b.element_segments in
+    let bodies = spelled_vec-unique (TakesSizedBody profile) (sized_body-unique profile) (map body_of m.functions) (map body_of n.functions) (section 10 sections) a.bodies b.bodies in
+    let datas = spelled_vec-unique (TakesData profile) (data-unique profile) m.data_segments n.data_segments (section 11 sections) a.data_segments b.data_segments in
     let functions = functions-equal m.functions n.functions indices bodies in
     λ i. record {
       types = types i;
@@ -201,13 +202,13 @@ fields-unique sections m n a b =
     }
 
 -- bytes after the same header have the same sections
-pub sections-are : (bytes after : List ℕ) (sections : List Section) (m : ModuleTree) → bytes ≡ 0x00 ∷ 0x61 ∷ 0x73 ∷ 0x6D ∷ 0x01 ∷ 0x00 ∷ 0x00 ∷ 0x00 ∷ after
-    → TakesEach TakesSection sections after [] → (h : Spells bytes m) → h.sections ≡ sections
-sections-are bytes after sections m e whole h =
+pub sections-are : (profile : Profile) (bytes after : List ℕ) (sections : List Section) (m : ModuleTree) → bytes ≡ 0x00 ∷ 0x61 ∷ 0x73 ∷ 0x6D ∷ 0x01 ∷ 0x00 ∷ 0x00 ∷ 0x00 ∷ after
+    → TakesEach TakesSection sections after [] → (h : Spells profile bytes m) → h.sections ≡ sections
+sections-are profile bytes after sections m e whole h =
     let rests : h.after ≡ after = ap eight_off (sym h.header ∙ e) in
     sections-unique h.sections sections after (subst (λ (l : List ℕ). TakesEach TakesSection h.sections l []) rests h.whole) whole
 
-pub spells-unique : (bytes : List ℕ) (m n : ModuleTree) → Spells bytes m → Spells bytes n → m ≡ n
-spells-unique bytes m n a b =
-    let e = sections-are bytes b.after b.sections m b.header b.whole a in
-    fields-unique b.sections m n (subst (λ (ss : List Section). SpellsFields ss m) e a.fields) b.fields
+pub spells-unique : (profile : Profile) (bytes : List ℕ) (m n : ModuleTree) → Spells profile bytes m → Spells profile bytes n → m ≡ n
+spells-unique profile bytes m n a b =
+    let e = sections-are profile bytes b.after b.sections m b.header b.whole a in
+    fields-unique profile b.sections m n (subst (λ (ss : List Section). SpellsFields profile ss m) e a.fields) b.fields

@@ -8,7 +8,7 @@
 -- what lay below comes back when it is left. A run is `Stuck` where it asks for an operand, a local, a global, a function
 -- or a type that isn't there, or that has another type. No run of a valid module is.
 use Rattle.wasm_types.specs.declared.limits.RunLimits.{RunLimits}
-use Rattle.std.specs.Prelude.{ℕ, zero, suc, ◌+◌, ◌-◌, ◌*◌, ◌/◌, ◌^◌, List, [], ◌∷◌, ◌++◌, Bool, true, false, Result, Ok, Err, Option, Some, None, nat_lt, nat_le, not, if◌then◌else◌, slice_get, slice_set, length, take, drop, reverse, map, replicate, min, unwrap_or}
+use Rattle.std.specs.Prelude.{ℕ, zero, suc, ◌+◌, ◌-◌, ◌*◌, ◌/◌, ◌^◌, List, [], ◌∷◌, ◌++◌, Bool, true, false, Result, Ok, Err, Option, Some, None, nat_lt, nat_le, not, ◌&&◌, if◌then◌else◌, slice_get, slice_set, length, take, drop, reverse, map, replicate, min, unwrap_or}
 use Rattle.std.specs.Int as int
 use Rattle.std.specs.Int.{byte_len, to_le_bytes}
 use Rattle.wasm_types.specs.declared.types.ValType.{ValType}
@@ -143,6 +143,30 @@ grow most n vs s =
     if nat_lt most (old + n) then with_operands (val.I32 (2 ^ 32 - 1) ∷ vs) s
     else Next (record s { operands = val.I32 old ∷ vs; store = memory_set (s.store.memory ++ replicate (n * page_size) 0) s.store })
 
+-- these bytes to an address, where the test says that all that is named lies in the memory; else nothing is written
+abbrev pub write_where : Bool → ℕ → List ℕ → List Val → State → Signal
+write_where fits to bytes vs s =
+    if fits then Next (record s { operands = vs; store = memory_set (written s.store.memory to bytes) s.store })
+    else Trapped trap.Memory s.store
+
+-- whether so many bytes from an address on lie in the memory; no bytes do at its very end, but not past that
+abbrev pub lies_within : Store → ℕ → ℕ → Bool
+lies_within store at n = nat_le (at + n) (length store.memory)
+
+-- `memory.copy` and `memory.fill` of a later version. What is copied is read as it was before, so both parts may overlap; a
+-- byte is filled with the low 8 bits of the value.
+abbrev pub copy_bytes : (to from n : ℕ) → List Val → State → Signal
+copy_bytes to from n vs s =
+    write_where (lies_within s.store to n && lies_within s.store from n) to (take n (drop from s.store.memory)) vs s
+
+abbrev pub fill_bytes : (to value n : ℕ) → List Val → State → Signal
+fill_bytes to value n vs s = write_where (lies_within s.store to n) to (replicate n (wrap 8 value)) vs s
+
+-- the topmost three operands, as numbers of 32 bits
+abbrev pub pop_numbers : List Val → (ℕ → ℕ → ℕ → List Val → Signal) → Signal
+pop_numbers operands next =
+    pop_three operands (λ x y z vs. given (number W32 x) (λ a. given (number W32 y) (λ b. given (number W32 z) (λ c. next a b c vs))))
+
 -- ---- plain instructions (sections 4.4.1 to 4.4.5)
 
 -- an instruction that holds no other and calls none
@@ -180,6 +204,8 @@ plain m limits (instr.StorePacked w p a) s =
 plain m limits instr.MemorySize s = with_operands (val.I32 (pages_of s.store) ∷ s.operands) s
 plain m limits instr.MemoryGrow s =
     pop s.operands (λ x vs. given (number W32 x) (λ n. grow (most_pages m.memories limits.pages) n vs s))
+plain m limits instr.MemoryCopy s = pop_numbers s.operands (λ to from n vs. copy_bytes to from n vs s)
+plain m limits instr.MemoryFill s = pop_numbers s.operands (λ to value n vs. fill_bytes to value n vs s)
 plain m limits (instr.Const v) s = with_operands (v ∷ s.operands) s
 plain m limits (instr.Eqz w) s = pop s.operands (λ x vs. given (number w x) (λ a. with_operands (val.I32 (eqz a) ∷ vs) s))
 plain m limits (instr.Compare w op) s =

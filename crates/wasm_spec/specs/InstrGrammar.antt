@@ -1,5 +1,6 @@
--- Instructions in the binary format. Source: WebAssembly Core Specification 1.0, section 5.4.
-use Rattle.std.specs.Prelude.{◌≡◌, ℕ, ◌≤◌, ◌⊎◌, ◌==◌, List, [], ◌∷◌, ◌++◌, drop, find, length, replicate, ℤ}
+-- Instructions in the binary format, by profile. Source: WebAssembly Core Specification 1.0, section 5.4; for what profile 2
+-- adds, version 2.0, section 5.4.
+use Rattle.std.specs.Prelude.{◌≡◌, ℕ, ◌≤◌, ◌⊎◌, ◌==◌, List, [], ◌∷◌, ◌++◌, Option, Some, drop, find, length, replicate, ℤ}
 use Rattle.std.specs.Option.{option_map_or}
 use Rattle.std.specs.List.{enumerate_from}
 use Rattle.std.specs.Int.{cast_unsigned, w32, w64}
@@ -11,9 +12,11 @@ use Rattle.wasm_types.specs.declared.instr.Width.{Width}
 use Rattle.wasm_types.specs.declared.instr.Width.TheVariants.{W32, W64}
 use Rattle.wasm_types.specs.declared.instr.Sign.TheVariants.{Signed, Unsigned}
 use Rattle.wasm_types.specs.declared.instr.PackSize.TheVariants.{Pack8, Pack16, Pack32}
-use Rattle.wasm_types.specs.declared.instr.UnaryOp.TheVariants.{Clz, Ctz, Popcnt}
+use Rattle.wasm_types.specs.declared.instr.UnaryOp.TheVariants.{Clz, Ctz, Popcnt, ExtendS}
 use Rattle.wasm_types.specs.declared.instr.BinaryOp.TheVariants as binary
 use Rattle.wasm_types.specs.declared.instr.CompareOp.TheVariants as compare
+use Rattle.wasm_types.specs.declared.profile.Profile.{Profile}
+use Rattle.wasm_types.specs.declared.profile.Profile.TheVariants.{One, Two}
 use Rattle.wasm_types.specs.Tree.{Code, End, Plain, Block, Loop, If, Call, CallIndirect}
 use Rattle.wasm_spec.specs.Numbers.{TakesUnsigned, TakesSigned, TakesVec}
 use Rattle.wasm_spec.specs.TypeGrammar.{TakesBlockType}
@@ -29,6 +32,7 @@ pub data Shape : Type 0 where
   WithI32 : Shape
   WithI64 : Shape
   WithBytes : (n : ℕ) (i : Instr) → Shape
+  Prefixed : Shape
   NotPlain : Shape
 
 -- section 5.4.1: control instructions that are plain
@@ -138,13 +142,48 @@ numeric =
     ++ enumerate_from 0xA8 (floats 4)
     ++ enumerate_from 0xAE (floats 18)
 
+-- what profile 2 adds: the five operators that extend the lowest bits by their sign, and the prefix
+abbrev pub extensions : List Shape
+extensions =
+    Alone (instr.Unary W32 (ExtendS Pack8)) ∷ Alone (instr.Unary W32 (ExtendS Pack16))
+    ∷ Alone (instr.Unary W64 (ExtendS Pack8)) ∷ Alone (instr.Unary W64 (ExtendS Pack16)) ∷ Alone (instr.Unary W64 (ExtendS Pack32)) ∷ []
+
+abbrev pub added : Profile → List (ℕ × Shape)
+added One = []
+added Two = enumerate_from 0xC0 extensions ++ (0xFC, Prefixed) ∷ []
+
 -- the opcodes of plain instructions
-abbrev pub opcodes : List (ℕ × Shape)
-opcodes = control ++ parametric ++ variable ++ memory ++ numeric
+abbrev pub opcodes : Profile → List (ℕ × Shape)
+opcodes profile = control ++ parametric ++ variable ++ memory ++ numeric ++ added profile
 
 -- what an opcode stands for
-unfoldable pub shape : ℕ → Shape
-shape opcode = option_map_or (λ row. row.1) (find (λ row. row.0 == opcode) opcodes) NotPlain
+unfoldable pub shape : Profile → ℕ → Shape
+shape profile opcode = option_map_or (λ row. row.1) (find (λ row. row.0 == opcode) (opcodes profile)) NotPlain
+
+-- the numbers behind the prefix: each has an instruction, and how many zero bytes follow it
+pub record PrefixedRow : Type 0 where
+  pub number : ℕ
+  pub instr : Instr
+  pub zeros : ℕ
+
+abbrev pub prefixed_rows : List PrefixedRow
+prefixed_rows =
+    record { number = 10; instr = instr.MemoryCopy; zeros = 2 }
+    ∷ record { number = 11; instr = instr.MemoryFill; zeros = 1 }
+    ∷ []
+
+abbrev pub prefixed_row : ℕ → Option PrefixedRow
+prefixed_row n = find (λ row. row.number == n) prefixed_rows
+
+-- what follows the prefix: a number of a row, and its zero bytes
+pub record TakesPrefixed (i : Instr) (bytes rest : List ℕ) : Type 0 where
+  pub number : ℕ
+  pub mid : List ℕ
+  pub row : PrefixedRow
+  pub spelled : TakesUnsigned 32 number bytes mid
+  pub found : prefixed_row number ≡ Some row
+  pub is : i ≡ row.instr
+  pub zeros : mid ≡ replicate row.zeros 0 ++ rest
 
 -- what follows the opcode of a shape
 abbrev pub TakesShape : Shape → Instr → List ℕ → List ℕ → Type 0
@@ -158,14 +197,15 @@ TakesShape (WithZero j) i bytes rest = (i ≡ j) × (bytes ≡ 0 ∷ rest)
 TakesShape WithI32 i bytes rest = (z : ℤ) × (i ≡ instr.Const (val.I32 (cast_unsigned w32 z))) × TakesSigned 32 z bytes rest
 TakesShape WithI64 i bytes rest = (z : ℤ) × (i ≡ instr.Const (val.I64 (cast_unsigned w64 z))) × TakesSigned 64 z bytes rest
 TakesShape (WithBytes n j) i bytes rest = (i ≡ j) × (n ≤ length bytes) × (rest ≡ drop n bytes)
+TakesShape Prefixed i bytes rest = TakesPrefixed i bytes rest
 TakesShape NotPlain i bytes rest = ⊥
 
 -- a plain instruction: its opcode, and what follows that
-pub record TakesInstr (i : Instr) (bytes rest : List ℕ) : Type 0 where
+pub record TakesInstr (profile : Profile) (i : Instr) (bytes rest : List ℕ) : Type 0 where
   pub opcode : ℕ
   pub after : List ℕ
   pub leads : bytes ≡ opcode ∷ after
-  pub follows : TakesShape (shape opcode) i after rest
+  pub follows : TakesShape (shape profile opcode) i after rest
 
 -- what closes a sequence of instructions: an end, or the else of an if
 pub data Closer : Type 0 where
@@ -176,27 +216,28 @@ abbrev pub closing_byte : Closer → ℕ
 closing_byte ByEnd = 0x0B
 closing_byte ByElse = 0x05
 
--- a sequence of instructions, and what closes it
-abbrev pub TakesCode : Closer → Code → List ℕ → List ℕ → Type 0
-TakesCode k End bytes rest = bytes ≡ closing_byte k ∷ rest
-TakesCode k (Plain i more) bytes rest = (mid : List ℕ) × TakesInstr i bytes mid × TakesCode k more mid rest
-TakesCode k (Block t body more) bytes rest =
-    (after : List ℕ) × (bytes ≡ 0x02 ∷ after) × (inner : List ℕ) × TakesBlockType t after inner
-    × (mid : List ℕ) × TakesCode ByEnd body inner mid × TakesCode k more mid rest
-TakesCode k (Loop t body more) bytes rest =
-    (after : List ℕ) × (bytes ≡ 0x03 ∷ after) × (inner : List ℕ) × TakesBlockType t after inner
-    × (mid : List ℕ) × TakesCode ByEnd body inner mid × TakesCode k more mid rest
-TakesCode k (If t first second more) bytes rest =
-    (after : List ℕ) × (bytes ≡ 0x04 ∷ after) × (inner : List ℕ) × TakesBlockType t after inner
-    × (mid : List ℕ)
-    × ((TakesCode ByEnd first inner mid × (second ≡ End))
-    ⊎ ((middle : List ℕ) × TakesCode ByElse first inner middle × TakesCode ByEnd second middle mid))
-    × TakesCode k more mid rest
-TakesCode k (Call x more) bytes rest =
-    (after : List ℕ) × (bytes ≡ 0x10 ∷ after) × (mid : List ℕ) × TakesUnsigned 32 x after mid × TakesCode k more mid rest
-TakesCode k (CallIndirect x more) bytes rest =
-    (after : List ℕ) × (bytes ≡ 0x11 ∷ after) × (mid : List ℕ) × TakesUnsigned 32 x after (0 ∷ mid) × TakesCode k more mid rest
+module _ (profile : Profile) where
+  -- a sequence of instructions, and what closes it
+  abbrev pub TakesCode : Closer → Code → List ℕ → List ℕ → Type 0
+  TakesCode k End bytes rest = bytes ≡ closing_byte k ∷ rest
+  TakesCode k (Plain i more) bytes rest = (mid : List ℕ) × TakesInstr profile i bytes mid × TakesCode k more mid rest
+  TakesCode k (Block t body more) bytes rest =
+      (after : List ℕ) × (bytes ≡ 0x02 ∷ after) × (inner : List ℕ) × TakesBlockType t after inner
+      × (mid : List ℕ) × TakesCode ByEnd body inner mid × TakesCode k more mid rest
+  TakesCode k (Loop t body more) bytes rest =
+      (after : List ℕ) × (bytes ≡ 0x03 ∷ after) × (inner : List ℕ) × TakesBlockType t after inner
+      × (mid : List ℕ) × TakesCode ByEnd body inner mid × TakesCode k more mid rest
+  TakesCode k (If t first second more) bytes rest =
+      (after : List ℕ) × (bytes ≡ 0x04 ∷ after) × (inner : List ℕ) × TakesBlockType t after inner
+      × (mid : List ℕ)
+      × ((TakesCode ByEnd first inner mid × (second ≡ End))
+      ⊎ ((middle : List ℕ) × TakesCode ByElse first inner middle × TakesCode ByEnd second middle mid))
+      × TakesCode k more mid rest
+  TakesCode k (Call x more) bytes rest =
+      (after : List ℕ) × (bytes ≡ 0x10 ∷ after) × (mid : List ℕ) × TakesUnsigned 32 x after mid × TakesCode k more mid rest
+  TakesCode k (CallIndirect x more) bytes rest =
+      (after : List ℕ) × (bytes ≡ 0x11 ∷ after) × (mid : List ℕ) × TakesUnsigned 32 x after (0 ∷ mid) × TakesCode k more mid rest
 
--- an expression (section 5.4.6)
-abbrev pub TakesExpr : Code → List ℕ → List ℕ → Type 0
-TakesExpr c bytes rest = TakesCode ByEnd c bytes rest
+  -- an expression (section 5.4.6)
+  abbrev pub TakesExpr : Code → List ℕ → List ℕ → Type 0
+  TakesExpr c bytes rest = TakesCode ByEnd c bytes rest

@@ -11,4 +11,5 @@ pub mod Numbers
 pub mod TypeGrammar
 pub mod InstrGrammar
 pub mod Grammar
+pub mod Bulk
 pub mod Loading

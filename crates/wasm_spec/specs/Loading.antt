@@ -2,6 +2,7 @@
 use Rattle.std.specs.Prelude.{◌≡◌, ℕ, List, ◌∷◌, Option, Some, None, Result, Ok, Err, length, map, find, nat_lt}
 use Rattle.std.specs.List.{enumerate_from}
 use Rattle.wasm_types.specs.declared.limits.LoadLimits.{LoadLimits}
+use Rattle.wasm_types.specs.declared.profile.Profile.{Profile}
 use Rattle.wasm_types.specs.Tree.{ModuleTree}
 use Rattle.wasm_spec.specs.Validity.{IsSupported, IsValid}
 use Rattle.wasm_spec.specs.Need.{need}
@@ -65,16 +66,16 @@ module _ (Runs : ModuleTree → Type 0) (limits : LoadLimits) where
   Answers m (Err (Segment extent)) = IsChecked m (Some (Segment extent))
 
   -- the module that the bytes spell, and its answer
-  pub record IsAnswered (bytes : List ℕ) (answer : Result ModuleTree Refusal) : Type 0 where
+  pub record IsAnswered (profile : Profile) (bytes : List ℕ) (answer : Result ModuleTree Refusal) : Type 0 where
     pub tree : ModuleTree
-    pub spells : Spells bytes tree
+    pub spells : Spells profile bytes tree
     pub answers : Answers tree answer
 
--- the answer for the module that the bytes spell, or malformed where they spell none
-abbrev pub LoadsBy : (Runs : ModuleTree → Type 0) → List ℕ → LoadLimits → Result ModuleTree Refusal → Type 0
-LoadsBy Runs bytes limits (Err Malformed) = (m : ModuleTree) → Spells bytes m → ⊥
-LoadsBy Runs bytes limits answer = IsAnswered Runs limits bytes answer
+-- the answer for the module that the bytes spell in a profile, or malformed where they spell none
+abbrev pub LoadsBy : (Runs : ModuleTree → Type 0) → Profile → List ℕ → LoadLimits → Result ModuleTree Refusal → Type 0
+LoadsBy Runs profile bytes limits (Err Malformed) = (m : ModuleTree) → Spells profile bytes m → ⊥
+LoadsBy Runs profile bytes limits answer = IsAnswered Runs limits profile bytes answer
 
 -- where all modules are run that import nothing and use no floats
-abbrev pub Loads : List ℕ → LoadLimits → Result ModuleTree Refusal → Type 0
-Loads bytes limits answer = LoadsBy IsSupported bytes limits answer
+abbrev pub Loads : Profile → List ℕ → LoadLimits → Result ModuleTree Refusal → Type 0
+Loads profile bytes limits answer = LoadsBy IsSupported profile bytes limits answer

@@ -127,12 +127,27 @@ ctz n i = prefix_len (λ d. d == 0) (binary_digits n i)
 abbrev pub popcnt : ℕ → ℕ → ℕ
 popcnt n i = sum (binary_digits n i)
 
+-- ---- conversions (section 4.3.4)
+
+-- from m bits to n more: `extend_s` keeps the signed value, and `extend_u` the number itself
+abbrev pub extend_s : ℕ → ℕ → ℕ → ℕ
+extend_s m n i = unsigned n (signed m i)
+
+-- to n bits: the lowest
+abbrev pub wrap : ℕ → ℕ → ℕ
+wrap n i = i % 2 ^ n
+
+-- `extendM_s` of a later version: the lowest m bits, by their sign
+abbrev pub extend_low : ℕ → ℕ → ℕ → ℕ
+extend_low m n i = extend_s m n (wrap m i)
+
 -- ---- all of them by name
 
 abbrev pub unary : ℕ → UnaryOp → ℕ → ℕ
 unary n unary_op.Clz i = clz n i
 unary n unary_op.Ctz i = ctz n i
 unary n unary_op.Popcnt i = popcnt n i
+unary n (unary_op.ExtendS p) i = extend_low (pack_bits p) n i
 
 abbrev pub binary : ℕ → BinaryOp → ℕ → ℕ → Result ℕ TrapKind
 binary n binary_op.Add a b = Ok (add n a b)
@@ -170,13 +185,3 @@ compare n op a b = bool (holds n op a b)
 
 abbrev pub eqz : ℕ → ℕ
 eqz i = bool (i == 0)
-
--- ---- conversions (section 4.3.4)
-
--- from m bits to n more: `extend_s` keeps the signed value, and `extend_u` the number itself
-abbrev pub extend_s : ℕ → ℕ → ℕ → ℕ
-extend_s m n i = unsigned n (signed m i)
-
--- to n bits: the lowest
-abbrev pub wrap : ℕ → ℕ → ℕ
-wrap n i = i % 2 ^ n

@@ -4,6 +4,7 @@ ghost use Rattle.std.specs.Prelude.{◌≡◌, ◌≢◌, ◌<◌, ◌≤◌, �
 ghost use Rattle.wasm_types.specs.declared.outcome.Val.{Val};
 ghost use Rattle.wasm_types.specs.declared.types.ValType.{ValType};
 ghost use Rattle.wasm_types.specs.declared.instr.Instr.{Instr};
+ghost use Rattle.wasm_types.specs.declared.profile.Profile.{Profile};
 ghost use Rattle.wasm_types.specs.declared.limits.LoadLimits.{LoadLimits};
 ghost use Rattle.wasm_types.specs.Tree.{Code, End, Plain, Block, Loop, If, Call, CallIndirect, ModuleTree};
 ghost use Rattle.wasm_types.specs.declared.limits.RunLimits.{RunLimits};
@@ -15,7 +16,10 @@ ghost use Rattle.wasm_spec.specs.MoreFuel.{is_fuel_end, with_more};
 ghost use Rattle.wasm_spec.specs.Loading.{Refusal, LoadsBy, Loads};
 ghost use Rattle.wasm_spec.specs.Validity.{IsSupported};
 
-pub use crate::grammar_laws::bytes_spell_at_most_one_module;
+pub use crate::grammar_laws::{
+    bytes_spell_at_most_one_module, modules_of_profile_1_are_those_of_profile_2,
+    modules_of_profile_1_copy_and_fill_nothing,
+};
 
 /// No code leaves more fuel than it was given.
 pub fn fuel_only_falls()
@@ -85,11 +89,11 @@ pub trait Hosting {
     ghost runs: { ModuleTree → Type 0 };
 }
 
-/// Bytes load to at most one answer under the same limits, whichever modules are run: the module that they spell, or one
-/// refusal.
+/// Bytes load to at most one answer in the same profile and under the same limits, whichever modules are run: the module that
+/// they spell, or one refusal.
 pub fn bytes_have_at_most_one_answer<P: Hosting>()
-    ensures { (bytes : List ℕ) (limits : LoadLimits) (a b : Result ModuleTree Refusal)
-        → LoadsBy P.runs bytes limits a → LoadsBy P.runs bytes limits b → a ≡ b }
+    ensures { (profile : Profile) (bytes : List ℕ) (limits : LoadLimits) (a b : Result ModuleTree Refusal)
+        → LoadsBy P.runs profile bytes limits a → LoadsBy P.runs profile bytes limits b → a ≡ b }
 {}
 
 /// The host that runs every module which imports nothing and uses no floats.
@@ -101,8 +105,8 @@ impl Hosting for Supported {
 
 /// The same of such a host.
 pub fn loading_has_at_most_one_answer()
-    ensures { (bytes : List ℕ) (limits : LoadLimits) (a b : Result ModuleTree Refusal)
-        → Loads bytes limits a → Loads bytes limits b → a ≡ b }
+    ensures { (profile : Profile) (bytes : List ℕ) (limits : LoadLimits) (a b : Result ModuleTree Refusal)
+        → Loads profile bytes limits a → Loads profile bytes limits b → a ≡ b }
 {
     bytes_have_at_most_one_answer::<Supported>();
 }

@@ -34,11 +34,14 @@ pub struct MemArg {
 }
 
 /// Operators of one integer operand. Source: section 2.4.1 (iunop).
+///
+/// `ExtendS` reads the lowest bits, as many as the size says, as a signed number. It is of profile 2.
 #[derive(Clone, Copy, Debug, PartialEq, Eq)]
 pub enum UnaryOp {
     Clz,
     Ctz,
     Popcnt,
+    ExtendS(PackSize),
 }
 
 /// Operators of two integer operands. Source: section 2.4.1 (ibinop).
@@ -78,7 +81,8 @@ pub enum CompareOp {
 
 /// An instruction that holds no other and calls none. Source: section 2.4.
 ///
-/// The instructions on floats are all the one `Float`: a module that has one is never run.
+/// The instructions on floats are all the one `Float`: a module that has one is never run. `MemoryCopy` and `MemoryFill` are
+/// of profile 2.
 #[derive(Drop)]
 pub enum Instr {
     Unreachable,
@@ -100,6 +104,8 @@ pub enum Instr {
     StorePacked(Width, PackSize, MemArg),
     MemorySize,
     MemoryGrow,
+    MemoryCopy,
+    MemoryFill,
     Const(Val),
     Eqz(Width),
     Compare(Width, CompareOp),

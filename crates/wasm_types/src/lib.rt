@@ -8,6 +8,7 @@ mod items;
 mod limits;
 mod module;
 mod outcome;
+mod profile;
 mod sequences;
 mod types;
 
@@ -19,5 +20,6 @@ pub use module::{
     LocalRun, Module,
 };
 pub use outcome::{NoMemory, Outcome, TrapKind, Val};
+pub use profile::Profile;
 pub use sequences::{named, op_at};
 pub use types::{FuncType, GlobalType, Limits, ValType, same_function_types};

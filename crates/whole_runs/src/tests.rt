@@ -227,6 +227,76 @@ fn two_images_are_laid_over_each_other(rt: HostRuntime) -> Result<(), Fail> {
     Ok(())
 }
 
+const FILL: &str = "profile 2
+module fill 0061736d0100000001060160027f7f00030201000503010001070501016600000a0d010b00200041072001fc0b000b
+";
+
+// A tenant fills its memory, all of it or a part, and the next one counts from zero.
+#[test]
+fn what_a_tenant_filled_is_never_seen(rt: HostRuntime) -> Result<(), Fail> {
+    let alloc = rt.alloc();
+    let mut text = format!(in alloc; "{FILL}{BUMP}")?;
+    let mut written = String::from_str(alloc, "module fill ok\nmodule bump ok\n")?;
+    for length in [1u32, 4, 4_096, 65_535, 65_536] {
+        write!(text, "call fill f 4 i32:0 i32:{length}\n{BUMP_CALL}")?;
+    }
+    for number in 0..5u64 {
+        write!(
+            written,
+            "{} ok\n{} ok i32:1\n",
+            number * 2 + 1,
+            number * 2 + 2
+        )?;
+    }
+    for line in SHARED {
+        check(&rt, alloc, line, text.as_str(), written.as_str())?;
+    }
+    Ok(())
+}
+
+// What clang 14 built for profile 2 from examples/editing.c, and its calls.
+const EDITING: &str =
+    "module editing 0061736d0100000001100260047f7f7f7f017f60037f7f7f017f03030200010405017001010105030100010607017f0141d0280b071703066d656d6f72790200046279746500000373756d00010ad802024d01027f20004180888080006a220420026a200441002802c088808000220520006bfc0a0000200420012002fc0b004100200520026a3602c08880800020034180888080006a2d000041036ac00b870201037f4100210320004180888080006a220420026a200441002802c088808000220520006bfc0a0000200420012002fc0b004100200520026a22023602c08880800002402002450d0020024103712100024002402002417f6a41034f0d0041002102410021030c010b2002417c7121044100210241002103034020024183888080006a2c000041e3006c20024182888080006a2c000041e3006c20024181888080006a2c000041e3006c20024180888080006a2c000041e3006c20036a6a6a6ac121032004200241046a2202470d000b0b2000450d0020024180888080006a2102034020022c000041e3006c20036ac12103200241016a21022000417f6a22000d000b0b20030b0b4b01004180080b4465616368206f6e20616e20696e7374616e6365206f6620697473206f776e000000000000000000000000000000000000000000000000000000000000000000001e000000
+call editing byte 29 i32:5 i32:95 i32:3 i32:6
+call editing byte 28 i32:5 i32:95 i32:3 i32:6
+call editing byte 100 i32:8 i32:383 i32:4 i32:9
+call editing byte 100 i32:0 i32:0 i32:70000 i32:0
+call editing sum 5000 i32:0 i32:0 i32:0
+call editing sum 5000 i32:5 i32:95 i32:3
+call editing sum 5000 i32:30 i32:128 i32:30
+";
+
+const EDITED: &str = "module editing ok
+1 ok i32:98
+2 fuel
+3 ok i32:-126
+4 trap memory
+5 ok i32:11393
+6 ok i32:-25928
+7 ok i32:24449
+";
+
+const MALFORMED: &str = "module editing refused malformed
+1 refused module
+2 refused module
+3 refused module
+4 refused module
+5 refused module
+6 refused module
+7 refused module
+";
+
+// The results are those that the same source gives as a program of the machine that built it.
+#[test]
+fn a_module_of_a_c_compiler_runs_in_profile_2(rt: HostRuntime) -> Result<(), Fail> {
+    let alloc = rt.alloc();
+    let text = format!(in alloc; "profile 2\n{EDITING}")?;
+    for line in SHARED {
+        check(&rt, alloc, line, text.as_str(), EDITED)?;
+    }
+    check(&rt, alloc, "poolhost run", EDITING, MALFORMED)
+}
+
 // A function whose frame needs five places.
 #[test]
 fn a_frame_is_enough_or_too_small(rt: HostRuntime) -> Result<(), Fail> {
@@ -263,14 +333,14 @@ fn eight_workers_and_one_have_the_same_summary(rt: HostRuntime) -> Result<(), Fa
 
 // As many calls as a file may have.
 #[test]
-fn a_file_may_have_100_000_calls(rt: HostRuntime) -> Result<(), Fail> {
+fn a_file_may_have_1_000_000_calls(rt: HostRuntime) -> Result<(), Fail> {
     let alloc = rt.alloc();
     let mut text = String::from_str(alloc, ADDITION)?;
-    for _ in 1..100_000u32 {
+    for _ in 1..1_000_000u32 {
         text.push_str("call add add 100 i32:2 i32:3\n")?;
     }
     let written =
-        "modules ok 1\nmodules refused 0\ncalls ok 100000\ncalls trap 0\ncalls fuel 0\ncalls refused 0\n";
+        "modules ok 1\nmodules refused 0\ncalls ok 1000000\ncalls trap 0\ncalls fuel 0\ncalls refused 0\n";
     for line in [
         "poolhost run --summary",
         "poolhost run --summary --workers 4",
@@ -450,7 +520,7 @@ fn long_modules_are_read(rt: HostRuntime) -> Result<(), Fail> {
 // A module with one byte, at the end of 256 pages.
 const LAST_BYTE: &str = "0061736d010000000504010080020b0a010041ffffff070b0161";
 
-// As many as a file may have: 64 GiB, if the image of each had all bytes up to its last one.
+// So many that it were 64 GiB, if the image of each had all bytes up to its last one.
 #[test]
 fn images_are_as_large_as_their_segments(rt: HostRuntime) -> Result<(), Fail> {
     let alloc = rt.alloc();
@@ -464,11 +534,11 @@ fn images_are_as_large_as_their_segments(rt: HostRuntime) -> Result<(), Fail> {
     check(&rt, alloc, line, text.as_str(), written.as_str())
 }
 
-// Of the 16 MiB that a file may have, 38 bytes stand around the section's bytes.
+// Of the 64 MiB that a file may have, 38 bytes stand around the section's bytes.
 #[test]
 fn a_file_may_be_one_line(rt: HostRuntime) -> Result<(), Fail> {
     let alloc = rt.alloc();
-    let text = custom_section(alloc, (1 << 23) - 19)?;
+    let text = custom_section(alloc, (1 << 25) - 19)?;
     assert_eq!(rt; text.as_str().len(), MOST_BYTES);
     check(&rt, alloc, "poolhost run", text.as_str(), "module m ok\n")
 }

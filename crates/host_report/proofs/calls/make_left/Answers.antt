@@ -13,29 +13,29 @@ use Rattle.host_report.proofs.calls.make_left.Goals.{in-Call+then-is_left, in-Ca
 
 pub loop-directive-init : goal.loop-directive-init
 loop-directive-init g c = record {
-  settled = settled_begin (limits_in g.N.Naming.config) c.args.requests.now c.args.board.now c.requires.lawful c.requires.board;
+  settled = settled_begin (limits_in c.args.requests.now.profile g.N.Naming.config) c.args.requests.now.directives c.args.board.now c.directives-directives.ensures.lawful c.requires.board;
   lane = refl;
   left = left_begin _ _ _ _ _ _;
 }
 
 pub entry_at-entry-requires : goal.entry_at-entry-requires
 entry_at-entry-requires g c =
-    let first = next_directive _ _ _ c.loop-directive-test.true c.directive-item.is in
-    entry_below (limits_in g.N.Naming.config) c.args.requests.now _ _ _ _ _ first c.loop-directive.invariant.settled.left _ _ _ _ c.in-Call.is c.args.entries.now c.requires.entries
+    let first = next_directive _ _ _ (rw c.directives-directives.ensures.all at c.loop-directive-test.true) (rw c.directives-directives.ensures.all at c.directive-item.is) in
+    entry_below (limits_in c.args.requests.now.profile g.N.Naming.config) c.args.requests.now.directives _ _ _ _ _ first c.loop-directive.invariant.settled.left _ _ _ _ c.in-Call.is c.args.entries.now c.requires.entries
 
 pub collect-requires : goal.collect-requires
 collect-requires g c =
-    let first = next_directive _ _ _ c.loop-directive-test.true c.directive-item.is in
-    let there = on_board (limits_in g.N.Naming.config) c.args.requests.now _ _ _ _ _ first c.loop-directive.invariant.settled _ _ _ _ c.in-Call.is in
+    let first = next_directive _ _ _ (rw c.directives-directives.ensures.all at c.loop-directive-test.true) (rw c.directives-directives.ensures.all at c.directive-item.is) in
+    let there = on_board (limits_in c.args.requests.now.profile g.N.Naming.config) c.args.requests.now.directives _ _ _ _ _ first c.loop-directive.invariant.settled _ _ _ _ c.in-Call.is in
     let at : c.loop-directive.number + 1 - 1 ≡ c.loop-directive.number = omega arith in
     let asked = rw at at c.is_left.ensures in
     open_here _ _ there (none_there _ _ _ there asked c.if-is_left.true)
 
 pub loop-directive-preserved : goal.loop-directive-preserved
 loop-directive-preserved g c =
-    let limits = limits_in g.N.Naming.config in
-    let whole = c.args.requests.now in
-    let first = next_directive _ _ _ c.loop-directive-test.true c.directive-item.is in
+    let limits = limits_in c.args.requests.now.profile g.N.Naming.config in
+    let whole = c.args.requests.now.directives in
+    let first = next_directive _ _ _ (rw c.directives-directives.ensures.all at c.loop-directive-test.true) (rw c.directives-directives.ensures.all at c.directive-item.is) in
     let i = c.loop-directive.invariant in
     let at : c.loop-directive.number + 1 - 1 ≡ c.loop-directive.number = omega arith in
     elim c.match-directive.branch [
@@ -49,7 +49,7 @@ loop-directive-preserved g c =
           let collected = rw at at w.collect.ensures in
           let called = module_there c.args.entries.now w.in-Call.module _ (module_of w.entry_at-entry.result.now) w.entry_at-entry.ensures refl in
           let made = rw (i.lane, called) at w.call_line-line.ensures.made in record {
-            settled = rw (w.number-is, w.board-is) (settled_made limits whole _ _ _ _ _ first i.settled _ _ _ _ w.in-Call.is bytes _ _ of_module (line bytes entry) collected);
+            settled = rw (w.number-is, w.board-is) (settled_made limits whole _ _ _ _ _ first i.settled _ _ _ _ w.in-Call.is bytes _ _ of_module (line _ bytes entry) collected);
             lane = rw w.lane-is (w.call_line-line.ensures.lane ∙ i.lane);
             left = rw (w.number-is, w.board-is, w.lane-is) (left_made _ _ _ _ _ _ _ _ _ _ i.left _ _ first _ _ _ _ w.in-Call.is _ _ _ none collected made);
           }
@@ -72,14 +72,14 @@ loop-directive-preserved g c =
 
 pub returns-clause-all : goal.returns-clause-all
 returns-clause-all g c =
-    let end = settled_end (limits_in g.N.Naming.config) c.args.requests.now _ _ _
-    (drop_all c.loop-directive.directive-index c.args.requests.now c.loop-directive-test.false) c.loop-directive.invariant.settled in end.all
+    let end = settled_end (limits_in c.args.requests.now.profile g.N.Naming.config) c.args.requests.now.directives _ _ _
+    (drop_all c.loop-directive.directive-index c.args.requests.now.directives (rw c.directives-directives.ensures.all at c.loop-directive-test.false)) c.loop-directive.invariant.settled in end.all
 
 pub returns-clause-right : goal.returns-clause-right
 returns-clause-right g c =
-    let end = settled_end (limits_in g.N.Naming.config) c.args.requests.now _ _ _
-    (drop_all c.loop-directive.directive-index c.args.requests.now c.loop-directive-test.false) c.loop-directive.invariant.settled in end.right
+    let end = settled_end (limits_in c.args.requests.now.profile g.N.Naming.config) c.args.requests.now.directives _ _ _
+    (drop_all c.loop-directive.directive-index c.args.requests.now.directives (rw c.directives-directives.ensures.all at c.loop-directive-test.false)) c.loop-directive.invariant.settled in end.right
 
 pub returns-clause-made : goal.returns-clause-made
 returns-clause-made g c =
-    left_end _ _ _ _ _ _ _ _ _ _ c.loop-directive.invariant.left (drop_all c.loop-directive.directive-index c.args.requests.now c.loop-directive-test.false)
+    left_end _ _ _ _ _ _ _ _ _ _ c.loop-directive.invariant.left (drop_all c.loop-directive.directive-index c.args.requests.now.directives (rw c.directives-directives.ensures.all at c.loop-directive-test.false))

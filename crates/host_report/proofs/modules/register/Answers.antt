@@ -4,4 +4,4 @@ use Rattle.host_report.proofs.modules.register.Goals as goal
 
 pub returns-clause-entry : goal.returns-clause-entry
 returns-clause-entry g c =
-    entry_of_loaded (limits_in g.N.Naming.config) c.args.bytes.now c.register.result c.entry_of.result c.register.ensures.loaded c.register.ensures.refused c.entry_of.ensures
+    entry_of_loaded (limits_in c.args.profile g.N.Naming.config) c.args.bytes.now c.register.result c.entry_of.result c.register.ensures.loaded c.register.ensures.refused c.entry_of.ensures

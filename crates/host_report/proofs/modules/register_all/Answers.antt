@@ -5,5 +5,5 @@ use Rattle.host_report.proofs.modules.register_all.Goals as goal
 
 pub returns : goal.returns
 returns g c =
-    all_entries (limits_in g.N.Naming.config) c.args.requests.now _ _ _
-    (drop_all c.loop-directive.directive-index c.args.requests.now c.loop-directive-test.false) c.loop-directive.invariant
+    all_entries (limits_in c.args.requests.now.profile g.N.Naming.config) c.args.requests.now.directives _ _ _
+    (drop_all c.loop-directive.directive-index c.args.requests.now.directives (rw c.directives-directives.ensures.all at c.loop-directive-test.false)) c.loop-directive.invariant

@@ -9,21 +9,21 @@ use Rattle.host_report.proofs.putting.put_calls.Goals.{in-Module+in_ok-map_err-i
 
 pub loop-directive-init : goal.loop-directive-init
 loop-directive-init g c =
-    let few = c.requires.lawful.few_modules in
+    let few = c.directives-directives.ensures.lawful.few_modules in
     let none = c.requires.desk in record {
       own = c.requires.own;
-      left = rw c.new-entries.ensures.items (puts_begin (limits_in g.N.Naming.config) c.args.requests.now _ _ c.requires.lawful.placed (omega arith) c.requires.putter c.requires.none);
+      left = rw c.new-entries.ensures.items (puts_begin (limits_in c.args.requests.now.profile g.N.Naming.config) c.args.requests.now.directives _ _ c.directives-directives.ensures.lawful.placed (omega arith) c.requires.putter c.requires.none);
     }
 
 pub loop-directive-preserved : goal.loop-directive-preserved
 loop-directive-preserved g c =
-    let limits = limits_in g.N.Naming.config in
-    let whole = c.args.requests.now in
-    let first = next_directive _ _ _ c.loop-directive-test.true c.directive-item.is in
+    let limits = limits_in c.args.requests.now.profile g.N.Naming.config in
+    let whole = c.args.requests.now.directives in
+    let first = next_directive _ _ _ (rw c.directives-directives.ensures.all at c.loop-directive-test.true) (rw c.directives-directives.ensures.all at c.directive-item.is) in
     let left = c.loop-directive.invariant.left in
     elim c.match-directive.branch [
       | in-Module+in_ok-map_err-in-Module+in_ok-entry-in-Module w ↦ (
-          let entry = rw w.as_slice.ensures at w.in_ok-entry-in-Module.ensures.entry in
+          let entry = rw (w.as_slice.ensures, c.profile-profile.ensures) at w.in_ok-entry-in-Module.ensures.entry in
           let pushed = rw w.reserve.ensures.items at w.push_reserved.ensures.items in
           let next = puts_module limits whole _ _ _ _ _ _ _ _ first left _ _ w.in-Module.is _ _ _ w.in_ok-entry-in-Module.ensures.desk entry pushed in
           record { own = rw w.own-is c.loop-directive.invariant.own; left = rw (w.own-is, w.desk-is, w.entries-is, w.number-is) next }
@@ -37,10 +37,10 @@ loop-directive-preserved g c =
 
 pub returns-clause-entries : goal.returns-clause-entries
 returns-clause-entries g c =
-    all_entries (limits_in g.N.Naming.config) c.args.requests.now _ _ _
-    (drop_all c.loop-directive.directive-index c.args.requests.now c.loop-directive-test.false) c.loop-directive.invariant.left.entered
+    all_entries (limits_in c.args.requests.now.profile g.N.Naming.config) c.args.requests.now.directives _ _ _
+    (drop_all c.loop-directive.directive-index c.args.requests.now.directives (rw c.directives-directives.ensures.all at c.loop-directive-test.false)) c.loop-directive.invariant.left.entered
 
 pub returns-clause-put : goal.returns-clause-put
 returns-clause-put g c =
-    puts_end (limits_in g.N.Naming.config) c.args.requests.now _ _ _ _ _ _
-    (drop_all c.loop-directive.directive-index c.args.requests.now c.loop-directive-test.false) c.loop-directive.invariant.left
+    puts_end (limits_in c.args.requests.now.profile g.N.Naming.config) c.args.requests.now.directives _ _ _ _ _ _
+    (drop_all c.loop-directive.directive-index c.args.requests.now.directives (rw c.directives-directives.ensures.all at c.loop-directive-test.false)) c.loop-directive.invariant.left

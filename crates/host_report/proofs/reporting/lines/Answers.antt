@@ -8,11 +8,11 @@ use Rattle.host_report.proofs.reporting.lines.Goals as goal
 pub loop-directive-preserved : goal.loop-directive-preserved
 loop-directive-preserved g c =
     let pushed : c.push.new.self.items ≡ c.loop-directive.lines.items ++ c.in_ok-line.line ∷ [] = search rules in
-    let first = next_directive _ _ _ c.loop-directive-test.true c.directive-item.is in
-    next_told (limits_in g.N.Naming.config) c.args.requests.now _ _ _ _ _ _ _ first c.loop-directive.invariant c.in_ok-line.line _ _
+    let first = next_directive _ _ _ (rw c.directives-directives.ensures.all at c.loop-directive-test.true) (rw c.directives-directives.ensures.all at c.directive-item.is) in
+    next_told (limits_in c.args.requests.now.profile g.N.Naming.config) c.args.requests.now.directives _ _ _ _ _ _ _ first c.loop-directive.invariant c.in_ok-line.line _ _
     (search rules) c.in_ok-line.ensures.counts pushed
 
 pub returns : goal.returns
 returns g c =
-    lines_end (limits_in g.N.Naming.config) c.args.requests.now _ _ _ _ _
-    (drop_all c.loop-directive.directive-index c.args.requests.now c.loop-directive-test.false) c.loop-directive.invariant
+    lines_end (limits_in c.args.requests.now.profile g.N.Naming.config) c.args.requests.now.directives _ _ _ _ _
+    (drop_all c.loop-directive.directive-index c.args.requests.now.directives (rw c.directives-directives.ensures.all at c.loop-directive-test.false)) c.loop-directive.invariant

@@ -16,7 +16,7 @@ finish-requires-clause-ends g c =
     let put = rw c.in_ok-entries.was at c.join-done.ensures.second.1.1 in
     let many = rw c.in_ok-done.was at c.join-done.ensures.first.0 in
     let each : length c.in_ok-done.field-0.items ≡ g.N.Naming.config.workers = many ∙ c.requires.many in
-    rw (put.put, each) (put_ends c.in_ok-entries.entries.items c.args.requests.now g.N.Naming.config.workers)
+    rw (put.put, each) (put_ends c.in_ok-entries.entries.items c.args.requests.now.directives g.N.Naming.config.workers)
 
 pub finish-requires-clause-whole : goal.finish-requires-clause-whole
 finish-requires-clause-whole g c =

@@ -10,7 +10,7 @@ use Rattle.instr_decode.proofs.expr.decode_expr.Goals as goal
 pub returns-in_err-op-clause-read : goal.returns-in_err-op-clause-read
 returns-in_err-op-clause-read c =
     exits c.from_residual.result _ _ c.in_err-op.field-0.0 c.from_residual.ensures.1
-    (none-token c.loop-builder.invariant.context (rest c.args.cursor.now) (rest c.loop-builder.cursor) c.in_err-op.field-0.0 c.loop-builder.invariant.same c.in_err-op.ensures.token)
+    (none-token c.args.profile c.loop-builder.invariant.context (rest c.args.cursor.now) (rest c.loop-builder.cursor) c.in_err-op.field-0.0 c.loop-builder.invariant.same c.in_err-op.ensures.token)
 
 pub loop-builder-preserved-in_ok-push-in-Leaf : goal.loop-builder-preserved-in_ok-push-in-Leaf
 loop-builder-preserved-in_ok-push-in-Leaf c =
@@ -23,9 +23,9 @@ loop-builder-preserved-in_ok-push-in-Leaf c =
       forth = omega (arith, read.forth, inv.forth);
       context = next;
       stands = c.in_ok-push-in-Leaf.ensures inv.context inv.stands;
-      same = same-then start inv.context next _ (rest c.loop-builder.cursor) _ inv.same
-          (same-pushed c.in-Leaf.op (rest c.loop-builder.cursor) (rest c.read_token.new.cursor) inv.context (rw c.in-Leaf.is at h));
-      wants = λ h. inv.wants (token-wants c.in_ok-op.field-0 (rest c.loop-builder.cursor) (rest c.read_token.new.cursor) read.spelled);
+      same = same-then c.args.profile start inv.context next _ (rest c.loop-builder.cursor) _ inv.same
+          (same-pushed c.args.profile c.in-Leaf.op (rest c.loop-builder.cursor) (rest c.read_token.new.cursor) inv.context (rw c.in-Leaf.is at h));
+      wants = λ h. inv.wants (token-wants c.args.profile c.in_ok-op.field-0 (rest c.loop-builder.cursor) (rest c.read_token.new.cursor) read.spelled);
     }
 
 pub loop-builder-preserved-in_ok-open-in-Open : goal.loop-builder-preserved-in_ok-open-in-Open
@@ -39,9 +39,9 @@ loop-builder-preserved-in_ok-open-in-Open c =
       forth = omega (arith, read.forth, inv.forth);
       context = next;
       stands = c.in_ok-open-in-Open.ensures inv.context inv.stands;
-      same = same-then start inv.context next _ (rest c.loop-builder.cursor) _ inv.same
-          (same-opened c.in-Open.block c.in-Open.block_type (rest c.loop-builder.cursor) (rest c.read_token.new.cursor) inv.context (rw c.in-Open.is at h));
-      wants = λ h. inv.wants (token-wants c.in_ok-op.field-0 (rest c.loop-builder.cursor) (rest c.read_token.new.cursor) read.spelled);
+      same = same-then c.args.profile start inv.context next _ (rest c.loop-builder.cursor) _ inv.same
+          (same-opened c.args.profile c.in-Open.block c.in-Open.block_type (rest c.loop-builder.cursor) (rest c.read_token.new.cursor) inv.context (rw c.in-Open.is at h));
+      wants = λ h. inv.wants (token-wants c.args.profile c.in_ok-op.field-0 (rest c.loop-builder.cursor) (rest c.read_token.new.cursor) read.spelled);
     }
 
 pub returns-then-not-branch-clause-read : goal.returns-then-not-branch-clause-read
@@ -49,7 +49,7 @@ returns-then-not-branch-clause-read c =
     let inv = c.loop-builder.invariant in
     let h = c.in_ok-op.ensures.token.spelled in
     let b : c.in_ok-begin_else-in-Else.field-0 ≡ false = first_of (cc, search rules) in
-    none-else inv.context c.in_ok-begin_else-in-Else.field-0 c.begin_else.new.self (rest c.args.cursor.now) (rest c.loop-builder.cursor) (rest c.read_token.new.cursor) inv.same (rw c.in-Else.is at h) b
+    none-else c.args.profile inv.context c.in_ok-begin_else-in-Else.field-0 c.begin_else.new.self (rest c.args.cursor.now) (rest c.loop-builder.cursor) (rest c.read_token.new.cursor) inv.same (rw c.in-Else.is at h) b
     (c.in_ok-begin_else-in-Else.ensures inv.context inv.stands)
 
 pub loop-builder-preserved-else-not-branch : goal.loop-builder-preserved-else-not-branch
@@ -58,15 +58,15 @@ loop-builder-preserved-else-not-branch c =
     let read = c.in_ok-op.ensures.token in
     let h = read.spelled in
     let b : c.in_ok-begin_else-in-Else.field-0 ≡ true = first_of (cc, search rules) in
-    let r = else-reached inv.context c.in_ok-begin_else-in-Else.field-0 c.begin_else.new.self (rest c.loop-builder.cursor) (rest c.read_token.new.cursor) (rw c.in-Else.is at h) b
+    let r = else-reached c.args.profile inv.context c.in_ok-begin_else-in-Else.field-0 c.begin_else.new.self (rest c.loop-builder.cursor) (rest c.read_token.new.cursor) (rw c.in-Else.is at h) b
     (c.in_ok-begin_else-in-Else.ensures inv.context inv.stands) in
     record {
       whole = read.whole ∙ inv.whole;
       forth = omega (arith, read.forth, inv.forth);
       context = r.context;
       stands = r.stands;
-      same = same-then start inv.context r.context _ (rest c.loop-builder.cursor) _ inv.same r.same;
-      wants = λ h. inv.wants (token-wants c.in_ok-op.field-0 (rest c.loop-builder.cursor) (rest c.read_token.new.cursor) read.spelled);
+      same = same-then c.args.profile start inv.context r.context _ (rest c.loop-builder.cursor) _ inv.same r.same;
+      wants = λ h. inv.wants (token-wants c.args.profile c.in_ok-op.field-0 (rest c.loop-builder.cursor) (rest c.read_token.new.cursor) read.spelled);
     }
 
 pub returns-then-branch-clause-read : goal.returns-then-branch-clause-read
@@ -79,7 +79,7 @@ returns-then-branch-clause-read c =
       whole = read.whole ∙ inv.whole;
       forth = omega (arith, read.forth, inv.forth);
       within = read.within;
-      spelled = whole-read inv.context c.in_ok-end-in-End.field-0 c.end.new.self (rest c.args.cursor.now) (rest c.loop-builder.cursor) (rest c.read_token.new.cursor) _ inv.same (rw c.in-End.is at h) b
+      spelled = whole-read c.args.profile inv.context c.in_ok-end-in-End.field-0 c.end.new.self (rest c.args.cursor.now) (rest c.loop-builder.cursor) (rest c.read_token.new.cursor) _ inv.same (rw c.in-End.is at h) b
           (c.in_ok-end-in-End.ensures inv.context inv.stands) c.into_expr.ensures;
     }
 
@@ -89,15 +89,15 @@ loop-builder-preserved c =
     let read = c.in_ok-op.ensures.token in
     let h = read.spelled in
     let b : c.in_ok-end-in-End.field-0 ≡ false = first_of (cc, search rules) in
-    let r = end-reached inv.context c.in_ok-end-in-End.field-0 c.end.new.self (rest c.loop-builder.cursor) (rest c.read_token.new.cursor) (rw c.in-End.is at h) b
+    let r = end-reached c.args.profile inv.context c.in_ok-end-in-End.field-0 c.end.new.self (rest c.loop-builder.cursor) (rest c.read_token.new.cursor) (rw c.in-End.is at h) b
     (c.in_ok-end-in-End.ensures inv.context inv.stands) in
     record {
       whole = read.whole ∙ inv.whole;
       forth = omega (arith, read.forth, inv.forth);
       context = r.context;
       stands = r.stands;
-      same = same-then start inv.context r.context _ (rest c.loop-builder.cursor) _ inv.same r.same;
-      wants = λ h. inv.wants (token-wants c.in_ok-op.field-0 (rest c.loop-builder.cursor) (rest c.read_token.new.cursor) read.spelled);
+      same = same-then c.args.profile start inv.context r.context _ (rest c.loop-builder.cursor) _ inv.same r.same;
+      wants = λ h. inv.wants (token-wants c.args.profile c.in_ok-op.field-0 (rest c.loop-builder.cursor) (rest c.read_token.new.cursor) read.spelled);
     }
 
 pub returns-in_err-op-clause-wanted : goal.returns-in_err-op-clause-wanted
@@ -107,16 +107,16 @@ returns-in_err-op-clause-wanted c = λ e.
 
 pub returns-in_err-push-in-Leaf-clause-wanted : goal.returns-in_err-push-in-Leaf-clause-wanted
 returns-in_err-push-in-Leaf-clause-wanted c = λ e.
-    c.loop-builder.invariant.wants (token-wants c.in_ok-op.field-0 (rest c.loop-builder.cursor) (rest c.read_token.new.cursor) c.in_ok-op.ensures.token.spelled)
+    c.loop-builder.invariant.wants (token-wants c.args.profile c.in_ok-op.field-0 (rest c.loop-builder.cursor) (rest c.read_token.new.cursor) c.in_ok-op.ensures.token.spelled)
 
 pub returns-in_err-open-in-Open-clause-wanted : goal.returns-in_err-open-in-Open-clause-wanted
 returns-in_err-open-in-Open-clause-wanted c = λ e.
-    c.loop-builder.invariant.wants (token-wants c.in_ok-op.field-0 (rest c.loop-builder.cursor) (rest c.read_token.new.cursor) c.in_ok-op.ensures.token.spelled)
+    c.loop-builder.invariant.wants (token-wants c.args.profile c.in_ok-op.field-0 (rest c.loop-builder.cursor) (rest c.read_token.new.cursor) c.in_ok-op.ensures.token.spelled)
 
 pub returns-in_err-begin_else-in-Else-clause-wanted : goal.returns-in_err-begin_else-in-Else-clause-wanted
 returns-in_err-begin_else-in-Else-clause-wanted c = λ e.
-    c.loop-builder.invariant.wants (token-wants c.in_ok-op.field-0 (rest c.loop-builder.cursor) (rest c.read_token.new.cursor) c.in_ok-op.ensures.token.spelled)
+    c.loop-builder.invariant.wants (token-wants c.args.profile c.in_ok-op.field-0 (rest c.loop-builder.cursor) (rest c.read_token.new.cursor) c.in_ok-op.ensures.token.spelled)
 
 pub returns-in_err-end-in-End-clause-wanted : goal.returns-in_err-end-in-End-clause-wanted
 returns-in_err-end-in-End-clause-wanted c = λ e.
-    c.loop-builder.invariant.wants (token-wants c.in_ok-op.field-0 (rest c.loop-builder.cursor) (rest c.read_token.new.cursor) c.in_ok-op.ensures.token.spelled)
+    c.loop-builder.invariant.wants (token-wants c.args.profile c.in_ok-op.field-0 (rest c.loop-builder.cursor) (rest c.read_token.new.cursor) c.in_ok-op.ensures.token.spelled)

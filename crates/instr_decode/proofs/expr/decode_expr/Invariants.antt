@@ -11,8 +11,8 @@ invariant-loop-builder l = record {
   forth : l.initial.cursor.place ≤ l.cursor.place;
   context : Context;
   stands : Represents l.builder context;
-  same : SameCompletions start (rest l.initial.cursor) context (rest l.cursor);
-  wants : WantsExpr (rest l.cursor) → WantsExpr (rest l.initial.cursor);
+  same : SameCompletions l.profile start (rest l.initial.cursor) context (rest l.cursor);
+  wants : WantsExpr l.profile (rest l.cursor) → WantsExpr l.profile (rest l.initial.cursor);
 }
 
 abbrev pub decreases-loop-builder : goal.decreases-loop-builder

@@ -1,3 +1,4 @@
+use Rattle.wasm_types.specs.declared.profile.Profile.TheVariants.{One}
 use Rattle.std.proofs.Common.{List, ℕ, [], ◌∷◌, refl, sym, arith}
 use Rattle.wasm_spec.specs.InstrGrammar.{shape}
 use Rattle.instr_decode.specs.Opcodes.{immediate_of}
@@ -18,12 +19,12 @@ returns-in_default-3 c = sym (only immediate_of plain refl refl c.args.opcode (�
 
 pub returns-in-32-to-36 : goal.returns-in-32-to-36
 unfolding shape
-returns-in-32-to-36 c = sym (run-same immediate_of 0x20 5 _ refl c.args.opcode (omega arith) (omega arith))
+returns-in-32-to-36 c = sym (run-same immediate_of One 0x20 5 _ refl c.args.opcode (omega arith) (omega arith))
 
 pub returns-in-40-to-62 : goal.returns-in-40-to-62
 unfolding shape
-returns-in-40-to-62 c = sym (run-same immediate_of 0x28 23 _ refl c.args.opcode (omega arith) (omega arith))
+returns-in-40-to-62 c = sym (run-same immediate_of One 0x28 23 _ refl c.args.opcode (omega arith) (omega arith))
 
 pub returns-in-69-to-191 : goal.returns-in-69-to-191
 unfolding shape
-returns-in-69-to-191 c = sym (run-same immediate_of 0x45 123 _ refl c.args.opcode (omega arith) (omega arith))
+returns-in-69-to-191 c = sym (run-same immediate_of One 0x45 123 _ refl c.args.opcode (omega arith) (omega arith))

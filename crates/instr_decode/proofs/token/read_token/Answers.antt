@@ -9,24 +9,24 @@ use Rattle.instr_decode.proofs.token.read_token.Goals as goal
 pub returns-in_err-block_type-in-2-clause-token : goal.returns-in_err-block_type-in-2-clause-token
 returns-in_err-block_type-in-2-clause-token c =
     exits c.from_residual-in_err-block_type-in-2.result _ _ c.in_err-block_type-in-2.field-0.0 c.from_residual-in_err-block_type-in-2.ensures.1
-    (none-open block_kind.Block (rest c.args.cursor.now) (rest c.u8.new.self) c.in_err-block_type-in-2.field-0.0 (c.in_ok-opcode.ensures.spelled ∙ ap (λ (n : ℕ). n ∷ rest c.u8.new.self) (omega arith)) c.in_err-block_type-in-2.ensures.read)
+    (none-open c.args.profile block_kind.Block (rest c.args.cursor.now) (rest c.u8.new.self) c.in_err-block_type-in-2.field-0.0 (c.in_ok-opcode.ensures.spelled ∙ ap (λ (n : ℕ). n ∷ rest c.u8.new.self) (omega arith)) c.in_err-block_type-in-2.ensures.read)
 
 pub returns-in_err-block_type-in-3-clause-token : goal.returns-in_err-block_type-in-3-clause-token
 returns-in_err-block_type-in-3-clause-token c =
     exits c.from_residual-in_err-block_type-in-3.result _ _ c.in_err-block_type-in-3.field-0.0 c.from_residual-in_err-block_type-in-3.ensures.1
-    (none-open block_kind.Loop (rest c.args.cursor.now) (rest c.u8.new.self) c.in_err-block_type-in-3.field-0.0 (c.in_ok-opcode.ensures.spelled ∙ ap (λ (n : ℕ). n ∷ rest c.u8.new.self) (omega arith)) c.in_err-block_type-in-3.ensures.read)
+    (none-open c.args.profile block_kind.Loop (rest c.args.cursor.now) (rest c.u8.new.self) c.in_err-block_type-in-3.field-0.0 (c.in_ok-opcode.ensures.spelled ∙ ap (λ (n : ℕ). n ∷ rest c.u8.new.self) (omega arith)) c.in_err-block_type-in-3.ensures.read)
 
 pub returns-in_err-block_type-in-4-clause-token : goal.returns-in_err-block_type-in-4-clause-token
 returns-in_err-block_type-in-4-clause-token c =
     exits c.from_residual-in_err-block_type-in-4.result _ _ c.in_err-block_type-in-4.field-0.0 c.from_residual-in_err-block_type-in-4.ensures.1
-    (none-open block_kind.If (rest c.args.cursor.now) (rest c.u8.new.self) c.in_err-block_type-in-4.field-0.0 (c.in_ok-opcode.ensures.spelled ∙ ap (λ (n : ℕ). n ∷ rest c.u8.new.self) (omega arith)) c.in_err-block_type-in-4.ensures.read)
+    (none-open c.args.profile block_kind.If (rest c.args.cursor.now) (rest c.u8.new.self) c.in_err-block_type-in-4.field-0.0 (c.in_ok-opcode.ensures.spelled ∙ ap (λ (n : ℕ). n ∷ rest c.u8.new.self) (omega arith)) c.in_err-block_type-in-4.ensures.read)
 
 pub returns-in_err-index-in-16-clause-token : goal.returns-in_err-index-in-16-clause-token
 returns-in_err-index-in-16-clause-token c =
     let p = err_from_is_err_and c.from_residual-in_err-index-in-16.result c.from_residual-in_err-index-in-16.ensures.1 in
-    rw (p.1, p.2) (none-call (rest c.args.cursor.now) (rest c.u8.new.self) (c.in_ok-opcode.ensures.spelled ∙ ap (λ (n : ℕ). n ∷ rest c.u8.new.self) (omega arith)) c.in_err-index-in-16.ensures.none)
+    rw (p.1, p.2) (none-call c.args.profile (rest c.args.cursor.now) (rest c.u8.new.self) (c.in_ok-opcode.ensures.spelled ∙ ap (λ (n : ℕ). n ∷ rest c.u8.new.self) (omega arith)) c.in_err-index-in-16.ensures.none)
 
 pub returns-in_err-index-in-17-clause-token : goal.returns-in_err-index-in-17-clause-token
 returns-in_err-index-in-17-clause-token c =
     exits c.from_residual-in_err-index-in-17.result _ _ c.in_err-index-in-17.field-0.0 c.from_residual-in_err-index-in-17.ensures.1
-    (none-call_indirect (rest c.args.cursor.now) (rest c.u8.new.self) c.in_err-index-in-17.field-0.0 (c.in_ok-opcode.ensures.spelled ∙ ap (λ (n : ℕ). n ∷ rest c.u8.new.self) (omega arith)) c.in_err-index-in-17.ensures.read)
+    (none-call_indirect c.args.profile (rest c.args.cursor.now) (rest c.u8.new.self) c.in_err-index-in-17.field-0.0 (c.in_ok-opcode.ensures.spelled ∙ ap (λ (n : ℕ). n ∷ rest c.u8.new.self) (omega arith)) c.in_err-index-in-17.ensures.read)

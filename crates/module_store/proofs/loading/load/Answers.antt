@@ -11,8 +11,8 @@ pub returns-in_err-image-clause-refused : goal.returns-in_err-image-clause-refus
 returns-in_err-image-clause-refused c =
     let p = err_from_is_err_and c.from_residual-in_err-image.result c.from_residual-in_err-image.ensures.1 in
     let same = sym c.in_ok-valid.ensures.tree in
-    rw (p.1, p.2) (IsRefusal-image c.args.bytes.now (load_limits c.args.config.now) (module_tree c.in_ok-valid.valid) c.in_err-image.field-0.0
-    (subst (Spells c.args.bytes.now) same c.in_ok-module.ensures.read)
+    rw (p.1, p.2) (IsRefusal-image c.args.profile c.args.bytes.now (load_limits c.args.config.now) (module_tree c.in_ok-valid.valid) c.in_err-image.field-0.0
+    (subst (Spells c.args.profile c.args.bytes.now) same c.in_ok-module.ensures.read)
     (subst IsSupported same c.in_ok-valid.ensures.supported)
     (subst IsValid same c.in_ok-valid.ensures.valid)
     c.in_ok-check.ensures.ok

@@ -20,8 +20,8 @@ returns-in-Err-clause-refused c =
     let is = c.at_line.ensures in
     rw is (one_refused (text_lines c.args.text.now) _ _ _ _ c.in-Err.fault _ c.loop-line.invariant.0 turn c.loop-line.invariant.1 c.in-Err.ensures.refused)
 
-pub returns-clause-requests : goal.returns-clause-requests
-returns-clause-requests c =
+pub returns-clause-read : goal.returns-clause-read
+returns-clause-read c =
     let end = YieldsList-end (YieldsList-from_slice_split _ (λ b. b == 10) c.args.text.now (cc) (cc) (cc) (λ x b q k. search (rules, tests))) c.loop-line.yielded _ c.loop-line.yielded_by _ _ c.in-None.is c.next.ensures.steps in
     let whole = all_read (text_lines c.args.text.now) _ _ _ _ c.loop-line.invariant.0 end.1 c.loop-line.invariant.1 in
     cc

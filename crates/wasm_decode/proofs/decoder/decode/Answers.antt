@@ -19,8 +19,8 @@ returns-then-are_in_order-clause-read c =
     let o = rw c.as_slice.ensures.value at c.are_in_order.ensures in
     MatchResult-weaker c.decode_fields.result r
     (λ m f. record { after = after; sections = ss; header = c.in-Some.ensures; whole = whole; ordered = o.0 c.if-are_in_order.true; fields = f })
-    (λ fault none. none-through (SpellsFields ss) (Spells bytes) fault none
-    (λ m h. (m, subst (λ (l : List Section). SpellsFields l m) (sections-are bytes after ss m c.in-Some.ensures whole h) h.fields)))
+    (λ fault none. none-through (SpellsFields c.args.profile ss) (Spells c.args.profile bytes) fault none
+    (λ m h. (m, subst (λ (l : List Section). SpellsFields c.args.profile l m) (sections-are c.args.profile bytes after ss m c.in-Some.ensures whole h) h.fields)))
 
 pub returns-then-are_in_order-clause-wanted : goal.returns-then-are_in_order-clause-wanted
 returns-then-are_in_order-clause-wanted c = λ e.
@@ -36,6 +36,6 @@ pub returns-clause-read : goal.returns-clause-read
 returns-clause-read c = λ m h.
     let ss : List Section = map section_of c.in_ok-sections.sections.items in
     let o = rw c.as_slice.ensures.value at c.are_in_order.ensures in
-    let same = sections-are c.args.bytes.now c.in-Some.after.now ss m c.in-Some.ensures c.in_ok-sections.ensures.read h in
-    let holds : IsTrue c.are_in_order.result = o.1 (subst (IsOrderedAbove 0) same h.ordered) in
+    let same = sections-are c.args.profile c.args.bytes.now c.in-Some.after.now ss m c.in-Some.ensures c.in_ok-sections.ensures.read h in
+    let holds : IsTrue c.are_in_order.result = o.1 (subst (IsOrderedAbove c.args.profile 0) same h.ordered) in
     absurd (first_of (cc, search rules))

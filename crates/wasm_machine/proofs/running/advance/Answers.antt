@@ -1,9 +1,11 @@
-use Rattle.std.proofs.Common.{◌≡◌, ◌<◌, ◌+◌, ◌-◌, ◌*◌, ℕ, refl, ap, ◌∙◌, arith, subst}
+use Rattle.std.proofs.Common.{◌≡◌, ◌<◌, ◌+◌, ◌-◌, ◌*◌, ℕ, length, refl, ap, ◌∙◌, arith, subst}
 use Rattle.wasm_spec.specs.Instances.{room_for}
 use Rattle.linear_memory.specs.Marks.{MarksChanges}
-use Rattle.linear_memory.proofs.MarkedBlocks.{changes_more}
+use Rattle.wasm_types.specs.Tree.{module_tree}
 use Rattle.machine_steps.specs.Lent.{store_of}
 use Rattle.wasm_machine.specs.Simulation.{after}
+use Rattle.wasm_machine.specs.MostMarks.{most_marks}
+use Rattle.wasm_machine.proofs.MarkLemmas.{marks_more}
 use Rattle.wasm_machine.proofs.RunLemmas.{marked_next, marked_out, marked_over, marked_trap, over_at, over_paid, simulates_same, more_spent, spent_all, trap_paid}
 use Rattle.wasm_machine.proofs.running.advance.Goals as goal
 
@@ -55,7 +57,7 @@ pub returns-in-None-clause-marked : goal.returns-in-None-clause-marked
 returns-in-None-clause-marked c frame r run simulates =
     let store = store_of c.loop-spent.memory c.args.table.now c.loop-spent.globals in
     let i = c.loop-spent.invariant in
-    marked_over r c.args.memory.now c.args.m.now c.fetch.new.machine store c.loop-spent.spent (c.args.fuel + 1) (room_for c.args.m.now.memories c.args.limits.pages) (2 * c.loop-spent.spent) c.loop-spent.memory
+    marked_over r c.args.memory.now c.args.m.now c.fetch.new.machine store c.loop-spent.spent (c.args.fuel + 1) (room_for c.args.m.now.memories c.args.limits.pages) _ c.loop-spent.memory
     (i.marked frame r run simulates) i.memory i.marks refl
     (c.in-None.ensures.steps c.args.limits frame store (after c.loop-spent.spent r) (i.simulates frame r run simulates))
 
@@ -68,7 +70,7 @@ pub returns-in-None-clause-marks : goal.returns-in-None-clause-marks
 returns-in-None-clause-marks c =
     let lt : c.loop-spent.spent < c.args.fuel = c.loop-spent-test.true in
     let e : c.loop-spent.spent ≡ c.args.fuel - (c.args.fuel - c.loop-spent.spent) = omega arith in
-    subst (λ (n : ℕ). MarksChanges c.args.memory.now c.loop-spent.memory (2 * n)) e c.loop-spent.invariant.marks
+    subst (λ (n : ℕ). MarksChanges c.args.memory.now c.loop-spent.memory (most_marks (module_tree c.args.m.now) (length c.args.memory.now.marks.items) * n)) e c.loop-spent.invariant.marks
 
 -- ---- over, or a trap, by an instruction
 
@@ -91,15 +93,15 @@ returns-in-Finishes-clause-marked c frame r run simulates =
     let most = room_for m.memories limits.pages in
     let at = c.in-Some.ensures.steps limits frame store (after c.loop-spent.spent r) (i.simulates frame r run simulates) in
     let next = c.loop-spent.spent + 1 in
-    let below = marked_next m limits frame r c.args.memory.now c.fetch.new.machine store c.in-Some.op.now c.loop-spent.spent most (2 * c.loop-spent.spent) 2 c.loop-spent.memory c.execute.new.memory (i.marked frame r run simulates) i.memory i.marks refl at.0 at.1 c.in-Finishes.ensures.marks in
-    marked_over r c.args.memory.now m c.execute.new.machine store' next (c.args.fuel + 1) most (2 * next) c.execute.new.memory below c.in-Finishes.ensures.memory
-    (changes_more c.args.memory.now c.loop-spent.memory c.execute.new.memory (2 * c.loop-spent.spent) 2 (2 * next) i.marks c.in-Finishes.ensures.marks (omega arith)) refl
+    let below = marked_next m limits frame r c.args.memory.now c.fetch.new.machine store c.in-Some.op.now c.loop-spent.spent most _ _ c.loop-spent.memory c.execute.new.memory (i.marked frame r run simulates) i.memory i.marks refl at.0 at.1 c.in-Finishes.ensures.marks in
+    marked_over r c.args.memory.now m c.execute.new.machine store' next (c.args.fuel + 1) most _ c.execute.new.memory below c.in-Finishes.ensures.memory
+    (marks_more (module_tree m) c.args.memory.now c.loop-spent.memory c.execute.new.memory c.loop-spent.spent next i.marks c.in-Finishes.ensures.marks refl) refl
     (over_paid m limits frame c.execute.new.machine store' r c.loop-spent.spent next refl (c.in-Finishes.ensures.steps frame (after c.loop-spent.spent r) run at.0))
 
 pub returns-in-Finishes-clause-marks : goal.returns-in-Finishes-clause-marks
 returns-in-Finishes-clause-marks c =
     let lt : c.loop-spent.spent < c.args.fuel = c.loop-spent-test.true in
-    changes_more c.args.memory.now c.loop-spent.memory c.execute.new.memory (2 * c.loop-spent.spent) 2 (2 * (c.args.fuel - (c.args.fuel - c.loop-spent.spent - 1))) c.loop-spent.invariant.marks c.in-Finishes.ensures.marks (omega arith)
+    marks_more (module_tree c.args.m.now) c.args.memory.now c.loop-spent.memory c.execute.new.memory c.loop-spent.spent (c.args.fuel - (c.args.fuel - c.loop-spent.spent - 1)) c.loop-spent.invariant.marks c.in-Finishes.ensures.marks (omega arith)
 
 pub returns-in-Finishes-clause-unspent : goal.returns-in-Finishes-clause-unspent
 returns-in-Finishes-clause-unspent c e =
@@ -125,15 +127,15 @@ returns-in-Traps-clause-marked c frame r run simulates =
     let most = room_for m.memories limits.pages in
     let at = c.in-Some.ensures.steps limits frame store (after c.loop-spent.spent r) (i.simulates frame r run simulates) in
     let next = c.loop-spent.spent + 1 in
-    let below = marked_next m limits frame r c.args.memory.now c.fetch.new.machine store c.in-Some.op.now c.loop-spent.spent most (2 * c.loop-spent.spent) 2 c.loop-spent.memory c.execute.new.memory (i.marked frame r run simulates) i.memory i.marks refl at.0 at.1 c.in-Traps.ensures.marks in
-    marked_trap r c.args.memory.now c.in-Traps.t store' next (c.args.fuel + 1) most (2 * next) c.execute.new.memory below c.in-Traps.ensures.memory
-    (changes_more c.args.memory.now c.loop-spent.memory c.execute.new.memory (2 * c.loop-spent.spent) 2 (2 * next) i.marks c.in-Traps.ensures.marks (omega arith)) refl
+    let below = marked_next m limits frame r c.args.memory.now c.fetch.new.machine store c.in-Some.op.now c.loop-spent.spent most _ _ c.loop-spent.memory c.execute.new.memory (i.marked frame r run simulates) i.memory i.marks refl at.0 at.1 c.in-Traps.ensures.marks in
+    marked_trap r c.args.memory.now c.in-Traps.t store' next (c.args.fuel + 1) most _ c.execute.new.memory below c.in-Traps.ensures.memory
+    (marks_more (module_tree m) c.args.memory.now c.loop-spent.memory c.execute.new.memory c.loop-spent.spent next i.marks c.in-Traps.ensures.marks refl) refl
     (trap_paid m limits frame c.in-Traps.t store' r c.loop-spent.spent next refl (c.in-Traps.ensures.steps frame (after c.loop-spent.spent r) run at.0))
 
 pub returns-in-Traps-clause-marks : goal.returns-in-Traps-clause-marks
 returns-in-Traps-clause-marks c =
     let lt : c.loop-spent.spent < c.args.fuel = c.loop-spent-test.true in
-    changes_more c.args.memory.now c.loop-spent.memory c.execute.new.memory (2 * c.loop-spent.spent) 2 (2 * (c.args.fuel - (c.args.fuel - c.loop-spent.spent - 1))) c.loop-spent.invariant.marks c.in-Traps.ensures.marks (omega arith)
+    marks_more (module_tree c.args.m.now) c.args.memory.now c.loop-spent.memory c.execute.new.memory c.loop-spent.spent (c.args.fuel - (c.args.fuel - c.loop-spent.spent - 1)) c.loop-spent.invariant.marks c.in-Traps.ensures.marks (omega arith)
 
 pub returns-in-Traps-clause-unspent : goal.returns-in-Traps-clause-unspent
 returns-in-Traps-clause-unspent c e =
@@ -153,7 +155,7 @@ loop-spent-preserved c = record {
       let store = store_of c.loop-spent.memory c.args.table.now c.loop-spent.globals in
       let i = c.loop-spent.invariant in
       let at = c.in-Some.ensures.steps c.args.limits frame store (after c.loop-spent.spent r) (i.simulates frame r run simulates) in
-      marked_next c.args.m.now c.args.limits frame r c.args.memory.now c.fetch.new.machine store c.in-Some.op.now c.loop-spent.spent (room_for c.args.m.now.memories c.args.limits.pages) (2 * c.loop-spent.spent) 2 c.loop-spent.memory c.execute.new.memory (i.marked frame r run simulates) i.memory i.marks refl at.0 at.1 c.in-Continues.ensures.marks;
+      marked_next c.args.m.now c.args.limits frame r c.args.memory.now c.fetch.new.machine store c.in-Some.op.now c.loop-spent.spent (room_for c.args.m.now.memories c.args.limits.pages) _ _ c.loop-spent.memory c.execute.new.memory (i.marked frame r run simulates) i.memory i.marks refl at.0 at.1 c.in-Continues.ensures.marks;
   unspent = λ e. absurd (omega (arith, e));
   room = record {
     values = omega (arith, c.in-Some.ensures.room.values, c.in-Continues.ensures.room.values);
@@ -162,7 +164,7 @@ loop-spent-preserved c = record {
   };
   memory = c.in-Continues.ensures.memory;
   globals = c.in-Continues.ensures.globals ∙ c.loop-spent.invariant.globals;
-  marks = changes_more c.args.memory.now c.loop-spent.memory c.execute.new.memory (2 * c.loop-spent.spent) 2 (2 * (c.loop-spent.spent + 1)) c.loop-spent.invariant.marks c.in-Continues.ensures.marks (omega arith);
+  marks = marks_more (module_tree c.args.m.now) c.args.memory.now c.loop-spent.memory c.execute.new.memory c.loop-spent.spent (c.loop-spent.spent + 1) c.loop-spent.invariant.marks c.in-Continues.ensures.marks (omega arith);
 }
 
 -- ---- the fuel is used up
@@ -178,14 +180,14 @@ pub returns-in-None-fetch-clause-marked : goal.returns-in-None-fetch-clause-mark
 returns-in-None-fetch-clause-marked c frame r run simulates =
     let store = store_of c.loop-spent.memory c.args.table.now c.loop-spent.globals in
     let i = c.loop-spent.invariant in
-    marked_over r c.args.memory.now c.args.m.now c.fetch-2.new.machine store c.loop-spent.spent (c.args.fuel + 1) (room_for c.args.m.now.memories c.args.limits.pages) (2 * c.loop-spent.spent) c.loop-spent.memory
+    marked_over r c.args.memory.now c.args.m.now c.fetch-2.new.machine store c.loop-spent.spent (c.args.fuel + 1) (room_for c.args.m.now.memories c.args.limits.pages) _ c.loop-spent.memory
     (i.marked frame r run simulates) i.memory i.marks refl
     (c.in-None-fetch.ensures.steps c.args.limits frame store (after c.loop-spent.spent r) (i.simulates frame r run simulates))
 
 pub returns-in-None-fetch-clause-marks : goal.returns-in-None-fetch-clause-marks
 returns-in-None-fetch-clause-marks c =
     let e : c.loop-spent.spent ≡ c.args.fuel - 0 = omega arith in
-    subst (λ (n : ℕ). MarksChanges c.args.memory.now c.loop-spent.memory (2 * n)) e c.loop-spent.invariant.marks
+    subst (λ (n : ℕ). MarksChanges c.args.memory.now c.loop-spent.memory (most_marks (module_tree c.args.m.now) (length c.args.memory.now.marks.items) * n)) e c.loop-spent.invariant.marks
 
 pub returns-in-None-fetch-clause-unspent : goal.returns-in-None-fetch-clause-unspent
 returns-in-None-fetch-clause-unspent c e = c.loop-spent.invariant.unspent (omega (arith, e))
@@ -207,13 +209,13 @@ returns-in-Some-fetch-clause-marked c frame r run simulates =
     let i = c.loop-spent.invariant in
     let at = c.in-Some-fetch.ensures.steps limits frame store (after c.loop-spent.spent r) (i.simulates frame r run simulates) in
     let e : c.loop-spent.spent ≡ c.args.fuel = omega arith in
-    marked_out r c.args.memory.now store c.loop-spent.spent (c.args.fuel + 1) (room_for m.memories limits.pages) (2 * c.loop-spent.spent) c.loop-spent.memory (i.marked frame r run simulates) i.memory i.marks refl (omega arith)
+    marked_out r c.args.memory.now store c.loop-spent.spent (c.args.fuel + 1) (room_for m.memories limits.pages) _ c.loop-spent.memory (i.marked frame r run simulates) i.memory i.marks refl (omega arith)
     (spent_all m limits frame c.fetch-2.new.machine store r c.loop-spent.spent c.loop-spent.spent _ refl at.0 at.1)
 
 pub returns-in-Some-fetch-clause-marks : goal.returns-in-Some-fetch-clause-marks
 returns-in-Some-fetch-clause-marks c =
     let e : c.loop-spent.spent ≡ c.args.fuel - 0 = omega arith in
-    subst (λ (n : ℕ). MarksChanges c.args.memory.now c.loop-spent.memory (2 * n)) e c.loop-spent.invariant.marks
+    subst (λ (n : ℕ). MarksChanges c.args.memory.now c.loop-spent.memory (most_marks (module_tree c.args.m.now) (length c.args.memory.now.marks.items) * n)) e c.loop-spent.invariant.marks
 
 pub returns-in-Some-fetch-clause-unspent : goal.returns-in-Some-fetch-clause-unspent
 returns-in-Some-fetch-clause-unspent c e = c.loop-spent.invariant.unspent (omega (arith, e))

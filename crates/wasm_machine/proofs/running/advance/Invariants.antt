@@ -5,6 +5,8 @@ use Rattle.linear_memory.specs.Bytes.{IsMemory}
 use Rattle.linear_memory.specs.Marks.{MarksChanges}
 use Rattle.machine_steps.specs.Lent.{store_of}
 use Rattle.machine_steps.specs.StackLayout.{KeepsRoom}
+use Rattle.wasm_types.specs.Tree.{module_tree}
+use Rattle.wasm_machine.specs.MostMarks.{most_marks}
 use Rattle.wasm_machine.specs.TypedConfiguration.{IsRunnable}
 use Rattle.wasm_machine.specs.Simulation.{AreMarkedBelow, Simulates, after}
 use Rattle.wasm_machine.proofs.running.advance.Given as goal
@@ -19,5 +21,5 @@ invariant-loop-spent l = record {
   room : KeepsRoom l.fn.machine l.machine;
   memory : IsMemory (room_for l.m.memories l.limits.pages) l.memory;
   globals : length l.globals ≡ length l.fn.globals;
-  marks : MarksChanges l.fn.memory l.memory (2 * l.spent);
+  marks : MarksChanges l.fn.memory l.memory (most_marks (module_tree l.m) (length l.fn.memory.marks.items) * l.spent);
 }

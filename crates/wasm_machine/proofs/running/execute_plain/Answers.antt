@@ -11,7 +11,11 @@ use Rattle.machine_steps.specs.declared.machine.Machine.{Machine}
 use Rattle.wasm_machine.specs.declared.running.Step.{Step}
 use Rattle.wasm_machine.specs.TypedConfiguration.{context}
 use Rattle.machine_steps.specs.Lent.{store_of}
-use Rattle.wasm_machine.specs.Simulation.{SimulatesPlain, SimulatesUnlessOver, SimulatesStep, paid, step_unless_over, step_unless_trapped}
+use Rattle.wasm_types.specs.Sequences.{code_at}
+use Rattle.wasm_spec.specs.Bulk.{is_bulk, code_uses_bulk}
+use Rattle.wasm_spec.proofs.NarrowModules.{neither}
+use Rattle.wasm_machine.proofs.MarkLemmas.{marks_of}
+use Rattle.wasm_machine.specs.Simulation.{body_of, SimulatesPlain, SimulatesUnlessOver, SimulatesStep, paid, step_unless_over, step_unless_trapped}
 use Rattle.wasm_machine.proofs.StepLemmas.{plain_done}
 use Rattle.wasm_machine.proofs.PreservationLemmas.{plain_preserved}
 use Rattle.wasm_machine.proofs.ReadyLemmas.{plain_can, plain_ready}
@@ -76,3 +80,12 @@ returns-else-is_jump-clause-steps c frame r run b =
     (λ k middle takes locals. plain_preserved m limits (context m frame k.function k.blocks) refl i k store middle (sym c.if-is_jump.ensures) takes locals b.stored)
     (c.plain.ensures.does (module_tree m) limits c.args.table.now c.requires.most)
     c.plain.ensures.room)
+
+pub returns-else-is_jump-clause-marks : goal.returns-else-is_jump-clause-marks
+returns-else-is_jump-clause-marks c =
+    let (frame, r, run, b) = c.requires.runs in
+    let k = b.configuration in
+    let i = c.args.instr.now in
+    marks_of (module_tree c.args.m.now) i c.args.memory.now c.plain.new.memory
+    (λ e. (neither (is_bulk i) (code_uses_bulk (code_at (body_of c.args.m.now k) k.sequence k.place)) (b.typed.narrow e)).0)
+    c.plain.ensures.marks

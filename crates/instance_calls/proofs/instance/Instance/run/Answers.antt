@@ -15,7 +15,7 @@ run_call-requires-clause-call g c =
     let loaded = c.valid-valid.ensures.loaded in
     let limits = load_limits g.N.Naming.config in
     let valid = c.valid-valid.result.now in
-    let within : IsWithin limits (module_tree valid) = subst (IsWithin limits) (sym c.valid-valid.ensures.tree) (c.a_loaded_module_is_within_its_limits.ensures loaded.bytes limits c.args.module.now.tree loaded.loads) in
+    let within : IsWithin limits (module_tree valid) = subst (IsWithin limits) (sym c.valid-valid.ensures.tree) (c.a_loaded_module_is_within_its_limits.ensures loaded.profile loaded.bytes limits c.args.module.now.tree loaded.loads) in
     let (export, may) = c.requires.call in
     called valid export c.args.function c.args.args.now within.valid (subst (λ (m : ModuleTree). MayCall m export c.args.function c.args.args.now) (sym c.valid-valid.ensures.tree) may)
 
@@ -32,7 +32,7 @@ run_call-requires-clause-ready g c =
     let limits = load_limits config in
     let valid = c.valid-valid.result.now in
     let self = c.args.self.now in
-    let within : IsWithin limits (module_tree valid) = subst (IsWithin limits) (sym c.valid-valid.ensures.tree) (c.a_loaded_module_is_within_its_limits.ensures loaded.bytes limits c.args.module.now.tree loaded.loads) in
+    let within : IsWithin limits (module_tree valid) = subst (IsWithin limits) (sym c.valid-valid.ensures.tree) (c.a_loaded_module_is_within_its_limits.ensures loaded.profile loaded.bytes limits c.args.module.now.tree loaded.loads) in
     let fresh : IsFreshInstance config (module_tree valid) self = subst (λ (m : ModuleTree). IsFreshInstance config m self) (sym c.valid-valid.ensures.tree) c.requires.fresh in
     record {
       depth = c.limits_of-limits.ensures.depth;

@@ -14,7 +14,7 @@ use Rattle.wasm_decode.proofs.function.BodyItem.decode.Goals as goal
 
 pub returns-in_err-locals-clause-read : goal.returns-in_err-locals-clause-read
 returns-in_err-locals-clause-read c =
-    exits-as (TakesPair (TakesVec TakesLocalRun) TakesExpr) TakesBody c.from_residual.result _ (rest c.args.cursor.now) c.in_err-locals.field-0.0 c.from_residual.ensures.1 c.in_err-locals.ensures.read
+    exits-as (TakesPair (TakesVec TakesLocalRun) (TakesExpr c.args.profile)) (TakesBody c.args.profile) c.from_residual.result _ (rest c.args.cursor.now) c.in_err-locals.field-0.0 c.from_residual.ensures.1 c.in_err-locals.ensures.read
     (λ b after h. ((h.runs, b.code), (h.mid, h.spelled, h.code)))
 
 pub returns-else-are_few-clause-read : goal.returns-else-are_few-clause-read

@@ -1,3 +1,4 @@
+use Rattle.wasm_types.specs.declared.profile.Profile.{Profile}
 use Rattle.std.proofs.Common.{ℕ, List, [], subst}
 use Rattle.wasm_spec.specs.Numbers.{TakesBytes}
 use Rattle.wasm_spec.specs.Grammar.{TakesBody, TakesSizedBody}
@@ -9,18 +10,18 @@ use Rattle.instr_decode.specs.declared.fault.DecodeFault.TheVariants.{Malformed,
 use Rattle.instr_decode.proofs.Decoding.{exits, exits-as}
 use Rattle.wasm_decode.proofs.function.SizedBodyItem.decode.Goals as goal
 
-sized-none : (contents bytes mid : List ℕ) (fault : DecodeFault) → TakesBytes contents bytes mid → IsNone (λ b. TakesBody b contents []) fault → BeginsWithNone TakesSizedBody bytes fault
-sized-none contents bytes mid Malformed t none = λ b after h.
+sized-none : (profile : Profile) (contents bytes mid : List ℕ) (fault : DecodeFault) → TakesBytes contents bytes mid → IsNone (λ b. TakesBody profile b contents []) fault → BeginsWithNone (TakesSizedBody profile) bytes fault
+sized-none profile contents bytes mid Malformed t none = λ b after h.
     let u = bytes-unique h.contents contents bytes after mid h.sized t in
-    none b (subst (λ (l : List ℕ). TakesBody b l []) u.0 h.body)
-sized-none contents bytes mid NoMemory t none = tt
+    none b (subst (λ (l : List ℕ). TakesBody profile b l []) u.0 h.body)
+sized-none profile contents bytes mid NoMemory t none = tt
 
 pub returns-in_err-contents-clause-read : goal.returns-in_err-contents-clause-read
 returns-in_err-contents-clause-read c =
-    exits-as TakesBytes TakesSizedBody c.from_residual.result _ (rest c.args.cursor.now) c.in_err-contents.field-0.0 c.from_residual.ensures.1 c.in_err-contents.ensures.read
+    exits-as TakesBytes (TakesSizedBody c.args.profile) c.from_residual.result _ (rest c.args.cursor.now) c.in_err-contents.field-0.0 c.from_residual.ensures.1 c.in_err-contents.ensures.read
     (λ b after h. (h.contents, h.sized))
 
 pub returns-in_err-body-clause-read : goal.returns-in_err-body-clause-read
 returns-in_err-body-clause-read c =
     exits c.from_residual-in_err-body.result _ _ c.in_err-body.field-0.0 c.from_residual-in_err-body.ensures.1
-    (sized-none c.in_ok-contents.contents.now (rest c.args.cursor.now) (rest c.read_bytes.new.cursor) c.in_err-body.field-0.0 c.in_ok-contents.ensures.read.spelled c.in_err-body.ensures.read)
+    (sized-none c.args.profile c.in_ok-contents.contents.now (rest c.args.cursor.now) (rest c.read_bytes.new.cursor) c.in_err-body.field-0.0 c.in_ok-contents.ensures.read.spelled c.in_err-body.ensures.read)

@@ -8,6 +8,6 @@ invariant-loop g l = record {
   whole : l.cursor.whole ≡ l.initial.cursor.whole;
   forth : l.initial.cursor.place ≤ l.cursor.place;
   within : l.cursor.place ≤ length l.cursor.whole;
-  so_far : TakesEach g.T.Item.Takes (map g.T.Item.tree l.items.items) (rest l.initial.cursor) (rest l.cursor);
+  so_far : TakesEach (g.T.Item.Takes l.profile) (map g.T.Item.tree l.items.items) (rest l.initial.cursor) (rest l.cursor);
   long : length l.items.items ≡ l.counter;
 }

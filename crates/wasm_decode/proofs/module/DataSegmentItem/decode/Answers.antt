@@ -8,5 +8,5 @@ use Rattle.wasm_decode.proofs.module.DataSegmentItem.decode.Goals as goal
 
 pub returns-in_err-memory-clause-read : goal.returns-in_err-memory-clause-read
 returns-in_err-memory-clause-read c =
-    exits-as (TakesPair (TakesUnsigned 32) (TakesPair TakesExpr TakesBytes)) TakesData c.from_residual.result _ (rest c.args.cursor.now) c.in_err-memory.field-0.0 c.from_residual.ensures.1 c.in_err-memory.ensures.read
+    exits-as (TakesPair (TakesUnsigned 32) (TakesPair (TakesExpr c.args.profile) TakesBytes)) (TakesData c.args.profile) c.from_residual.result _ (rest c.args.cursor.now) c.in_err-memory.field-0.0 c.from_residual.ensures.1 c.in_err-memory.ensures.read
     (λ d after h. ((d.memory, (d.offset, d.bytes)), (h.after_memory, h.memory, (h.after_offset, h.offset, h.contents))))

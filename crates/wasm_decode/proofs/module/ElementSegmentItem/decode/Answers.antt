@@ -9,7 +9,7 @@ use Rattle.wasm_decode.proofs.module.ElementSegmentItem.decode.Goals as goal
 
 pub returns-in_err-table-clause-read : goal.returns-in_err-table-clause-read
 returns-in_err-table-clause-read c =
-    exits-as (TakesPair (TakesUnsigned 32) (TakesPair TakesExpr (TakesVec (TakesUnsigned 32)))) TakesElement c.from_residual.result _ (rest c.args.cursor.now) c.in_err-table.field-0.0 c.from_residual.ensures.1 c.in_err-table.ensures.read
+    exits-as (TakesPair (TakesUnsigned 32) (TakesPair (TakesExpr c.args.profile) (TakesVec (TakesUnsigned 32)))) (TakesElement c.args.profile) c.from_residual.result _ (rest c.args.cursor.now) c.in_err-table.field-0.0 c.from_residual.ensures.1 c.in_err-table.ensures.read
     (λ e after h. ((e.table, (e.offset, e.functions)), (h.after_table, h.table, (h.after_offset, h.offset, h.functions))))
 
 pub returns-clause-read : goal.returns-clause-read

@@ -8,5 +8,5 @@ use Rattle.wasm_decode.proofs.module.GlobalItemItem.decode.Goals as goal
 
 pub returns-in_err-global_type-clause-read : goal.returns-in_err-global_type-clause-read
 returns-in_err-global_type-clause-read c =
-    exits-as (TakesPair TakesGlobalType TakesExpr) TakesGlobal c.from_residual.result _ (rest c.args.cursor.now) c.in_err-global_type.field-0.0 c.from_residual.ensures.1 c.in_err-global_type.ensures.read
+    exits-as (TakesPair TakesGlobalType (TakesExpr c.args.profile)) (TakesGlobal c.args.profile) c.from_residual.result _ (rest c.args.cursor.now) c.in_err-global_type.field-0.0 c.from_residual.ensures.1 c.in_err-global_type.ensures.read
     (λ g after h. ((g.global_type, g.init), (h.mid, h.global_type, h.init)))
