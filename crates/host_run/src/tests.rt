@@ -1,7 +1,6 @@
 //! Whole runs over sources and sinks in memory.
 use crate::{refuse_words, serve};
 use host_edge::{Failed, Gate, MemSink, MemSource, OpenGate, Sink};
-use request_text::MOST_CALLS;
 use std::alloc::Global;
 use std::process::Abort;
 use std::sync::Wait;
@@ -714,31 +713,6 @@ fn loads_and_summaries_are_written(rt: HostRuntime) -> Result<(), Fail> {
     check_runs(&rt, rt.alloc(), &LOADS, &[])
 }
 
-#[test]
-fn words_of_make_are_refused(rt: HostRuntime) -> Result<(), Fail> {
-    let alloc = rt.alloc();
-    let rows = [
-        "poolhost make",
-        "poolhost make 1",
-        "poolhost make -1 1",
-        "poolhost make 1 0",
-        "poolhost make 1 100001",
-        "poolhost make 18446744073709551616 1",
-    ];
-    for line in rows {
-        let mut words = Vec::new(alloc);
-        for word in line.split_whitespace() {
-            words.push(word)?;
-        }
-        let mut source = MemSource::new(Vec::new(alloc), 1, vec![in alloc; 1]?);
-        let mut sink = MemSink::new(alloc, 4096, Vec::new(alloc));
-        let status = serve(&rt, alloc, &words, &mut source, &mut sink, &OpenGate);
-        assert_eq!(rt; status, 2, "at {line}");
-        assert_eq!(rt; sink.bytes(), b"refused words\n".as_slice(), "at {line}");
-    }
-    Ok(())
-}
-
 // What `poolhost make` writes, and the summary of a run on it.
 #[test]
 fn a_run_on_a_load_has_its_summary(rt: HostRuntime) -> Result<(), Fail> {
@@ -952,56 +926,5 @@ fn two_calls_run_at_the_same_time(rt: HostRuntime) -> Result<(), Fail> {
     let written = b"module bump ok\n1 ok i32:1\n2 ok i32:1\n";
     let answered = answered_beside_a_held_call(&rt, rt.alloc(), &words, BUMPS, 1, 1, written)?;
     assert_eq!(rt; answered, 2);
-    Ok(())
-}
-
-// What a run over a file with ample memory writes.
-fn answered<R: Threads + Wait + Sync>(rt: &R, alloc: Global, text: &str) -> Result<MemSink, Fail> {
-    let mut source = MemSource::new(text.as_bytes().to_vec(alloc)?, 4096, Vec::new(alloc));
-    let mut sink = MemSink::new(alloc, 65536, Vec::new(alloc));
-    let status = serve(rt, alloc, RUN, &mut source, &mut sink, &OpenGate);
-    if status == 0 {
-        Ok(sink)
-    } else {
-        Err("no report".into())
-    }
-}
-
-const MODULE: &str =
-    "0061736d0100000001070160027f7f017f030201000707010361646400000a09010700200020016a0b";
-
-#[test]
-fn as_many_calls_as_a_file_may_have_are_answered(rt: HostRuntime) -> Result<(), Fail> {
-    let alloc = rt.alloc();
-    let mut text = String::new(alloc);
-    for k in 0..4_096 {
-        write!(text, "module m{k} {MODULE}\n")?;
-    }
-    for k in 0..MOST_CALLS {
-        write!(text, "call m{} add 4 i32:{k} i32:1\n", k % 4_096)?;
-    }
-    let sink = answered(&rt, alloc, text.as_str())?;
-    assert!(rt;
-        sink.bytes()
-            .ends_with(b"\n999999 ok i32:999999\n1000000 ok i32:1000000\n")
-    );
-    Ok(())
-}
-
-// The last of a hundred parameters.
-#[test]
-fn a_hundred_arguments_are_handed_over(rt: HostRuntime) -> Result<(), Fail> {
-    let alloc = rt.alloc();
-    let mut text = String::from_str(alloc, "module last 0061736d010000000169016064")?;
-    for _ in 0..100 {
-        text.push_str("7f")?;
-    }
-    text.push_str("017f0302010007050101660000")?;
-    text.push_str("0a0601040020630b\ncall last f 1")?;
-    for k in 0..100 {
-        write!(text, " i32:{k}")?;
-    }
-    let sink = answered(&rt, alloc, text.as_str())?;
-    assert_eq!(rt; sink.bytes(), b"module last ok\n1 ok i32:99\n".as_slice());
     Ok(())
 }

@@ -1,7 +1,7 @@
 //! Runs over files, sources and sinks in memory.
 use host_edge::{MemSink, MemSource, OpenGate};
 use host_run::serve;
-use request_text::MOST_BYTES;
+use request_text::{MOST_BYTES, MOST_CALLS};
 use std::alloc::Global;
 use std::process::Abort;
 use std::sync::Wait;
@@ -541,4 +541,67 @@ fn a_file_may_be_one_line(rt: HostRuntime) -> Result<(), Fail> {
     let text = custom_section(alloc, (1 << 25) - 19)?;
     assert_eq!(rt; text.as_str().len(), MOST_BYTES);
     check(&rt, alloc, "poolhost run", text.as_str(), "module m ok\n")
+}
+
+// The last calls of a file that has as many as it may, of 4,096 modules in turn.
+#[test]
+fn as_many_calls_as_a_file_may_have_are_answered(rt: HostRuntime) -> Result<(), Fail> {
+    let alloc = rt.alloc();
+    let mut text = String::new(alloc);
+    for k in 0..4_096 {
+        write!(
+            text,
+            "module m{k} 0061736d0100000001070160027f7f017f030201000707010361646400000a09010700200020016a0b\n"
+        )?;
+    }
+    for k in 0..MOST_CALLS {
+        write!(text, "call m{} add 4 i32:{k} i32:1\n", k % 4_096)?;
+    }
+    let (status, sink) = run(&rt, alloc, "poolhost run", text.as_str(), whole(alloc))?;
+    assert_eq!(rt; status, 0);
+    assert!(rt;
+        sink.bytes()
+            .ends_with(b"\n999999 ok i32:999999\n1000000 ok i32:1000000\n")
+    );
+    Ok(())
+}
+
+// The last of a hundred parameters.
+#[test]
+fn a_hundred_arguments_are_handed_over(rt: HostRuntime) -> Result<(), Fail> {
+    let alloc = rt.alloc();
+    let mut text = String::from_str(alloc, "module last 0061736d010000000169016064")?;
+    for _ in 0..100 {
+        text.push_str("7f")?;
+    }
+    text.push_str("017f0302010007050101660000")?;
+    text.push_str("0a0601040020630b\ncall last f 1")?;
+    for k in 0..100 {
+        write!(text, " i32:{k}")?;
+    }
+    let written = "module last ok\n1 ok i32:99\n";
+    check(&rt, alloc, "poolhost run", text.as_str(), written)
+}
+
+// The source would fail if it were read.
+#[test]
+fn words_of_make_are_refused(rt: HostRuntime) -> Result<(), Fail> {
+    let alloc = rt.alloc();
+    for line in [
+        "poolhost make",
+        "poolhost make 1",
+        "poolhost make -1 1",
+        "poolhost make 1 0",
+        "poolhost make 1 100001",
+        "poolhost make 18446744073709551616 1",
+    ] {
+        let ends = Ends {
+            source: (1, vec![in alloc; 1]?),
+            sink: (4096, Vec::new(alloc)),
+        };
+        let (status, sink) = run(&rt, alloc, line, "", ends)?;
+        assert_eq!(rt; status, 2, "{line}");
+        assert_eq!(rt; sink.bytes(), b"refused words\n".as_slice(), "{line}");
+    }
+    Ok(())
 }
