@@ -85,6 +85,18 @@ def calls_with_memory(count):
     return (f"module m {BUMP}\n" + "call m bump 100\n" * count).encode()
 
 
+# It answers what it is sent.
+ECHO = (
+    "0061736d010000000112036000017f60037f7f7f017f60027f7f017f02250304686f7374036c656e000004686f737404726561640001"
+    "04686f73740577726974650002030201000503010001070501016500030a10010e004100410041001000100110020b"
+)
+
+
+def sends(count, size):
+    """So many requests of so many bytes, each of which is answered as it was sent."""
+    return (f"profile 3\nmodule m {ECHO}\n" + f"send m e 6 {'a5' * size}\n" * count).encode()
+
+
 MANY = 1_000_000
 
 NO_LOCALS = b"\x00\x0b"
@@ -176,6 +188,10 @@ GROWING = [
     ("calls of one module on four workers", calls_of_one, 1_000_000, lambda n: ["--workers", "4"]),
     ("modules of eight bytes with a call each", calls_of_each, 1_048_576, lambda n: []),
     ("bytes in one module line", one_line, 1 << 26, lambda n: []),
+    ("requests of 65,536 bytes, each answered as it was sent", lambda n: sends(n, 65_536), 500, lambda n: ["--pages", "1"]),
+    ("requests of 65,536 bytes on four workers", lambda n: sends(n, 65_536), 500,
+     lambda n: ["--pages", "1", "--workers", "4", "--memories", "5", "--instances", "5"]),
+    ("requests of one byte, each answered as it was sent", lambda n: sends(n, 1), 1_000_000, lambda n: ["--pages", "1"]),
     ("memories of one page, with 16 workers", lambda n: calls_with_memory(100_000), 1024,
      lambda n: ["--memories", str(n), "--instances", str(n), "--pages", "1", "--workers", "16"]),
 ]

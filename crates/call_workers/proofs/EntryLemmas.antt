@@ -1,5 +1,6 @@
 -- Entries, one after the other.
-use Rattle.std.proofs.Common.{◌≡◌, ◌<◌, ◌==◌, true, false, not, List, [], ◌∷◌, ◌++◌, Option, refl, ap, subst, arith, append-nil}
+use Rattle.std.proofs.Common.{◌≡◌, ◌∙◌, ℕ, ◌-◌, ◌<◌, ◌==◌, true, false, not, List, [], ◌∷◌, ◌++◌, Option, Some, Ok, Err, refl, ap, subst, arith, append-nil}
+use Rattle.std.specs.Prelude.{Result, IfOk, slice_get}
 use Rattle.std.specs.List.{All, AllZip}
 use Rattle.std.proofs.lemmas.Bool.Decides.{nat_tests}
 use Rattle.std.proofs.lemmas.List.Elements.{All-head, All-tail, filter-append}
@@ -9,7 +10,7 @@ use Rattle.pool_host.specs.declared.host.Host.{Host}
 use Rattle.pool_host.specs.declared.passes.Passes.{Passes}
 use Rattle.call_workers.specs.declared.calls.Due.{Due}
 use Rattle.call_workers.specs.declared.calls.Worked.{Worked}
-use Rattle.call_workers.specs.Entries.{IsEntry, MadeEntries, MadeEntry, Pair, called}
+use Rattle.call_workers.specs.Entries.{AreNumbered, IsAnswered, IsEntry, MadeCall, MadeEntries, MadeEntry, Pair, called}
 
 pub all_zip_append : {A B : Type 0} (R : A → B → Type 0) (xs xs' : List A) (ys ys' : List B) → AllZip R xs ys → AllZip R xs' ys' → AllZip R (xs ++ xs') (ys ++ ys')
 all_zip_append R [] xs' [] ys' h g = g
@@ -60,3 +61,15 @@ module _ (config : Numbers) (calls : List Due) where
     entries_made [] (w ∷ entries) before after h = absurd h
     entries_made (p ∷ pairs) [] before after h = absurd h
     entries_made (p ∷ pairs) (w ∷ entries) before after (middle, first, rest) = (first.entry, entries_made pairs entries middle after rest)
+
+-- what a worker made of a call of this module, if memory lasted
+pub made_entry : {N E : Type 0} (config : Numbers) (host : Host N) (calls : List Due) (number : ℕ) (due : Due) (m : Named) (before after : Passes N) (r : Result Worked E)
+    → AreNumbered calls → 0 < number → slice_get calls (number - 1) ≡ Some due → IfOk r (λ worked. worked.number ≡ due.number)
+    → IfOk r (λ worked. IsAnswered config due.invocation (Some m) worked.answer worked.bytes) → IfOk r (λ worked. MadeCall config host (Some m) worked.answer before after)
+    → IfOk r (λ worked. MadeEntry config host calls (number, Some m) worked before after)
+made_entry config host calls number due m before after (Ok worked) numbered some there is answered made =
+    let own : due.number ≡ number = let n = numbered (number - 1) due there in omega arith in record {
+      entry = record { number_is = is ∙ own; due = due; due_is = there; answered = answered };
+      call = made;
+    }
+made_entry config host calls number due m before after (Err e) numbered some there is answered made = tt

@@ -8,6 +8,8 @@ use Rattle.pool_host.specs.declared.passes.Passes.{Passes}
 use Rattle.instance_calls.specs.CallWords.{run_limits}
 use Rattle.pool_host.specs.CallWords.{IfFull, IsHostAnswer}
 use Rattle.pool_host.specs.Trails.{AddsTrails, HasCause}
+use Rattle.request_text.specs.declared.invocation.Invocation.{Invocation}
+use Rattle.request_text.specs.Invocations.{sent_by, shown_of}
 use Rattle.call_workers.specs.declared.calls.Due.{Due}
 use Rattle.call_workers.specs.declared.calls.Worked.{Worked}
 
@@ -33,18 +35,19 @@ pub record EndsAll (put : List Pair) (workers : ℕ) : Type 0 where
 abbrev pub AreNumbered : List Due → Type 0
 AreNumbered calls = (at : ℕ) (due : Due) → slice_get calls at ≡ Some due → due.number ≡ at + 1
 
--- how a call of the module is answered by a host; without a module it is not made
-abbrev pub IsAnswered : Numbers → Due → Option Named → Option Answer → Type 0
-IsAnswered config due None answer = answer ≡ None
-IsAnswered config due (Some m) None = ⊥
-IsAnswered config due (Some m) (Some answer) = IsHostAnswer m.tree (run_limits config) due.export due.args due.fuel answer
+-- how what is asked of the module is answered by a host, and what is shown of its bytes; without a module nothing is called
+abbrev pub IsAnswered : Numbers → Invocation → Option Named → Option Answer → (shown : Option (List ℕ)) → Type 0
+IsAnswered config asked None answer shown = (answer ≡ None) × (shown ≡ None)
+IsAnswered config asked (Some m) None shown = ⊥
+IsAnswered config asked (Some m) (Some answer) shown = (bytes : List ℕ)
+    × IsHostAnswer m.tree (run_limits config) asked.export asked.args (sent_by asked) asked.fuel answer bytes × (shown ≡ shown_of asked bytes)
 
 -- the entry for a pair: its number, and how the call of this number is answered
 pub record IsEntry (config : Numbers) (calls : List Due) (pair : Pair) (worked : Worked) : Type 0 where
   pub number_is : worked.number ≡ pair.0
   pub due : Due
   pub due_is : slice_get calls (pair.0 - 1) ≡ Some due
-  pub answered : IsAnswered config due pair.1 worked.answer
+  pub answered : IsAnswered config due.invocation pair.1 worked.answer worked.bytes
 
 module _ {N : Type 0} (config : Numbers) (host : Host N) where
   -- the pass was that of a call of the module, which was answered so, and Full only for its cause; without a module it is as it was

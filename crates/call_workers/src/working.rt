@@ -56,9 +56,9 @@ pub fn work<N: Naming, R: Wait, G: Gate>(
                 if number == 0 {
                     return Ok(made);
                 }
-                let worked = make(host, pass, store, number, item, calls, gate);
-                made.push_reserved(worked);
+                let worked = make(alloc, host, pass, store, number, item, calls, gate)?;
                 waits = waits.after(worked.answer);
+                made.push_reserved(worked);
                 waits.wait();
             }
         }

@@ -9,11 +9,11 @@ use Rattle.std.proofs.lemmas.List.{map-append, take_more, take_more_set}
 use Rattle.std.proofs.lemmas.List.Concat.{flat_map-append}
 use Rattle.std.proofs.lemmas.List.Elements.{All-head, All-tail}
 use Rattle.std.proofs.lemmas.List.Sums.{sum_by-cons}
-use Rattle.wasm_types.specs.declared.outcome.Val.{Val}
+use Rattle.request_text.specs.declared.invocation.Invocation.{Invocation}
 use Rattle.job_queue.specs.Boards.{IsOpen}
 use Rattle.request_text.specs.declared.request.Directive.{Directive}
 use Rattle.request_text.specs.declared.request.Directive.TheVariants.{Module, Call}
-use Rattle.request_text.specs.declared.report.CallLine.{CallLine}
+use Rattle.report_text.specs.declared.report.CallLine.{CallLine}
 use Rattle.request_text.specs.Text.{AreRequests, call_count, modules_of}
 use Rattle.call_workers.specs.declared.calls.Worked.{Worked}
 use Rattle.host_report.specs.Answers.{AreAnswers}
@@ -118,33 +118,33 @@ module _ (limits : Limits) (whole : List Directive) where
     settled_module : (name bytes : List ℕ) → d ≡ Module name bytes → SettledLeft limits whole more number board
     settled_module name bytes module_is =
         let k : SettledLeft limits whole (Module name bytes ∷ more) number board = rw (is, module_is) at h in record {
-          left = after_other limits whole rest more number (lines_on (take number board)) d is h.left (λ place export fuel args call_is. cc);
+          left = after_other limits whole rest more number (lines_on (take number board)) d is h.left (λ place invocation call_is. cc);
           count = (let f = k.count in omega (arith, call_count-module name bytes more));
           board_is = h.board_is;
           calls = k.calls;
           begun = k.begun;
         }
 
-    pub settled_other : ((place : ℕ) (export : List ℕ) (fuel : ℕ) (args : List Val) → d ≡ Call place export fuel args → ⊥) → SettledLeft limits whole more number board
-    settled_other other = elim (kind_of d) [ inl (name, bytes, module_is) ↦ settled_module name bytes module_is | inr (place, export, fuel, args, call_is) ↦ absurd (other place export fuel args call_is) ]
+    pub settled_other : ((place : ℕ) (invocation : Invocation) → d ≡ Call place invocation → ⊥) → SettledLeft limits whole more number board
+    settled_other other = elim (kind_of d) [ inl (name, bytes, module_is) ↦ settled_module name bytes module_is | inr (place, invocation, call_is) ↦ absurd (other place invocation call_is) ]
 
-    module _ (place : ℕ) (export : List ℕ) (fuel : ℕ) (args : List Val) (call_is : d ≡ Call place export fuel args) where
-      as_settled : SettledLeft limits whole (Call place export fuel args ∷ more) number board
+    module _ (place : ℕ) (invocation : Invocation) (call_is : d ≡ Call place invocation) where
+      as_settled : SettledLeft limits whole (Call place invocation ∷ more) number board
       as_settled = rw (is, call_is) at h
 
-      this_call : call_at whole number ≡ Some (Call place export fuel args)
+      this_call : call_at whole number ≡ Some (Call place invocation)
       this_call = let none : number + 0 ≡ number = omega arith in ap (call_at whole) (sym none) ∙ as_settled.calls 0
 
       pub on_board : number < length board
-      on_board = let f = as_settled.count in let m = h.board_is.many in omega (arith, call_count-call place export fuel args more)
+      on_board = let f = as_settled.count in let m = h.board_is.many in omega (arith, call_count-call place invocation more)
 
       -- the board begins with one line more
-      settled_more : (how : CallLine) (board' : Lines) → GoesAs limits (modules_of whole) place export fuel args how → IsBoard limits whole board'
+      settled_more : (how : CallLine) (board' : Lines) → GoesAs limits (modules_of whole) place invocation how → IsBoard limits whole board'
           → take (number + 1) board' ≡ take number board ++ Some how ∷ [] → SettledLeft limits whole more (number + 1) board'
       settled_more how board' goes on one_more =
           let pushed : lines_on (take (number + 1) board') ≡ lines_on (take number board) ++ how ∷ [] = ap lines_on one_more ∙ lines_on-snoc (take number board) how in record {
-            left = after_call limits whole rest more number (lines_on (take number board)) d is h.left place export fuel args call_is goes.bytes how (lines_on (take (number + 1) board')) goes.there goes.goes pushed;
-            count = (let f = as_settled.count in omega (arith, call_count-call place export fuel args more));
+            left = after_call limits whole rest more number (lines_on (take number board)) d is h.left place invocation call_is goes.bytes how (lines_on (take (number + 1) board')) goes.there goes.goes pushed;
+            count = (let f = as_settled.count in omega (arith, call_count-call place invocation more));
             board_is = on;
             calls = λ j. let shift : number + 1 + j ≡ number + suc j = omega arith in ap (call_at whole) shift ∙ as_settled.calls (suc j);
             begun = one_more ∙ (ap (λ (lines : Lines). lines ++ Some how ∷ []) h.begun ∙ sym (ap (map (λ (line : CallLine). Some line)) pushed ∙ map-append (λ (line : CallLine). Some line) (lines_on (take number board)) (how ∷ [])));
@@ -153,15 +153,15 @@ module _ (limits : Limits) (whole : List Directive) where
       -- the board has the line of this call
       pub settled_had : (line : CallLine) → slice_get board number ≡ Some (Some line) → SettledLeft limits whole more (number + 1) board
       settled_had line stands =
-          let right : GoesAs limits (modules_of whole) place export fuel args line = rw this_call at (h.board_is.right number line stands) in
+          let right : GoesAs limits (modules_of whole) place invocation line = rw this_call at (h.board_is.right number line stands) in
           let shown : get_or board number None ≡ Some line = get_or_from_slice_get board number (Some line) None stands in
           settled_more line board right h.board_is (take_more board number None on_board ∙ ap (λ (o : Option CallLine). take number board ++ o ∷ []) shown)
 
       -- it was made now
-      pub settled_made : (bytes : List ℕ) (how : CallLine) (board' : Lines) → slice_get (modules_of whole) place ≡ Some bytes → IsCallLine limits bytes export fuel args how
+      pub settled_made : (bytes : List ℕ) (how : CallLine) (board' : Lines) → slice_get (modules_of whole) place ≡ Some bytes → IsCallLine limits bytes invocation how
           → board' ≡ slice_set board number (Some how) → SettledLeft limits whole more (number + 1) board'
       settled_made bytes how board' there made collected =
-          let goes : GoesAs limits (modules_of whole) place export fuel args how = record { bytes = bytes; there = there; goes = made } in
+          let goes : GoesAs limits (modules_of whole) place invocation how = record { bytes = bytes; there = there; goes = made } in
           let line : IsLineOf limits whole number how = rw this_call goes in
           settled_more how board' goes (subst (IsBoard limits whole) (sym collected) (board_more limits whole board number how h.board_is on_board line))
           (ap (take (number + 1)) collected ∙ take_more_set board number (Some how) on_board)
@@ -180,7 +180,7 @@ pub record CollectedLeft (all rest : List Worked) (count : ℕ) (board : Lines) 
   pub counted : All (λ (one : Worked). (0 < one.number) × (one.number ≤ count)) rest
   pub once : (number : ℕ) → 0 < number → stands (slice_get board (number - 1)) + count_by (λ (one : Worked). one.number == number) rest ≤ 1
   pub lines : (at : ℕ) (line : CallLine) → slice_get board at ≡ Some (Some line) → IsOfWorked all at line
-  pub done : (place : ℕ) (one : Worked) (line : CallLine) → place + length rest < length all → slice_get all place ≡ Some one → line_of one.answer ≡ Some line
+  pub done : (place : ℕ) (one : Worked) (line : CallLine) → place + length rest < length all → slice_get all place ≡ Some one → line_of one.answer one.bytes ≡ Some line
       → slice_get board (one.number - 1) ≡ Some (Some line)
 
 got_none : (n i : ℕ) (line : CallLine) → slice_get (replicate n None) i ≡ Some (Some line) → ⊥
@@ -251,7 +251,7 @@ module _ (all rest more : List Worked) (count : ℕ) (board : Lines) (one : Work
       (λ (apart : at ≢ place). inl (omega arith))
       (cases_eq at place)
 
-  pub collected_none : (place : ℕ) → place + length rest ≡ length all → slice_get all place ≡ Some one → line_of one.answer ≡ None → CollectedLeft all more count board
+  pub collected_none : (place : ℕ) → place + length rest ≡ length all → slice_get all place ≡ Some one → line_of one.answer one.bytes ≡ None → CollectedLeft all more count board
   collected_none place this one_is no_line = record {
     many = h.many;
     counted = others;
@@ -262,7 +262,7 @@ module _ (all rest more : List Worked) (count : ℕ) (board : Lines) (one : Work
         (λ (same : at ≡ place).
         let both : Some w ≡ Some one = sym w_is ∙ (ap (slice_get all) same ∙ one_is) in
         let this_one : w ≡ one = cc in
-        let clash : Some line ≡ None = sym line_is ∙ (ap (λ (x : Worked). line_of x.answer) this_one ∙ no_line) in cc)
+        let clash : Some line ≡ None = sym line_is ∙ (ap (λ (x : Worked). line_of x.answer x.bytes) this_one ∙ no_line) in cc)
         (before_or_here place at this within);
   }
 
@@ -273,7 +273,7 @@ module _ (all rest more : List Worked) (count : ℕ) (board : Lines) (one : Work
       (λ (apart : one.number - 1 ≢ at). got_set_other board (one.number - 1) at (Some line) apart ∙ stood)
       (cases_eq (one.number - 1) at)
 
-  pub collected_more : (place : ℕ) (line : CallLine) (board' : Lines) → place + length rest ≡ length all → slice_get all place ≡ Some one → line_of one.answer ≡ Some line
+  pub collected_more : (place : ℕ) (line : CallLine) (board' : Lines) → place + length rest ≡ length all → slice_get all place ≡ Some one → line_of one.answer one.bytes ≡ Some line
       → board' ≡ slice_set board (one.number - 1) (Some line) → CollectedLeft all more count board'
   collected_more place line board' this one_is line_is set_is =
       let within : one.number - 1 < length board = let f = first in let m = here.many in omega (arith, f.0, f.1) in
@@ -305,20 +305,21 @@ module _ (all rest more : List Worked) (count : ℕ) (board : Lines) (one : Work
             (λ (same : at ≡ place).
             let both : Some w ≡ Some one = sym w_is ∙ (ap (slice_get all) same ∙ one_is) in
             let this_one : w ≡ one = cc in
-            let lines_same : Some line ≡ Some line' = sym line_is ∙ (ap (λ (x : Worked). line_of x.answer) (sym this_one) ∙ line'_is) in
+            let lines_same : Some line ≡ Some line' = sym line_is ∙ (ap (λ (x : Worked). line_of x.answer x.bytes) (sym this_one) ∙ line'_is) in
             ap (λ (x : Worked). slice_get (slice_set board (one.number - 1) (Some line)) (x.number - 1)) this_one ∙ (got_set_same board (one.number - 1) (Some line) within ∙ ap (λ (o : Option CallLine). Some o) lines_same))
             (before_or_here place at this before);
       })
 
-  by_line : (place : ℕ) (board' : Lines) → place + length rest ≡ length all → slice_get all place ≡ Some one → (o : Option CallLine) → line_of one.answer ≡ o
+  by_line : (place : ℕ) (board' : Lines) → place + length rest ≡ length all → slice_get all place ≡ Some one → (o : Option CallLine) → line_of one.answer one.bytes ≡ o
       → MatchOption o (board' ≡ board) (λ line. board' ≡ slice_set board (one.number - 1) (Some line)) → CollectedLeft all more count board'
   by_line place board' this one_is None line_is same = subst (CollectedLeft all more count) (sym same) (collected_none place this one_is line_is)
   by_line place board' this one_is (Some line) line_is set_is = collected_more place line board' this one_is line_is set_is
 
   pub collected_next : (place : ℕ) (board' : Lines) → place + length rest ≡ length all → slice_get all place ≡ Some one
-      → MatchOption (line_of one.answer) (board' ≡ board) (λ line. board' ≡ slice_set board (one.number - 1) (Some line)) → CollectedLeft all more count board'
-  collected_next place board' this one_is same = by_line place board' this one_is (line_of one.answer) refl same
+      → MatchOption (line_of one.answer one.bytes) (board' ≡ board) (λ line. board' ≡ slice_set board (one.number - 1) (Some line)) → CollectedLeft all more count board'
+  collected_next place board' this one_is same = by_line place board' this one_is (line_of one.answer one.bytes) refl same
 
--- the first of the entries that are left
-pub next_worked : (all : List Worked) (i : ℕ) (d : Worked) → i < length all → drop i all ≡ get_or all i d ∷ drop (i + 1) all
-next_worked all i d lt = let next : suc i ≡ i + 1 = omega arith in drop-cons all i d lt ∙ ap (λ (k : ℕ). get_or all i d ∷ drop k all) next
+-- what stands behind others
+pub got_behind : {A : Type 0} (xs ys : List A) (x : A) → slice_get (xs ++ x ∷ ys) (length xs) ≡ Some x
+got_behind [] ys x = refl
+got_behind (y ∷ xs) ys x = got_behind xs ys x

@@ -2,16 +2,17 @@
 use Rattle.std.proofs.Common.{◌≡◌, ◌⊎◌, inl, inr, ℕ, zero, suc, ◌+◌, ◌<◌, ◌≤◌, List, [], ◌∷◌, ◌++◌, Some, Ok, Err, length, get_or, drop, refl, sym, ap, ◌∙◌, subst, arith, append_assoc, append-nil, drop-cons, cond}
 use Rattle.std.proofs.lemmas.List.Sums.{sum_by-cons}
 use Rattle.std.specs.Prelude.{slice_get}
-use Rattle.wasm_types.specs.declared.outcome.Val.{Val}
+use Rattle.request_text.specs.declared.invocation.Invocation.{Invocation}
 use Rattle.pool_host.specs.declared.lane.LaneAnswer.{LaneAnswer}
 use Rattle.pool_worlds.specs.Contents.{Named}
 use Rattle.pool_host.specs.CallWords.{IsAnswer}
 use Rattle.request_text.specs.declared.request.Directive.{Directive}
 use Rattle.request_text.specs.declared.request.Directive.TheVariants.{Module, Call}
 use Rattle.request_text.specs.declared.request.TheConstants.{MOST_CALLS}
-use Rattle.request_text.specs.declared.report.ModuleLine.{ModuleLine}
-use Rattle.request_text.specs.declared.report.CallLine.{CallLine}
-use Rattle.request_text.specs.declared.report.CallLine.TheVariants as call_line
+use Rattle.report_text.specs.declared.report.ModuleLine.{ModuleLine}
+use Rattle.report_text.specs.declared.report.CallLine.{CallLine}
+use Rattle.report_text.specs.declared.report.CallLine.TheVariants as call_line
+use Rattle.request_text.specs.Invocations.{sent_by, shown_of}
 use Rattle.request_text.specs.Text.{IsPlacedFrom, call_count, is_call, modules_of}
 use Rattle.host_report.specs.Answers.{AreAnswers}
 use Rattle.host_report.specs.Report.{Limits, IsCallLine, answer_line, run_limits}
@@ -19,14 +20,14 @@ use Rattle.host_report.specs.Entries.{AreEntries, Entry, IsEntry}
 use Rattle.host_report.proofs.EntryLemmas.{entry_there, length-entries}
 
 module _ (limits : Limits) (bytes : List ℕ) (e : Entry) where
-  pub accepted_call : (named : Named) (export : List ℕ) (fuel : ℕ) (args : List Val) (a : LaneAnswer) (line : CallLine) → e ≡ Ok named → IsEntry limits bytes e
-      → IsAnswer named.tree (run_limits limits) export args fuel a → line ≡ answer_line a → IsCallLine limits bytes export fuel args line
-  accepted_call named export fuel args a line is h answer shows =
+  pub accepted_call : (named : Named) (invocation : Invocation) (a : LaneAnswer) (said : List ℕ) (line : CallLine) → e ≡ Ok named → IsEntry limits bytes e
+      → IsAnswer named.tree (run_limits limits) invocation.export invocation.args (sent_by invocation) invocation.fuel a said → line ≡ answer_line a (shown_of invocation said) → IsCallLine limits bytes invocation line
+  accepted_call named invocation a said line is h answer shows =
       let k : IsEntry limits bytes (Ok named) = rw is at h in
-      record { loaded = Ok named.tree; loads = k; shows = (a, answer, shows) }
+      record { loaded = Ok named.tree; loads = k; shows = (a, said, answer, shows) }
 
-  pub refused_call : (line : ModuleLine) (export : List ℕ) (fuel : ℕ) (args : List Val) → e ≡ Err line → IsEntry limits bytes e → IsCallLine limits bytes export fuel args call_line.NoModule
-  refused_call line export fuel args is h =
+  pub refused_call : (line : ModuleLine) (invocation : Invocation) → e ≡ Err line → IsEntry limits bytes e → IsCallLine limits bytes invocation call_line.NoModule
+  refused_call line invocation is h =
       let k : IsEntry limits bytes (Err line) = rw is at h in
       record { loaded = Err k.0; loads = k.1; shows = refl }
 
@@ -40,21 +41,21 @@ pub call_count-module : (name bytes : List ℕ) (ds : List Directive) → call_c
 call_count-module name bytes ds =
     let count : call_count (Module name bytes ∷ ds) ≡ 0 + call_count ds = sum_by-cons (λ x. cond (is_call x) 1 0) (Module name bytes) ds in omega arith
 
-pub call_count-call : (place : ℕ) (export : List ℕ) (fuel : ℕ) (args : List Val) (ds : List Directive) → call_count (Call place export fuel args ∷ ds) ≡ 1 + call_count ds
-call_count-call place export fuel args ds = sum_by-cons (λ x. cond (is_call x) 1 0) (Call place export fuel args) ds
+pub call_count-call : (place : ℕ) (invocation : Invocation) (ds : List Directive) → call_count (Call place invocation ∷ ds) ≡ 1 + call_count ds
+call_count-call place invocation ds = sum_by-cons (λ x. cond (is_call x) 1 0) (Call place invocation) ds
 
 -- each call's module is one of so many
 abbrev pub ArePlacedBelow : ℕ → List Directive → Type 0
 ArePlacedBelow n [] = Unit {0}
 ArePlacedBelow n (Module name bytes ∷ rest) = ArePlacedBelow n rest
-ArePlacedBelow n (Call place export fuel args ∷ rest) = (place < n) × ArePlacedBelow n rest
+ArePlacedBelow n (Call place invocation ∷ rest) = (place < n) × ArePlacedBelow n rest
 
 pub placed_below : (ds : List Directive) (m n : ℕ) → IsPlacedFrom m ds → m + length (modules_of ds) ≤ n → ArePlacedBelow n ds
 placed_below [] m n placed le = tt
 placed_below (Module name bytes ∷ ds) m n placed le =
     let more : length (modules_of (Module name bytes ∷ ds)) ≡ suc (length (modules_of ds)) = refl in
     placed_below ds (m + 1) n placed (omega arith)
-placed_below (Call place export fuel args ∷ ds) m n placed le = (let p : place < m = placed.0 in omega arith, placed_below ds m n placed.1 le)
+placed_below (Call place invocation ∷ ds) m n placed le = (let p : place < m = placed.0 in omega arith, placed_below ds m n placed.1 le)
 
 pub element_below : (modules : List (List ℕ)) (i : ℕ) → i < length modules → (b : List ℕ) × (slice_get modules i ≡ Some b)
 element_below [] i lt = absurd (omega arith)
@@ -62,9 +63,9 @@ element_below (b ∷ modules) zero lt = (b, refl)
 element_below (b ∷ modules) (suc i) lt = element_below modules i (omega arith)
 
 pub kind_of : (d : Directive) → ((name : List ℕ) × (bytes : List ℕ) × (d ≡ Module name bytes))
-    ⊎ ((place : ℕ) × (export : List ℕ) × (fuel : ℕ) × (args : List Val) × (d ≡ Call place export fuel args))
+    ⊎ ((place : ℕ) × (invocation : Invocation) × (d ≡ Call place invocation))
 kind_of (Module name bytes) = inl (name, bytes, refl)
-kind_of (Call place export fuel args) = inr (place, export, fuel, args, refl)
+kind_of (Call place invocation) = inr (place, invocation, refl)
 
 -- So many calls have been made, and these are their answers: whatever are the answers of the calls that are left completes
 -- them.
@@ -88,15 +89,15 @@ module _ (limits : Limits) (whole : List Directive) where
         let k : CallsLeft limits whole (Module name bytes ∷ more) number answers = rw (is, module_is) at h in
         record { placed = k.placed; few = (let f = k.few in omega (arith, call_count-module name bytes more)); completes = k.completes }
 
-    pub after_other : ((place : ℕ) (export : List ℕ) (fuel : ℕ) (args : List Val) → d ≡ Call place export fuel args → ⊥) → CallsLeft limits whole more number answers
-    after_other other = elim (kind_of d) [ inl (name, bytes, module_is) ↦ after_module name bytes module_is | inr (place, export, fuel, args, call_is) ↦ absurd (other place export fuel args call_is) ]
+    pub after_other : ((place : ℕ) (invocation : Invocation) → d ≡ Call place invocation → ⊥) → CallsLeft limits whole more number answers
+    after_other other = elim (kind_of d) [ inl (name, bytes, module_is) ↦ after_module name bytes module_is | inr (place, invocation, call_is) ↦ absurd (other place invocation call_is) ]
 
-    module _ (place : ℕ) (export : List ℕ) (fuel : ℕ) (args : List Val) (call_is : d ≡ Call place export fuel args) where
-      as_call : CallsLeft limits whole (Call place export fuel args ∷ more) number answers
+    module _ (place : ℕ) (invocation : Invocation) (call_is : d ≡ Call place invocation) where
+      as_call : CallsLeft limits whole (Call place invocation ∷ more) number answers
       as_call = rw (is, call_is) at h
 
       pub few_calls : number < MOST_CALLS
-      few_calls = let f = as_call.few in omega (arith, call_count-call place export fuel args more)
+      few_calls = let f = as_call.few in omega (arith, call_count-call place invocation more)
 
       pub called_module : (b : List ℕ) × (slice_get (modules_of whole) place ≡ Some b)
       called_module = element_below (modules_of whole) place as_call.placed.0
@@ -105,11 +106,11 @@ module _ (limits : Limits) (whole : List Directive) where
       entry_below entries are = let p : place < length (modules_of whole) = as_call.placed.0 in omega (arith, length-entries limits (modules_of whole) entries are)
 
       pub after_call : (bytes : List ℕ) (how : CallLine) (answers' : List CallLine) → slice_get (modules_of whole) place ≡ Some bytes
-          → IsCallLine limits bytes export fuel args how → answers' ≡ answers ++ how ∷ [] → CallsLeft limits whole more (number + 1) answers'
+          → IsCallLine limits bytes invocation how → answers' ≡ answers ++ how ∷ [] → CallsLeft limits whole more (number + 1) answers'
       after_call bytes how answers' there goes is' =
           let k = as_call in
           record {
             placed = k.placed.1;
-            few = (let f = k.few in omega (arith, call_count-call place export fuel args more));
+            few = (let f = k.few in omega (arith, call_count-call place invocation more));
             completes = λ others g. rw (is', append_assoc) (k.completes (how ∷ others) (record { bytes = bytes; there = there; goes = goes }, g));
           }

@@ -13,7 +13,7 @@ use Rattle.module_store.specs.declared.fault.LoadFault.{LoadFault}
 use Rattle.module_store.specs.declared.fault.LoadFault.TheVariants as fault
 use Rattle.request_text.specs.declared.request.Directive.{Directive}
 use Rattle.request_text.specs.declared.request.Directive.TheVariants.{Module, Call}
-use Rattle.request_text.specs.declared.report.ModuleLine.TheVariants as module_line
+use Rattle.report_text.specs.declared.report.ModuleLine.TheVariants as module_line
 use Rattle.request_text.specs.Text.{module_names, modules_of}
 use Rattle.module_store.specs.declared.desk.TheConstants.{MOST_MODULES}
 use Rattle.host_report.specs.Report.{Limits, IsModuleLine, load_limits}

@@ -1,14 +1,14 @@
 -- The lane makes the calls of which the board has no line, one after the other.
 use Rattle.std.proofs.Common.{◌≡◌, ◌≢◌, ℕ, ◌+◌, ◌<◌, ◌≤◌, List, [], ◌∷◌, Option, Some, None, inl, inr, refl, sym, ap, ◌∙◌, subst, arith}
 use Rattle.std.specs.Prelude.{slice_get, slice_set}
-use Rattle.wasm_types.specs.declared.outcome.Val.{Val}
+use Rattle.request_text.specs.declared.invocation.Invocation.{Invocation}
 use Rattle.pool_limits.specs.declared.numbers.Numbers.{Numbers}
 use Rattle.pool_worlds.specs.Contents.{Named}
 use Rattle.pool_host.specs.declared.host.Host.{Host}
 use Rattle.pool_host.specs.declared.passes.Passes.{Passes}
 use Rattle.request_text.specs.declared.request.Directive.{Directive}
 use Rattle.request_text.specs.declared.request.Directive.TheVariants.{Module, Call}
-use Rattle.request_text.specs.declared.report.CallLine.{CallLine}
+use Rattle.report_text.specs.declared.report.CallLine.{CallLine}
 use Rattle.host_report.specs.Entries.{Entry}
 use Rattle.host_report.specs.Left.{MadeLeft, MadeOnLane}
 use Rattle.host_report.specs.Put.{module_at}
@@ -37,10 +37,10 @@ module _ {N : Type 0} (config : Numbers) (lane : Host N) (entries : List Entry) 
       left_module : (name bytes : List ℕ) → d ≡ Module name bytes → LeftSoFar config lane entries whole more number first board before now
       left_module name bytes module_is = record { slots = h.slots; completes = λ after g. h.completes after (rw (is, module_is) g) }
 
-      pub left_other : ((place : ℕ) (export : List ℕ) (fuel : ℕ) (args : List Val) → d ≡ Call place export fuel args → ⊥) → LeftSoFar config lane entries whole more number first board before now
-      left_other other = elim (kind_of d) [ inl (name, bytes, module_is) ↦ left_module name bytes module_is | inr (place, export, fuel, args, call_is) ↦ absurd (other place export fuel args call_is) ]
+      pub left_other : ((place : ℕ) (invocation : Invocation) → d ≡ Call place invocation → ⊥) → LeftSoFar config lane entries whole more number first board before now
+      left_other other = elim (kind_of d) [ inl (name, bytes, module_is) ↦ left_module name bytes module_is | inr (place, invocation, call_is) ↦ absurd (other place invocation call_is) ]
 
-      module _ (place : ℕ) (export : List ℕ) (fuel : ℕ) (args : List Val) (call_is : d ≡ Call place export fuel args) where
+      module _ (place : ℕ) (invocation : Invocation) (call_is : d ≡ Call place invocation) where
         had : slice_get board number ≡ slice_get first number
         had = h.slots number (omega arith)
 

@@ -4,6 +4,7 @@ use Rattle.wasm_types.specs.declared.limits.LoadLimits.{LoadLimits}
 use Rattle.std.proofs.Common.{◌≡◌, ℕ, zero, suc, ◌+◌, List, [], ◌∷◌, Some, Ok, Err, take, sym, ap, ◌∙◌, subst, arith}
 use Rattle.std.specs.Prelude.{Result, slice_get}
 use Rattle.wasm_types.specs.declared.outcome.Val.{Val}
+use Rattle.request_text.specs.declared.invocation.Invocation.{Invocation}
 use Rattle.wasm_types.specs.declared.profile.Profile.{Profile}
 use Rattle.wasm_types.specs.Tree.{ModuleTree}
 use Rattle.wasm_spec.specs.Loading.{Loads, Refusal}
@@ -13,10 +14,11 @@ use Rattle.pool_host.specs.declared.lane.LaneAnswer.{LaneAnswer}
 use Rattle.pool_host.specs.CallWords.{IsAnswer}
 use Rattle.request_text.specs.declared.request.Directive.{Directive}
 use Rattle.request_text.specs.declared.request.Directive.TheVariants.{Module, Call}
-use Rattle.request_text.specs.declared.report.CallLine.{CallLine}
-use Rattle.request_text.specs.declared.report.ModuleLine.{ModuleLine}
-use Rattle.request_text.specs.declared.report.ReportLine.{ReportLine}
-use Rattle.request_text.specs.declared.report.ReportLine.TheVariants as report
+use Rattle.report_text.specs.declared.report.CallLine.{CallLine}
+use Rattle.report_text.specs.declared.report.ModuleLine.{ModuleLine}
+use Rattle.report_text.specs.declared.report.ReportLine.{ReportLine}
+use Rattle.report_text.specs.declared.report.ReportLine.TheVariants as report
+use Rattle.request_text.specs.Invocations.{sent_by, shown_of}
 use Rattle.request_text.specs.Text.{call_count, modules_of}
 use Rattle.host_report.specs.Report.{AreLines, IsCallLine, IsLine, IsModuleLine, Limits, ShowsCall, answer_line, load_limits, loading_line, next_number, run_limits}
 use Rattle.host_report.proofs.CallLemmas.{call_count-call, call_count-module}
@@ -29,8 +31,8 @@ abbrev pub LoadsWithin : Type 0
 LoadsWithin = (profile : Profile) (bytes : List ℕ) (limits : LoadLimits) (m : ModuleTree) → Loads profile bytes limits (Ok m) → IsWithin limits m
 
 abbrev pub AnswersOnce : Type 0
-AnswersOnce = (m : ModuleTree) (limits : RunLimits) (export : List ℕ) (args : List Val) (fuel : ℕ) (a b : LaneAnswer) → IsValid m
-    → IsAnswer m limits export args fuel a → IsAnswer m limits export args fuel b → a ≡ b
+AnswersOnce = (m : ModuleTree) (limits : RunLimits) (export : List ℕ) (args : List Val) (request : List ℕ) (fuel : ℕ) (a b : LaneAnswer) (x y : List ℕ) → IsValid m
+    → IsAnswer m limits export args request fuel a x → IsAnswer m limits export args request fuel b y → (a ≡ b) × (x ≡ y)
 
 pub one_module_line : LoadsOnce → (limits : Limits) (bytes : List ℕ) (a b : ModuleLine) → IsModuleLine limits bytes a → IsModuleLine limits bytes b → a ≡ b
 one_module_line one_load limits bytes a b h g =
@@ -38,26 +40,27 @@ one_module_line one_load limits bytes a b h g =
     h.shows ∙ ap loading_line same ∙ sym g.shows
 
 module _ (one_load : LoadsOnce) (within : LoadsWithin) (one_answer : AnswersOnce) where
-  shown_once : (limits : Limits) (bytes export : List ℕ) (fuel : ℕ) (args : List Val) (loaded : Result ModuleTree Refusal) (a b : CallLine)
-      → Loads limits.profile bytes (load_limits limits) loaded → ShowsCall limits loaded export fuel args a → ShowsCall limits loaded export fuel args b → a ≡ b
-  shown_once limits bytes export fuel args (Err why) a b loads h g = h ∙ sym g
-  shown_once limits bytes export fuel args (Ok m) a b loads (p, answer, is) (q, answer', is') =
-      is ∙ ap answer_line (one_answer m (run_limits limits) export args fuel p q (within limits.profile bytes (load_limits limits) m loads).valid answer answer') ∙ sym is'
+  shown_once : (limits : Limits) (bytes : List ℕ) (invocation : Invocation) (loaded : Result ModuleTree Refusal) (a b : CallLine)
+      → Loads limits.profile bytes (load_limits limits) loaded → ShowsCall limits loaded invocation a → ShowsCall limits loaded invocation b → a ≡ b
+  shown_once limits bytes invocation (Err why) a b loads h g = h ∙ sym g
+  shown_once limits bytes asked (Ok m) a b loads (p, x, answer, is) (q, y, answer', is') =
+      let (same, bytes_same) = one_answer m (run_limits limits) asked.export asked.args (sent_by asked) asked.fuel p q x y (within limits.profile bytes (load_limits limits) m loads).valid answer answer' in
+      is ∙ ap (λ (l : LaneAnswer). answer_line l (shown_of asked x)) same ∙ ap (λ (s : List ℕ). answer_line q (shown_of asked s)) bytes_same ∙ sym is'
 
-  pub one_call_line : (limits : Limits) (bytes export : List ℕ) (fuel : ℕ) (args : List Val) (a b : CallLine)
-      → IsCallLine limits bytes export fuel args a → IsCallLine limits bytes export fuel args b → a ≡ b
-  one_call_line limits bytes export fuel args a b h g =
+  pub one_call_line : (limits : Limits) (bytes : List ℕ) (invocation : Invocation) (a b : CallLine)
+      → IsCallLine limits bytes invocation a → IsCallLine limits bytes invocation b → a ≡ b
+  one_call_line limits bytes invocation a b h g =
       let same : g.loaded ≡ h.loaded = one_load limits.profile bytes (load_limits limits) g.loaded h.loaded g.loads h.loads in
-      shown_once limits bytes export fuel args h.loaded a b h.loads h.shows (subst (λ (r : Result ModuleTree Refusal). ShowsCall limits r export fuel args b) same g.shows)
+      shown_once limits bytes invocation h.loaded a b h.loads h.shows (subst (λ (r : Result ModuleTree Refusal). ShowsCall limits r invocation b) same g.shows)
 
   one_line : (limits : Limits) (modules : List (List ℕ)) (number : ℕ) (d : Directive) (a b : ReportLine) → IsLine limits modules number d a → IsLine limits modules number d b → a ≡ b
   one_line limits modules number (Module name bytes) a b (how, told, is) (how', told', is') =
       is ∙ ap (λ (l : ModuleLine). report.Module name l) (one_module_line one_load limits bytes how how' told told') ∙ sym is'
-  one_line limits modules number (Call place export fuel args) a b (how, goes, is) (how', goes', is') =
+  one_line limits modules number (Call place invocation) a b (how, goes, is) (how', goes', is') =
       let both : Some goes'.bytes ≡ Some goes.bytes = sym goes'.there ∙ goes.there in
       let same : goes'.bytes ≡ goes.bytes = cc in
       is
-      ∙ ap (λ (l : CallLine). report.Call number l) (one_call_line limits goes.bytes export fuel args how how' goes.goes (subst (λ (m : List ℕ). IsCallLine limits m export fuel args how') same goes'.goes))
+      ∙ ap (λ (l : CallLine). report.Call number l) (one_call_line limits goes.bytes invocation how how' goes.goes (subst (λ (m : List ℕ). IsCallLine limits m invocation how') same goes'.goes))
       ∙ sym is'
 
   pub one_report : (limits : Limits) (modules : List (List ℕ)) (requests : List Directive) (number : ℕ) (a b : List ReportLine)
@@ -73,22 +76,22 @@ module _ (one_load : LoadsOnce) (within : LoadsWithin) (one_answer : AnswersOnce
 
 next_count : (number : ℕ) (d : Directive) (ds : List Directive) → next_number number d + call_count ds ≡ number + call_count (d ∷ ds)
 next_count number (Module name bytes) ds = omega (arith, call_count-module name bytes ds)
-next_count number (Call place export fuel args) ds = omega (arith, call_count-call place export fuel args ds)
+next_count number (Call place invocation) ds = omega (arith, call_count-call place invocation ds)
 
-module _ (limits : Limits) (modules : List (List ℕ)) (bytes export : List ℕ) (fuel : ℕ) (args : List Val) where
-  pub line_at : (ds : List Directive) (at number place : ℕ) (lines : List ReportLine) → AreLines limits modules number ds lines → slice_get ds at ≡ Some (Call place export fuel args)
+module _ (limits : Limits) (modules : List (List ℕ)) (bytes : List ℕ) (invocation : Invocation) where
+  pub line_at : (ds : List Directive) (at number place : ℕ) (lines : List ReportLine) → AreLines limits modules number ds lines → slice_get ds at ≡ Some (Call place invocation)
       → slice_get modules place ≡ Some bytes
-      → (how : CallLine) × IsCallLine limits bytes export fuel args how × (slice_get lines at ≡ Some (report.Call (number + call_count (take at ds)) how))
+      → (how : CallLine) × IsCallLine limits bytes invocation how × (slice_get lines at ≡ Some (report.Call (number + call_count (take at ds)) how))
   line_at [] at number place lines h got there = cc
   line_at (d ∷ ds) at number place [] h got there = absurd h
   line_at (d ∷ ds) zero number place (line ∷ lines) h got there =
-      let call : d ≡ Call place export fuel args = cc in
+      let call : d ≡ Call place invocation = cc in
       let (how, goes, is) = subst (λ (x : Directive). IsLine limits modules number x line) call h.0 in
       let both : Some goes.bytes ≡ Some bytes = sym goes.there ∙ there in
       let same : goes.bytes ≡ bytes = cc in
       let none : number ≡ number + 0 = omega arith in (
         how,
-        subst (λ (b : List ℕ). IsCallLine limits b export fuel args how) same goes.goes,
+        subst (λ (b : List ℕ). IsCallLine limits b invocation how) same goes.goes,
         ap (λ (l : ReportLine). Some l) is ∙ ap (λ (n : ℕ). Some (report.Call n how)) none,
       )
   line_at (d ∷ ds) (suc at) number place (line ∷ lines) h got there =

@@ -1,20 +1,22 @@
 -- The lines of a report, one after the other.
-use Rattle.std.proofs.Common.{◌≡◌, ℕ, zero, suc, ◌+◌, ◌<◌, ◌≤◌, List, [], ◌∷◌, ◌++◌, Option, Some, length, map, drop, refl, sym, ap, ◌∙◌, subst, arith, append_assoc, append-nil, drop-cons, length-drop}
+use Rattle.std.proofs.Common.{◌≡◌, ℕ, zero, suc, ◌+◌, ◌<◌, ◌≤◌, List, [], ◌∷◌, ◌++◌, Option, None, Some, length, map, drop, refl, sym, ap, ◌∙◌, subst, arith, append_assoc, append-nil, drop-cons, length-drop}
 use Rattle.std.proofs.lemmas.Option.{get_or_from_slice_get, slice_get_within}
 use Rattle.std.specs.Prelude.{slice_get}
-use Rattle.wasm_types.specs.declared.outcome.Val.{Val}
+use Rattle.request_text.specs.declared.invocation.Invocation.{Invocation}
 use Rattle.request_text.specs.declared.request.Directive.{Directive}
 use Rattle.request_text.specs.declared.request.Directive.TheVariants.{Module, Call}
 use Rattle.request_text.specs.declared.request.TheConstants.{MOST_CALLS}
-use Rattle.request_text.specs.declared.report.CallLine.{CallLine}
-use Rattle.request_text.specs.declared.report.ReportLine.{ReportLine}
+use Rattle.report_text.specs.declared.report.CallLine.{CallLine}
+use Rattle.report_text.specs.declared.report.ReportLine.{ReportLine}
 use Rattle.request_text.specs.Text.{call_count, modules_of}
 use Rattle.host_report.specs.Answers.{AreAnswers}
 use Rattle.host_report.specs.Collected.{AreCollected}
 use Rattle.host_report.specs.Report.{AreLines, Limits}
 use Rattle.host_report.specs.Entries.{AreEntries, Entry, IsEntry, entry_line}
-use Rattle.host_report.specs.Lines.{HasSource, ShowsNext, counts_after}
+use Rattle.host_report.specs.Lines.{HasSource, ShowsNext, board_after, counts_after}
 use Rattle.host_report.specs.declared.reporting.Counts.{Counts}
+use Rattle.report_text.specs.declared.report.ReportLine.TheVariants as report
+use Rattle.host_report.proofs.BoardLemmas.{got_set_other}
 use Rattle.host_report.proofs.CallLemmas.{call_count-call, call_count-module}
 use Rattle.host_report.proofs.EntryLemmas.{entry_told}
 
@@ -30,78 +32,94 @@ some_entries : (limits : Limits) (bytes : List ℕ) (modules : List (List ℕ)) 
 some_entries limits bytes modules [] h = absurd h
 some_entries limits bytes modules (e ∷ entries) h = omega arith
 
-some_answers : (limits : Limits) (modules : List (List ℕ)) (place : ℕ) (export : List ℕ) (fuel : ℕ) (args : List Val) (ds : List Directive) (answers : List CallLine)
-    → AreAnswers limits modules (Call place export fuel args ∷ ds) answers → 0 < length answers
-some_answers limits modules place export fuel args ds [] h = absurd h
-some_answers limits modules place export fuel args ds (how ∷ answers) h = omega arith
+some_answers : (limits : Limits) (modules : List (List ℕ)) (place : ℕ) (invocation : Invocation) (ds : List Directive) (answers : List CallLine)
+    → AreAnswers limits modules (Call place invocation ∷ ds) answers → 0 < length answers
+some_answers limits modules place invocation ds [] h = absurd h
+some_answers limits modules place invocation ds (how ∷ answers) h = omega arith
 
--- each line of a board that has all
-pub collected_at : (board : List (Option CallLine)) (lines : List CallLine) (i : ℕ) → AreCollected board lines → i < length lines
-    → (line : CallLine) × (slice_get board i ≡ Some (Some line)) × (slice_get lines i ≡ Some line)
-collected_at board [] i all within = absurd (omega arith)
-collected_at board (line ∷ lines) zero all within = (line, ap (λ (b : List (Option CallLine)). slice_get b 0) all, refl)
-collected_at board (line ∷ lines) (suc i) all within =
-    let (this, on_board, in_lines) = collected_at (map (λ (l : CallLine). Some l) lines) lines i refl (omega arith) in
-    (this, ap (λ (b : List (Option CallLine)). slice_get b (suc i)) all ∙ on_board, in_lines)
+-- each of these lines on a board that has all
+lines_at : (lines : List CallLine) (i : ℕ) → i < length lines → (line : CallLine) × (slice_get (map (λ (l : CallLine). Some l) lines) i ≡ Some (Some line)) × (slice_get lines i ≡ Some line)
+lines_at [] i within = absurd (omega arith)
+lines_at (line ∷ lines) zero within = (line, refl, refl)
+lines_at (line ∷ lines) (suc i) within = lines_at lines i (omega arith)
+
+abbrev Lines : Type 0
+Lines = List (Option CallLine)
 
 -- So many module lines and calls have been reported on by these lines: whatever are the lines of the directives that are
--- left completes them.
-pub record LinesLeft (limits : Limits) (whole rest : List Directive) (entries : List Entry) (answers : List CallLine) (counts : Counts) (lines : List ReportLine) : Type 0 where
+-- left completes them. The lines of the calls that are left stand on the board.
+pub record LinesLeft (limits : Limits) (whole rest : List Directive) (entries : List Entry) (answers : List CallLine) (board : Lines) (counts : Counts) (lines : List ReportLine) : Type 0 where
   pub entries_left : AreEntries limits (modules_of rest) (drop counts.modules entries)
   pub answers_left : AreAnswers limits (modules_of whole) rest (drop counts.calls answers)
+  pub on_board : (j : ℕ) → counts.calls ≤ j → slice_get board j ≡ slice_get (map (λ (l : CallLine). Some l) answers) j
   pub few : counts.calls + call_count rest ≤ MOST_CALLS
   pub completes : (more : List ReportLine) → AreLines limits (modules_of whole) (counts.calls + 1) rest more → AreLines limits (modules_of whole) 1 whole (lines ++ more)
 
 module _ (limits : Limits) (whole : List Directive) (entries : List Entry) (answers : List CallLine) where
-  pub lines_begin : AreEntries limits (modules_of whole) entries → AreAnswers limits (modules_of whole) whole answers → call_count whole ≤ MOST_CALLS
-      → LinesLeft limits whole whole entries answers (record { modules = 0; calls = 0 }) []
-  lines_begin are answered few = record { entries_left = are; answers_left = answered; few = omega arith; completes = λ more h. h }
+  pub lines_begin : (board : Lines) → AreCollected board answers → AreEntries limits (modules_of whole) entries → AreAnswers limits (modules_of whole) whole answers → call_count whole ≤ MOST_CALLS
+      → LinesLeft limits whole whole entries answers board (record { modules = 0; calls = 0 }) []
+  lines_begin board all are answered few = record {
+    entries_left = are;
+    answers_left = answered;
+    on_board = λ j above. ap (λ (b : Lines). slice_get b j) all;
+    few = omega arith;
+    completes = λ more h. h;
+  }
 
-  pub lines_end : (rest : List Directive) (counts : Counts) (lines : List ReportLine) → rest ≡ [] → LinesLeft limits whole rest entries answers counts lines
+  pub lines_end : (rest : List Directive) (board : Lines) (counts : Counts) (lines : List ReportLine) → rest ≡ [] → LinesLeft limits whole rest entries answers board counts lines
       → AreLines limits (modules_of whole) 1 whole lines
-  lines_end rest counts lines none h =
-      let k : LinesLeft limits whole [] entries answers counts lines = rw none at h in
+  lines_end rest board counts lines none h =
+      let k : LinesLeft limits whole [] entries answers board counts lines = rw none at h in
       rw append-nil at (k.completes [] refl)
 
-  source_here : (d : Directive) (more : List Directive) (counts : Counts) (lines : List ReportLine) → LinesLeft limits whole (d ∷ more) entries answers counts lines
-      → HasSource counts entries answers d
-  source_here (Module name bytes) more counts lines h = within entries counts.modules (some_entries limits bytes (modules_of more) (drop counts.modules entries) h.entries_left)
-  source_here (Call place export fuel args) more counts lines h =
-      let f = h.few in (
-        within answers counts.calls (some_answers limits (modules_of whole) place export fuel args more (drop counts.calls answers) h.answers_left),
-        omega (arith, call_count-call place export fuel args more),
-      )
+  -- the line of the next call, on the board and among all
+  call_here : (place : ℕ) (invocation : Invocation) (more : List Directive) (board : Lines) (counts : Counts) (lines : List ReportLine) → LinesLeft limits whole (Call place invocation ∷ more) entries answers board counts lines
+      → (how : CallLine) × (slice_get board counts.calls ≡ Some (Some how)) × (slice_get answers counts.calls ≡ Some how)
+  call_here place invocation more board counts lines h =
+      let (how, on, among) = lines_at answers counts.calls (within answers counts.calls (some_answers limits (modules_of whole) place invocation more (drop counts.calls answers) h.answers_left)) in
+      (how, h.on_board counts.calls (omega arith) ∙ on, among)
 
-  line_here : (d : Directive) (more : List Directive) (counts : Counts) (lines : List ReportLine) (line : ReportLine) → ShowsNext counts entries answers d line
-      → LinesLeft limits whole (d ∷ more) entries answers counts lines → LinesLeft limits whole more entries answers (counts_after counts d) (lines ++ line ∷ [])
-  line_here (Module name bytes) more counts lines line (entry, got, is) h =
+  source_here : (d : Directive) (more : List Directive) (board : Lines) (counts : Counts) (lines : List ReportLine) → LinesLeft limits whole (d ∷ more) entries answers board counts lines
+      → HasSource counts entries board d
+  source_here (Module name bytes) more board counts lines h = within entries counts.modules (some_entries limits bytes (modules_of more) (drop counts.modules entries) h.entries_left)
+  source_here (Call place invocation) more board counts lines h =
+      let (how, on, among) = call_here place invocation more board counts lines h in
+      let f = h.few in ((how, on), omega (arith, call_count-call place invocation more))
+
+  line_here : (d : Directive) (more : List Directive) (board : Lines) (counts : Counts) (lines : List ReportLine) (line : ReportLine) → ShowsNext counts entries board d line
+      → LinesLeft limits whole (d ∷ more) entries answers board counts lines → LinesLeft limits whole more entries answers (board_after counts board d) (counts_after counts d) (lines ++ line ∷ [])
+  line_here (Module name bytes) more board counts lines line (entry, got, is) h =
       let left : AreEntries limits (bytes ∷ modules_of more) (entry ∷ drop (counts.modules + 1) entries) =
       subst (λ (es : List Entry). AreEntries limits (bytes ∷ modules_of more) es) (drop_got entries counts.modules entry got) h.entries_left in
       record {
         entries_left = left.1;
         answers_left = h.answers_left;
+        on_board = h.on_board;
         few = (let f = h.few in omega (arith, call_count-module name bytes more));
         completes = λ others g. rw append_assoc (h.completes (line ∷ others) ((entry_line entry, entry_told limits bytes entry left.0, is), g));
       }
-  line_here (Call place export fuel args) more counts lines line (how, got, is) h =
-      let left : AreAnswers limits (modules_of whole) (Call place export fuel args ∷ more) (how ∷ drop (counts.calls + 1) answers) =
-      subst (λ (hs : List CallLine). AreAnswers limits (modules_of whole) (Call place export fuel args ∷ more) hs) (drop_got answers counts.calls how got) h.answers_left in
+  line_here (Call place invocation) more board counts lines line (how, got, is) h =
+      let (how', on, among) = call_here place invocation more board counts lines h in
+      let both : Some (Some how') ≡ Some (Some how) = sym on ∙ got in
+      let same : how' ≡ how = cc in
+      let left : AreAnswers limits (modules_of whole) (Call place invocation ∷ more) (how' ∷ drop (counts.calls + 1) answers) =
+      subst (λ (hs : List CallLine). AreAnswers limits (modules_of whole) (Call place invocation ∷ more) hs) (drop_got answers counts.calls how' among) h.answers_left in
+      let is' : line ≡ report.Call (counts.calls + 1) how' = is ∙ ap (λ (l : CallLine). report.Call (counts.calls + 1) l) (sym same) in
       record {
         entries_left = h.entries_left;
         answers_left = left.1;
-        few = (let f = h.few in omega (arith, call_count-call place export fuel args more));
-        completes = λ others g. rw append_assoc (h.completes (line ∷ others) ((how, left.0, is), g));
+        on_board = λ j above. got_set_other board counts.calls j None (λ (e : counts.calls ≡ j). absurd (omega arith)) ∙ h.on_board j (omega arith);
+        few = (let f = h.few in omega (arith, call_count-call place invocation more));
+        completes = λ others g. rw append_assoc (h.completes (line ∷ others) ((how', left.0, is'), g));
       }
 
-  module _ (rest more : List Directive) (counts : Counts) (lines : List ReportLine) (d : Directive) (is : rest ≡ d ∷ more) (h : LinesLeft limits whole rest entries answers counts lines) where
-    here : LinesLeft limits whole (d ∷ more) entries answers counts lines
-    here = subst (λ (r : List Directive). LinesLeft limits whole r entries answers counts lines) is h
+  module _ (rest more : List Directive) (board : Lines) (counts : Counts) (lines : List ReportLine) (d : Directive) (is : rest ≡ d ∷ more) (h : LinesLeft limits whole rest entries answers board counts lines) where
+    here : LinesLeft limits whole (d ∷ more) entries answers board counts lines
+    here = subst (λ (r : List Directive). LinesLeft limits whole r entries answers board counts lines) is h
 
-    pub has_source : HasSource counts entries answers d
-    has_source = source_here d more counts lines here
+    pub has_source : HasSource counts entries board d
+    has_source = source_here d more board counts lines here
 
-    pub next_told : (line : ReportLine) (counts' : Counts) (lines' : List ReportLine) → ShowsNext counts entries answers d line → counts' ≡ counts_after counts d
-        → lines' ≡ lines ++ line ∷ [] → LinesLeft limits whole more entries answers counts' lines'
-    next_told line counts' lines' shows counted pushed =
-        subst (λ (c : Counts). LinesLeft limits whole more entries answers c lines') (sym counted)
-        (subst (λ (ls : List ReportLine). LinesLeft limits whole more entries answers (counts_after counts d) ls) (sym pushed) (line_here d more counts lines line shows here))
+    pub next_told : (line : ReportLine) (board' : Lines) (counts' : Counts) (lines' : List ReportLine) → ShowsNext counts entries board d line → board' ≡ board_after counts board d
+        → counts' ≡ counts_after counts d → lines' ≡ lines ++ line ∷ [] → LinesLeft limits whole more entries answers board' counts' lines'
+    next_told line board' counts' lines' shows taken counted pushed = rw (taken, counted, pushed) (line_here d more board counts lines line shows here)

@@ -7,7 +7,7 @@ use Rattle.std.proofs.lemmas.Bool.Decides.{nat_tests}
 use Rattle.std.proofs.lemmas.List.Elements.{All-cons, All-filter, All-get_or, All-head, All-nil, All-tail}
 use Rattle.std.proofs.lemmas.List.Sorted.{All-permutation, sum_by-IsPermutation}
 use Rattle.std.proofs.lemmas.List.Sums.{sum_by-cons}
-use Rattle.wasm_types.specs.declared.outcome.Val.{Val}
+use Rattle.request_text.specs.declared.invocation.Invocation.{Invocation}
 use Rattle.wasm_types.specs.declared.profile.Profile.{Profile}
 use Rattle.pool_limits.specs.declared.numbers.Numbers.{Numbers}
 use Rattle.pool_worlds.specs.Contents.{Named}
@@ -16,8 +16,8 @@ use Rattle.pool_host.specs.declared.answers.Answer.TheVariants as answer
 use Rattle.pool_host.specs.declared.lane.LaneAnswer.TheVariants as lane
 use Rattle.request_text.specs.declared.request.Directive.{Directive}
 use Rattle.request_text.specs.declared.request.Directive.TheVariants.{Module, Call}
-use Rattle.request_text.specs.declared.report.CallLine.{CallLine}
-use Rattle.request_text.specs.declared.report.CallLine.TheVariants as call_line
+use Rattle.report_text.specs.declared.report.CallLine.{CallLine}
+use Rattle.report_text.specs.declared.report.CallLine.TheVariants as call_line
 use Rattle.request_text.specs.Text.{call_count, modules_of}
 use Rattle.call_workers.specs.declared.calls.Due.{Due}
 use Rattle.call_workers.specs.declared.calls.Worked.{Worked}
@@ -28,36 +28,37 @@ use Rattle.host_report.specs.Collected.{AreOfCalls, IsBoard, IsLineOf, IsOfWorke
 use Rattle.host_report.specs.Due.{dues_from}
 use Rattle.host_report.specs.Entries.{AreEntries, Entry, IsEntry}
 use Rattle.host_report.specs.Put.{module_at, module_of, pairs_put}
-use Rattle.host_report.specs.Report.{GoesAs, IsCallLine, Limits, limits_in}
+use Rattle.host_report.specs.Report.{GoesAs, IsCallLine, Limits, answer_line, limits_in}
 use Rattle.host_report.proofs.CallLemmas.{ArePlacedBelow, accepted_call, refused_call}
-use Rattle.host_report.proofs.DueLemmas.{IsDueOf, due_at_call}
+use Rattle.host_report.proofs.DueLemmas.{due_at_call}
 use Rattle.host_report.proofs.EntryLemmas.{entry_at, entry_there}
 use Rattle.host_report.proofs.PutLemmas.{IsPair, IsPairAt, put_below, put_once, put_pairs}
 
 -- ---- the line of one call
 
-module _ (profile : Profile) (config : Numbers) (bytes : List ℕ) (due : Due) (line : CallLine) where
-  answered_line : (named : Named) (a : Option Answer) → IsEntry (limits_in profile config) bytes (Ok named) → IsAnswered config due (Some named) a → line_of a ≡ Some line
-      → IsCallLine (limits_in profile config) bytes due.export due.fuel due.args line
-  answered_line named None entry answered shown = absurd answered
-  answered_line named (Some (answer.Done outcome)) entry answered shown =
-      accepted_call (limits_in profile config) bytes (Ok named) named due.export due.fuel due.args (lane.Done outcome) line refl entry answered (cc)
-  answered_line named (Some answer.NoExport) entry answered shown =
-      accepted_call (limits_in profile config) bytes (Ok named) named due.export due.fuel due.args lane.NoExport line refl entry answered (cc)
-  answered_line named (Some answer.BadArgs) entry answered shown =
-      accepted_call (limits_in profile config) bytes (Ok named) named due.export due.fuel due.args lane.BadArgs line refl entry answered (cc)
-  answered_line named (Some (answer.Full kind)) entry answered shown = cc
+module _ (profile : Profile) (config : Numbers) (bytes : List ℕ) (asked : Invocation) (line : CallLine) where
+  answered_line : (named : Named) (a : Option Answer) (shown : Option (List ℕ)) → IsEntry (limits_in profile config) bytes (Ok named) → IsAnswered config asked (Some named) a shown
+      → line_of a shown ≡ Some line → IsCallLine (limits_in profile config) bytes asked line
+  answered_line named None shown entry answered told = absurd answered
+  answered_line named (Some (answer.Done outcome)) shown entry (said, answered, is) told =
+      accepted_call (limits_in profile config) bytes (Ok named) named asked (lane.Done outcome) said line refl entry answered
+      (let same : answer_line (lane.Done outcome) shown ≡ line = cc in sym same ∙ ap (λ (s : Option (List ℕ)). answer_line (lane.Done outcome) s) is)
+  answered_line named (Some answer.NoExport) shown entry (said, answered, is) told =
+      accepted_call (limits_in profile config) bytes (Ok named) named asked lane.NoExport said line refl entry answered (cc)
+  answered_line named (Some answer.BadArgs) shown entry (said, answered, is) told =
+      accepted_call (limits_in profile config) bytes (Ok named) named asked lane.BadArgs said line refl entry answered (cc)
+  answered_line named (Some (answer.Full kind)) shown entry answered told = cc
 
-  worked_line : (entry : Entry) (m : Option Named) (a : Option Answer) → IsEntry (limits_in profile config) bytes entry → m ≡ module_of entry → IsAnswered config due m a → line_of a ≡ Some line
-      → IsCallLine (limits_in profile config) bytes due.export due.fuel due.args line
-  worked_line (Ok named) m a entry is answered shown =
-      answered_line named a entry (subst (λ (x : Option Named). IsAnswered config due x a) is answered) shown
-  worked_line (Err told) m a entry is answered shown =
-      let none : a ≡ None = subst (λ (x : Option Named). IsAnswered config due x a) is answered in
-      let shows : Some call_line.NoModule ≡ Some line = ap line_of (sym none) ∙ shown in
+  worked_line : (entry : Entry) (m : Option Named) (a : Option Answer) (shown : Option (List ℕ)) → IsEntry (limits_in profile config) bytes entry → m ≡ module_of entry
+      → IsAnswered config asked m a shown → line_of a shown ≡ Some line → IsCallLine (limits_in profile config) bytes asked line
+  worked_line (Ok named) m a shown entry is answered told =
+      answered_line named a shown entry (subst (λ (x : Option Named). IsAnswered config asked x a shown) is answered) told
+  worked_line (Err why) m a shown entry is answered told =
+      let none : a ≡ None = (subst (λ (x : Option Named). IsAnswered config asked x a shown) is answered).0 in
+      let shows : Some call_line.NoModule ≡ Some line = ap (λ (x : Option Answer). line_of x shown) (sym none) ∙ told in
       let is_line : call_line.NoModule ≡ line = cc in
-      subst (λ (l : CallLine). IsCallLine (limits_in profile config) bytes due.export due.fuel due.args l) is_line
-      (refused_call (limits_in profile config) bytes (Err told) told due.export due.fuel due.args refl entry)
+      subst (λ (l : CallLine). IsCallLine (limits_in profile config) bytes asked l) is_line
+      (refused_call (limits_in profile config) bytes (Err why) why asked refl entry)
 
 some_entry : (entries : List Entry) (i : ℕ) → i < length entries → (e : Entry) × (slice_get entries i ≡ Some e)
 some_entry [] i lt = absurd (omega arith)
@@ -65,22 +66,21 @@ some_entry (e ∷ entries) zero lt = (e, refl)
 some_entry (e ∷ entries) (suc i) lt = some_entry entries i (omega arith)
 
 module _ (profile : Profile) (config : Numbers) (requests : List Directive) (entries : List Entry) (are : AreEntries (limits_in profile config) (modules_of requests) entries) where
-  line_right : (at : ℕ) (m : Option Named) (due : Due) (a : Option Answer) (line : CallLine) → IsPairAt entries requests requests at m
-      → slice_get (dues_from 1 requests) at ≡ Some due → IsAnswered config due m a → line_of a ≡ Some line → IsLineOf (limits_in profile config) requests at line
-  line_right at m due a line p due_is answered shown =
+  line_right : (at : ℕ) (m : Option Named) (due : Due) (a : Option Answer) (shown : Option (List ℕ)) (line : CallLine) → IsPairAt entries requests requests at m
+      → slice_get (dues_from 1 requests) at ≡ Some due → IsAnswered config due.invocation m a shown → line_of a shown ≡ Some line → IsLineOf (limits_in profile config) requests at line
+  line_right at m due a shown line p due_is answered told =
       let limits = limits_in profile config in
-      let d = due_at_call 1 requests at due p.place p.export p.fuel p.args due_is p.call in
+      let same = due_at_call 1 requests at due p.place p.invocation due_is p.call in
       let (entry, stands) = some_entry entries p.place (entry_there limits (modules_of requests) entries p.place p.bytes are p.there) in
       let is_entry = entry_at limits (modules_of requests) entries p.place p.bytes entry are p.there stands in
       let module_is : m ≡ module_of entry = p.module_is ∙ rw stands refl in
-      let told : IsCallLine limits p.bytes due.export due.fuel due.args line = worked_line profile config p.bytes due line entry m a is_entry module_is answered shown in
-      let goes : IsCallLine limits p.bytes p.export p.fuel p.args line = rw (d.export_is, d.fuel_is, d.args_is) at told in
-      rw p.call (record { bytes = p.bytes; there = p.there; goes = goes })
+      let goes = worked_line profile config p.bytes due.invocation line entry m a shown is_entry module_is answered told in
+      rw p.call (record { bytes = p.bytes; there = p.there; goes = subst (λ (asked : Invocation). IsCallLine limits p.bytes asked line) same goes })
 
   -- ---- entries and pairs
 
   found : (pairs : List Pair) (all : List Worked) → AllZip (worked.IsEntry config (dues_from 1 requests)) pairs all → All (λ (pair : Pair). 0 < pair.0) pairs → All (IsPair entries requests) pairs
-      → (at : ℕ) (line : CallLine) (i : ℕ) (one : Worked) → slice_get all i ≡ Some one → one.number ≡ at + 1 → line_of one.answer ≡ Some line → IsLineOf (limits_in profile config) requests at line
+      → (at : ℕ) (line : CallLine) (i : ℕ) (one : Worked) → slice_get all i ≡ Some one → one.number ≡ at + 1 → line_of one.answer one.bytes ≡ Some line → IsLineOf (limits_in profile config) requests at line
   found [] [] zip counted known at line i one one_is number_is line_is = cc
   found [] (w ∷ all) zip counted known at line i one one_is number_is line_is = absurd zip
   found (pair ∷ pairs) [] zip counted known at line i one one_is number_is line_is = absurd zip
@@ -89,7 +89,7 @@ module _ (profile : Profile) (config : Numbers) (requests : List Directive) (ent
       let e : worked.IsEntry config (dues_from 1 requests) pair one = subst (λ (x : Worked). worked.IsEntry config (dues_from 1 requests) pair x) same zip.0 in
       let number : pair.0 - 1 ≡ at = let n = e.number_is in omega arith in
       let p = All-head (IsPair entries requests) pair pairs known (All-head (λ (x : Pair). 0 < x.0) pair pairs counted) in
-      line_right at pair.1 e.due one.answer line (subst (λ (n : ℕ). IsPairAt entries requests requests n pair.1) number p)
+      line_right at pair.1 e.due one.answer one.bytes line (subst (λ (n : ℕ). IsPairAt entries requests requests n pair.1) number p)
       (subst (λ (n : ℕ). slice_get (dues_from 1 requests) n ≡ Some e.due) number e.due_is) e.answered line_is
   found (pair ∷ pairs) (w ∷ all) zip counted known at line (suc i) one one_is number_is line_is =
       found pairs all zip.1 (All-tail (λ (x : Pair). 0 < x.0) pair pairs counted) (All-tail (IsPair entries requests) pair pairs known) at line i one one_is number_is line_is

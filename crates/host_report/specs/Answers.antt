@@ -2,13 +2,13 @@
 use Rattle.std.specs.Prelude.{◌≡◌, ℕ, List, [], ◌∷◌}
 use Rattle.request_text.specs.declared.request.Directive.{Directive}
 use Rattle.request_text.specs.declared.request.Directive.TheVariants.{Module, Call}
-use Rattle.request_text.specs.declared.report.CallLine.{CallLine}
+use Rattle.report_text.specs.declared.report.CallLine.{CallLine}
 use Rattle.host_report.specs.Report.{GoesAs, Limits}
 
 -- how the calls among these directives go, in their order
 abbrev pub AreAnswers : Limits → (modules : List (List ℕ)) → List Directive → List CallLine → Type 0
 AreAnswers limits modules [] answers = answers ≡ []
 AreAnswers limits modules (Module name bytes ∷ requests) answers = AreAnswers limits modules requests answers
-AreAnswers limits modules (Call place export fuel args ∷ requests) [] = ⊥
-AreAnswers limits modules (Call place export fuel args ∷ requests) (how ∷ answers) =
-    GoesAs limits modules place export fuel args how × AreAnswers limits modules requests answers
+AreAnswers limits modules (Call place invocation ∷ requests) [] = ⊥
+AreAnswers limits modules (Call place invocation ∷ requests) (how ∷ answers) =
+    GoesAs limits modules place invocation how × AreAnswers limits modules requests answers

@@ -4,31 +4,32 @@ use Rattle.pool_host.specs.declared.answers.Answer.{Answer}
 use Rattle.pool_host.specs.declared.answers.Answer.TheVariants as answer
 use Rattle.request_text.specs.declared.request.Directive.{Directive}
 use Rattle.request_text.specs.declared.request.Directive.TheVariants.{Module, Call}
-use Rattle.request_text.specs.declared.report.CallLine.{CallLine}
-use Rattle.request_text.specs.declared.report.CallLine.TheVariants as call_line
+use Rattle.report_text.specs.declared.report.CallLine.{CallLine}
+use Rattle.report_text.specs.declared.report.CallLine.TheVariants as call_line
 use Rattle.request_text.specs.Text.{call_count, modules_of}
 use Rattle.call_workers.specs.declared.calls.Worked.{Worked}
-use Rattle.host_report.specs.Report.{GoesAs, Limits}
+use Rattle.pool_host.specs.declared.lane.LaneAnswer.TheVariants as lane
+use Rattle.host_report.specs.Report.{GoesAs, Limits, answer_line}
 
--- the line of a call that was answered so by a host, or without a module; there is none where it was answered Full
-abbrev pub line_of : Option Answer → Option CallLine
-line_of None = Some call_line.NoModule
-line_of (Some (answer.Done outcome)) = Some (call_line.Done outcome)
-line_of (Some answer.NoExport) = Some call_line.NoExport
-line_of (Some answer.BadArgs) = Some call_line.BadArgs
-line_of (Some (answer.Full kind)) = None
+-- the line of a call that was answered so by a host, or without a module, where this is shown of its bytes; there is none where it was answered Full
+abbrev pub line_of : Option Answer → (shown : Option (List ℕ)) → Option CallLine
+line_of None shown = Some call_line.NoModule
+line_of (Some (answer.Done outcome)) shown = Some (answer_line (lane.Done outcome) shown)
+line_of (Some answer.NoExport) shown = Some call_line.NoExport
+line_of (Some answer.BadArgs) shown = Some call_line.BadArgs
+line_of (Some (answer.Full kind)) shown = None
 
 -- the call that comes after so many others
 abbrev pub call_at : List Directive → ℕ → Option Directive
 call_at [] at = None
 call_at (Module name bytes ∷ requests) at = call_at requests at
-call_at (Call place export fuel args ∷ requests) zero = Some (Call place export fuel args)
-call_at (Call place export fuel args ∷ requests) (suc at) = call_at requests at
+call_at (Call place invocation ∷ requests) zero = Some (Call place invocation)
+call_at (Call place invocation ∷ requests) (suc at) = call_at requests at
 
 -- the line tells how this call goes
 abbrev pub Tells : Limits → (modules : List (List ℕ)) → Directive → CallLine → Type 0
 Tells limits modules (Module name bytes) line = ⊥
-Tells limits modules (Call place export fuel args) line = GoesAs limits modules place export fuel args line
+Tells limits modules (Call place invocation) line = GoesAs limits modules place invocation line
 
 -- the line tells how the call goes that comes after so many others
 abbrev pub IsLineOf : Limits → List Directive → ℕ → CallLine → Type 0
@@ -58,9 +59,9 @@ pub record IsOfWorked (worked : List Worked) (at : ℕ) (line : CallLine) : Type
   pub one : Worked
   pub one_is : slice_get worked place ≡ Some one
   pub number_is : one.number ≡ at + 1
-  pub line_is : line_of one.answer ≡ Some line
+  pub line_is : line_of one.answer one.bytes ≡ Some line
 
 -- each of these entries that has a line has it on the board, at its call's place
 abbrev pub HasLinesOf : List Worked → (board : List (Option CallLine)) → Type 0
-HasLinesOf worked board = (place : ℕ) (one : Worked) (line : CallLine) → slice_get worked place ≡ Some one → line_of one.answer ≡ Some line
+HasLinesOf worked board = (place : ℕ) (one : Worked) (line : CallLine) → slice_get worked place ≡ Some one → line_of one.answer one.bytes ≡ Some line
     → slice_get board (one.number - 1) ≡ Some (Some line)

@@ -6,8 +6,8 @@ use Rattle.module_store.specs.declared.fault.LoadFault.TheVariants as fault
 use Rattle.wasm_spec.specs.Loading.{Loads, Refusal}
 use Rattle.pool_worlds.specs.Contents.{Named}
 use Rattle.host_report.specs.Report.{Limits, load_limits, loading_line}
-use Rattle.request_text.specs.declared.report.ModuleLine.{ModuleLine}
-use Rattle.request_text.specs.declared.report.ModuleLine.TheVariants as module_line
+use Rattle.report_text.specs.declared.report.ModuleLine.{ModuleLine}
+use Rattle.report_text.specs.declared.report.ModuleLine.TheVariants as module_line
 
 -- a module that may be called, or the line that tells why it is refused
 abbrev pub Entry : Type 0

@@ -1,8 +1,9 @@
 -- The report on a request file: one line for each directive, in file order.
 use Rattle.wasm_types.specs.declared.limits.RunLimits.{RunLimits}
 use Rattle.wasm_types.specs.declared.limits.LoadLimits.{LoadLimits}
-use Rattle.std.specs.Prelude.{◌≡◌, ℕ, ◌+◌, List, [], ◌∷◌, Some, Result, Ok, Err, slice_get}
-use Rattle.wasm_types.specs.declared.outcome.Val.{Val}
+use Rattle.std.specs.Prelude.{◌≡◌, ℕ, ◌+◌, List, [], ◌∷◌, Option, Some, Result, Ok, Err, slice_get}
+use Rattle.wasm_types.specs.declared.outcome.Outcome.TheVariants as outcome
+use Rattle.request_text.specs.declared.invocation.Invocation.{Invocation}
 use Rattle.wasm_types.specs.declared.profile.Profile.{Profile}
 use Rattle.wasm_types.specs.Tree.{ModuleTree}
 use Rattle.wasm_spec.specs.Loading as loading
@@ -13,12 +14,13 @@ use Rattle.pool_host.specs.CallWords.{IsAnswer}
 use Rattle.pool_limits.specs.declared.numbers.Numbers.{Numbers}
 use Rattle.request_text.specs.declared.request.Directive.{Directive}
 use Rattle.request_text.specs.declared.request.Directive.TheVariants.{Module, Call}
-use Rattle.request_text.specs.declared.report.ModuleLine.{ModuleLine}
-use Rattle.request_text.specs.declared.report.ModuleLine.TheVariants as module_line
-use Rattle.request_text.specs.declared.report.CallLine.{CallLine}
-use Rattle.request_text.specs.declared.report.CallLine.TheVariants as call_line
-use Rattle.request_text.specs.declared.report.ReportLine.{ReportLine}
-use Rattle.request_text.specs.declared.report.ReportLine.TheVariants as report
+use Rattle.report_text.specs.declared.report.ModuleLine.{ModuleLine}
+use Rattle.report_text.specs.declared.report.ModuleLine.TheVariants as module_line
+use Rattle.report_text.specs.declared.report.CallLine.{CallLine}
+use Rattle.report_text.specs.declared.report.CallLine.TheVariants as call_line
+use Rattle.report_text.specs.declared.report.ReportLine.{ReportLine}
+use Rattle.report_text.specs.declared.report.ReportLine.TheVariants as report
+use Rattle.request_text.specs.Invocations.{sent_by, shown_of}
 use Rattle.request_text.specs.Text.{Asked, modules_of}
 
 -- the profile of WebAssembly in which a module is read, and what bounds it and its calls: nothing else of a configuration does
@@ -56,42 +58,46 @@ pub record IsModuleLine (limits : Limits) (bytes : List ℕ) (line : ModuleLine)
 
 -- ---- the line of a call
 
-abbrev pub answer_line : LaneAnswer → CallLine
-answer_line (answer.Done outcome) = call_line.Done outcome
-answer_line answer.NoExport = call_line.NoExport
-answer_line answer.BadArgs = call_line.BadArgs
+-- the line of a call that is answered so, where this is shown of its bytes
+abbrev pub answer_line : LaneAnswer → (shown : Option (List ℕ)) → CallLine
+answer_line (answer.Done (outcome.Done value)) (Some bytes) = call_line.Sent value bytes
+answer_line (answer.Done end) shown = call_line.Done end
+answer_line answer.NoExport shown = call_line.NoExport
+answer_line answer.BadArgs shown = call_line.BadArgs
 
 -- how a call goes whose module was loaded so
-abbrev pub ShowsCall : Limits → Result ModuleTree Refusal → (export : List ℕ) → (fuel : ℕ) → (args : List Val) → CallLine → Type 0
-ShowsCall limits (Err refusal) export fuel args line = line ≡ call_line.NoModule
-ShowsCall limits (Ok m) export fuel args line =
-    (a : LaneAnswer) × IsAnswer m (run_limits limits) export args fuel a × (line ≡ answer_line a)
+abbrev pub ShowsCall : Limits → Result ModuleTree Refusal → Invocation → CallLine → Type 0
+ShowsCall limits (Err refusal) invocation line = line ≡ call_line.NoModule
+ShowsCall limits (Ok m) invocation line =
+    (a : LaneAnswer) × (bytes : List ℕ)
+    × IsAnswer m (run_limits limits) invocation.export invocation.args (sent_by invocation) invocation.fuel a bytes
+    × (line ≡ answer_line a (shown_of invocation bytes))
 
--- how a call goes: this is fixed by the limits, its profile of WebAssembly, the bytes of its module, its export, its fuel and its arguments
-pub record IsCallLine (limits : Limits) (bytes export : List ℕ) (fuel : ℕ) (args : List Val) (line : CallLine) : Type 0 where
+-- how a call goes: this is fixed by the limits, its profile of WebAssembly, the bytes of its module, and what is asked of it
+pub record IsCallLine (limits : Limits) (bytes : List ℕ) (invocation : Invocation) (line : CallLine) : Type 0 where
   pub loaded : Result ModuleTree Refusal
   pub loads : Loads limits.profile bytes (load_limits limits) loaded
-  pub shows : ShowsCall limits loaded export fuel args line
+  pub shows : ShowsCall limits loaded invocation line
 
 -- ---- all lines
 
 -- how the call of the module at this place among the module lines goes
-pub record GoesAs (limits : Limits) (modules : List (List ℕ)) (place : ℕ) (export : List ℕ) (fuel : ℕ) (args : List Val) (how : CallLine) : Type 0 where
+pub record GoesAs (limits : Limits) (modules : List (List ℕ)) (place : ℕ) (invocation : Invocation) (how : CallLine) : Type 0 where
   pub bytes : List ℕ
   pub there : slice_get modules place ≡ Some bytes
-  pub goes : IsCallLine limits bytes export fuel args how
+  pub goes : IsCallLine limits bytes invocation how
 
 -- the line of a directive, which has this number if it is a call
 abbrev pub IsLine : Limits → (modules : List (List ℕ)) → (number : ℕ) → Directive → ReportLine → Type 0
 IsLine limits modules number (Module name bytes) line =
     (how : ModuleLine) × IsModuleLine limits bytes how × (line ≡ report.Module name how)
-IsLine limits modules number (Call place export fuel args) line =
-    (how : CallLine) × GoesAs limits modules place export fuel args how × (line ≡ report.Call number how)
+IsLine limits modules number (Call place invocation) line =
+    (how : CallLine) × GoesAs limits modules place invocation how × (line ≡ report.Call number how)
 
 -- the number of the first call after a directive
 abbrev pub next_number : ℕ → Directive → ℕ
 next_number number (Module name bytes) = number
-next_number number (Call place export fuel args) = number + 1
+next_number number (Call place invocation) = number + 1
 
 -- the lines of these directives, one of each, the first call among which has this number
 abbrev pub AreLines : Limits → (modules : List (List ℕ)) → (number : ℕ) → List Directive → List ReportLine → Type 0

@@ -1,5 +1,5 @@
 //! The calls of a request file, and those of them that the lane makes.
-ghost use Rattle.std.specs.Prelude.{◌≡◌, ◌-◌, ◌<◌, ◌≤◌, ℕ, List, IfSome, Some, is_none, length, slice_get};
+ghost use Rattle.std.specs.Prelude.{◌≡◌, ◌-◌, ◌<◌, ◌≤◌, ℕ, List, IfOk, IfSome, OnOk, Some, is_none, length, slice_get};
 ghost use Rattle.wasm_types.specs.declared.profile.Profile.{Profile};
 ghost use Rattle.request_text.specs.Text.{modules_of};
 ghost use Rattle.host_report.specs.Answers.{AreAnswers};
@@ -15,41 +15,48 @@ use host_edge::Gate;
 use job_queue::Board;
 use module_store::{ModuleStore, Naming};
 use pool_host::{LaneAnswer, LaneHost};
-use request_text::{CallLine, Directive, Requests};
-use wasm_types::Val;
+use report_text::CallLine;
+use request_text::{Directive, Invocation, Requests};
+use std::alloc::Global;
+use wasm_types::{Items, NoMemory, Outcome};
 
-fn answer_line(answer: LaneAnswer) -> CallLine
-    ensures { result ≡ answer_line answer }
+// The line of a call that is answered so, where this is shown of its bytes.
+pub(crate) fn answer_line(answer: LaneAnswer, shown: Option<Items<u8>>) -> CallLine
+    ensures { result ≡ answer_line answer shown }
 {
-    match answer {
-        LaneAnswer::Done(outcome) => CallLine::Done(outcome),
-        LaneAnswer::NoExport => CallLine::NoExport,
-        LaneAnswer::BadArgs => CallLine::BadArgs,
+    match (answer, shown) {
+        (LaneAnswer::Done(Outcome::Done(value)), Some(bytes)) => CallLine::Sent(value, bytes),
+        (LaneAnswer::Done(outcome), _) => CallLine::Done(outcome),
+        (LaneAnswer::NoExport, _) => CallLine::NoExport,
+        (LaneAnswer::BadArgs, _) => CallLine::BadArgs,
     }
 }
 
 // How a call of the entry's module goes. The gate is told of it by its number.
 fn call_line<N: Naming, G: Gate>(
+    alloc: Global,
     store: &ModuleStore<N>,
     entry: &Entry<N>,
-    export: &[u8],
-    args: &[Val],
-    fuel: u32,
+    asked: &Invocation,
     number: u64,
     lane: &mut LaneHost<N>,
     gate: &G,
-) -> CallLine
+) -> Result<CallLine, NoMemory>
     ensures lane { lane.new.host ≡ lane.old.host }
     ensures made { MadeOnLane N.config lane.old.host (module_of entry.now) lane.old.pass.passes lane.new.pass.passes }
     ensures line { (profile : Profile) (bytes : List ℕ) → IsEntry (limits_in profile N.config) bytes entry.now
-        → IsCallLine (limits_in profile N.config) bytes export.now fuel args.now result }
+        → IfOk result (IsCallLine (limits_in profile N.config) bytes asked.now) }
 {
     match entry {
         Ok(module) => {
-            let answer = lane.call(store, module, export, args, fuel as u64, number, gate);
-            answer_line(answer)
+            let (export, args) = (asked.export.as_slice(), asked.args.as_slice());
+            let request = asked.sent();
+            let fuel = asked.fuel as u64;
+            let answer = lane.send(store, module, export, args, request, fuel, number, gate);
+            let shown = asked.shown(alloc, lane.answer())?;
+            Ok(answer_line(answer, shown))
         }
-        Err(_) => CallLine::NoModule,
+        Err(_) => Ok(CallLine::NoModule),
     }
 }
 
@@ -69,39 +76,35 @@ fn is_left(board: &Board, number: u32) -> bool
     board.lines()[number as usize - 1].is_none()
 }
 
-// Makes each call of which the board has no line on the lane, in file order, and no other. The board then has the line of each.
+// Makes each call of which the board has no line on the lane, in file order, and no other. The board then has the line of each,
+// unless memory was refused.
 pub(crate) fn make_left<N: Naming, G: Gate>(
+    alloc: Global,
     store: &ModuleStore<N>,
     requests: &Requests,
     entries: &[Entry<N>],
     board: &mut Board,
     lane: &mut LaneHost<N>,
     gate: &G,
-)
+) -> Result<(), NoMemory>
     requires entries { AreEntries (limits_in requests.now.profile N.config) (modules_of requests.now.directives) entries.now }
     requires board { IsBoard (limits_in requests.now.profile N.config) requests.now.directives board.old }
-    ensures all { AreCollected board.new (lines_on board.new) }
-    ensures right { AreAnswers (limits_in requests.now.profile N.config) (modules_of requests.now.directives) requests.now.directives (lines_on board.new) }
+    ensures all { OnOk result (AreCollected board.new (lines_on board.new)) }
+    ensures right { OnOk result (AreAnswers (limits_in requests.now.profile N.config) (modules_of requests.now.directives) requests.now.directives (lines_on board.new)) }
     ensures lane { lane.new.host ≡ lane.old.host }
-    ensures made { MadeLeft N.config lane.old.host entries.now board.old 0 requests.now.directives lane.old.pass.passes lane.new.pass.passes }
+    ensures made { OnOk result (MadeLeft N.config lane.old.host entries.now board.old 0 requests.now.directives lane.old.pass.passes lane.new.pass.passes) }
 {
     let directives = requests.directives();
     let mut number = 0u32;
     for directive in directives {
-        if let Directive::Call {
-            module,
-            export,
-            fuel,
-            args,
-        } = directive
-        {
+        if let Directive::Call { module, invocation } = directive {
             number += 1;
             let entry = entry_at(entries, *module);
-            let (export, args) = (export.as_slice(), args.as_slice());
             if is_left(board, number) {
-                let line = call_line(store, entry, export, args, *fuel, number as u64, lane, gate);
+                let line = call_line(alloc, store, entry, invocation, number as u64, lane, gate)?;
                 collect(board, number, line);
             }
         }
     }
+    Ok(())
 }

@@ -1,21 +1,23 @@
 //! The board collects the lines of calls.
 ghost use Rattle.std.specs.Prelude.{◌≡◌, ◌-◌, ℕ, None, Some, MatchOption, length, replicate, slice_get, slice_set};
-ghost use Rattle.request_text.specs.declared.report.CallLine.{CallLine};
+ghost use Rattle.report_text.specs.declared.report.CallLine.{CallLine};
 ghost use Rattle.job_queue.specs.Boards.{IsOpen};
 ghost use Rattle.host_report.specs.Collected.{AreOfCalls, HasLinesOf, IsOfWorked, line_of};
 
+use crate::calls::answer_line;
 use call_workers::Worked;
 use job_queue::Board;
-use pool_host::Answer;
-use request_text::CallLine;
+use pool_host::{Answer, LaneAnswer};
+use report_text::CallLine;
+use wasm_types::Items;
 
 // The line of a call that a worker made, or none where it was answered Full.
-fn line_of(answer: Option<Answer>) -> Option<CallLine>
-    ensures { result ≡ line_of answer }
+fn line_of(answer: Option<Answer>, shown: Option<Items<u8>>) -> Option<CallLine>
+    ensures { result ≡ line_of answer shown }
 {
     match answer {
         None => Some(CallLine::NoModule),
-        Some(Answer::Done(outcome)) => Some(CallLine::Done(outcome)),
+        Some(Answer::Done(outcome)) => Some(answer_line(LaneAnswer::Done(outcome), shown)),
         Some(Answer::NoExport) => Some(CallLine::NoExport),
         Some(Answer::BadArgs) => Some(CallLine::BadArgs),
         Some(Answer::Full(_)) => None,
@@ -32,22 +34,27 @@ pub(crate) fn collect(board: &mut Board, number: u32, line: CallLine)
 }
 
 // Collects the line of a call that a worker made, if it has one.
-fn collect_worked(board: &mut Board, worked: &Worked)
-    requires { IsOpen board.old worked.now.number }
-    ensures { MatchOption (line_of worked.now.answer) (board.new ≡ board.old) (λ line. board.new ≡ slice_set board.old (worked.now.number - 1) (Some line)) }
+fn collect_worked(board: &mut Board, worked: Worked)
+    requires { IsOpen board.old worked.number }
+    ensures { MatchOption (line_of worked.answer worked.bytes) (board.new ≡ board.old) (λ line. board.new ≡ slice_set board.old (worked.number - 1) (Some line)) }
 {
-    if let Some(line) = line_of(worked.answer) {
-        collect(board, worked.number, line);
+    let Worked {
+        number,
+        answer,
+        bytes,
+    } = worked;
+    if let Some(line) = line_of(answer, bytes) {
+        collect(board, number, line);
     }
 }
 
 // Collects the line of each call that workers made. Those that were answered Full have none.
-pub(crate) fn collect_all(board: &mut Board, worked: &[Worked])
-    requires calls { AreOfCalls (length board.old) worked.now }
+pub(crate) fn collect_all(board: &mut Board, worked: Vec<Worked>)
+    requires calls { AreOfCalls (length board.old) worked.items }
     requires none { board.old ≡ replicate (length board.old) None }
     ensures many { length board.new ≡ length board.old }
-    ensures lines { (at : ℕ) (line : CallLine) → slice_get board.new at ≡ Some (Some line) → IsOfWorked worked.now at line }
-    ensures all { HasLinesOf worked.now board.new }
+    ensures lines { (at : ℕ) (line : CallLine) → slice_get board.new at ≡ Some (Some line) → IsOfWorked worked.items at line }
+    ensures all { HasLinesOf worked.items board.new }
 {
     for one in worked {
         collect_worked(board, one);

@@ -4,22 +4,16 @@ ghost use Rattle.request_text.specs.Text.{AreRequests};
 ghost use Rattle.host_report.specs.Due.{due_of, dues_from};
 
 use call_workers::Due;
-use request_text::Directive;
+use request_text::{Directive, Invocation};
 use std::alloc::Global;
-use wasm_types::{Items, NoMemory, Val};
+use wasm_types::NoMemory;
 
-// A call with copies of its words.
-fn due(alloc: Global, number: u32, export: &[u8], args: &[Val], fuel: u32) -> Result<Due, NoMemory>
-    ensures { IfOk result (λ due. due ≡ due_of number export.now args.now fuel) }
+// A call with a copy of what it asks.
+fn due(alloc: Global, number: u32, asked: &Invocation) -> Result<Due, NoMemory>
+    ensures { IfOk result (λ due. due ≡ due_of number asked.now) }
 {
-    let export = export.to_vec(alloc).map_err(|_| NoMemory)?;
-    let args = args.to_vec(alloc).map_err(|_| NoMemory)?;
-    Ok(Due {
-        number,
-        export: Items::new(export),
-        args: Items::new(args),
-        fuel,
-    })
+    let invocation = asked.copy(alloc)?;
+    Ok(Due { number, invocation })
 }
 
 // The calls of a request file, numbered from 1.
@@ -30,15 +24,9 @@ pub(crate) fn dues(alloc: Global, requests: &[Directive]) -> Result<Vec<Due>, No
     let mut calls = Vec::new(alloc);
     let mut number = 0;
     for directive in requests {
-        if let Directive::Call {
-            export,
-            fuel,
-            args,
-            ..
-        } = directive
-        {
+        if let Directive::Call { invocation, .. } = directive {
             number += 1;
-            let call = due(alloc, number, export.as_slice(), args.as_slice(), *fuel)?;
+            let call = due(alloc, number, invocation)?;
             calls.push(call).map_err(|_| NoMemory)?;
         }
     }

@@ -1,11 +1,11 @@
 //! Laws of the definitions, as contracts of functions that do nothing.
 ghost use Rattle.std.specs.Prelude.{◌≡◌, ◌+◌, ℕ, List, Some, slice_get, take};
-ghost use Rattle.wasm_types.specs.declared.outcome.Val.{Val};
+ghost use Rattle.request_text.specs.declared.invocation.Invocation.{Invocation};
 ghost use Rattle.pool_limits.specs.declared.numbers.Numbers.{Numbers};
-ghost use Rattle.request_text.specs.declared.report.CallLine.{CallLine};
-ghost use Rattle.request_text.specs.declared.report.ModuleLine.{ModuleLine};
-ghost use Rattle.request_text.specs.declared.report.ReportLine.{ReportLine};
-ghost use Rattle.request_text.specs.declared.report.ReportLine.TheVariants.{Call as LineOfCall};
+ghost use Rattle.report_text.specs.declared.report.CallLine.{CallLine};
+ghost use Rattle.report_text.specs.declared.report.ModuleLine.{ModuleLine};
+ghost use Rattle.report_text.specs.declared.report.ReportLine.{ReportLine};
+ghost use Rattle.report_text.specs.declared.report.ReportLine.TheVariants.{Call as LineOfCall};
 ghost use Rattle.request_text.specs.declared.request.Directive.TheVariants.{Call};
 ghost use Rattle.request_text.specs.Text.{Asked, call_count, modules_of};
 ghost use Rattle.host_report.specs.Report.{IsCallLine, IsModuleLine, IsReport, Limits, limits_in};
@@ -25,8 +25,8 @@ pub fn same_module_line()
 /// The line of a call is decided by the limits, its profile of WebAssembly, the bytes of its module, its export, its fuel
 /// and its arguments.
 pub fn a_call_has_one_line()
-    ensures { (limits : Limits) (bytes export : List ℕ) (fuel : ℕ) (args : List Val) (a b : CallLine)
-        → IsCallLine limits bytes export fuel args a → IsCallLine limits bytes export fuel args b → a ≡ b }
+    ensures { (limits : Limits) (bytes : List ℕ) (invocation : Invocation) (a b : CallLine)
+        → IsCallLine limits bytes invocation a → IsCallLine limits bytes invocation b → a ≡ b }
 {
     loading_has_at_most_one_answer();
     a_loaded_module_is_within_its_limits();
@@ -47,9 +47,9 @@ pub fn at_most_one_report()
 /// before it.
 pub fn each_call_has_its_line()
     ensures { (numbers : Numbers) (requests : Asked) (lines : List ReportLine)
-        (at place : ℕ) (bytes export : List ℕ) (fuel : ℕ) (args : List Val)
-        → IsReport numbers requests lines → slice_get requests.directives at ≡ Some (Call place export fuel args)
+        (at place : ℕ) (bytes : List ℕ) (invocation : Invocation)
+        → IsReport numbers requests lines → slice_get requests.directives at ≡ Some (Call place invocation)
         → slice_get (modules_of requests.directives) place ≡ Some bytes
-        → (how : CallLine) × IsCallLine (limits_in requests.profile numbers) bytes export fuel args how
+        → (how : CallLine) × IsCallLine (limits_in requests.profile numbers) bytes invocation how
         × (slice_get lines at ≡ Some (LineOfCall (1 + call_count (take at requests.directives)) how)) }
 {}

@@ -6,7 +6,8 @@ ghost use Rattle.host_report.specs.Entries.{AreEntries, IsEntry, IsEntryOf, entr
 ghost use Rattle.host_report.specs.Report.{limits_in};
 
 use module_store::{Desk, LoadFault, ModuleRef, ModuleStore, Naming};
-use request_text::{Directive, ModuleLine, Requests};
+use report_text::ModuleLine;
+use request_text::{Directive, Requests};
 use std::alloc::Global;
 use std::sync::Wait;
 use wasm_types::{NoMemory, Profile};

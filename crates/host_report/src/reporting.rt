@@ -1,11 +1,11 @@
 //! The report on what a request file asks for.
-ghost use Rattle.std.specs.Prelude.{◌≡◌, ◌<◌, IfOk, Some, length, slice_get};
+ghost use Rattle.std.specs.Prelude.{◌≡◌, IfOk, None, Some, slice_get, slice_set};
 ghost use Rattle.module_store.specs.Names.{Bears};
 ghost use Rattle.request_text.specs.Text.{modules_of};
 ghost use Rattle.host_report.specs.Answers.{AreAnswers};
 ghost use Rattle.host_report.specs.Collected.{AreCollected, lines_on};
 ghost use Rattle.host_report.specs.Entries.{AreEntries};
-ghost use Rattle.host_report.specs.Lines.{HasSource, ShowsNext, counts_after};
+ghost use Rattle.host_report.specs.Lines.{HasLine, HasSource, ShowsNext, board_after, counts_after};
 ghost use Rattle.host_report.specs.Report.{AreLines, IsReport, limits_in};
 
 use crate::calls::make_left;
@@ -15,7 +15,8 @@ use crate::sharing::{Collected, gather};
 use host_edge::Gate;
 use module_store::{Naming, Opened};
 use pool_limits::PoolConfig;
-use request_text::{CallLine, Directive, ReportLine, Requests};
+use report_text::{CallLine, ReportLine};
+use request_text::{Directive, Requests};
 use std::alloc::Global;
 use std::marker::Brand;
 use std::sync::Wait;
@@ -29,13 +30,13 @@ pub(crate) struct Counts {
     calls: u32,
 }
 
-// The line of the call after so many others, on a board that has all.
-fn line_at(board: &[Option<CallLine>], calls: u32) -> CallLine
-    requires all { AreCollected board.now (lines_on board.now) }
-    requires there { calls < length (lines_on board.now) }
-    ensures { slice_get (lines_on board.now) calls ≡ Some result }
+// Takes the line of the call after so many others off the board.
+fn take_line(board: &mut [Option<CallLine>], calls: u32) -> CallLine
+    requires { HasLine board.old calls }
+    ensures line { slice_get board.old calls ≡ Some (Some result) }
+    ensures board { board.new ≡ slice_set board.old calls None }
 {
-    match board[calls as usize] {
+    match board[calls as usize].take() {
         Some(line) => line,
         None => unreachable!(),
     }
@@ -46,12 +47,12 @@ fn next_line<N: Naming>(
     alloc: Global,
     directive: &Directive,
     entries: &[Entry<N>],
-    board: &[Option<CallLine>],
+    board: &mut [Option<CallLine>],
     counts: &mut Counts,
 ) -> Result<ReportLine, NoMemory>
-    requires all { AreCollected board.now (lines_on board.now) }
-    requires source { HasSource counts.old entries.now (lines_on board.now) directive.now }
-    ensures line { IfOk result (ShowsNext counts.old entries.now (lines_on board.now) directive.now) }
+    requires { HasSource counts.old entries.now board.old directive.now }
+    ensures line { IfOk result (ShowsNext counts.old entries.now board.old directive.now) }
+    ensures board { IfOk result (λ _. board.new ≡ board_after counts.old board.old directive.now) }
     ensures counts { IfOk result (λ _. counts.new ≡ counts_after counts.old directive.now) }
 {
     match directive {
@@ -63,7 +64,7 @@ fn next_line<N: Naming>(
             Ok(ReportLine::Module { name, line })
         }
         Directive::Call { .. } => {
-            let line = line_at(board, counts.calls);
+            let line = take_line(board, counts.calls);
             counts.calls += 1;
             let number = counts.calls;
             Ok(ReportLine::Call { number, line })
@@ -76,11 +77,11 @@ fn lines<N: Naming>(
     alloc: Global,
     requests: &Requests,
     entries: &[Entry<N>],
-    board: &[Option<CallLine>],
+    board: &mut [Option<CallLine>],
 ) -> Result<Vec<ReportLine>, NoMemory>
     requires entries { AreEntries (limits_in requests.now.profile N.config) (modules_of requests.now.directives) entries.now }
-    requires all { AreCollected board.now (lines_on board.now) }
-    requires right { AreAnswers (limits_in requests.now.profile N.config) (modules_of requests.now.directives) requests.now.directives (lines_on board.now) }
+    requires all { AreCollected board.old (lines_on board.old) }
+    requires right { AreAnswers (limits_in requests.now.profile N.config) (modules_of requests.now.directives) requests.now.directives (lines_on board.old) }
     ensures { IfOk result (λ lines. AreLines (limits_in requests.now.profile N.config) (modules_of requests.now.directives) 1 requests.now.directives lines.items) }
 {
     let directives = requests.directives();
@@ -111,8 +112,11 @@ fn report_in<N: Naming + Send + Sync, R: Threads + Wait + Sync, G: Gate>(
     let (store, desk) = opened.named::<N>();
     let Collected { entries, mut board } = gather(rt, alloc, &store, desk, requests, gate)?;
     let mut lane = open_lane(alloc, &store)?;
-    make_left(&store, requests, &entries, &mut board, &mut lane, gate);
-    lines(alloc, requests, &entries, board.lines())
+    make_left(
+        alloc, &store, requests, &entries, &mut board, &mut lane, gate,
+    )?;
+    let mut board = board.into_lines();
+    lines(alloc, requests, &entries, &mut board)
 }
 
 /// The report on what a request file asks for, under a configuration. `gate` is told of each call.

@@ -107,7 +107,7 @@ fn by_workers<N: Naming + Send + Sync, R: Threads + Wait + Sync, G: Gate>(
     let mut board = Board::open(alloc, count_calls(directives))?;
     let crew = open_workers(alloc, store, calls)?;
     let (entries, worked) = worked_on(rt, alloc, store, desk, requests, crew, gate)?;
-    collect_all(&mut board, &worked);
+    collect_all(&mut board, worked);
     Ok(Collected { entries, board })
 }
 

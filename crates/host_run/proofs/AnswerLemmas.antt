@@ -2,7 +2,7 @@
 use Rattle.std.proofs.Common.{◌≡◌, ℕ, List, Bool, Option, Some, None, Ok, Err, refl, sym, ap, ◌∙◌}
 use Rattle.std.specs.Prelude.{Result}
 use Rattle.pool_limits.specs.declared.numbers.Numbers.{Numbers}
-use Rattle.request_text.specs.declared.report.ReportLine.{ReportLine}
+use Rattle.report_text.specs.declared.report.ReportLine.{ReportLine}
 use Rattle.request_text.specs.Text.{Asked, FileRefusal, requests_of}
 use Rattle.command_line.specs.Words.{command_of}
 use Rattle.command_line.specs.declared.words.Command.{Command}

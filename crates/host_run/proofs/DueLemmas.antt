@@ -5,7 +5,7 @@ use Rattle.std.specs.Io.KnownBytes.{Consumes, IsAtEnd}
 use Rattle.request_text.specs.declared.request.TheConstants.{MOST_BYTES}
 use Rattle.host_run.specs.Serving.{Answer, IsFileAnswer, refused}
 use Rattle.host_run.specs.Streams.{ReadsInput}
-use Rattle.request_text.specs.Lines.{refusal_line}
+use Rattle.request_text.specs.Refusal.{refusal_line}
 use Rattle.request_text.specs.Text.{FileTooLong, requests_of}
 use Rattle.pool_limits.specs.declared.numbers.Numbers.{Numbers}
 

@@ -6,10 +6,11 @@ use Rattle.std.specs.declared.option.Option.{Option}
 use Rattle.std.specs.Io.KnownBytes.{Appends}
 use Rattle.host_run.specs.Streams.{AppendsPart}
 use Rattle.host_report.specs.Report.{IsReport}
-use Rattle.request_text.specs.declared.report.ReportLine.{ReportLine}
-use Rattle.request_text.specs.Lines.{refusal_line, report_text}
+use Rattle.report_text.specs.declared.report.ReportLine.{ReportLine}
+use Rattle.report_text.specs.Lines.{report_text}
+use Rattle.request_text.specs.Refusal.{refusal_line}
 use Rattle.request_text.specs.Text.{Asked, requests_of}
-use Rattle.request_text.specs.Summary.{summary_text}
+use Rattle.report_text.specs.Summary.{summary_text}
 use Rattle.load_maker.specs.Load.{made_file}
 use Rattle.pool_limits.specs.declared.numbers.Numbers.{Numbers}
 use Rattle.command_line.specs.Words.{command_of}

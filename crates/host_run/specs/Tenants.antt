@@ -1,12 +1,12 @@
 -- Request files that have a call in common, and differ in anything else.
 use Rattle.std.specs.Prelude.{◌≡◌, ℕ, ◌+◌, ◌++◌, false, List, Ok, Some, codes, drop, slice_get, take}
 use Rattle.std.specs.Fmt.{decimal}
-use Rattle.wasm_types.specs.declared.outcome.Val.{Val}
+use Rattle.request_text.specs.declared.invocation.Invocation.{Invocation}
 use Rattle.request_text.specs.declared.request.Directive.TheVariants.{Call}
-use Rattle.request_text.specs.declared.report.CallLine.{CallLine}
-use Rattle.request_text.specs.declared.report.ReportLine.{ReportLine}
-use Rattle.request_text.specs.declared.report.ReportLine.TheVariants as report
-use Rattle.request_text.specs.Lines.{report_text}
+use Rattle.report_text.specs.declared.report.CallLine.{CallLine}
+use Rattle.report_text.specs.declared.report.ReportLine.{ReportLine}
+use Rattle.report_text.specs.declared.report.ReportLine.TheVariants as report
+use Rattle.report_text.specs.Lines.{report_text}
 use Rattle.request_text.specs.Text.{Asked, call_count, modules_of, requests_of}
 use Rattle.pool_limits.specs.declared.numbers.Numbers.{Numbers}
 use Rattle.command_line.specs.Words.{command_of}
@@ -22,9 +22,9 @@ pub record HasReport (words : List (List ℕ)) (numbers : Numbers) (bytes : List
   pub report : IsReport numbers requests lines
 
 -- the directive at this place is a call whose name stands for a module of these bytes
-pub record CallsAt (requests : Asked) (at : ℕ) (bytes export : List ℕ) (fuel : ℕ) (args : List Val) : Type 0 where
+pub record CallsAt (requests : Asked) (at : ℕ) (bytes : List ℕ) (invocation : Invocation) : Type 0 where
   pub place : ℕ
-  pub call : slice_get requests.directives at ≡ Some (Call place export fuel args)
+  pub call : slice_get requests.directives at ≡ Some (Call place invocation)
   pub module_bytes : slice_get (modules_of requests.directives) place ≡ Some bytes
 
 -- the line at this place tells how the call went, after the call's number: one more than the calls before it

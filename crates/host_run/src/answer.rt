@@ -3,7 +3,7 @@ ghost use Rattle.std.specs.Prelude.{◌≡◌, ◌⊎◌, ◌<◌, IfOk, IsOk, I
 ghost use Rattle.std.specs.Result.{result_ok};
 ghost use Rattle.host_run.specs.Refusal.{told};
 ghost use Rattle.host_run.specs.Serving.{IsFileAnswer, IsReported, lines_text, refused, shown};
-ghost use Rattle.request_text.specs.Lines.{refusal_line};
+ghost use Rattle.request_text.specs.Refusal.{refusal_line};
 ghost use Rattle.request_text.specs.Text.{BadLine, file_refusal_of};
 
 use crate::due::{Due, Text, refusal};
@@ -11,10 +11,8 @@ use crate::status::Status;
 use host_edge::Gate;
 use host_report::report;
 use pool_limits::PoolConfig;
-use request_text::{
-    MOST_BYTES, ParseFault, Reason, ReportLine, Requests, parse, report_text, write_summary,
-    write_text_fault,
-};
+use report_text::{ReportLine, report_text, write_summary};
+use request_text::{MOST_BYTES, ParseFault, Reason, Requests, parse, write_text_fault};
 use std::alloc::Global;
 use std::sync::Wait;
 use std::thread::Threads;

@@ -1,8 +1,8 @@
 //! Laws of the definitions, as contracts of functions that do nothing.
 ghost use Rattle.std.specs.Prelude.{◌≡◌, ℕ, List};
-ghost use Rattle.wasm_types.specs.declared.outcome.Val.{Val};
-ghost use Rattle.request_text.specs.declared.report.CallLine.{CallLine};
-ghost use Rattle.request_text.specs.declared.report.ReportLine.{ReportLine};
+ghost use Rattle.request_text.specs.declared.invocation.Invocation.{Invocation};
+ghost use Rattle.report_text.specs.declared.report.CallLine.{CallLine};
+ghost use Rattle.report_text.specs.declared.report.ReportLine.{ReportLine};
 ghost use Rattle.request_text.specs.Text.{Asked};
 ghost use Rattle.pool_limits.specs.declared.numbers.Numbers.{Numbers};
 ghost use Rattle.host_report.specs.Report.{limits_in};
@@ -16,10 +16,10 @@ use host_report::laws::{a_call_has_one_line, at_most_one_report, each_call_has_i
 /// call's number its line tells the same in both reports, whatever else the files ask for.
 pub fn same_line()
     ensures { (words words' : List (List ℕ)) (numbers numbers' : Numbers) (bytes bytes' : List ℕ) (requests requests' : Asked)
-        (lines lines' : List ReportLine) (at at' : ℕ) (module_bytes export : List ℕ) (fuel : ℕ) (args : List Val)
+        (lines lines' : List ReportLine) (at at' : ℕ) (module_bytes : List ℕ) (invocation : Invocation)
         → limits_in requests.profile numbers ≡ limits_in requests'.profile numbers'
         → HasReport words numbers bytes requests lines → HasReport words' numbers' bytes' requests' lines'
-        → CallsAt requests at module_bytes export fuel args → CallsAt requests' at' module_bytes export fuel args
+        → CallsAt requests at module_bytes invocation → CallsAt requests' at' module_bytes invocation
         → (how : CallLine) × TellsAt requests lines at how × TellsAt requests' lines' at' how }
 {
     each_call_has_its_line();
@@ -30,10 +30,10 @@ pub fn same_line()
 /// LF. It stands behind the text of the lines before it.
 pub fn same_bytes()
     ensures { (words words' : List (List ℕ)) (numbers numbers' : Numbers) (bytes bytes' : List ℕ) (requests requests' : Asked)
-        (lines lines' : List ReportLine) (at at' : ℕ) (module_bytes export : List ℕ) (fuel : ℕ) (args : List Val)
+        (lines lines' : List ReportLine) (at at' : ℕ) (module_bytes : List ℕ) (invocation : Invocation)
         → limits_in requests.profile numbers ≡ limits_in requests'.profile numbers'
         → HasReport words numbers bytes requests lines → HasReport words' numbers' bytes' requests' lines'
-        → CallsAt requests at module_bytes export fuel args → CallsAt requests' at' module_bytes export fuel args
+        → CallsAt requests at module_bytes invocation → CallsAt requests' at' module_bytes invocation
         → (told : List ℕ) × WritesAt requests lines at told × WritesAt requests' lines' at' told }
 {
     each_call_has_its_line();

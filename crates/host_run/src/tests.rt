@@ -428,110 +428,6 @@ const INSTANCES: [Run; 9] = [
     },
 ];
 
-// Numbers of which the low eight bits are taken as signed.
-const EXTENSION: &[u8] = b"profile 2
-module ext 0061736d0100000001060160017f017f03020100070501016500000a070105002000c00b
-call ext e 2 i32:127
-call ext e 2 i32:128
-call ext e 2 i32:255
-call ext e 2 i32:256
-";
-
-const EXTENSION_IN_PROFILE_1: &[u8] =
-    b"module ext 0061736d0100000001060160017f017f03020100070501016500000a070105002000c00b
-call ext e 2 i32:127
-";
-
-// A memory of one page, filled from an address on.
-const FILL: &[u8] = b"# another profile
-
-profile 2
-module fill 0061736d0100000001060160027f7f00030201000503010001070501016600000a0d010b00200041072001fc0b000b
-call fill f 4 i32:0 i32:65536
-call fill f 4 i32:65536 i32:0
-call fill f 4 i32:65536 i32:1
-call fill f 4 i32:65537 i32:0
-call fill f 4 i32:-1 i32:2
-call fill f 3 i32:0 i32:65536
-";
-
-// A count of data segments, of which there is none.
-const DATA_COUNTS: &[u8] = b"profile 2
-module none 0061736d010000000c0100
-module one 0061736d010000000c0101
-";
-
-const DATA_COUNT_IN_PROFILE_1: &[u8] = b"profile 1
-module none 0061736d010000000c0100
-";
-
-// Runs in each profile.
-const PROFILES: [Run; 7] = [
-    // signs that are extended
-    Run {
-        words: RUN,
-        bytes: EXTENSION,
-        source: (4096, &[]),
-        sink: (4096, &[]),
-        status: 0,
-        written: b"module ext ok\n1 ok i32:127\n2 ok i32:-128\n3 ok i32:-1\n4 ok i32:0\n",
-    },
-    // which profile 1 lacks
-    Run {
-        words: RUN,
-        bytes: EXTENSION_IN_PROFILE_1,
-        source: (4096, &[]),
-        sink: (4096, &[]),
-        status: 0,
-        written: b"module ext refused malformed\n1 refused module\n",
-    },
-    // memories that are filled, to their end and past it
-    Run {
-        words: RUN,
-        bytes: FILL,
-        source: (4096, &[]),
-        sink: (4096, &[]),
-        status: 0,
-        written: b"module fill ok\n1 ok\n2 ok\n3 trap memory\n4 trap memory\n5 trap memory\n6 fuel\n",
-    },
-    // counts of data segments
-    Run {
-        words: RUN,
-        bytes: DATA_COUNTS,
-        source: (4096, &[]),
-        sink: (4096, &[]),
-        status: 0,
-        written: b"module none ok\nmodule one refused malformed\n",
-    },
-    // which profile 1 lacks
-    Run {
-        words: RUN,
-        bytes: DATA_COUNT_IN_PROFILE_1,
-        source: (4096, &[]),
-        sink: (4096, &[]),
-        status: 0,
-        written: b"module none refused malformed\n",
-    },
-    // a profile behind a module
-    Run {
-        words: RUN,
-        bytes: b"module e 0061736d01000000\nprofile 2\n",
-        source: (4096, &[]),
-        sink: (4096, &[]),
-        status: 2,
-        written: b"line 2: late profile\n",
-    },
-    // a profile that is none
-    Run {
-        words: RUN,
-        bytes: b"profile 9\n",
-        source: (4096, &[]),
-        sink: (4096, &[]),
-        status: 2,
-        written: b"line 1: bad profile\n",
-    },
-];
-
 // Reports with one slot of a kind, which several workers can't share.
 const ONE_SLOT: [Run; 1] = [
     // a memory for one slot
@@ -675,12 +571,6 @@ fn runs_end_with_their_status_and_text(rt: HostRuntime) -> Result<(), Fail> {
 fn each_call_runs_on_a_fresh_instance(rt: HostRuntime) -> Result<(), Fail> {
     check_runs(&rt, rt.alloc(), &INSTANCES, &[])?;
     check_runs(&rt, rt.alloc(), &ONE_SLOT, &[])
-}
-
-#[test]
-fn modules_are_read_in_the_profile_of_their_file(rt: HostRuntime) -> Result<(), Fail> {
-    check_runs(&rt, rt.alloc(), &PROFILES, &[])?;
-    check_runs(&rt, rt.alloc(), &PROFILES, FOUR_WORKERS)
 }
 
 // A stream gives 4,096 bytes at a time, and would fail behind the byte past 64 MiB, which is the last that is read.

@@ -7,7 +7,7 @@ use crate::fill::write_table;
 use crate::image::build;
 use std::alloc::{AllocError, Global};
 use std::test::Fail;
-use wasm_types::{Items, Limits, Module};
+use wasm_types::{Items, Limits, Module, Profile};
 use wasm_validate::validate;
 
 fn none<T>(alloc: Global) -> Items<T> {
@@ -41,7 +41,7 @@ fn module(alloc: Global, elements: u32) -> Result<Module, AllocError>
 fn the_greatest_table_is_written_and_no_entry_past_it(rt: HostRuntime) -> Result<(), Fail> {
     let alloc = rt.alloc();
     let module = module(alloc, 65_536)?;
-    let valid = validate(alloc, module)?;
+    let valid = validate(alloc, Profile::One, module)?;
     build(alloc, &valid)?;
     let mut entries = vec![in alloc; Some(7); 65_540]?;
     assert_eq!(rt; write_table(&valid, &mut entries), 65_536);

@@ -1,48 +1,60 @@
 -- What an exported function of a valid module is called as, and what the call gives.
-use Rattle.std.proofs.Common.{◌≡◌, ℕ, List, Some, map, sym, ap, ◌∙◌, subst}
-use Rattle.std.specs.Prelude.{slice_get}
+use Rattle.std.proofs.Common.{◌≡◌, ℕ, List, Some, map, refl, sym, ap, ◌∙◌, subst}
+use Rattle.std.specs.Prelude.{◌-◌, IsSome, length, option_and_then}
 use Rattle.std.proofs.lemmas.Option.{get_or_from_slice_get, slice_get_within}
 use Rattle.wasm_types.specs.declared.types.FuncType.{FuncType}
 use Rattle.wasm_types.specs.declared.outcome.Outcome.{Outcome}
+use Rattle.wasm_types.specs.declared.outcome.Outcome.TheVariants as outcome
 use Rattle.wasm_types.specs.declared.outcome.Val.{Val}
 use Rattle.wasm_types.specs.declared.module.Export.{Export}
 use Rattle.wasm_types.specs.declared.module.Module.{Module}
 use Rattle.wasm_types.proofs.Found.{some_found}
-use Rattle.wasm_types.specs.Tree.{FunctionTree, ModuleTree, module_tree}
-use Rattle.wasm_spec.specs.Typing.{IsTypedFunction, function_type, type_of}
+use Rattle.wasm_types.specs.Tree.{ModuleTree, module_tree}
+use Rattle.wasm_types.specs.declared.module.Import.{Import}
+use Rattle.wasm_spec.specs.Functions.{Callee, Imported, Own, callee_at, callee_type, function_type}
+use Rattle.wasm_spec.proofs.FunctionNumbers.{imported_there, own_there}
+use Rattle.wasm_spec.specs.Execution.{terms}
+use Rattle.wasm_spec.specs.Typing.{IsTypedFunction, type_of}
 use Rattle.wasm_spec.specs.Validity.{Exports, IsDefined, IsValid}
 use Rattle.wasm_spec.specs.Store.{Store, fresh_store}
-use Rattle.wasm_spec.specs.Result.{result_from}
+use Rattle.wasm_spec.specs.Result.{answer_by, result_from}
 use Rattle.wasm_machine.specs.Calls.{IsCall}
 use Rattle.pool_limits.specs.declared.numbers.Numbers.{Numbers}
 use Rattle.pool_worlds.specs.Contents.{Contents, Kind, shown}
-use Rattle.instance_calls.specs.CallWords.{EndsWith, LacksTypes, MayCall, run_limits}
+use Rattle.instance_calls.specs.CallWords.{EndsWith, LacksTypes, MayCall, kept_by, run_limits}
 use Rattle.instance_calls.specs.Runs.{RanOn}
 use Rattle.instance_calls.proofs.RunLemmas.{gives}
 
--- a function with its type
+-- a function's type
 pub record HasFunction (m : ModuleTree) (x : ℕ) : Type 0 where
-  pub function : FunctionTree
   pub type : FuncType
-  pub there : slice_get m.functions x ≡ Some function
-  pub typed : slice_get m.types function.type_index ≡ Some type
+  pub typed : function_type m x ≡ Some type
+
+callee_typed : (m : ModuleTree) (x : ℕ) (c : Callee) → IsValid m → callee_at m x ≡ Some c → IsSome (callee_type m c)
+callee_typed m x (Imported i) valid there =
+    let at = imported_there m x i there in
+    subst (λ (j : Import). IsSome (callee_type m (Imported j))) (get_or_from_slice_get m.imports x i i at) (valid.imports x i (slice_get_within m.imports x i at))
+callee_typed m x (Own f) valid there =
+    let y : ℕ = x - length m.imports in
+    let at = own_there m x f there in
+    let typed : IsTypedFunction m f = subst (IsTypedFunction m) (get_or_from_slice_get m.functions y f f at) (valid.functions y f (slice_get_within m.functions y f at)) in
+    typed.0
 
 pub exported_function : (m : ModuleTree) (export : List ℕ) (x : ℕ) → IsValid m → Exports m.exports export x → HasFunction m x
 exported_function m export x valid exports =
     let e = exports.export in
     let defined : IsDefined m e.desc = subst (λ (e : Export). IsDefined m e.desc) (get_or_from_slice_get m.exports exports.place e e exports.there)
     (valid.exports exports.place e (slice_get_within m.exports exports.place e exports.there)) in
-    let (f, there) = some_found (slice_get m.functions x) (subst (IsDefined m) exports.function defined) in
-    let typed : IsTypedFunction m f = subst (IsTypedFunction m) (get_or_from_slice_get m.functions x f f there) (valid.functions x f (slice_get_within m.functions x f there)) in
-    let (t, type) = some_found (slice_get m.types f.type_index) typed.0 in
-    record { function = f; type = t; there = there; typed = type }
+    let (c, there) = some_found (callee_at m x) (subst (IsDefined m) exports.function defined) in
+    let (t, type) = some_found (callee_type m c) (callee_typed m x c valid there) in
+    record { type = t; typed = ap (option_and_then (callee_type m)) there ∙ type }
 
 pub function_type_is : (m : ModuleTree) (x : ℕ) (h : HasFunction m x) → function_type m x ≡ Some h.type
-function_type_is m x h = rw (h.there, h.typed)
+function_type_is m x h = h.typed
 
 -- what is called from outside
 pub is_call : (v : Module) (x : ℕ) (args : List Val) (h : HasFunction (module_tree v) x) → map type_of args ≡ h.type.params → IsCall v x args
-is_call v x args h fit = record { function = h.function; type = h.type; there = h.there; typed = h.typed; args_fit = fit }
+is_call v x args h fit = record { type = h.type; typed = h.typed; args_fit = fit }
 
 pub lacks_types : (m : ModuleTree) (export : List ℕ) (x : ℕ) (args : List Val) (h : HasFunction m x) → Exports m.exports export x → (map type_of args ≡ h.type.params → ⊥) → LacksTypes m export args
 lacks_types m export x args h exported differ = record { function = x; type = h.type; exported = record { exported = exported; typed = function_type_is m x h }; differ = differ }
@@ -58,16 +70,23 @@ called v export x args valid may =
     let same : may.type ≡ h.type = cc in
     is_call v x args h (may.fit ∙ ap (λ (t : FuncType). t.params) same)
 
+kept_is : (o : Outcome) (s : Store) → kept_by o s.answer ≡ answer_by o s
+kept_is (outcome.Done v) s = refl
+kept_is (outcome.Trap t) s = refl
+kept_is outcome.Fuel s = refl
+
 -- what ran on a fresh instance ends as the call does
-pub ended : (config : Numbers) (m : ModuleTree) (export : List ℕ) (x : ℕ) (args : List Val) (fuel : ℕ) (old new : (k : Kind) → Contents k) (outcome : Outcome)
-    → MayCall m export x args → shown m old ≡ fresh_store m → RanOn config m x args fuel old new outcome → EndsWith m (run_limits config) export args fuel outcome
-ended config m export x args fuel old new outcome may fresh ran = record {
+pub ended : (config : Numbers) (m : ModuleTree) (export : List ℕ) (x : ℕ) (args : List Val) (request : List ℕ) (fuel : ℕ) (old new : (k : Kind) → Contents k) (left answer : List ℕ) (outcome : Outcome)
+    → MayCall m export x args → shown m old ≡ fresh_store m → answer ≡ kept_by outcome left → RanOn config m x args request fuel old new left outcome
+    → EndsWith m (run_limits config) export args request fuel outcome answer
+ended config m export x args request fuel old new left answer outcome may fresh kept ran = record {
   function = x;
   type = may.type;
   exported = may.exported;
   fit = may.fit;
   result = ran.result;
-  ends = ap (λ (s : Store). result_from m (run_limits config) x args s fuel) (sym fresh)
-      ∙ gives config.pages m (run_limits config) x args (shown m old) fuel old new ran.marks ran.result m.start ran.runs;
+  ends = ap (λ (s : Store). result_from m (terms (run_limits config) request) x args s fuel) (sym fresh)
+      ∙ gives config.pages m (terms (run_limits config) request) x args (shown m old) fuel old new ran.marks ran.result m.start ran.runs;
   shows = ran.ends;
+  answers = kept ∙ (λ i. kept_by (ran.ends i) (ran.answer i)) ∙ kept_is ran.result.outcome ran.result.store;
 }

@@ -1,6 +1,6 @@
 -- The store that the slots of an instance show.
 use Rattle.std.proofs.Common.{◌≡◌, ◌≢◌, ℕ, ◌*◌, List, [], ◌∷◌, ◌++◌, Option, Some, None, Bool, true, false, length, take, drop, nat_lt, refl, sym, ap, ◌∙◌, subst, arith}
-use Rattle.std.specs.Prelude.{is_some, not}
+use Rattle.std.specs.Prelude.{is_some}
 use Rattle.std.proofs.Math.Seq.{take-append_seam}
 use Rattle.std.proofs.lemmas.Bool.{lt-ltb}
 use Rattle.std.proofs.lemmas.List.{length-map, length-take, nil_from_length}
@@ -10,6 +10,7 @@ use Rattle.wasm_types.specs.declared.outcome.Val.{Val}
 use Rattle.wasm_types.specs.declared.module.Module.{Module}
 use Rattle.wasm_types.specs.Tree.{ModuleTree, global_tree, module_tree}
 use Rattle.wasm_spec.specs.Store.{Store, fresh_store, memory_size, minimum_of, page_size, table_size}
+use Rattle.wasm_spec.specs.Execution.{answer_set, terms}
 use Rattle.wasm_spec.specs.Result.{CallResult}
 use Rattle.linear_memory.specs.declared.memory.Memory.{Memory as LinearMemory}
 use Rattle.wasm_machine.specs.Lent.{lent_store, own, others}
@@ -33,11 +34,11 @@ has_none {A = A} xs none = ap (λ (ys : List A). nat_lt 0 (length ys)) none
 
 -- ---- the store
 
-abbrev store : List ℕ → List (Option ℕ) → List Val → Store
-store memory table globals = record { memory = memory; table = table; globals = globals }
+abbrev store : List ℕ → List (Option ℕ) → List Val → List ℕ → Store
+store memory table globals answer = record { memory = memory; table = table; globals = globals; answer = answer }
 
-pub same_store : (a b : List ℕ) (c d : List (Option ℕ)) (e f : List Val) → a ≡ b → c ≡ d → e ≡ f → store a c e ≡ store b d f
-same_store a b c d e f p q r = λ i. store (p i) (q i) (r i)
+pub same_store : (a b : List ℕ) (c d : List (Option ℕ)) (e f : List Val) (answer : List ℕ) → a ≡ b → c ≡ d → e ≡ f → store a c e answer ≡ store b d f answer
+same_store a b c d e f answer p q r = λ i. store (p i) (q i) (r i) answer
 
 -- a module's globals are as many in its tree
 own_is : (m : Module) (globals : List Val) → take (length (module_tree m).globals) globals ≡ own m globals
@@ -53,13 +54,13 @@ module _ (m : Module) (globals : List Val) (memory : MemoryContents) (table : Op
   abbrev lent : (k : Kind) → Contents k
   lent = parts memory (table_in table).holds (table_in table).entries globals
 
-  with_memory : needs Memory (module_tree m) ≡ true → shown (module_tree m) lent ≡ store_in m memory (table_in table).entries globals
-  with_memory some =
-      same_store _ _ _ _ _ _ (ap (λ (b : Bool). shown_memory b memory) some) (table_shown (needs Table (module_tree m)) table had) (own_is m globals)
+  with_memory : (answer : List ℕ) → needs Memory (module_tree m) ≡ true → answer_set answer (shown (module_tree m) lent) ≡ store_in m memory (table_in table).entries globals answer
+  with_memory answer some =
+      same_store _ _ _ _ _ _ _ (ap (λ (b : Bool). shown_memory b memory) some) (table_shown (needs Table (module_tree m)) table had) (own_is m globals)
 
-  without_memory : needs Memory (module_tree m) ≡ false → shown (module_tree m) lent ≡ bare_store m (table_in table).entries globals
-  without_memory none =
-      same_store _ _ _ _ _ _ (ap (λ (b : Bool). shown_memory b memory) none) (table_shown (needs Table (module_tree m)) table had) (own_is m globals)
+  without_memory : (answer : List ℕ) → needs Memory (module_tree m) ≡ false → answer_set answer (shown (module_tree m) lent) ≡ bare_store m (table_in table).entries globals answer
+  without_memory answer none =
+      same_store _ _ _ _ _ _ _ (ap (λ (b : Bool). shown_memory b memory) none) (table_shown (needs Table (module_tree m)) table had) (own_is m globals)
 
 abbrev pub ended_so : Outcome → Store → ℕ → CallResult
 ended_so outcome store left = record { outcome = outcome; store = store; fuel = left }
@@ -76,40 +77,40 @@ leaves_shown pages m result fuel old new marks outcome left a b c d p q leaves =
 -- A run on the parts of an instance is one on its contents.
 module _ (pages : ℕ) (m : Module) (result : Store → ℕ → Option CallResult) (fuel : ℕ) (memory : Option (Lease MemoryContents)) (table : Option (Lease TableContents))
     (had_memory : is_some memory ≡ needs Memory (module_tree m)) (had_table : is_some table ≡ needs Table (module_tree m))
-    (entries : List (Option ℕ)) (entries_are : entries ≡ (table_in table).entries) (outcome : Outcome) (left : ℕ) (old new : List Val) where
+    (entries : List (Option ℕ)) (entries_are : entries ≡ (table_in table).entries) (outcome : Outcome) (left : ℕ) (old new : List Val) (said says : List ℕ) where
   abbrev At : List (Option ℕ) → (x y : MemoryContents) → (before after : Store) → Type 0
   At es x y before after = Leaves pages (module_tree m) (result before) fuel (parts x (table_in table).holds es old) (parts y (table_in table).holds es new) y.marks
       (record { outcome = outcome; store = after; fuel = left })
 
-  abbrev shown_with : MemoryContents → List Val → Store
-  shown_with x globals = shown (module_tree m) (parts x (table_in table).holds (table_in table).entries globals)
+  abbrev shown_with : MemoryContents → List Val → List ℕ → Store
+  shown_with x globals answer = answer_set answer (shown (module_tree m) (parts x (table_in table).holds (table_in table).entries globals))
 
   pub runs_with_memory : (l : Lease MemoryContents) (y : MemoryContents) → memory ≡ Some l
-      → ((owner : Option Named) → Leaves pages (module_tree m) (result (store_in m l.value entries old)) fuel (parts l.value owner entries old) (parts y owner entries new) y.marks
-      (record { outcome = outcome; store = store_in m y entries new; fuel = left }))
-      → At (table_in table).entries (memory_in memory) y (shown_with (memory_in memory) old) (shown_with y new)
+      → ((owner : Option Named) → Leaves pages (module_tree m) (result (store_in m l.value entries old said)) fuel (parts l.value owner entries old) (parts y owner entries new) y.marks
+      (record { outcome = outcome; store = store_in m y entries new says; fuel = left }))
+      → At (table_in table).entries (memory_in memory) y (shown_with (memory_in memory) old said) (shown_with y new says)
   runs_with_memory l y is leaves =
       let needed : needs Memory (module_tree m) ≡ true = sym had_memory ∙ ap is_some is in
-      let lent : At (table_in table).entries l.value y (store_in m l.value (table_in table).entries old) (store_in m y (table_in table).entries new) =
-      subst (λ (es : List (Option ℕ)). At es l.value y (store_in m l.value es old) (store_in m y es new)) entries_are (leaves (table_in table).holds) in
-      let there : At (table_in table).entries l.value y (shown_with l.value old) (shown_with y new) =
-      leaves_shown pages (module_tree m) result fuel _ _ y.marks outcome left _ _ _ _ (sym (with_memory m old l.value table had_table needed)) (sym (with_memory m new y table had_table needed)) lent in
-      subst (λ (o : Option (Lease MemoryContents)). At (table_in table).entries (memory_in o) y (shown_with (memory_in o) old) (shown_with y new)) (sym is) there
+      let lent : At (table_in table).entries l.value y (store_in m l.value (table_in table).entries old said) (store_in m y (table_in table).entries new says) =
+      subst (λ (es : List (Option ℕ)). At es l.value y (store_in m l.value es old said) (store_in m y es new says)) entries_are (leaves (table_in table).holds) in
+      let there : At (table_in table).entries l.value y (shown_with l.value old said) (shown_with y new says) =
+      leaves_shown pages (module_tree m) result fuel _ _ y.marks outcome left _ _ _ _ (sym (with_memory m old l.value table had_table said needed)) (sym (with_memory m new y table had_table says needed)) lent in
+      subst (λ (o : Option (Lease MemoryContents)). At (table_in table).entries (memory_in o) y (shown_with (memory_in o) old said) (shown_with y new says)) (sym is) there
 
   pub runs_without_memory : memory ≡ None
-      → ((x : MemoryContents) (owner : Option Named) → Leaves pages (module_tree m) (result (bare_store m entries old)) fuel (parts x owner entries old) (parts x owner entries new) x.marks
-      (record { outcome = outcome; store = bare_store m entries new; fuel = left }))
-      → At (table_in table).entries (memory_in memory) (memory_in memory) (shown_with (memory_in memory) old) (shown_with (memory_in memory) new)
+      → ((x : MemoryContents) (owner : Option Named) → Leaves pages (module_tree m) (result (bare_store m entries old said)) fuel (parts x owner entries old) (parts x owner entries new) x.marks
+      (record { outcome = outcome; store = bare_store m entries new says; fuel = left }))
+      → At (table_in table).entries (memory_in memory) (memory_in memory) (shown_with (memory_in memory) old said) (shown_with (memory_in memory) new says)
   runs_without_memory is leaves =
       let x = memory_in memory in
       let unneeded : needs Memory (module_tree m) ≡ false = sym had_memory ∙ ap is_some is in
-      let lent : At (table_in table).entries x x (bare_store m (table_in table).entries old) (bare_store m (table_in table).entries new) =
-      subst (λ (es : List (Option ℕ)). At es x x (bare_store m es old) (bare_store m es new)) entries_are (leaves x (table_in table).holds) in
-      leaves_shown pages (module_tree m) result fuel _ _ x.marks outcome left _ _ _ _ (sym (without_memory m old x table had_table unneeded)) (sym (without_memory m new x table had_table unneeded)) lent
+      let lent : At (table_in table).entries x x (bare_store m (table_in table).entries old said) (bare_store m (table_in table).entries new says) =
+      subst (λ (es : List (Option ℕ)). At es x x (bare_store m es old said) (bare_store m es new says)) entries_are (leaves x (table_in table).holds) in
+      leaves_shown pages (module_tree m) result fuel _ _ x.marks outcome left _ _ _ _ (sym (without_memory m old x table had_table said unneeded)) (sym (without_memory m new x table had_table says unneeded)) lent
 
-pub runs_under : (pages : ℕ) (m : ModuleTree) (x : ℕ) (args : List Val) (fuel : ℕ) (store : Store) (old new : (k : Kind) → Contents k) (marks : List Bool) (r : CallResult) (a b : RunLimits) → a ≡ b
-    → RunsFunction pages m a x args store fuel old new marks r → RunsFunction pages m b x args store fuel old new marks r
-runs_under pages m x args fuel store old new marks r a b same = subst (λ (l : RunLimits). RunsFunction pages m l x args store fuel old new marks r) same
+pub runs_under : (pages : ℕ) (m : ModuleTree) (x : ℕ) (args : List Val) (fuel : ℕ) (store : Store) (old new : (k : Kind) → Contents k) (marks : List Bool) (r : CallResult) (a b : RunLimits) (request : List ℕ) → a ≡ b
+    → RunsFunction pages m (terms a request) x args store fuel old new marks r → RunsFunction pages m (terms b request) x args store fuel old new marks r
+runs_under pages m x args fuel store old new marks r a b request same = subst (λ (l : RunLimits). RunsFunction pages m (terms l request) x args store fuel old new marks r) same
 
 -- values that were written back into a list as long
 pub written_back : (n : ℕ) (xs ys : List Val) → length xs ≡ n → xs ≡ take n (xs ++ ys)
@@ -120,8 +121,8 @@ written_back n xs ys long = sym (ap (λ (k : ℕ). take k (xs ++ ys)) (sym long)
 no_shown : (n : ℕ) (bytes : List ℕ) → length bytes ≡ 0 → take n bytes ≡ []
 no_shown n bytes none = nil_from_length (take n bytes) (let long = length-take n bytes in omega arith)
 
-pub bare_is : (m : Module) (memory : LinearMemory) (table : List (Option ℕ)) (globals : List Val) → length memory.bytes.items ≡ 0 → lent_store m memory table globals ≡ bare_store m table globals
-bare_is m memory table globals none = same_store _ _ _ _ _ _ (no_shown (memory.pages * page_size) memory.bytes.items none) refl refl
+pub bare_is : (m : Module) (memory : LinearMemory) (table : List (Option ℕ)) (globals : List Val) (answer : List ℕ) → length memory.bytes.items ≡ 0 → lent_store m memory table globals answer ≡ bare_store m table globals answer
+bare_is m memory table globals answer none = same_store _ _ _ _ _ _ _ (no_shown (memory.pages * page_size) memory.bytes.items none) refl refl
 
 module _ (pages : ℕ) (m : Module) (x : MemoryContents) (owner : Option Named) (table : List (Option ℕ)) (old new : List Val) (none : m.memories ≡ []) where
   unneeded : needs Memory (module_tree m) ≡ true → ⊥
@@ -133,15 +134,14 @@ module _ (pages : ℕ) (m : Module) (x : MemoryContents) (owner : Option Named) 
   parts_left s entries values contents.Memory needed = absurd (unneeded needed)
   parts_left s entries values Table needed = λ i. record { entries = sym entries i; holds = owner }
 
-  pub leaves_bare : (result : ℕ → Option CallResult) (fuel : ℕ) (outcome : Outcome) (left : ℕ)
-      → IsTypedStore m (bare_store m table old) → length new ≡ length old → others m new ≡ others m old
-      → result fuel ≡ Some (record { outcome = outcome; store = bare_store m table new; fuel = left })
-      → Leaves pages (module_tree m) result fuel (parts x owner table old) (parts x owner table new) x.marks (record { outcome = outcome; store = bare_store m table new; fuel = left })
-  leaves_bare result fuel outcome left typed long rest gives = record {
+  pub leaves_bare : (result : ℕ → Option CallResult) (fuel : ℕ) (outcome : Outcome) (left : ℕ) (said says : List ℕ)
+      → IsTypedStore m (bare_store m table old said) → length new ≡ length old → others m new ≡ others m old
+      → result fuel ≡ Some (record { outcome = outcome; store = bare_store m table new says; fuel = left })
+      → Leaves pages (module_tree m) result fuel (parts x owner table old) (parts x owner table new) x.marks (record { outcome = outcome; store = bare_store m table new says; fuel = left })
+  leaves_bare result fuel outcome left said says typed long rest gives = record {
     gives = gives;
-    left = parts_left (bare_store m table new) refl (globals_left (length m.globals) old new (globals_there m (bare_store m table old) old refl typed) long rest);
+    left = parts_left (bare_store m table new says) refl (globals_left (length m.globals) old new (globals_there m (bare_store m table old said) old refl typed) long rest);
     marked = λ needed. absurd (unneeded needed);
-    still = λ needed. absurd (unneeded needed);
   }
 
 -- ---- a fresh instance
@@ -149,7 +149,7 @@ module _ (pages : ℕ) (m : Module) (x : MemoryContents) (owner : Option Named) 
 pub fresh_is : (m : ModuleTree) (globals : List Val) (memory : Option (Lease MemoryContents)) (table : Option (Lease TableContents)) (config : Numbers)
     → take (length m.globals) globals ≡ (fresh_store m).globals → IsFreshMemory config m memory → IsFreshTable m table
     → shown m (parts (memory_in memory) (table_in table).holds (table_in table).entries globals) ≡ fresh_store m
-fresh_is m globals memory table config same_globals same_memory same_table = same_store _ _ _ _ _ _ same_memory.shown same_table.shown same_globals
+fresh_is m globals memory table config same_globals same_memory same_table = same_store _ _ _ _ _ _ _ same_memory.shown same_table.shown same_globals
 
 pub bare_memory : (config : Numbers) (m : ModuleTree) → m.memories ≡ [] → length (fresh_store m).memory ≡ memory_size m → IsFreshMemory config m None
 bare_memory config m none size =

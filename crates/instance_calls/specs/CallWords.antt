@@ -1,13 +1,16 @@
 -- Which calls of a module may be made, and how they end.
-use Rattle.std.specs.Prelude.{◌≡◌, ◌≢◌, ℕ, List, map, Some}
+use Rattle.std.specs.Prelude.{◌≡◌, ◌≢◌, ℕ, List, [], map, Some}
 use Rattle.wasm_types.specs.declared.types.FuncType.{FuncType}
 use Rattle.wasm_types.specs.declared.outcome.Outcome.{Outcome}
+use Rattle.wasm_types.specs.declared.outcome.Outcome.TheVariants as outcome
 use Rattle.wasm_types.specs.declared.outcome.Val.{Val}
 use Rattle.wasm_types.specs.declared.limits.RunLimits.{RunLimits}
 use Rattle.wasm_types.specs.Tree.{ModuleTree}
-use Rattle.wasm_spec.specs.Typing.{type_of, function_type}
+use Rattle.wasm_spec.specs.Functions.{function_type}
+use Rattle.wasm_spec.specs.Execution.{terms}
+use Rattle.wasm_spec.specs.Typing.{type_of}
 use Rattle.wasm_spec.specs.Validity.{Exports}
-use Rattle.wasm_spec.specs.Result.{CallResult, call_result}
+use Rattle.wasm_spec.specs.Result.{CallResult, answer_of, call_result}
 use Rattle.pool_limits.specs.declared.numbers.Numbers.{Numbers}
 use Rattle.instance_calls.specs.declared.finding.Refusal.{Refusal}
 use Rattle.instance_calls.specs.declared.finding.Refusal.TheVariants.{NoExport, BadArgs}
@@ -34,16 +37,17 @@ pub record MayCall (m : ModuleTree) (export : List ℕ) (function : ℕ) (args :
   pub exported : IsExported m export function type
   pub fit : map type_of args ≡ type.params
 
--- a function is exported under this name, the arguments are of its parameters' types, and its call on a fresh instance ends
--- with this outcome
-pub record EndsWith (m : ModuleTree) (limits : RunLimits) (export : List ℕ) (args : List Val) (fuel : ℕ) (outcome : Outcome) : Type 0 where
+-- a function is exported under this name, the arguments are of its parameters' types, and its call on a fresh instance, with
+-- these bytes as its request, ends with this outcome and answers these bytes
+pub record EndsWith (m : ModuleTree) (limits : RunLimits) (export : List ℕ) (args : List Val) (request : List ℕ) (fuel : ℕ) (outcome : Outcome) (answer : List ℕ) : Type 0 where
   pub function : ℕ
   pub type : FuncType
   pub exported : IsExported m export function type
   pub fit : map type_of args ≡ type.params
   pub result : CallResult
-  pub ends : call_result m limits function args fuel ≡ Some result
+  pub ends : call_result m (terms limits request) function args fuel ≡ Some result
   pub shows : outcome ≡ result.outcome
+  pub answers : answer ≡ answer_of result
 
 -- why a call can't be made
 abbrev pub IsRefusal : ModuleTree → (export : List ℕ) → (args : List Val) → Refusal → Type 0
@@ -53,3 +57,8 @@ IsRefusal m export args BadArgs = LacksTypes m export args
 -- the limits of the runs of a configuration
 abbrev pub run_limits : Numbers → RunLimits
 run_limits n = record { pages = n.pages; depth = n.depth }
+
+-- what is kept of the bytes that were appended: an answer where the call is done
+abbrev pub kept_by : Outcome → List ℕ → List ℕ
+kept_by (outcome.Done v) bytes = bytes
+kept_by _ bytes = []

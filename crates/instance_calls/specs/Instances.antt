@@ -15,9 +15,9 @@ use Rattle.memory_slots.specs.Lent.{IsReady, parts}
 use Rattle.instance_calls.specs.declared.instance.Instance.{Instance}
 use Rattle.instance_calls.specs.Parts.{memory_in, memory_slot, table_in, ticket_slot}
 
--- the store of a module without a memory in this table and these globals
-abbrev pub bare_store : Module → List (Option ℕ) → List Val → Store
-bare_store m table globals = record { memory = []; table = table; globals = own m globals }
+-- the store of a module without a memory in this table, these globals and this answer
+abbrev pub bare_store : Module → List (Option ℕ) → List Val → List ℕ → Store
+bare_store m table globals answer = record { memory = []; table = table; globals = own m globals; answer = answer }
 
 -- the memory of an instance of the module as it begins, if the module has one
 pub record IsFreshMemory (config : Numbers) (m : ModuleTree) (memory : Option (Lease MemoryContents)) : Type 0 where

@@ -2,8 +2,10 @@
 ghost use Rattle.std.specs.Prelude.{◌≡◌, ◌↔◌, IsTrue, Some, map};
 ghost use Rattle.wasm_types.specs.declared.types.FuncType.{FuncType};
 ghost use Rattle.wasm_types.specs.Tree.{module_tree};
-ghost use Rattle.wasm_spec.specs.Typing.{function_type, type_of};
+ghost use Rattle.wasm_spec.specs.Functions.{function_type};
+ghost use Rattle.wasm_spec.specs.Typing.{type_of};
 
+use wasm_checker::function_type;
 use wasm_types::{Module, Val, ValType};
 
 // The type of a value.
@@ -44,7 +46,8 @@ pub(crate) fn fit(program: &Module, function: u32, args: &[Val]) -> bool
     ensures { (t : FuncType) → function_type (module_tree program.now) function ≡ Some t
         → IsTrue result ↔ (map type_of args.now ≡ t.params) }
 {
-    let function = &program.functions.as_slice()[function as usize];
-    let function_type = &program.types.as_slice()[function.type_index as usize];
-    have_types(args, function_type.params.as_slice())
+    match function_type(program, function) {
+        Some(function_type) => have_types(args, function_type.params.as_slice()),
+        None => unreachable!(),
+    }
 }

@@ -1,7 +1,8 @@
 //! Runs of a function on the parts of an instance.
-ghost use Rattle.std.specs.Prelude.{◌≡◌, ◌<◌, [], Option};
+ghost use Rattle.std.specs.Prelude.{◌≡◌, ◌<◌, ◌≤◌, [], Option, length};
 ghost use Rattle.wasm_types.specs.Tree.{module_tree};
 ghost use Rattle.wasm_spec.specs.Instances.{room_for};
+ghost use Rattle.wasm_spec.specs.Execution.{terms};
 ghost use Rattle.wasm_spec.specs.Result.{function_result};
 ghost use Rattle.wasm_machine.specs.Calls.{FitsFrame, IsCall, IsDone};
 ghost use Rattle.wasm_machine.specs.TypedConfiguration.{IsTypedStore};
@@ -12,6 +13,7 @@ ghost use Rattle.instance_calls.specs.CallWords.{run_limits};
 ghost use Rattle.instance_calls.specs.Instances.{bare_store};
 ghost use Rattle.instance_calls.specs.Parts.{table_in};
 
+use call_payload::AnswerBuf;
 use instance_slots::Ticket;
 use memory_slots::MemSlot;
 use module_store::{ModuleStore, Naming};
@@ -53,20 +55,23 @@ pub(crate) fn run_with_memory<N: Naming>(
     args: &[Val],
     fuel: u64,
     limits: RunLimits,
+    request: &[u8],
+    answer: &mut AnswerBuf,
 ) -> RunEnd
     requires limits { limits ≡ run_limits N.config }
     requires depth { 0 < limits.depth }
     requires call { IsCall valid.now function args.now }
     requires ready { IsReady (room_for valid.now.memories N.config.pages) memory.old }
-    requires store { IsTypedStore valid.now (store_in valid.now memory.old table.now ticket.old) }
+    requires store { IsTypedStore valid.now (store_in valid.now memory.old table.now ticket.old answer.old) }
     requires frame { FitsFrame valid.now N.config.frame }
+    requires request { length request.now ≤ 65536 }
     ensures leaves { (owner : Option Named) → Leaves N.config.pages (module_tree valid.now)
-        (function_result (module_tree valid.now) limits function args.now (store_in valid.now memory.old table.now ticket.old)) fuel
+        (function_result (module_tree valid.now) (terms limits request.now) function args.now (store_in valid.now memory.old table.now ticket.old answer.old)) fuel
         (parts memory.old owner table.now ticket.old) (parts memory.new owner table.now ticket.new) memory.new.marks
-        (record { outcome = result.outcome; store = store_in valid.now memory.new table.now ticket.new; fuel = result.left }) }
+        (record { outcome = result.outcome; store = store_in valid.now memory.new table.now ticket.new answer.new; fuel = result.left }) }
     ensures holds { memory.new.holds ≡ memory.old.holds }
     ensures ready { IsReady (room_for valid.now.memories N.config.pages) memory.new }
-    ensures store { IsDone result.outcome → IsTypedStore valid.now (store_in valid.now memory.new table.now ticket.new) }
+    ensures store { IsDone result.outcome → IsTypedStore valid.now (store_in valid.now memory.new table.now ticket.new answer.new) }
 {
     memory.run(
         valid,
@@ -77,6 +82,8 @@ pub(crate) fn run_with_memory<N: Naming>(
         table,
         &mut ticket.globals,
         &mut ticket.stacks,
+        request,
+        answer,
     )
 }
 
@@ -89,18 +96,21 @@ pub(crate) fn run_without_memory<N: Naming>(
     args: &[Val],
     fuel: u64,
     limits: RunLimits,
+    request: &[u8],
+    answer: &mut AnswerBuf,
 ) -> RunEnd
     requires limits { limits ≡ run_limits N.config }
     requires depth { 0 < limits.depth }
     requires call { IsCall valid.now function args.now }
     requires none { valid.now.memories ≡ [] }
-    requires store { IsTypedStore valid.now (bare_store valid.now table.now ticket.old) }
+    requires store { IsTypedStore valid.now (bare_store valid.now table.now ticket.old answer.old) }
     requires frame { FitsFrame valid.now N.config.frame }
+    requires request { length request.now ≤ 65536 }
     ensures leaves { (x : MemoryContents) (owner : Option Named) → Leaves N.config.pages (module_tree valid.now)
-        (function_result (module_tree valid.now) limits function args.now (bare_store valid.now table.now ticket.old)) fuel
+        (function_result (module_tree valid.now) (terms limits request.now) function args.now (bare_store valid.now table.now ticket.old answer.old)) fuel
         (parts x owner table.now ticket.old) (parts x owner table.now ticket.new) x.marks
-        (record { outcome = result.outcome; store = bare_store valid.now table.now ticket.new; fuel = result.left }) }
-    ensures store { IsDone result.outcome → IsTypedStore valid.now (bare_store valid.now table.now ticket.new) }
+        (record { outcome = result.outcome; store = bare_store valid.now table.now ticket.new answer.new; fuel = result.left }) }
+    ensures store { IsDone result.outcome → IsTypedStore valid.now (bare_store valid.now table.now ticket.new answer.new) }
 {
     run(
         valid,
@@ -112,5 +122,7 @@ pub(crate) fn run_without_memory<N: Naming>(
         table,
         &mut ticket.globals,
         &mut ticket.stacks,
+        request,
+        answer,
     )
 }

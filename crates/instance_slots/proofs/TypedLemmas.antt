@@ -1,7 +1,7 @@
 -- The fresh store of a valid module is typed.
-use Rattle.std.proofs.Common.{◌≡◌, ℕ, ◌+◌, ◌<◌, ◌≤◌, List, [], ◌∷◌, ◌++◌, length, take, drop, get_or, refl, subst}
+use Rattle.std.proofs.Common.{◌≡◌, ℕ, ◌+◌, ◌<◌, ◌≤◌, List, [], ◌∷◌, ◌++◌, length, take, drop, get_or, refl, ◌∙◌, arith, subst}
 use Rattle.std.specs.Prelude.{Option, Some, None, IsSome, All, map, option_map, unwrap_or, replicate, fold}
-use Rattle.std.proofs.lemmas.List.{length-map}
+use Rattle.std.proofs.lemmas.List.{length-append, length-map}
 use Rattle.std.proofs.lemmas.List.Elements.{All-head, All-tail, All-append, All-take, All-drop, All-map, All-replicate, All-weaker, All-get_or}
 use Rattle.std.proofs.lemmas.Option.{slice_get_within, get_or_from_slice_get}
 use Rattle.wasm_types.specs.declared.limits.LoadLimits.{LoadLimits}
@@ -10,7 +10,8 @@ use Rattle.wasm_types.specs.declared.outcome.Val.{Val}
 use Rattle.wasm_types.specs.declared.outcome.Val.TheVariants as val
 use Rattle.wasm_types.specs.declared.module.Module.{Module}
 use Rattle.wasm_types.specs.Tree.{GlobalTree, ElementTree, FunctionTree, ModuleTree, function_tree, module_tree}
-use Rattle.wasm_spec.specs.Typing.{type_of, function_at}
+use Rattle.wasm_spec.specs.Typing.{type_of}
+use Rattle.wasm_spec.specs.Functions.{Callee, Imported, Own, callees, callee_at}
 use Rattle.wasm_spec.specs.Need.{need}
 use Rattle.wasm_spec.specs.Validity.{IsInitialised, IsElementSegment, initial_value}
 use Rattle.wasm_spec.specs.Store.{fresh_store, write_elements, offset_of, table_size}
@@ -41,24 +42,31 @@ Names n (Some x) = x < n
 named-is : (n x : ℕ) (e : Option ℕ) → e ≡ Some x → Names n e → x < n
 named-is n x e is names = subst (Names n) is names
 
-there : (m : ModuleTree) (x : ℕ) → IsSome (function_at m x) → Names (length m.functions) (Some x)
-there m x some = inside (function_at m x) refl some where
-  inside : (f : Option FunctionTree) → function_at m x ≡ f → IsSome f → x < length m.functions
-  inside None is h = absurd (cc)
-  inside (Some f) is h = slice_get_within m.functions x f is
+-- how many numbers of functions there are
+abbrev numbers : ModuleTree → ℕ
+numbers m = length m.imports + length m.functions
 
-segment_named : (m : ModuleTree) (table : List (Option ℕ)) (s : ElementTree) → All (Names (length m.functions)) table → IsElementSegment m s
-    → All (Names (length m.functions)) (write_elements m table s)
+there : (m : ModuleTree) (x : ℕ) → IsSome (callee_at m x) → Names (numbers m) (Some x)
+there m x some = inside (callee_at m x) refl some where
+  long : length (callees m) ≡ numbers m
+  long = length-append (map (λ i. Imported i) m.imports) (map (λ f. Own f) m.functions) ∙ (let a = length-map m.imports (λ i. Imported i) in let b = length-map m.functions (λ f. Own f) in omega arith)
+
+  inside : (c : Option Callee) → callee_at m x ≡ c → IsSome c → x < numbers m
+  inside None is h = absurd (cc)
+  inside (Some c) is h = let lt = slice_get_within (callees m) x c is in omega (arith, lt, long)
+
+segment_named : (m : ModuleTree) (table : List (Option ℕ)) (s : ElementTree) → All (Names (numbers m)) table → IsElementSegment m s
+    → All (Names (numbers m)) (write_elements m table s)
 segment_named m table s all is =
-    let n : ℕ = length m.functions in
+    let n : ℕ = numbers m in
     let items : List (Option ℕ) = map (λ f. Some f) s.functions in
-    let named : All (Names n) items = All-map (Names n) (λ (f : ℕ). Some f) s.functions (All-weaker (λ x. IsSome (function_at m x)) (λ x. Names n (Some x)) (there m) s.functions is.functions) in
+    let named : All (Names n) items = All-map (Names n) (λ (f : ℕ). Some f) s.functions (All-weaker (λ x. IsSome (callee_at m x)) (λ x. Names n (Some x)) (there m) s.functions is.functions) in
     All-append (Names n) (take (offset_of m s.offset) table) (items ++ drop (offset_of m s.offset + length items) table)
     (All-take (Names n) (offset_of m s.offset) table all)
     (All-append (Names n) items (drop (offset_of m s.offset + length items) table) named (All-drop (Names n) (offset_of m s.offset + length items) table all))
 
-segments_named : (m : ModuleTree) (ss : List ElementTree) (table : List (Option ℕ)) → All (Names (length m.functions)) table → All (IsElementSegment m) ss
-    → All (Names (length m.functions)) (fold (write_elements m) table ss)
+segments_named : (m : ModuleTree) (ss : List ElementTree) (table : List (Option ℕ)) → All (Names (numbers m)) table → All (IsElementSegment m) ss
+    → All (Names (numbers m)) (fold (write_elements m) table ss)
 segments_named m [] table all is = all
 segments_named m (s ∷ ss) table all is =
     segments_named m ss (write_elements m table s) (segment_named m table s all (All-head (IsElementSegment m) s ss is)) (All-tail (IsElementSegment m) s ss is)
@@ -68,13 +76,13 @@ segments_named m (s ∷ ss) table all is =
 pub fresh-typed : (limits : LoadLimits) (m : Module) → IsWithin limits (module_tree m) → IsTypedStore m (fresh_store (module_tree m))
 fresh-typed limits m within =
     let tree : ModuleTree = module_tree m in
-    let n : ℕ = length tree.functions in
+    let n : ℕ = numbers tree in
     let table : List (Option ℕ) = (fresh_store tree).table in
     let all : All (Names n) table = segments_named tree tree.element_segments (replicate (table_size tree) None) (All-replicate (Names n) (table_size tree) None tt) within.valid.element_segments in
     record {
       globals = globals_typed tree.globals within.valid.globals;
       table = λ i x is.
-          subst (λ (k : ℕ). x < k) (length-map m.functions function_tree)
+          subst (λ (k : ℕ). x < length m.imports + k) (length-map m.functions function_tree)
           (named-is n x (get_or table i None) (get_or_from_slice_get table i (Some x) None is) (All-get_or (Names n) table i None (slice_get_within table i (Some x) is) all));
     }
 

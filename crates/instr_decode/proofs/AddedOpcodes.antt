@@ -3,7 +3,7 @@ use Rattle.std.proofs.Common.{◌≡◌, ℕ, zero, suc, ◌-◌, ◌<◌, ◌�
 use Rattle.std.specs.Prelude.{Some, None}
 use Rattle.std.proofs.lemmas.Bool.Decides.{nat_tests}
 use Rattle.wasm_types.specs.declared.profile.Profile.{Profile}
-use Rattle.wasm_types.specs.declared.profile.Profile.TheVariants.{One, Two}
+use Rattle.wasm_types.specs.declared.profile.Profile.TheVariants.{One, Two, Three}
 use Rattle.wasm_types.specs.declared.instr.Instr.{Instr}
 use Rattle.wasm_spec.specs.Numbers.{TakesUnsigned}
 use Rattle.wasm_spec.specs.InstrGrammar.{Alone, Prefixed, NotPlain, PrefixedRow, TakesPrefixed, extensions, prefixed_row, shape}
@@ -40,6 +40,11 @@ extension-is profile opcode second low high =
 
 pub same-common : (profile : Profile) (opcode : ℕ) → profile ≡ Two → (0xC0 ≤ opcode → opcode ≤ 0xC4 → ⊥) → (opcode ≡ 0xFC → ⊥) → shape profile opcode ≡ shape One opcode
 same-common profile opcode second low prefix = ap (λ (p : Profile). shape p opcode) second ∙ same-outside opcode low prefix
+
+-- profile 3 adds no opcode
+pub same-third : (profile : Profile) (opcode : ℕ) → profile ≡ Three → shape profile opcode ≡ shape Two opcode
+unfolding shape
+same-third profile opcode third = ap (λ (p : Profile). shape p opcode) third ∙ refl
 
 -- ---- what the prefix leads
 

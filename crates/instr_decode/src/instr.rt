@@ -318,6 +318,19 @@ fn prefixed(cursor: &mut Cursor) -> Result<Instr, DecodeFault>
     }
 }
 
+// The same with what profile 2 adds.
+fn read_later(alloc: Global, cursor: &mut Cursor, opcode: u8) -> Result<Instr, DecodeFault>
+    requires { cursor.old.place ≤ length cursor.old.whole }
+    ensures read { MatchResult result (IsRead (TakesShape (shape Two opcode)) cursor.old cursor.new) (BeginsWithNone (TakesShape (shape Two opcode)) (rest cursor.old)) }
+    ensures wanted { IsErrOf result DecodeFault.NoMemory → WantsShape (shape Two opcode) (rest cursor.old) }
+{
+    match opcode {
+        0xC0..=0xC4 => extension(opcode - 0xC0).ok_or(DecodeFault::Malformed),
+        0xFC => prefixed(cursor),
+        _ => read_common(alloc, cursor, opcode),
+    }
+}
+
 // The plain instruction of an opcode, with what follows that.
 pub(crate) fn read_instr(
     alloc: Global,
@@ -331,10 +344,7 @@ pub(crate) fn read_instr(
 {
     match profile {
         Profile::One => read_common(alloc, cursor, opcode),
-        Profile::Two => match opcode {
-            0xC0..=0xC4 => extension(opcode - 0xC0).ok_or(DecodeFault::Malformed),
-            0xFC => prefixed(cursor),
-            _ => read_common(alloc, cursor, opcode),
-        },
+        Profile::Two => read_later(alloc, cursor, opcode),
+        Profile::Three => read_later(alloc, cursor, opcode),
     }
 }

@@ -1,6 +1,6 @@
 -- What a board has of a number. Its numbers are 1 to its length.
 use Rattle.std.specs.Prelude.{◌≡◌, ℕ, ◌-◌, ◌<◌, ◌≤◌, ◌⊎◌, List, length, slice_index_or, Option, None, IsSome, IsNone}
-use Rattle.request_text.specs.declared.report.CallLine.{CallLine}
+use Rattle.report_text.specs.declared.report.CallLine.{CallLine}
 
 abbrev pub IsStranger : List (Option CallLine) → ℕ → Type 0
 IsStranger lines number = (number ≡ 0) ⊎ (length lines < number)

@@ -2,7 +2,7 @@
 ghost use Rattle.std.specs.Prelude.{◌≡◌, ◌-◌, ◌↔◌, replicate, slice_set, Some, None, IfOk, IsOk, OnOk, OnErr};
 ghost use Rattle.job_queue.specs.Boards.{IsCollected, IsOpen, IsStranger};
 
-use request_text::CallLine;
+use report_text::CallLine;
 use std::alloc::Global;
 use std::marker::Model;
 use wasm_types::NoMemory;
@@ -15,7 +15,7 @@ pub struct Board {
 
 impl Model for Board {
     ghost use Rattle.std.specs.Prelude.{List, Option};
-    ghost use Rattle.request_text.specs.declared.report.CallLine.{CallLine};
+    ghost use Rattle.report_text.specs.declared.report.CallLine.{CallLine};
 
     ghost Value = { List (Option CallLine) };
 
@@ -42,7 +42,10 @@ impl Board {
     pub fn open(alloc: Global, count: u32) -> Result<Board, NoMemory>
         ensures { IfOk result (λ board. board ≡ replicate count None) }
     {
-        let lines = Vec::from_elem(alloc, None, count as usize).map_err(|_| NoMemory)?;
+        let mut lines = Vec::with_capacity(alloc, count as usize).map_err(|_| NoMemory)?;
+        for _ in 0..count {
+            lines.push(None).map_err(|_| NoMemory)?;
+        }
         Ok(Board { lines })
     }
 
@@ -69,6 +72,13 @@ impl Board {
         }
         lines[at] = Some(line);
         Ok(())
+    }
+
+    /// The lines, as [`Board::lines`] shows them. Takes no memory.
+    pub fn into_lines(self) -> Vec<Option<CallLine>>
+        ensures { result.items ≡ self }
+    {
+        self.lines
     }
 
     /// The lines in order of their calls' numbers, none where nothing was collected.

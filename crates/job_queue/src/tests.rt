@@ -3,29 +3,43 @@ ghost use Rattle.std.specs.Prelude.{◌≡◌, ◌+◌, ◌<◌, All, IfOk};
 ghost use Rattle.job_queue.specs.Passes.{IsJobPass, IsNewPutterOf, IsNewTakerOf, capacity_of, count_of};
 
 use crate::{Board, JobPass, Jobs, Stray};
-use request_text::CallLine;
+use report_text::CallLine;
 use std::alloc::{AllocError, Global};
 use std::sync::Wait;
 use std::test::Fail;
 use std::thread;
 use std::thread::Threads;
-use wasm_types::{NoMemory, Outcome};
+use wasm_types::{NoMemory, Outcome, Val};
+
+// The result that the line at this place tells, if there is one.
+fn value_on(board: &Board, place: usize) -> Option<Val> {
+    match board.lines().get(place) {
+        Some(Some(CallLine::Done(Outcome::Done(value)))) => *value,
+        _ => None,
+    }
+}
 
 #[test]
 fn each_line_is_collected_once(rt: HostRuntime) -> Result<(), Fail> {
-    let mut board = Board::open(rt.alloc(), 1)?;
-    assert_eq!(rt; board.lines(), [None].as_slice());
-    let fuel = CallLine::Done(Outcome::Fuel);
+    let mut board = Board::open(rt.alloc(), 2)?;
+    assert_eq!(rt; board.lines().len(), 2);
+    assert!(rt; board.lines().iter().all(|line| line.is_none()));
     let rows = [
-        (0, fuel, Err(Stray::Stranger(0))),
-        (1, fuel, Ok(())),
-        (1, CallLine::NoModule, Err(Stray::Double(1))),
-        (2, CallLine::NoModule, Err(Stray::Stranger(2))),
+        (0, Err(Stray::Stranger(0))),
+        (1, Ok(())),
+        (1, Err(Stray::Double(1))),
+        (3, Err(Stray::Stranger(3))),
     ];
-    for (number, line, answer) in rows {
+    let mut value = 5u32;
+    for (number, answer) in rows {
+        value = value.wrapping_add(1);
+        let line = CallLine::Done(Outcome::Done(Some(Val::I32(value))));
         assert_eq!(rt; board.collect(number, line), answer, "call {number}");
     }
-    assert_eq!(rt; board.lines(), [Some(fuel)].as_slice());
+    assert_eq!(rt; value_on(&board, 0), Some(Val::I32(7)));
+    let lines = board.into_lines();
+    assert_eq!(rt; lines.len(), 2);
+    assert!(rt; matches!(lines.get(1), Some(None)));
     Ok(())
 }
 

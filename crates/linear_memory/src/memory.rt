@@ -31,6 +31,14 @@ fn put(bytes: &mut Vec<u8>, start: usize, piece: &[u8])
     bytes[start..start + piece.len()].copy_from_slice(piece);
 }
 
+// So many bytes from a place on.
+fn part_of(bytes: &[u8], from: usize, count: usize) -> &[u8]
+    requires { from + count ≤ length bytes.now }
+    ensures { result.now ≡ take count (drop from bytes.now) }
+{
+    &bytes[from..from + count]
+}
+
 // Marks two blocks.
 fn mark(marks: &mut Vec<bool>, first: u64, last: u64)
     requires first { first < length marks.old.items }
@@ -166,6 +174,36 @@ impl Memory {
         fill_over(&mut self.bytes, to as usize, value, count as usize);
         mark_touched(&mut self.marks, to, count);
         true
+    }
+
+    /// Whether so many bytes from an address on lie within the size.
+    pub fn holds(&self, at: u64, count: u64) -> bool
+        requires { (most : ℕ) × IsMemory most self.now }
+        ensures { result ≡ nat_le (at + count) (length (shown self.now)) }
+    {
+        let size = u64::from(self.pages) * PAGE_SIZE;
+        size >= count && at <= size - count
+    }
+
+    /// So many bytes from an address on.
+    pub fn part(&self, from: u64, count: u64) -> &[u8]
+        requires memory { (most : ℕ) × IsMemory most self.now }
+        requires fits { from + count ≤ length (shown self.now) }
+        ensures { result.now ≡ take count (drop from (shown self.now)) }
+    {
+        part_of(&self.bytes, from as usize, count as usize)
+    }
+
+    /// Writes bytes of any number to an address, and marks the blocks that they lie in.
+    pub fn place(&mut self, to: u64, piece: &[u8])
+        requires memory { (most : ℕ) × IsMemory most self.old }
+        requires fits { to + length piece.now ≤ length (shown self.old) }
+        ensures after { shown self.new ≡ written (shown self.old) to piece.now }
+        ensures memory { (most : ℕ) → IsMemory most self.old → IsMemory most self.new }
+        ensures marks { MarksChanges self.old self.new (touched to (length piece.now)) }
+    {
+        put(&mut self.bytes, to as usize, piece);
+        mark_touched(&mut self.marks, to, piece.len() as u64);
     }
 
     /// Grows by so many pages of zeros, if there are then at most `most`: the size before.

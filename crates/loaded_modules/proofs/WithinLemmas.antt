@@ -10,6 +10,7 @@ use Rattle.wasm_spec.specs.Need.{need}
 use Rattle.wasm_spec.specs.Store.{minimum_of, first_misfit}
 use Rattle.wasm_spec.specs.Loading.{Frame, Demand, Loads, first_over}
 use Rattle.wasm_spec.proofs.Loading.{no_refusal, first_keeps}
+use Rattle.wasm_spec.proofs.Supported.{widest}
 use Rattle.loaded_modules.specs.Within.{IsWithin}
 
 frames_keep : (m : ModuleTree) (most k : ℕ) (fs : List FunctionTree)
@@ -28,11 +29,11 @@ loaded-within profile bytes limits m loads =
     let elements = first_keeps limits.elements (minimum_of tree.tables) _ _ pages.1 in
     let globals = first_keeps 1024 (length tree.globals) _ _ elements.1 in
     subst (IsWithin limits) (sym loads.answers.1) (record {
-      supported = loads.answers.0.runs;
+      supported = widest profile tree loads.answers.0.runs;
       valid = loads.answers.0.valid;
       segments = none.1;
       pages = pages.0;
       elements = elements.0;
       globals = globals.0;
-      frames = frames_keep tree limits.frame 0 tree.functions globals.1;
+      frames = frames_keep tree limits.frame (length tree.imports) tree.functions globals.1;
     })

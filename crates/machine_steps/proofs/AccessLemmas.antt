@@ -1,5 +1,5 @@
 -- Loads and stores.
-use Rattle.wasm_types.specs.declared.limits.RunLimits.{RunLimits}
+use Rattle.wasm_spec.specs.Execution.{Terms}
 use Rattle.std.proofs.Common.{◌≡◌, ◌≢◌, ℕ, ◌+◌, ◌*◌, ◌/◌, ◌^◌, ◌-◌, ◌≤◌, List, [], ◌∷◌, length, Bool, true, false, Option, Some, None, refl, sym, ap, ◌∙◌, subst, arith, length-take-le, mul-le-mul_right}
 use Rattle.std.specs.Prelude.{nat_lt, not, if◌then◌else◌, unwrap_or}
 use Rattle.std.proofs.lemmas.Bool.Decides.{nat_tests}
@@ -65,7 +65,7 @@ pair_there w offset (v ∷ val.I32 b ∷ rest) go n =
 at_pair : (w : Width) (offset : ℕ) (vs : List Val) (go : ℕ → ℕ → List Val → Signal) (t : Pair w vs) → on_pair w offset vs go ≡ go t.n (t.base + offset) t.rest
 at_pair w offset vs go t = ap (λ (l : List Val). on_pair w offset l go) t.are ∙ given_at (number w t.top) t.n (λ n. go n (t.base + offset) t.rest) t.is
 
-module _ (m : ModuleTree) (limits : RunLimits) where
+module _ (m : ModuleTree) (limits : Terms) where
   load_is : (i : Instr) (s : State) → IsLoad i → plain m limits i s ≡ on_address (offset_of i) s.operands (λ at vs. load_number (access_width i) (λ n. value (gives_width i) (loaded_as i n)) at vs s)
   load_is (instr.Load w a) s h = refl
   load_is (instr.LoadPacked w p e a) s h = refl
@@ -142,19 +142,19 @@ pages_are limit memory is =
     let room = is.bytes in
     omega (arith, length-take-le (memory.pages * page_size) memory.bytes.items (omega arith))
 
-abbrev stored : List ℕ → List (Option ℕ) → List Val → Store
-stored memory table globals = record { memory = memory; table = table; globals = globals }
+abbrev stored : List ℕ → List (Option ℕ) → List Val → List ℕ → Store
+stored memory table globals answer = record { memory = memory; table = table; globals = globals; answer = answer }
 
 -- what growing leaves, by the test of the size
-pub grow_after : (o : Option ℕ) (most n before limit : ℕ) (k : Configuration) (vs : List Val) (new : Machine) (old grown : Memory) (table : List (Option ℕ)) (globals : List Val) → IsMemory limit old → Grows most n old o grown
+pub grow_after : (o : Option ℕ) (most n before limit : ℕ) (k : Configuration) (vs : List Val) (new : Machine) (old grown : Memory) (table : List (Option ℕ)) (globals : List Val) (answer : List ℕ) → IsMemory limit old → Grows most n old o grown
     → before ≡ unwrap_or o (2 ^ 32 - 1) → Represents (record k { operands = val.I32 before ∷ vs }) new
-    → EndsAs (execution.grow most n vs (state k (store_of old table globals))) k None new (store_of grown table globals)
-grow_after None most n before limit k vs new old grown table globals is (much, same) e sh =
+    → EndsAs (execution.grow most n vs (state k (store_of old table globals answer))) k None new (store_of grown table globals answer)
+grow_after None most n before limit k vs new old grown table globals answer is (much, same) e sh =
     let pages = pages_are limit old is in
     let test : nat_lt most (length (shown old) / page_size + n) ≡ true = ap (λ (p : ℕ). nat_lt most (p + n)) pages ∙ grind (arith, nat_tests) in
-    rw test (subst (λ (x : ℕ). Represents (record k { operands = val.I32 x ∷ vs }) new) e sh, ap (λ (l : List ℕ). stored l table globals) (sym same))
-grow_after (Some b) most n before limit k vs new old grown table globals is grows e sh =
+    rw test (subst (λ (x : ℕ). Represents (record k { operands = val.I32 x ∷ vs }) new) e sh, ap (λ (l : List ℕ). stored l table globals answer) (sym same))
+grow_after (Some b) most n before limit k vs new old grown table globals answer is grows e sh =
     let pages = pages_are limit old is in
     let fits = grows.fits in
     let test : nat_lt most (length (shown old) / page_size + n) ≡ false = ap (λ (p : ℕ). nat_lt most (p + n)) pages ∙ grind (arith, nat_tests) in
-    rw test (subst (λ (x : ℕ). Represents (record k { operands = val.I32 x ∷ vs }) new) (e ∙ grows.before_is ∙ sym pages) sh, ap (λ (l : List ℕ). stored l table globals) (sym grows.shown_is))
+    rw test (subst (λ (x : ℕ). Represents (record k { operands = val.I32 x ∷ vs }) new) (e ∙ grows.before_is ∙ sym pages) sh, ap (λ (l : List ℕ). stored l table globals answer) (sym grows.shown_is))

@@ -1,5 +1,4 @@
 -- Copies and fills.
-use Rattle.wasm_types.specs.declared.limits.RunLimits.{RunLimits}
 use Rattle.std.proofs.Common.{◌≡◌, ◌≢◌, ℕ, List, [], ◌∷◌, length, Bool, true, false, refl, ap, arith}
 use Rattle.std.specs.Prelude.{if◌then◌else◌}
 use Rattle.std.proofs.lemmas.List.Sums.{count_by-le-length}
@@ -8,7 +7,7 @@ use Rattle.wasm_types.specs.declared.outcome.Val.TheVariants as val
 use Rattle.wasm_types.specs.declared.instr.Instr.TheVariants as instr
 use Rattle.wasm_types.specs.Tree.{ModuleTree}
 use Rattle.wasm_spec.specs.Store.{Store, written}
-use Rattle.wasm_spec.specs.Execution.{Signal, Stuck, pop_numbers, copy_bytes, fill_bytes, write_where, memory_set, plain}
+use Rattle.wasm_spec.specs.Execution.{Terms, Signal, Stuck, pop_numbers, copy_bytes, fill_bytes, write_where, memory_set, plain}
 use Rattle.linear_memory.specs.declared.memory.Memory.{Memory}
 use Rattle.linear_memory.specs.Marks.{MarksChanges}
 use Rattle.machine_steps.specs.declared.machine.Machine.{Machine}
@@ -36,7 +35,7 @@ three_there (val.I32 c ∷ val.I32 b ∷ val.I32 a ∷ rest) go n = record { fir
 at_three : (vs : List Val) (go : ℕ → ℕ → ℕ → List Val → Signal) (t : Three vs) → pop_numbers vs go ≡ go t.first t.second t.third t.rest
 at_three vs go t = ap (λ (l : List Val). pop_numbers l go) t.are
 
-module _ (m : ModuleTree) (limits : RunLimits) (k : Configuration) (store : Store) where
+module _ (m : ModuleTree) (limits : Terms) (k : Configuration) (store : Store) where
   pub copy_of : plain m limits instr.MemoryCopy (state k store) ≢ Stuck → Three k.operands
   copy_of fine = three_there k.operands (λ to from n vs. copy_bytes to from n vs (state k store)) fine
 

@@ -1,5 +1,5 @@
 -- What each kind of plain instructions means, and what the machine shows after it.
-use Rattle.wasm_types.specs.declared.limits.RunLimits.{RunLimits}
+use Rattle.wasm_spec.specs.Execution.{Terms}
 use Rattle.std.proofs.Common.{◌≡◌, ◌≢◌, ℕ, zero, suc, List, [], ◌∷◌, length, Option, Some, None, refl, sym, ap, ◌∙◌, subst, arith}
 use Rattle.std.specs.Prelude.{slice_get, slice_set}
 use Rattle.wasm_types.specs.declared.outcome.Val.{Val}
@@ -71,7 +71,7 @@ chosen_there (c ∷ y ∷ []) go n = absurd (n refl)
 chosen_there (val.I64 c ∷ y ∷ x ∷ rest) go n = absurd (n refl)
 chosen_there (val.I32 c ∷ y ∷ x ∷ rest) go n = record { condition = c; first = x; second = y; rest = rest; are = refl }
 
-module _ (m : ModuleTree) (limits : RunLimits) where
+module _ (m : ModuleTree) (limits : Terms) where
   one_is : (i : Instr) (s : State) → IsOfOne i → plain m limits i s ≡ on_one (takes_width i) s.operands (λ a vs. with_operands (value (gives_width i) (of_one i a) ∷ vs) s)
   one_is (instr.Eqz w) s h = refl
   one_is (instr.Unary w o) s h = refl
@@ -147,7 +147,7 @@ setting_there (v ∷ rest) ls x go n =
 at_setting : (vs ls : List Val) (x : ℕ) (go : Val → List Val → Signal) (t : Setting vs ls x) → on_setting vs ls x go ≡ go t.top t.rest
 at_setting vs ls x go t = ap (λ (l : List Val). on_setting l ls x go) t.are ∙ given_at (slice_get ls x) t.old (λ old. go t.top t.rest) t.there
 
-module _ (m : ModuleTree) (limits : RunLimits) (x : ℕ) (k : Configuration) (store : Store) where
+module _ (m : ModuleTree) (limits : Terms) (x : ℕ) (k : Configuration) (store : Store) where
   pub local_set_of : plain m limits (instr.LocalSet x) (state k store) ≢ Stuck → Setting k.operands k.locals x
   local_set_of fine = setting_there k.operands k.locals x (λ v vs. Next (record { locals = slice_set k.locals x v; operands = vs; store = store })) fine
 

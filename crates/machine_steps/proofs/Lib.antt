@@ -5,3 +5,4 @@ pub mod KindLemmas
 pub mod LocalLemmas
 pub mod AccessLemmas
 pub mod BulkLemmas
+pub mod HostLemmas

@@ -5,5 +5,5 @@ use Rattle.wasm_spec.specs.Store.{Store}
 use Rattle.linear_memory.specs.declared.memory.Memory.{Memory}
 use Rattle.linear_memory.specs.Bytes.{shown}
 
-abbrev pub store_of : Memory → List (Option ℕ) → List Val → Store
-store_of memory table globals = record { memory = shown memory; table = table; globals = globals }
+abbrev pub store_of : Memory → List (Option ℕ) → List Val → List ℕ → Store
+store_of memory table globals answer = record { memory = shown memory; table = table; globals = globals; answer = answer }

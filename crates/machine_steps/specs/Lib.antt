@@ -3,3 +3,4 @@ pub mod StackLayout
 pub mod Lent
 pub mod InstructionKinds
 pub mod PlainSteps
+pub mod HostSteps

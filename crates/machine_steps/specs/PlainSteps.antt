@@ -1,5 +1,5 @@
 -- What a plain instruction does to a machine.
-use Rattle.wasm_types.specs.declared.limits.RunLimits.{RunLimits}
+use Rattle.wasm_spec.specs.Execution.{Terms}
 use Rattle.std.specs.Prelude.{◌≡◌, ◌≢◌, ℕ, ◌<◌, List, [], ◌∷◌, length, Bool, true, false, Option, Some, None, Result, Ok, Err, slice_get, vec_len, vec_capacity}
 use Rattle.wasm_types.specs.declared.types.ValType.{ValType}
 use Rattle.wasm_types.specs.declared.outcome.TrapKind.{TrapKind}
@@ -29,14 +29,14 @@ EndsAs _ k o machine store = ⊥
 -- some run can do the instruction here
 pub record CanExecute (i : Instr) (machine : Machine) : Type 0 where
   pub defined : ModuleTree
-  pub limits : RunLimits
+  pub limits : Terms
   pub configuration : Configuration
   pub store : Store
   pub represents : Represents configuration machine
   pub fine : plain defined limits i (state configuration store) ≢ Stuck
 
 -- what the instruction does, from one machine and store to others
-abbrev pub Executes : ModuleTree → RunLimits → Instr → (old : Machine) → (before : Store) → Option TrapKind → (new : Machine) → (after : Store) → Type 0
+abbrev pub Executes : ModuleTree → Terms → Instr → (old : Machine) → (before : Store) → Option TrapKind → (new : Machine) → (after : Store) → Type 0
 Executes m limits i old before o new after =
     (k : Configuration) → Represents k old → plain m limits i (state k before) ≢ Stuck → EndsAs (plain m limits i (state k before)) k o new after
 

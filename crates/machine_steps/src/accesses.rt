@@ -3,7 +3,7 @@ ghost use Rattle.std.specs.Prelude.{◌≡◌, ◌≢◌, ℕ, ◌+◌, ◌<◌,
 ghost use Rattle.std.specs.Int.{byte_len, to_le_bytes};
 ghost use Rattle.wasm_types.specs.declared.outcome.Val.{Val as AVal};
 ghost use Rattle.wasm_types.specs.declared.instr.Instr.TheVariants as instr;
-ghost use Rattle.wasm_types.specs.declared.limits.RunLimits.{RunLimits};
+ghost use Rattle.wasm_spec.specs.Execution.{Terms};
 ghost use Rattle.wasm_types.specs.Tree.{ModuleTree};
 ghost use Rattle.wasm_spec.specs.Execution.{extended, number, value};
 ghost use Rattle.wasm_spec.specs.Execution as execution;
@@ -194,8 +194,8 @@ impl Machine {
         requires offset { offset ≡ offset_of instr.now }
         requires can { CanExecute instr.now self.old }
         requires memory { (most : ℕ) × IsMemory most memory.now }
-        ensures does { (m : ModuleTree) (limits : RunLimits) (table : List (Option ℕ)) (globals : List AVal)
-            → Executes m limits instr.now self.old (store_of memory.now table globals) result self.new (store_of memory.now table globals) }
+        ensures does { (m : ModuleTree) (limits : Terms) (table : List (Option ℕ)) (globals : List AVal) (answer : List ℕ)
+            → Executes m limits instr.now self.old (store_of memory.now table globals answer) result self.new (store_of memory.now table globals answer) }
         ensures room { KeepsRoom self.old self.new }
     {
         let base = self.pop32();
@@ -219,8 +219,8 @@ impl Machine {
         requires offset { offset ≡ offset_of instr.now }
         requires can { CanExecute instr.now self.old }
         requires memory { (most : ℕ) × IsMemory most memory.old }
-        ensures does { (m : ModuleTree) (limits : RunLimits) (table : List (Option ℕ)) (globals : List AVal)
-            → Executes m limits instr.now self.old (store_of memory.old table globals) result self.new (store_of memory.new table globals) }
+        ensures does { (m : ModuleTree) (limits : Terms) (table : List (Option ℕ)) (globals : List AVal) (answer : List ℕ)
+            → Executes m limits instr.now self.old (store_of memory.old table globals answer) result self.new (store_of memory.new table globals answer) }
         ensures room { KeepsRoom self.old self.new }
         ensures memory { (most : ℕ) → IsMemory most memory.old → IsMemory most memory.new }
         ensures marks { MarksChanges memory.old memory.new 2 }
@@ -238,8 +238,8 @@ impl Machine {
     pub(crate) fn memory_size(&mut self, memory: &Memory)
         requires free { vec_len self.old.values < vec_capacity self.old.values }
         requires memory { (most : ℕ) × IsMemory most memory.now }
-        ensures does { (m : ModuleTree) (limits : RunLimits) (table : List (Option ℕ)) (globals : List AVal)
-            → Executes m limits instr.MemorySize self.old (store_of memory.now table globals) None self.new (store_of memory.now table globals) }
+        ensures does { (m : ModuleTree) (limits : Terms) (table : List (Option ℕ)) (globals : List AVal) (answer : List ℕ)
+            → Executes m limits instr.MemorySize self.old (store_of memory.now table globals answer) None self.new (store_of memory.now table globals answer) }
         ensures room { KeepsRoom self.old self.new }
     {
         self.push(Val::I32(memory.pages));
@@ -249,9 +249,9 @@ impl Machine {
     pub(crate) fn memory_grow(&mut self, memory: &mut Memory, most: u32)
         requires can { CanExecute instr.MemoryGrow self.old }
         requires memory { (limit : ℕ) × IsMemory limit memory.old × (most ≤ limit) }
-        ensures does { (m : ModuleTree) (limits : RunLimits) (table : List (Option ℕ)) (globals : List AVal)
+        ensures does { (m : ModuleTree) (limits : Terms) (table : List (Option ℕ)) (globals : List AVal) (answer : List ℕ)
             → most ≡ execution.most_pages m.memories limits.pages
-            → Executes m limits instr.MemoryGrow self.old (store_of memory.old table globals) None self.new (store_of memory.new table globals) }
+            → Executes m limits instr.MemoryGrow self.old (store_of memory.old table globals answer) None self.new (store_of memory.new table globals answer) }
         ensures room { KeepsRoom self.old self.new }
         ensures memory { (limit : ℕ) → most ≤ limit → IsMemory limit memory.old → IsMemory limit memory.new }
         ensures marks { MarksChanges memory.old memory.new 0 }

@@ -2,8 +2,8 @@
 ghost use Rattle.std.specs.Prelude.{◌≡◌, ℕ, List, Option, length};
 ghost use Rattle.wasm_types.specs.declared.outcome.Val.{Val as AVal};
 ghost use Rattle.wasm_types.specs.declared.instr.Instr.TheVariants as instr;
-ghost use Rattle.wasm_types.specs.declared.limits.RunLimits.{RunLimits};
 ghost use Rattle.wasm_types.specs.Tree.{ModuleTree};
+ghost use Rattle.wasm_spec.specs.Execution.{Terms};
 ghost use Rattle.machine_steps.specs.StackLayout.{KeepsRoom};
 ghost use Rattle.linear_memory.specs.Bytes.{IsMemory};
 ghost use Rattle.linear_memory.specs.Marks.{MarksChanges};
@@ -26,8 +26,8 @@ impl Machine {
     pub(crate) fn memory_copy(&mut self, memory: &mut Memory) -> Option<TrapKind>
         requires can { CanExecute instr.MemoryCopy self.old }
         requires memory { (most : ℕ) × IsMemory most memory.old }
-        ensures does { (m : ModuleTree) (limits : RunLimits) (table : List (Option ℕ)) (globals : List AVal)
-            → Executes m limits instr.MemoryCopy self.old (store_of memory.old table globals) result self.new (store_of memory.new table globals) }
+        ensures does { (m : ModuleTree) (limits : Terms) (table : List (Option ℕ)) (globals : List AVal) (answer : List ℕ)
+            → Executes m limits instr.MemoryCopy self.old (store_of memory.old table globals answer) result self.new (store_of memory.new table globals answer) }
         ensures room { KeepsRoom self.old self.new }
         ensures memory { (most : ℕ) → IsMemory most memory.old → IsMemory most memory.new }
         ensures marks { MarksChanges memory.old memory.new (length memory.old.marks.items) }
@@ -42,8 +42,8 @@ impl Machine {
     pub(crate) fn memory_fill(&mut self, memory: &mut Memory) -> Option<TrapKind>
         requires can { CanExecute instr.MemoryFill self.old }
         requires memory { (most : ℕ) × IsMemory most memory.old }
-        ensures does { (m : ModuleTree) (limits : RunLimits) (table : List (Option ℕ)) (globals : List AVal)
-            → Executes m limits instr.MemoryFill self.old (store_of memory.old table globals) result self.new (store_of memory.new table globals) }
+        ensures does { (m : ModuleTree) (limits : Terms) (table : List (Option ℕ)) (globals : List AVal) (answer : List ℕ)
+            → Executes m limits instr.MemoryFill self.old (store_of memory.old table globals answer) result self.new (store_of memory.new table globals answer) }
         ensures room { KeepsRoom self.old self.new }
         ensures memory { (most : ℕ) → IsMemory most memory.old → IsMemory most memory.new }
         ensures marks { MarksChanges memory.old memory.new (length memory.old.marks.items) }

@@ -3,12 +3,14 @@
 
 mod accesses;
 mod bulk;
+mod host;
 mod locals;
 mod machine;
 mod operands;
 mod plain;
 mod stack;
 
+pub use host::{append_memory, copy_request};
 pub use machine::{Label, Machine, Position};
 pub use plain::is_jump;
 pub use stack::{keep, push};

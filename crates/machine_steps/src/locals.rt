@@ -2,7 +2,7 @@
 ghost use Rattle.std.specs.Prelude.{◌≡◌, ◌<◌, None, Some, get_or, length, set, slice_get, slice_set, vec_len, vec_capacity};
 ghost use Rattle.wasm_types.specs.declared.outcome.Val.{Val as AVal};
 ghost use Rattle.wasm_types.specs.declared.instr.Instr.TheVariants as instr;
-ghost use Rattle.wasm_types.specs.declared.limits.RunLimits.{RunLimits};
+ghost use Rattle.wasm_spec.specs.Execution.{Terms};
 ghost use Rattle.wasm_types.specs.Tree.{ModuleTree};
 ghost use Rattle.wasm_spec.specs.Store.{Store};
 ghost use Rattle.machine_steps.specs.Configuration.{Configuration};
@@ -35,7 +35,7 @@ impl Machine {
     pub(crate) fn get_local(&mut self, x: u32)
         requires can { CanExecute (instr.LocalGet x) self.old }
         requires free { vec_len self.old.values < vec_capacity self.old.values }
-        ensures does { (m : ModuleTree) (limits : RunLimits) (store : Store) → Executes m limits (instr.LocalGet x) self.old store None self.new store }
+        ensures does { (m : ModuleTree) (limits : Terms) (store : Store) → Executes m limits (instr.LocalGet x) self.old store None self.new store }
         ensures room { KeepsRoom self.old self.new }
     {
         let v = value_at(&self.values, self.at.locals + x as usize);
@@ -55,7 +55,7 @@ impl Machine {
     // Gives a local the topmost operand, which is taken off.
     pub(crate) fn set_local(&mut self, x: u32)
         requires { CanExecute (instr.LocalSet x) self.old }
-        ensures does { (m : ModuleTree) (limits : RunLimits) (store : Store) → Executes m limits (instr.LocalSet x) self.old store None self.new store }
+        ensures does { (m : ModuleTree) (limits : Terms) (store : Store) → Executes m limits (instr.LocalSet x) self.old store None self.new store }
         ensures room { KeepsRoom self.old self.new }
     {
         let v = self.pop();
@@ -65,7 +65,7 @@ impl Machine {
     // Gives a local the topmost operand.
     pub(crate) fn tee_local(&mut self, x: u32)
         requires { CanExecute (instr.LocalTee x) self.old }
-        ensures does { (m : ModuleTree) (limits : RunLimits) (store : Store) → Executes m limits (instr.LocalTee x) self.old store None self.new store }
+        ensures does { (m : ModuleTree) (limits : Terms) (store : Store) → Executes m limits (instr.LocalTee x) self.old store None self.new store }
         ensures room { KeepsRoom self.old self.new }
     {
         let v = self.pop();
@@ -77,7 +77,7 @@ impl Machine {
     pub(crate) fn get_global(&mut self, globals: &[Val], x: u32)
         requires there { x < length globals.now }
         requires free { vec_len self.old.values < vec_capacity self.old.values }
-        ensures does { (m : ModuleTree) (limits : RunLimits) (store : Store) → store.globals ≡ globals.now
+        ensures does { (m : ModuleTree) (limits : Terms) (store : Store) → store.globals ≡ globals.now
             → Executes m limits (instr.GlobalGet x) self.old store None self.new store }
         ensures room { KeepsRoom self.old self.new }
     {
@@ -88,7 +88,7 @@ impl Machine {
     pub(crate) fn set_global(&mut self, globals: &mut [Val], x: u32)
         requires can { CanExecute (instr.GlobalSet x) self.old }
         requires there { x < length globals.old }
-        ensures does { (m : ModuleTree) (limits : RunLimits) (store : Store) → store.globals ≡ globals.old
+        ensures does { (m : ModuleTree) (limits : Terms) (store : Store) → store.globals ≡ globals.old
             → Executes m limits (instr.GlobalSet x) self.old store None self.new (record store { globals = globals.new }) }
         ensures room { KeepsRoom self.old self.new }
         ensures globals { length globals.new ≡ length globals.old }

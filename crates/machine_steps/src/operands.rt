@@ -4,7 +4,7 @@ ghost use Rattle.wasm_types.specs.declared.outcome.Val.{Val as AVal};
 ghost use Rattle.wasm_types.specs.declared.outcome.Val.TheVariants as val;
 ghost use Rattle.wasm_types.specs.declared.instr.Instr.TheVariants as instr;
 ghost use Rattle.wasm_types.specs.declared.instr.Width.TheVariants as width;
-ghost use Rattle.wasm_types.specs.declared.limits.RunLimits.{RunLimits};
+ghost use Rattle.wasm_spec.specs.Execution.{Terms};
 ghost use Rattle.wasm_types.specs.Tree.{ModuleTree};
 ghost use Rattle.wasm_spec.specs.Execution.{extended, number, value};
 ghost use Rattle.wasm_spec.specs.Operators as operators;
@@ -185,7 +185,7 @@ impl Machine {
     pub(crate) fn on_one(&mut self, instr: &Instr)
         requires kind { IsOfOne instr.now }
         requires can { CanExecute instr.now self.old }
-        ensures does { (m : ModuleTree) (limits : RunLimits) (store : Store) → Executes m limits instr.now self.old store None self.new store }
+        ensures does { (m : ModuleTree) (limits : Terms) (store : Store) → Executes m limits instr.now self.old store None self.new store }
         ensures room { KeepsRoom self.old self.new }
     {
         let v = self.pop();
@@ -196,7 +196,7 @@ impl Machine {
     pub(crate) fn on_two(&mut self, instr: &Instr) -> Option<TrapKind>
         requires kind { IsOfTwo instr.now }
         requires can { CanExecute instr.now self.old }
-        ensures does { (m : ModuleTree) (limits : RunLimits) (store : Store) → Executes m limits instr.now self.old store result self.new store }
+        ensures does { (m : ModuleTree) (limits : Terms) (store : Store) → Executes m limits instr.now self.old store result self.new store }
         ensures room { KeepsRoom self.old self.new }
     {
         let second = self.pop();
@@ -213,7 +213,7 @@ impl Machine {
     // Keeps the first of two operands where the topmost one isn't 0, and else the second.
     pub(crate) fn select(&mut self)
         requires { CanExecute instr.Select self.old }
-        ensures does { (m : ModuleTree) (limits : RunLimits) (store : Store) → Executes m limits instr.Select self.old store None self.new store }
+        ensures does { (m : ModuleTree) (limits : Terms) (store : Store) → Executes m limits instr.Select self.old store None self.new store }
         ensures room { KeepsRoom self.old self.new }
     {
         let condition = self.pop32();

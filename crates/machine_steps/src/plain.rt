@@ -1,6 +1,6 @@
 //! The instructions that stay in their sequence.
 ghost use Rattle.std.specs.Prelude.{◌≡◌, false, ℕ, ◌≤◌, List, Option, length};
-ghost use Rattle.wasm_types.specs.declared.limits.RunLimits.{RunLimits};
+ghost use Rattle.wasm_spec.specs.Execution.{Terms};
 ghost use Rattle.wasm_types.specs.Tree.{ModuleTree};
 ghost use Rattle.wasm_spec.specs.Execution.{most_pages};
 ghost use Rattle.linear_memory.specs.Bytes.{IsMemory};
@@ -38,8 +38,8 @@ impl Machine {
         requires can { CanExecute instr.now self.old }
         requires ready { IsReady instr.now self.old globals.old }
         requires memory { (limit : ℕ) × IsMemory limit memory.old × (most ≤ limit) }
-        ensures does { (m : ModuleTree) (limits : RunLimits) (table : List (Option ℕ)) → most ≡ most_pages m.memories limits.pages
-            → Executes m limits instr.now self.old (store_of memory.old table globals.old) result self.new (store_of memory.new table globals.new) }
+        ensures does { (m : ModuleTree) (limits : Terms) (table : List (Option ℕ)) (answer : List ℕ) → most ≡ most_pages m.memories limits.pages
+            → Executes m limits instr.now self.old (store_of memory.old table globals.old answer) result self.new (store_of memory.new table globals.new answer) }
         ensures room { KeepsRoom self.old self.new }
         ensures memory { (limit : ℕ) → most ≤ limit → IsMemory limit memory.old → IsMemory limit memory.new }
         ensures marks { MarksChanges memory.old memory.new 2 }
@@ -84,8 +84,8 @@ impl Machine {
         requires can { CanExecute instr.now self.old }
         requires ready { IsReady instr.now self.old globals.old }
         requires memory { (limit : ℕ) × IsMemory limit memory.old × (most ≤ limit) }
-        ensures does { (m : ModuleTree) (limits : RunLimits) (table : List (Option ℕ)) → most ≡ most_pages m.memories limits.pages
-            → Executes m limits instr.now self.old (store_of memory.old table globals.old) result self.new (store_of memory.new table globals.new) }
+        ensures does { (m : ModuleTree) (limits : Terms) (table : List (Option ℕ)) (answer : List ℕ) → most ≡ most_pages m.memories limits.pages
+            → Executes m limits instr.now self.old (store_of memory.old table globals.old answer) result self.new (store_of memory.new table globals.new answer) }
         ensures room { KeepsRoom self.old self.new }
         ensures memory { (limit : ℕ) → most ≤ limit → IsMemory limit memory.old → IsMemory limit memory.new }
         ensures marks { MarksChanges memory.old memory.new (marks_by instr.now (length memory.old.marks.items)) }

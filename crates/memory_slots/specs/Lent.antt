@@ -15,9 +15,9 @@ pub record IsReady (most : ℕ) (x : MemoryContents) : Type 0 where
 abbrev pub dirty_blocks : MemoryContents → ℕ
 dirty_blocks x = count_by (λ marked. marked) x.marks
 
--- the store of a run of the module on this memory, a table and globals
-abbrev pub store_in : Module → MemoryContents → List (Option ℕ) → List Val → Store
-store_in m x table globals = record { memory = take (x.pages * page_size) x.bytes; table = table; globals = own m globals }
+-- the store of a run of the module on this memory, a table, globals and an answer
+abbrev pub store_in : Module → MemoryContents → List (Option ℕ) → List Val → List ℕ → Store
+store_in m x table globals answer = record { memory = take (x.pages * page_size) x.bytes; table = table; globals = own m globals; answer = answer }
 
 -- these, as the contents of a call's slots, where the table belongs to this module
 abbrev pub parts : MemoryContents → Option Named → List (Option ℕ) → List Val → (k : Kind) → Contents k

@@ -4,8 +4,9 @@ ghost use Rattle.pool_core.specs.declared.words.State.TheVariants.{Awaiting};
 ghost use Rattle.wasm_types.specs.Tree.{module_tree};
 ghost use Rattle.wasm_spec.specs.Instances.{room_for};
 ghost use Rattle.wasm_spec.specs.Store.{fresh_store};
+ghost use Rattle.wasm_spec.specs.Execution.{terms};
 ghost use Rattle.wasm_spec.specs.Result.{function_result};
-ghost use Rattle.wasm_spec.specs.Bulk.{uses_bulk};
+ghost use Rattle.wasm_spec.specs.Bulk.{HasFewMarks};
 ghost use Rattle.wasm_machine.specs.Calls.{IsCall, FitsFrame, IsDone};
 ghost use Rattle.wasm_machine.specs.Lent.{others};
 ghost use Rattle.wasm_machine.specs.TypedConfiguration.{IsTypedStore};
@@ -19,6 +20,7 @@ ghost use Rattle.memory_slots.specs.Written.{WritesAtMost};
 use crate::blocks::write_all;
 use crate::images::{restore_memory, write_memory};
 use crate::steps::Steps;
+use call_payload::AnswerBuf;
 use linear_memory::Memory;
 use module_store::{ModuleRef, ModuleStore, Naming};
 use slot_words::Pooled;
@@ -207,8 +209,8 @@ impl<N: Naming> MemSlot<N> {
         self.memory.marks.iter().filter(|marked| **marked).count() as u32
     }
 
-    /// Runs a function of a module on fuel, on this memory, and on a table, globals and stacks that are lent, as
-    /// [`wasm_machine::run`] does. It keeps the module that it belongs to. Takes no memory.
+    /// Runs a function of a module on fuel, on this memory, and on a table, globals, stacks, a request and an answer that are
+    /// lent, as [`wasm_machine::run`] does. It keeps the module that it belongs to. Takes no memory.
     pub fn run(
         &mut self,
         valid: &Valid,
@@ -219,25 +221,28 @@ impl<N: Naming> MemSlot<N> {
         table: &[Option<u32>],
         globals: &mut [Val],
         stacks: &mut Stacks,
+        request: &[u8],
+        answer: &mut AnswerBuf,
     ) -> RunEnd
         requires call { IsCall valid.now function args.now }
         requires depth { 0 < limits.depth }
         requires pages { limits.pages ≤ N.config.pages }
         requires ready { IsReady (room_for valid.now.memories limits.pages) self.old }
-        requires store { IsTypedStore valid.now (store_in valid.now self.old table.now globals.old) }
+        requires store { IsTypedStore valid.now (store_in valid.now self.old table.now globals.old answer.old) }
+        requires request { length request.now ≤ 65536 }
         requires frames { limits.depth ≤ stacks.old.room.depth }
         requires frame { FitsFrame valid.now stacks.old.room.frame }
-        ensures result { function_result (module_tree valid.now) limits function args.now (store_in valid.now self.old table.now globals.old) fuel
-            ≡ Some (record { outcome = result.outcome; store = store_in valid.now self.new table.now globals.new; fuel = result.left }) }
+        ensures result { function_result (module_tree valid.now) (terms limits request.now) function args.now (store_in valid.now self.old table.now globals.old answer.old) fuel
+            ≡ Some (record { outcome = result.outcome; store = store_in valid.now self.new table.now globals.new answer.new; fuel = result.left }) }
         ensures leaves { (owner : Option Named) → Leaves N.config.pages (module_tree valid.now)
-            (function_result (module_tree valid.now) limits function args.now (store_in valid.now self.old table.now globals.old)) fuel
+            (function_result (module_tree valid.now) (terms limits request.now) function args.now (store_in valid.now self.old table.now globals.old answer.old)) fuel
             (parts self.old owner table.now globals.old) (parts self.new owner table.now globals.new) self.new.marks
-            (record { outcome = result.outcome; store = store_in valid.now self.new table.now globals.new; fuel = result.left }) }
+            (record { outcome = result.outcome; store = store_in valid.now self.new table.now globals.new answer.new; fuel = result.left }) }
         ensures left { result.left ≤ fuel }
         ensures ready { IsReady (room_for valid.now.memories limits.pages) self.new }
-        ensures store { IsDone result.outcome → IsTypedStore valid.now (store_in valid.now self.new table.now globals.new) }
+        ensures store { IsDone result.outcome → IsTypedStore valid.now (store_in valid.now self.new table.now globals.new answer.new) }
         ensures holds { self.new.holds ≡ self.old.holds }
-        ensures counted { uses_bulk (module_tree valid.now) ≡ false → dirty_blocks self.new ≤ dirty_blocks self.old + 2 * (fuel - result.left) }
+        ensures counted { HasFewMarks (module_tree valid.now) → dirty_blocks self.new ≤ dirty_blocks self.old + 2 * (fuel - result.left) }
         ensures globals { length globals.new ≡ length globals.old }
         ensures others { others valid.now globals.new ≡ others valid.now globals.old }
         ensures stacks { stacks.new.room ≡ stacks.old.room }
@@ -252,6 +257,8 @@ impl<N: Naming> MemSlot<N> {
             table,
             globals,
             stacks,
+            request,
+            answer,
         )
     }
 

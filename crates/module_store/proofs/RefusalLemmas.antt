@@ -14,7 +14,7 @@ use Rattle.initial_image.specs.Segments.{Names}
 use Rattle.module_store.specs.Faults.{IsRefusal, fault_of_image}
 
 -- a segment that does not fit is what loading answers, where the module is supported, valid and within the limits
-pub IsRefusal-image : (profile : Profile) (bytes : List ℕ) (limits : LoadLimits) (m : ModuleTree) (f : ImageFault) → Spells profile bytes m → IsSupported m → IsValid m → first_over limits m ≡ None
+pub IsRefusal-image : (profile : Profile) (bytes : List ℕ) (limits : LoadLimits) (m : ModuleTree) (f : ImageFault) → Spells profile bytes m → IsSupported profile m → IsValid m → first_over limits m ≡ None
     → Names (first_misfit m) f → IsRefusal profile bytes limits (fault_of_image f)
 IsRefusal-image profile bytes limits m (Segment misfit) spells supported valid within names = record {
   tree = m;

@@ -18,7 +18,7 @@ pub enum LoadFault {
     /// The bytes spell no module.
     #[error("malformed module")]
     Malformed,
-    /// The module uses floats or imports something.
+    /// The module uses floats, or imports what the profile does not run.
     #[error("unsupported module")]
     Unsupported,
     /// The module is not valid.

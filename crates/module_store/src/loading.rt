@@ -29,7 +29,7 @@ pub(crate) fn load(
     ensures counted { IfErr result (λ e. e ≢ fault.TooMany) }
 {
     let module = decode(alloc, profile, bytes)?;
-    let valid = validate(alloc, module)?;
+    let valid = validate(alloc, profile, module)?;
     config.check(&valid)?;
     let image = build(alloc, &valid)?;
     Ok((valid, image))

@@ -20,7 +20,7 @@ pub(crate) struct Loaded {
 #[derive(Drop)]
 pub struct ModuleRef<N: Naming> {
     pub(crate) tag: u32,
-    pub(crate) seen: Pushed<Loaded>,
+    pub(crate) seen: Pushed<Box<Loaded>>,
     pub(crate) of: PhantomData<N>,
 }
 
@@ -36,9 +36,9 @@ impl<N: Naming> Model for ModuleRef<N> {
     ghost use Rattle.wasm_types.specs.Tree.{module_tree};
     ghost use Rattle.module_store.specs.Modules.{IsKept};
 
-    ghost view = { λ r. record { number = r.seen.index; tag = r.tag; tree = module_tree r.seen.value.valid } };
+    ghost view = { λ r. record { number = r.seen.index; tag = r.tag; tree = module_tree r.seen.value.value.valid } };
 
-    ghost invariant = { λ r. Shows N.shelves r.seen × IsKept N.config r.tag r.seen.value };
+    ghost invariant = { λ r. Shows N.shelves r.seen × IsKept N.config r.tag r.seen.value.value };
 }
 
 impl<N: Naming> ModuleRef<N> {

@@ -25,14 +25,14 @@ use wasm_validate::Valid;
 /// A store that has no name yet.
 #[derive(Drop)]
 pub struct Opened {
-    modules: Vec<Loaded>,
+    modules: Vec<Box<Loaded>>,
     config: PoolConfig,
 }
 
 /// Modules that threads share. Contracts see its configuration's numbers, which are those of its name.
 #[derive(Drop)]
 pub struct ModuleStore<N: Naming> {
-    modules: Vec<Loaded>,
+    modules: Vec<Box<Loaded>>,
     config: PoolConfig,
     of: PhantomData<N>,
 }
@@ -84,6 +84,14 @@ impl Opened {
     }
 }
 
+// A module in a box of its own.
+fn boxed(alloc: Global, loaded: Loaded) -> Result<Box<Loaded>, LoadFault>
+    ensures same { IfOk result (λ b. b.value ≡ loaded) }
+    ensures memory { IfErr result (λ fault. fault ≡ LoadFault.NoMemory) }
+{
+    Box::new(alloc, loaded).map_err(|_| LoadFault::NoMemory)
+}
+
 impl<N: Naming> ModuleStore<N> {
     /// Loads the module that the bytes spell in a profile, and shows it to all threads. Other threads may look and call
     /// meanwhile.
@@ -112,7 +120,8 @@ impl<N: Naming> ModuleStore<N> {
         }
         let (valid, image) = load(alloc, &self.config, profile, bytes)?;
         let tag = desk.registered;
-        let Ok(seen) = self.modules.push_shown(rt, Loaded { tag, valid, image }) else {
+        let loaded = boxed(alloc, Loaded { tag, valid, image })?;
+        let Ok(seen) = self.modules.push_shown(rt, loaded) else {
             return Err(LoadFault::NoMemory);
         };
         desk.registered += 1;

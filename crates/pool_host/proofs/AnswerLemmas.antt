@@ -9,6 +9,7 @@ use Rattle.wasm_types.specs.declared.module.Export.{Export}
 use Rattle.wasm_types.specs.declared.module.ExportDesc.TheVariants as desc
 use Rattle.wasm_types.specs.Tree.{ModuleTree}
 use Rattle.wasm_types.specs.declared.limits.RunLimits.{RunLimits}
+use Rattle.wasm_spec.specs.Result.{answer_of}
 use Rattle.wasm_spec.specs.Validity.{Exports, IsValid}
 use Rattle.instance_calls.specs.CallWords.{IsExported}
 use Rattle.pool_host.specs.CallWords.{IsAnswer}
@@ -37,26 +38,26 @@ one_export m name x y valid h g =
     let one : h.export ≡ g.export = cc in
     let d : desc.Func x ≡ desc.Func y = sym h.function ∙ ap (λ (k : Export). k.desc) one ∙ g.function in cc
 
-module _ (m : ModuleTree) (limits : RunLimits) (export : List ℕ) (args : List Val) (fuel : ℕ) (valid : IsValid m) where
+module _ (m : ModuleTree) (limits : RunLimits) (export : List ℕ) (args : List Val) (request : List ℕ) (fuel : ℕ) (valid : IsValid m) where
   one_type : (x y : ℕ) (t u : FuncType) → IsExported m export x t → IsExported m export y u → (x ≡ y) × (t ≡ u)
   one_type x y t u h g =
       let same : x ≡ y = one_export m export x y valid h.exported g.exported in
       let typed : Some t ≡ Some u = sym (rw same at h.typed) ∙ g.typed in
       (same, cc)
 
-  pub one_answer : (a b : LaneAnswer) → IsAnswer m limits export args fuel a → IsAnswer m limits export args fuel b → a ≡ b
-  one_answer NoExport NoExport h g = refl
-  one_answer NoExport BadArgs h g = absurd (h g.function g.exported.exported)
-  one_answer NoExport (Done o) h g = absurd (h g.function g.exported.exported)
-  one_answer BadArgs NoExport h g = absurd (g h.function h.exported.exported)
-  one_answer BadArgs BadArgs h g = refl
-  one_answer BadArgs (Done o) h g =
-      let (same, types) = one_type h.function g.function h.type g.type h.exported g.exported in absurd (h.differ (rw types g.fit))
-  one_answer (Done p) NoExport h g = absurd (g h.function h.exported.exported)
-  one_answer (Done p) BadArgs h g =
-      let (same, types) = one_type h.function g.function h.type g.type h.exported g.exported in absurd (g.differ (rw (← types) h.fit))
-  one_answer (Done p) (Done o) h g =
+  pub one_answer : (a b : LaneAnswer) (x y : List ℕ) → IsAnswer m limits export args request fuel a x → IsAnswer m limits export args request fuel b y → (a ≡ b) × (x ≡ y)
+  one_answer NoExport NoExport x y h g = (refl, h.1 ∙ sym g.1)
+  one_answer NoExport BadArgs x y h g = absurd (h.0 g.0.function g.0.exported.exported)
+  one_answer NoExport (Done o) x y h g = absurd (h.0 g.function g.exported.exported)
+  one_answer BadArgs NoExport x y h g = absurd (g.0 h.0.function h.0.exported.exported)
+  one_answer BadArgs BadArgs x y h g = (refl, h.1 ∙ sym g.1)
+  one_answer BadArgs (Done o) x y h g =
+      let (same, types) = one_type h.0.function g.function h.0.type g.type h.0.exported g.exported in absurd (h.0.differ (rw types g.fit))
+  one_answer (Done p) NoExport x y h g = absurd (g.0 h.function h.exported.exported)
+  one_answer (Done p) BadArgs x y h g =
+      let (same, types) = one_type h.function g.0.function h.type g.0.type h.exported g.0.exported in absurd (g.0.differ (rw (← types) h.fit))
+  one_answer (Done p) (Done o) x y h g =
       let (same, types) = one_type h.function g.function h.type g.type h.exported g.exported in
       let ends : Some h.result ≡ Some g.result = sym (rw same at h.ends) ∙ g.ends in
       let one : h.result ≡ g.result = cc in
-      ap Done (h.shows ∙ ap (λ k. k.outcome) one ∙ sym g.shows)
+      (ap Done (h.shows ∙ ap (λ k. k.outcome) one ∙ sym g.shows), h.answers ∙ ap answer_of one ∙ sym g.answers)

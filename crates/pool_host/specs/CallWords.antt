@@ -1,5 +1,5 @@
 -- What a call of a loaded module is answered.
-use Rattle.std.specs.Prelude.{ℕ, List}
+use Rattle.std.specs.Prelude.{◌≡◌, ℕ, List, []}
 use Rattle.wasm_types.specs.declared.outcome.Val.{Val}
 use Rattle.wasm_types.specs.declared.limits.RunLimits.{RunLimits}
 use Rattle.wasm_types.specs.Tree.{ModuleTree}
@@ -10,18 +10,18 @@ use Rattle.pool_host.specs.declared.answers.Kind.{Kind}
 use Rattle.pool_host.specs.declared.lane.LaneAnswer.{LaneAnswer}
 use Rattle.pool_host.specs.declared.lane.LaneAnswer.TheVariants.{Done, NoExport, BadArgs}
 
--- what a call of one caller is answered
-abbrev pub IsAnswer : ModuleTree → RunLimits → (export : List ℕ) → (args : List Val) → (fuel : ℕ) → LaneAnswer → Type 0
-IsAnswer m limits export args fuel NoExport = LacksExport m export
-IsAnswer m limits export args fuel BadArgs = LacksTypes m export args
-IsAnswer m limits export args fuel (Done outcome) = EndsWith m limits export args fuel outcome
+-- What a call of one caller is answered, and with which bytes. There are none where it was not made.
+abbrev pub IsAnswer : ModuleTree → RunLimits → (export : List ℕ) → (args : List Val) → (request : List ℕ) → (fuel : ℕ) → LaneAnswer → (bytes : List ℕ) → Type 0
+IsAnswer m limits export args request fuel NoExport bytes = LacksExport m export × (bytes ≡ [])
+IsAnswer m limits export args request fuel BadArgs bytes = LacksTypes m export args × (bytes ≡ [])
+IsAnswer m limits export args request fuel (Done outcome) bytes = EndsWith m limits export args request fuel outcome bytes
 
 -- What one of several callers is answered. Where a kind is full the call could have been made.
-abbrev pub IsHostAnswer : ModuleTree → RunLimits → (export : List ℕ) → (args : List Val) → (fuel : ℕ) → Answer → Type 0
-IsHostAnswer m limits export args fuel answer.NoExport = LacksExport m export
-IsHostAnswer m limits export args fuel answer.BadArgs = LacksTypes m export args
-IsHostAnswer m limits export args fuel (answer.Done outcome) = EndsWith m limits export args fuel outcome
-IsHostAnswer m limits export args fuel (answer.Full kind) = (function : ℕ) × MayCall m export function args
+abbrev pub IsHostAnswer : ModuleTree → RunLimits → (export : List ℕ) → (args : List Val) → (request : List ℕ) → (fuel : ℕ) → Answer → (bytes : List ℕ) → Type 0
+IsHostAnswer m limits export args request fuel answer.NoExport bytes = LacksExport m export × (bytes ≡ [])
+IsHostAnswer m limits export args request fuel answer.BadArgs bytes = LacksTypes m export args × (bytes ≡ [])
+IsHostAnswer m limits export args request fuel (answer.Done outcome) bytes = EndsWith m limits export args request fuel outcome bytes
+IsHostAnswer m limits export args request fuel (answer.Full kind) bytes = (function : ℕ) × MayCall m export function args × (bytes ≡ [])
 
 -- it as a host's
 abbrev pub host_answer : LaneAnswer → Answer

@@ -57,7 +57,10 @@ fn join_all<N: Naming>(host: &Host<N>, mut passes: Vec<HostPass<N>>) -> Passes<N
     ensures memory { trails result.memory ≡ memory_trails passes.items }
     ensures table { trails result.table ≡ table_trails passes.items }
 {
-    let HostPass { passes: mut joined } = passes.pop().unwrap();
+    let HostPass {
+        passes: mut joined,
+        ..
+    } = passes.pop().unwrap();
     while let Some(other) = passes.pop() {
         join(host, &mut joined, other);
     }
@@ -73,7 +76,7 @@ fn join<N: Naming>(host: &Host<N>, joined: &mut Passes<N>, other: HostPass<N>)
     ensures idle { AreIdle joined.new }
     ensures joined { HaveJoined joined.old other.passes joined.new }
 {
-    let HostPass { passes } = other;
+    let HostPass { passes, .. } = other;
     let Passes {
         ticket,
         memory,

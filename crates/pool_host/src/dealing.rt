@@ -8,6 +8,7 @@ ghost use Rattle.pool_host.specs.Hosts.{IsNewHostPass};
 
 use crate::host::Host;
 use crate::passes::{HostPass, Passes};
+use call_payload::AnswerBuf;
 use instance_slots::Ticket;
 use memory_slots::MemSlot;
 use module_store::Naming;
@@ -37,7 +38,8 @@ pub(crate) fn deal<N: Naming>(
             memory: memories.pop().unwrap(),
             table: tables.pop().unwrap(),
         };
-        all.push_reserved(HostPass { passes });
+        let answer = AnswerBuf::open(alloc)?;
+        all.push_reserved(HostPass { passes, answer });
     }
     Ok(all)
 }

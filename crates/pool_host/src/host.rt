@@ -1,5 +1,5 @@
 //! Calls over pools that threads share.
-ghost use Rattle.std.specs.Prelude.{◌≡◌, ◌≤◌, IfOk, length};
+ghost use Rattle.std.specs.Prelude.{[], ◌≡◌, ◌≤◌, IfOk, length};
 ghost use Rattle.std.specs.List.{All};
 ghost use Rattle.instance_calls.specs.CallWords.{run_limits};
 ghost use Rattle.pool_host.specs.CallWords.{IfFull, IsHostAnswer};
@@ -10,6 +10,7 @@ use crate::answers::Answer;
 use crate::dealing::deal;
 use crate::passes::{HostPass, Passes};
 use crate::slots::{give_slots, take_slots};
+use call_payload::AnswerBuf;
 use host_edge::Gate;
 use instance_calls::{Refusal, find_function};
 use instance_slots::TicketPool;
@@ -72,18 +73,22 @@ impl<N: Naming> Host<N> {
         module: &ModuleRef<N>,
         export: &[u8],
         args: &[Val],
+        request: &[u8],
         fuel: u64,
         number: u64,
         gate: &G,
+        said: &mut AnswerBuf,
     ) -> Answer
         requires own { ArePassesOf self.now passes.old }
+        requires request { length request.now ≤ 65536 }
         requires idle { AreIdle passes.old }
         ensures same { AreSamePasses passes.old passes.new }
         ensures idle { AreIdle passes.new }
-        ensures answer { IsHostAnswer «module».now.tree (run_limits N.config) export.now args.now fuel result }
+        ensures answer { IsHostAnswer «module».now.tree (run_limits N.config) export.now args.now request.now fuel result said.new }
         ensures trails { AddsTrails N.config self.now «module».now result passes.old passes.new }
         ensures full { IfFull result (HasCause N.config self.now «module».now passes.old passes.new) }
     {
+        said.clear();
         let function = match find_function(store, module, export, args) {
             Ok(function) => function,
             Err(Refusal::NoExport) => return Answer::NoExport,
@@ -92,7 +97,7 @@ impl<N: Naming> Host<N> {
         match take_slots(self, passes, store, module) {
             Ok(mut instance) => {
                 gate.entered(number);
-                let outcome = instance.run(store, module, function, args, fuel);
+                let outcome = instance.run(store, module, function, args, fuel, request, said);
                 give_slots(self, passes, store, instance);
                 Answer::Done(outcome)
             }
@@ -104,10 +109,51 @@ impl<N: Naming> Host<N> {
     /// plain instruction. Its memory has at most the configured pages, and its calls are at most the configured depth deep.
     /// It takes no memory of the program's.
     ///
+    /// The module may read the request and append to an answer, which [`HostPass::answer`] shows afterwards where the call is done.
+    ///
     /// The call takes a ticket, then a memory and a table where the module has them, and gives all back. The first kind of which
     /// other calls have every slot is its answer. Whatever they do, it is otherwise answered as if it were alone.
     ///
     /// The gate is told of the call by its number: when all is taken and nothing has run, and after every answer.
+    pub fn send<G: Gate>(
+        &self,
+        pass: &mut HostPass<N>,
+        store: &ModuleStore<N>,
+        module: &ModuleRef<N>,
+        export: &[u8],
+        args: &[Val],
+        request: &[u8],
+        fuel: u64,
+        number: u64,
+        gate: &G,
+    ) -> Answer
+        requires pass { IsHostPass self.now pass.old }
+        requires request { length request.now ≤ 65536 }
+        ensures own { IsHostPass self.now pass.new }
+        ensures same { IsSameHostPass pass.old pass.new }
+        ensures answer { IsHostAnswer «module».now.tree (run_limits N.config) export.now args.now request.now fuel result pass.new.answer }
+
+        // to each pass of the kinds that it asked: one take and its give, or a take that won nothing
+        ensures trails { AddsTrails N.config self.now «module».now result pass.old.passes pass.new.passes }
+        ensures full { IfFull result (HasCause N.config self.now «module».now pass.old.passes pass.new.passes) }
+    {
+        let answer = self.answer(
+            &mut pass.passes,
+            store,
+            module,
+            export,
+            args,
+            request,
+            fuel,
+            number,
+            gate,
+            &mut pass.answer,
+        );
+        gate.answered(number);
+        answer
+    }
+
+    /// The same with an empty request.
     pub fn call<G: Gate>(
         &self,
         pass: &mut HostPass<N>,
@@ -122,23 +168,12 @@ impl<N: Naming> Host<N> {
         requires { IsHostPass self.now pass.old }
         ensures own { IsHostPass self.now pass.new }
         ensures same { IsSameHostPass pass.old pass.new }
-        ensures answer { IsHostAnswer «module».now.tree (run_limits N.config) export.now args.now fuel result }
+        ensures answer { IsHostAnswer «module».now.tree (run_limits N.config) export.now args.now [] fuel result pass.new.answer }
 
         // to each pass of the kinds that it asked: one take and its give, or a take that won nothing
         ensures trails { AddsTrails N.config self.now «module».now result pass.old.passes pass.new.passes }
         ensures full { IfFull result (HasCause N.config self.now «module».now pass.old.passes pass.new.passes) }
     {
-        let answer = self.answer(
-            &mut pass.passes,
-            store,
-            module,
-            export,
-            args,
-            fuel,
-            number,
-            gate,
-        );
-        gate.answered(number);
-        answer
+        self.send(pass, store, module, export, args, &[], fuel, number, gate)
     }
 }

@@ -1,5 +1,5 @@
 //! Calls of one caller.
-ghost use Rattle.std.specs.Prelude.{◌≡◌, IfOk};
+ghost use Rattle.std.specs.Prelude.{◌≡◌, ◌≤◌, [], length, IfOk};
 ghost use Rattle.instance_calls.specs.CallWords.{run_limits};
 ghost use Rattle.pool_host.specs.CallWords.{IsAnswer, host_answer};
 ghost use Rattle.pool_host.specs.Hosts.{HandedOut, HasShare, IsHostPass, IsSameHostPass, IsShare};
@@ -57,7 +57,37 @@ impl<N: Naming> LaneHost<N> {
     /// plain instruction. Its memory has at most the configured pages, and its calls are at most the configured depth deep.
     /// It takes no memory of the program's, and always has its slots.
     ///
+    /// The module may read the request and append to an answer, which [`LaneHost::answer`] shows afterwards where the call is done.
+    ///
     /// The gate is told of the call by its number: when all is taken and nothing has run, and after every answer.
+    pub fn send<G: Gate>(
+        &mut self,
+        store: &ModuleStore<N>,
+        module: &ModuleRef<N>,
+        export: &[u8],
+        args: &[Val],
+        request: &[u8],
+        fuel: u64,
+        number: u64,
+        gate: &G,
+    ) -> LaneAnswer
+        requires { length request.now ≤ 65536 }
+        ensures same { (self.new.host ≡ self.old.host) × IsSameHostPass self.old.pass self.new.pass }
+        ensures answer { IsAnswer «module».now.tree (run_limits N.config) export.now args.now request.now fuel result self.new.pass.answer }
+        ensures trails { AddsTrails N.config self.old.host «module».now (host_answer result) self.old.pass.passes self.new.pass.passes }
+    {
+        let pass = &mut self.pass;
+        match self.host.send(
+            pass, store, module, export, args, request, fuel, number, gate,
+        ) {
+            Answer::Done(outcome) => LaneAnswer::Done(outcome),
+            Answer::NoExport => LaneAnswer::NoExport,
+            Answer::BadArgs => LaneAnswer::BadArgs,
+            Answer::Full(_) => unreachable!(),
+        }
+    }
+
+    /// The same with an empty request.
     pub fn call<G: Gate>(
         &mut self,
         store: &ModuleStore<N>,
@@ -69,18 +99,16 @@ impl<N: Naming> LaneHost<N> {
         gate: &G,
     ) -> LaneAnswer
         ensures same { (self.new.host ≡ self.old.host) × IsSameHostPass self.old.pass self.new.pass }
-        ensures answer { IsAnswer «module».now.tree (run_limits N.config) export.now args.now fuel result }
+        ensures answer { IsAnswer «module».now.tree (run_limits N.config) export.now args.now [] fuel result self.new.pass.answer }
         ensures trails { AddsTrails N.config self.old.host «module».now (host_answer result) self.old.pass.passes self.new.pass.passes }
     {
-        let pass = &mut self.pass;
-        match self
-            .host
-            .call(pass, store, module, export, args, fuel, number, gate)
-        {
-            Answer::Done(outcome) => LaneAnswer::Done(outcome),
-            Answer::NoExport => LaneAnswer::NoExport,
-            Answer::BadArgs => LaneAnswer::BadArgs,
-            Answer::Full(_) => unreachable!(),
-        }
+        self.send(store, module, export, args, &[], fuel, number, gate)
+    }
+
+    /// The bytes that the last call answered: none unless it was done. Takes no memory.
+    pub fn answer(&self) -> &[u8]
+        ensures { result.now ≡ self.now.pass.answer }
+    {
+        self.pass.answer()
     }
 }

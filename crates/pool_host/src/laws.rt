@@ -22,11 +22,11 @@ use pool_worlds::laws as worlds;
 use slot_pools::laws as pools;
 use table_slots::TableSlot;
 
-/// A call of a valid module has one answer: nothing but the module, the limits, the export, the arguments and the fuel
-/// decides it.
+/// A call of a valid module has one answer, and one sequence of bytes with it: nothing but the module, the limits, the export,
+/// the arguments, the request and the fuel decides them.
 pub fn a_call_has_one_answer()
-    ensures { (m : ModuleTree) (limits : RunLimits) (export : List ℕ) (args : List Val) (fuel : ℕ) (a b : LaneAnswer)
-        → IsValid m → IsAnswer m limits export args fuel a → IsAnswer m limits export args fuel b → a ≡ b }
+    ensures { (m : ModuleTree) (limits : RunLimits) (export : List ℕ) (args : List Val) (request : List ℕ) (fuel : ℕ) (a b : LaneAnswer) (x y : List ℕ)
+        → IsValid m → IsAnswer m limits export args request fuel a x → IsAnswer m limits export args request fuel b y → (a ≡ b) × (x ≡ y) }
 {}
 
 /// Whatever events came to pools since their opening, each running call has the store of a fresh instance after as many turns,

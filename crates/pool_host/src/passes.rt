@@ -3,6 +3,7 @@ ghost use Rattle.std.specs.Prelude.{◌≡◌};
 ghost use Rattle.slot_words.specs.Passes.{share_of};
 ghost use Rattle.pool_host.specs.Idle.{Rests};
 
+use call_payload::AnswerBuf;
 use instance_slots::Ticket;
 use memory_slots::MemSlot;
 use module_store::Naming;
@@ -17,14 +18,25 @@ pub(crate) struct Passes<N: Naming> {
     pub table: Pass<TableSlot<N>>,
 }
 
-/// The leave to make calls on one host, one at a time. Between two calls it holds nothing.
+/// The leave to make calls on one host, one at a time. Between two calls it holds nothing but the bytes that the last one
+/// answered.
 #[derive(Drop)]
 pub struct HostPass<N: Naming> {
     pub(crate) passes: Passes<N>,
+    pub(crate) answer: AnswerBuf,
     ghost rests_ticket: { Rests passes.ticket },
     ghost rests_memory: { Rests passes.memory },
     ghost rests_table: { Rests passes.table },
     ghost one_ticket: { share_of passes.ticket ≡ 1 },
     ghost one_memory: { share_of passes.memory ≡ 1 },
     ghost one_table: { share_of passes.table ≡ 1 },
+}
+
+impl<N: Naming> HostPass<N> {
+    /// The bytes that the last call answered: none unless it was done. Takes no memory.
+    pub fn answer(&self) -> &[u8]
+        ensures { result.now ≡ self.now.answer }
+    {
+        self.answer.bytes()
+    }
 }

@@ -7,6 +7,7 @@ ghost use Rattle.pool_host.specs.Hosts.{AreIdle, ArePassesOf, AreSamePasses, IsH
 use crate::passes::Passes;
 use crate::slots::{give_slots, take_slots};
 use crate::{Answer, Host, HostPass, Kind, LaneAnswer, LaneHost};
+use call_payload::AnswerBuf;
 use host_edge::{Gate, OpenGate};
 use instance_calls::{Instance, find_function};
 use module_store::{Desk, ModuleRef, ModuleStore, Naming, Opened};
@@ -532,6 +533,7 @@ fn marks_after<N: Naming>(
     export: &[u8],
     args: &[Val],
     fuel: u64,
+    answer: &mut AnswerBuf,
 ) -> Option<(Outcome, Option<u32>)>
     requires own { ArePassesOf host.now passes.old }
     requires idle { AreIdle passes.old }
@@ -543,7 +545,7 @@ fn marks_after<N: Naming>(
     };
     match take_slots(host, passes, store, module) {
         Ok(mut instance) => {
-            let outcome = instance.run(store, module, function, args, fuel);
+            let outcome = instance.run(store, module, function, args, fuel, &[], answer);
             let marks = marks_of(&instance);
             give_slots(host, passes, store, instance);
             Some((outcome, marks))
@@ -552,21 +554,29 @@ fn marks_after<N: Naming>(
     }
 }
 
-// The same with a pass of the host, which is given back.
+// The same with a pass of the host.
 fn marked_by<N: Naming>(
     host: &Host<N>,
-    mut pass: HostPass<N>,
+    pass: &mut HostPass<N>,
     store: &ModuleStore<N>,
     module: &ModuleRef<N>,
     export: &[u8],
     args: &[Val],
     fuel: u64,
-) -> (Option<(Outcome, Option<u32>)>, HostPass<N>)
-    requires { IsHostPass host.now pass }
-    ensures { IsHostPass host.now result.1 }
+) -> Option<(Outcome, Option<u32>)>
+    requires { IsHostPass host.now pass.old }
+    ensures { IsHostPass host.now pass.new }
 {
-    let marks = marks_after(host, &mut pass.passes, store, module, export, args, fuel);
-    (marks, pass)
+    marks_after(
+        host,
+        &mut pass.passes,
+        store,
+        module,
+        export,
+        args,
+        fuel,
+        &mut pass.answer,
+    )
 }
 
 fn check_marks<N: Naming, R: Abort + Wait>(rt: &R, alloc: Global, opened: Opened)
@@ -596,9 +606,9 @@ fn check_marks<N: Naming, R: Abort + Wait>(rt: &R, alloc: Global, opened: Opened
         let args = [Val::I32(first), Val::I32(7)];
         let module = &modules[module % 5];
         let args = &args[..count.min(2)];
-        let (marks, back) = marked_by(&host, pass, &store, module, export.as_bytes(), args, fuel);
+        let name = export.as_bytes();
+        let marks = marked_by(&host, &mut pass, &store, module, name, args, fuel);
         assert_eq!(rt; marks, Some((outcome, Some(blocks))), "at {export}");
-        pass = back;
     }
 }
 

@@ -30,6 +30,6 @@ is_past d = nat_lt d.limit d.value
 abbrev pub frame_demands : (index most : ℕ) (needs : List ℕ) → List Demand
 frame_demands index most needs = map (λ f. record { which = loading.Frame f.0; value = f.1; limit = most }) (enumerate_from index needs)
 
--- the first frame need that passes the limit
-abbrev pub first_frame_over : ℕ → List ℕ → Option Demand
-first_frame_over most needs = find is_past (frame_demands 0 most needs)
+-- the first frame need that passes the limit, of functions numbered from this one on
+abbrev pub first_frame_over : (first most : ℕ) → List ℕ → Option Demand
+first_frame_over first most needs = find is_past (frame_demands first most needs)

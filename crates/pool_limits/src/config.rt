@@ -1,5 +1,5 @@
 //! A configuration whose numbers are in range.
-ghost use Rattle.std.specs.Prelude.{◌≡◌, ◌<◌, ◌≤◌, Some, None, IfErr, IfOk, OnOk};
+ghost use Rattle.std.specs.Prelude.{◌≡◌, ◌+◌, ◌^◌, length, ◌<◌, ◌≤◌, Some, None, IfErr, IfOk, OnOk};
 ghost use Rattle.wasm_types.specs.Tree.{module_tree};
 ghost use Rattle.wasm_spec.specs.Loading.{first_over};
 ghost use Rattle.wasm_spec.specs.Store.{minimum_of};
@@ -106,7 +106,10 @@ impl PoolConfig {
         within(Measure::Pages, pages, self.numbers.pages)?;
         within(Measure::Elements, elements, self.numbers.elements)?;
         within(Measure::Globals, globals, MOST_GLOBALS)?;
-        frames_within(valid.frame_needs(), self.numbers.frame)
+        let imported = module.imports.len();
+        module.imports.are_few();
+        module.functions.are_few();
+        frames_within(imported, valid.frame_needs(), self.numbers.frame)
     }
 }
 
@@ -133,13 +136,14 @@ fn within(which: Measure, value: u64, limit: u32) -> Result<(), Over>
     }
 }
 
-// Each frame need is at most the limit, or the first that is not.
-fn frames_within(needs: &[u64], limit: u32) -> Result<(), Over>
-    ensures ok { OnOk result (first_frame_over limit needs.now ≡ None) }
-    ensures over { IfErr result (λ o. first_frame_over limit needs.now ≡ Some (demand_of o)) }
+// Each frame need is at most the limit, or the first that is not, of functions numbered from `first` on.
+fn frames_within(first: usize, needs: &[u64], limit: u32) -> Result<(), Over>
+    requires { first + length needs.now < 2 ^ 64 }
+    ensures ok { OnOk result (first_frame_over first limit needs.now ≡ None) }
+    ensures over { IfErr result (λ o. first_frame_over first limit needs.now ≡ Some (demand_of o)) }
 {
-    for (function, need) in needs.iter().enumerate() {
-        within(Measure::Frame(function), *need, limit)?;
+    for (place, need) in needs.iter().enumerate() {
+        within(Measure::Frame(first + place), *need, limit)?;
     }
     Ok(())
 }

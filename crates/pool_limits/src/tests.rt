@@ -8,7 +8,8 @@ use std::alloc::{AllocError, Global};
 use std::test::Fail;
 use wasm_types as wasm;
 use wasm_types::{
-    Expr, FuncType, Function, GlobalType, Instr, Items, Limits, LocalRun, Module, Op, Val, ValType,
+    Expr, FuncType, Function, GlobalType, Instr, Items, Limits, LocalRun, Module, Op, Profile, Val,
+    ValType,
 };
 use wasm_validate::{Valid, validate};
 
@@ -248,7 +249,7 @@ fn module(alloc: Global, asked: &Asked) -> Result<Module, AllocError> {
 
 fn valid(alloc: Global, asked: &Asked) -> Result<Valid, Fail> {
     let module = module(alloc, asked)?;
-    Ok(validate(alloc, module)?)
+    Ok(validate(alloc, Profile::One, module)?)
 }
 
 #[test]

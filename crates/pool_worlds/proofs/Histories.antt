@@ -6,7 +6,7 @@ use Rattle.pool_core.specs.PoolCore.{PoolCore}
 use Rattle.pool_core.specs.EventEffects.{core_after}
 use Rattle.pool_core.specs.RefusalRules.{refusal_of}
 use Rattle.pool_worlds.specs.Contents.{Kind}
-use Rattle.pool_worlds.specs.PoolMachine.{World, Running, Machine, WorldEvent, Step, Prepare, Restore, Clear, Begin, Turn, End, same_kind, with_core, after_turn, after, after_all, AllMayHappen}
+use Rattle.pool_worlds.specs.PoolMachine.{World, Running, Machine, WorldEvent, Step, Prepare, Restore, Clear, Begin, Turn, End, same_kind, with_core, after_turn, after_end, after, after_all, AllMayHappen}
 use Rattle.pool_worlds.specs.Histories.{steps_of, LeadTo, StepsAreHistories}
 use Rattle.pool_worlds.proofs.Steps.{same_kind-is}
 
@@ -22,10 +22,14 @@ step-leads p j e k es last ok h =
       | false ↦ λ q h. h
     ] in split (same_kind j k) refl h
 
--- a turn is of no account for the pools
+-- a turn is of no account for the pools, and neither is an end
 turn-stays : (w : World) (p : Machine) (i : ℕ) (marks : List Bool) (k : Kind) (call : Option Running) → (after_turn w p i marks call).core k ≡ p.core k
 turn-stays w p i marks k None = refl
 turn-stays w p i marks k (Some r) = refl
+
+end-stays : (w : World) (p : Machine) (i : ℕ) (marks : List Bool) (k : Kind) (call : Option Running) → (after_end w p i marks call).core k ≡ p.core k
+end-stays w p i marks k None = refl
+end-stays w p i marks k (Some r) = refl
 
 steps-lead : (w : World) (p : Machine) (es : List WorldEvent) → AllMayHappen w p es → (k : Kind) → LeadTo (p.core k) (steps_of k es) ((after_all w p es).core k)
 steps-lead w p [] may k = record { allowed = tt; leads = refl }
@@ -36,7 +40,8 @@ steps-lead w p (Clear j s x ∷ es) may k = steps-lead w (after w p (Clear j s x
 steps-lead w p (Begin i q ∷ es) may k = steps-lead w (after w p (Begin i q)) es may.1 k
 steps-lead w p (Turn i marks ∷ es) may k = let q : Machine = after w p (Turn i marks) in
     subst (λ (c : PoolCore). LeadTo c (steps_of k es) ((after_all w q es).core k)) (turn-stays w p i marks k (p.calls i)) (steps-lead w q es may.1 k)
-steps-lead w p (End i ∷ es) may k = steps-lead w (after w p (End i)) es may.1 k
+steps-lead w p (End i marks ∷ es) may k = let q : Machine = after w p (End i marks) in
+    subst (λ (c : PoolCore). LeadTo c (steps_of k es) ((after_all w q es).core k)) (end-stays w p i marks k (p.calls i)) (steps-lead w q es may.1 k)
 
 pub steps-are-histories : StepsAreHistories
 steps-are-histories w p es opening may k =

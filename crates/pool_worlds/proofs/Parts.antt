@@ -1,8 +1,8 @@
 -- What every slot keeps, and what preparing, clearing and a turn make of it.
-use Rattle.std.proofs.Common.{◌≡◌, ℕ, ◌-◌, ◌*◌, ◌/◌, ◌≤◌, Bool, true, false, cond, List, [], ◌∷◌, ◌++◌, length, take, drop, refl, sym, ap, ◌∙◌, subst, arith, true≢false, inl, inr}
+use Rattle.std.proofs.Common.{◌≡◌, ℕ, ◌-◌, ◌*◌, ◌/◌, ◌≤◌, Bool, true, false, cond, List, [], ◌∷◌, ◌++◌, length, take, drop, refl, sym, ap, ◌∙◌, subst, arith, true≢false}
 use Rattle.std.specs.Prelude.{Option, Some, None, ltb, map, replicate, slice_index}
-use Rattle.std.proofs.lemmas.List.{length-map, get_or_append_left, ext_get_or, length-take-le, get_or-take, take-append-drop, drop_at, take_at, nil_from_length}
-use Rattle.std.proofs.lemmas.Bool.{ltb-false, eqb-true, cases_lt}
+use Rattle.std.proofs.lemmas.List.{length-map, length-take-le, drop_at, take_at, nil_from_length}
+use Rattle.std.proofs.lemmas.Bool.{ltb-false, eqb-true}
 use Rattle.wasm_types.specs.declared.outcome.Val.{Val}
 use Rattle.wasm_types.specs.declared.types.Limits.{Limits}
 use Rattle.wasm_types.specs.Tree.{ModuleTree}
@@ -12,9 +12,9 @@ use Rattle.wasm_spec.specs.Instances.{IsInstance, room_for}
 use Rattle.wasm_spec.proofs.StoreSizes.{whole_pages, pages_within, minimum_within}
 use Rattle.wasm_spec.proofs.Loading.{no_refusal, first_keeps}
 use Rattle.wasm_spec.proofs.ResultLaws.{length-fresh_memory, length-fresh_table, fresh-instance}
-use Rattle.pool_worlds.specs.Contents.{Named, Kind, Ticket, Memory, Table, MemoryContents, TableContents, Contents, owner, belongs_to, filled, memory_image, table_image, rewritten_from, prepared, restored_for, restored, replaced, needs, shown_memory, shown_table, shown, turned, Marks, IsCold, HasImageOutside}
+use Rattle.pool_worlds.specs.Contents.{Named, Kind, Ticket, Memory, Table, MemoryContents, TableContents, Contents, owner, belongs_to, memory_image, table_image, rewritten_from, prepared, restored_for, restored, replaced, needs, shown_memory, shown_table, shown, turned, Marks, IsCold, HasImageOutside}
 use Rattle.pool_worlds.specs.PoolMachine.{World, IsModule, load_limits}
-use Rattle.pool_worlds.specs.Worlds.{IsZeroPast}
+use Rattle.pool_worlds.specs.Worlds.{IsZeroPast, in_slots}
 pub use Rattle.pool_worlds.proofs.Bytes.{length-filled, filled-past, rewritten-is}
 
 -- ---- modules that were loaded
@@ -127,7 +127,7 @@ shown-same m x y h =
       | false ↦ λ q. refl
     ] in
     let memory = memories (needs Memory m) refl in let table = tables (needs Table m) refl in let globals = h Ticket refl in
-    λ i. record { memory = memory i; table = table i; globals = take (length m.globals) (globals i) }
+    λ i. record { memory = memory i; table = table i; globals = take (length m.globals) (globals i); answer = [] }
 
 none-needed : {A : Type 0} (xs : List A) → ltb 0 (length xs) ≡ false → xs ≡ []
 none-needed xs h = let n = ltb-false 0 (length xs) h in nil_from_length xs (omega arith)
@@ -143,7 +143,7 @@ fresh-table m misfit h = nil_from_length (fresh_store m).table (no-entries m.tab
 
 -- what shows a store of an instance: the memory up to its size, the table, and the first globals
 pub shows-store : (w : World) (m : ModuleTree) (s : Store) (marks : List Bool) (x : (k : Kind) → Contents k) → first_misfit m ≡ None → IsInstance m w.limits.pages (fresh_store m).table s
-    → shown m (λ k. turned w.limits.pages s marks k (x k)) ≡ s
+    → shown m (λ k. turned w.limits.pages s marks k (x k)) ≡ in_slots s
 shows-store w m s marks x misfit is =
     let pages : ℕ = w.limits.pages in
     let whole : length s.memory / page_size * page_size ≡ length s.memory = whole_size (length s.memory) is.size is.whole in
@@ -157,7 +157,7 @@ shows-store w m s marks x misfit is =
     ] in
     let memory = memories (needs Memory m) refl in let table = tables (needs Table m) refl in
     let globals = take_at s.globals (drop (length s.globals) (x Ticket)) (length m.globals) is.globals_are in
-    λ i. record { memory = memory i; table = table i; globals = globals i } where
+    λ i. record { memory = memory i; table = table i; globals = globals i; answer = [] } where
       whole_size : (n size : ℕ) → n ≡ size * page_size → n / page_size * page_size ≡ n
       whole_size n size e = ap (λ (k : ℕ). k / page_size * page_size) e ∙ ap (λ (k : ℕ). k * page_size) (whole_pages size) ∙ sym e
 
@@ -177,7 +177,7 @@ shows-fresh w m x is kept =
     ] in
     let memory = memories (needs Memory m.tree) refl in let table = tables (needs Table m.tree) refl in
     let globals = take_at fresh.globals (drop (length fresh.globals) (x Ticket)) (length m.tree.globals) (length-map m.tree.globals _) in
-    λ i. record { memory = memory i; table = table i; globals = globals i }
+    λ i. record { memory = memory i; table = table i; globals = globals i; answer = [] }
 
 pub prepared-past : (w : World) (m : Named) (x : MemoryContents) → IsModule w m → IsKeptMemory w x → IsZeroPast (prepared w.limits.pages m Memory x)
 prepared-past w m x is kept i le = let f = fits w m is in let long = length-fresh_memory m.tree f.misfit in
@@ -212,14 +212,6 @@ turned-kept w m s marks x is marked owner Table needed kept = (kept.0, is.table_
 
 -- ---- contents that do not change
 
-bytes-are : (pages size : ℕ) (bytes memory : List ℕ) → length bytes ≡ pages * page_size → size ≤ length bytes → take size bytes ≡ memory → ((i : ℕ) → size ≤ i → slice_index bytes i ≡ 0) → bytes ≡ filled pages memory
-bytes-are pages size bytes memory room le is past =
-    let long : length memory ≡ size = ap length (sym is) ∙ length-take-le size bytes le in
-    ext_get_or 0 bytes (filled pages memory) (room ∙ sym (length-filled pages memory (omega arith))) (λ i lt. elim (cases_lt i size) [
-      | inl below ↦ sym (get_or-take size bytes i 0 below) ∙ ap (λ (xs : List ℕ). slice_index xs i) is ∙ sym (get_or_append_left memory (replicate (pages * page_size - length memory) 0) 0 i (omega arith))
-      | inr above ↦ past i above ∙ sym (filled-past pages memory i (omega arith))
-    ])
-
 size-is : (pages : ℕ) (bytes memory : List ℕ) → pages * page_size ≤ length bytes → take (pages * page_size) bytes ≡ memory → length memory / page_size ≡ pages
 size-is pages bytes memory le is = let long : length memory ≡ pages * page_size = ap length (sym is) ∙ length-take-le (pages * page_size) bytes le in ap (λ (n : ℕ). n / page_size) long ∙ whole_pages pages
 
@@ -228,24 +220,6 @@ pub size-shown : (w : World) (m : ModuleTree) (x : (k : Kind) → Contents k) (s
 size-shown w m x s need kept shows =
     let is : take ((x Memory).pages * page_size) (x Memory).bytes ≡ s.memory = ap (λ (b : Bool). shown_memory b (x Memory)) (sym need) ∙ ap (λ (t : Store). t.memory) shows in
     sym (size-is (x Memory).pages (x Memory).bytes s.memory (pages_within (x Memory).pages w.limits.pages (length (x Memory).bytes) kept.room kept.size) is)
-
--- contents that show a store are those after a turn that left it and marked nothing
-pub turned-still : (w : World) (m : ModuleTree) (s : Store) (marks : List Bool) (x : (k : Kind) → Contents k) → shown m x ≡ s → ((k : Kind) → IsKept w k (x k)) → length s.globals ≡ length m.globals
-    → (needs Memory m ≡ true → IsZeroPast (x Memory)) → (needs Memory m ≡ true → marks ≡ (x Memory).marks) → (k : Kind) → needs k m ≡ true → turned w.limits.pages s marks k (x k) ≡ x k
-turned-still w m s marks x shows kept globals past still Ticket need =
-    let is : take (length m.globals) (x Ticket) ≡ s.globals = ap (λ (t : Store). t.globals) shows in
-    ap (λ (n : ℕ). s.globals ++ drop n (x Ticket)) globals ∙ ap (λ (g : List Val). g ++ drop (length m.globals) (x Ticket)) (sym is) ∙ take-append-drop (length m.globals) (x Ticket)
-turned-still w m s marks x shows kept globals past still Memory need =
-    let y : MemoryContents = x Memory in let k = kept Memory in
-    let is : take (y.pages * page_size) y.bytes ≡ s.memory = ap (λ (b : Bool). shown_memory b y) (sym need) ∙ ap (λ (t : Store). t.memory) shows in
-    let le : y.pages * page_size ≤ length y.bytes = let room = k.room in let size = k.size in pages_within y.pages w.limits.pages (length y.bytes) room size in
-    let bytes : y.bytes ≡ filled w.limits.pages s.memory = bytes-are w.limits.pages (y.pages * page_size) y.bytes s.memory k.room le is (past need) in
-    let size = size-is y.pages y.bytes s.memory le is in
-    let same = still need in
-    λ i. record { bytes = sym bytes i; pages = size i; marks = same i; holds = y.holds }
-turned-still w m s marks x shows kept globals past still Table need =
-    let is : (x Table).entries ≡ s.table = ap (λ (b : Bool). shown_table b (x Table)) (sym need) ∙ ap (λ (t : Store). t.table) shows in
-    λ i. record { entries = sym is i; holds = (x Table).holds }
 
 -- of two turns the second says what is left
 pub turned-twice : (pages : ℕ) (s t : Store) (between marks : List Bool) (k : Kind) (x : Contents k) → length s.globals ≡ length t.globals → turned pages t marks k (turned pages s between k x) ≡ turned pages t marks k x

@@ -7,9 +7,9 @@ use Rattle.wasm_spec.specs.Result.{result_from}
 use Rattle.pool_core.specs.Lawful.{Lawful}
 use Rattle.pool_core.proofs.LawfulOpening.{lawful_opening}
 use Rattle.pool_worlds.specs.Contents.{shown, Memory, needs}
-use Rattle.pool_worlds.specs.PoolMachine.{World, InstanceLimits, Request, Running, Machine, WorldEvent, slots_of, answer, store_or, outcome_of, after, after_all, AllMayHappen, IsOpening, run_limits, Step, Prepare, Restore, Clear, Begin, Turn, End, slot_of}
+use Rattle.pool_worlds.specs.PoolMachine.{World, InstanceLimits, Request, Running, Machine, WorldEvent, slots_of, answer, store_or, told, after, after_all, AllMayHappen, IsOpening, terms_of, Step, Prepare, Restore, Clear, Begin, Turn, End, slot_of}
 use Rattle.pool_worlds.specs.FreshMachine.{FreshCall, FreshMachine, fresh_store_after, fresh_answer, fresh_after, fresh_after_all, nothing_runs}
-use Rattle.pool_worlds.specs.Worlds.{ShadowsCall, AlwaysShadow, IsSameRequest, Reached, Calls, TwoWorldsAgree, answered_by, answered, answers, AnswersAgree}
+use Rattle.pool_worlds.specs.Worlds.{in_slots, ShadowsCall, AlwaysShadow, IsSameRequest, Reached, Calls, TwoWorldsAgree, answered_by, answered, answers, AnswersAgree}
 use Rattle.pool_worlds.proofs.Parts.{cold-kept, size-shown}
 use Rattle.pool_worlds.proofs.Steps.{GoodCall, Good, found, after-good}
 
@@ -25,14 +25,14 @@ all-good w p f [] g may = g
 all-good w p f (e ∷ es) g may = all-good w (after w p e) (fresh_after w.limits f e) es (after-good w p f e g may.0) may.1
 
 answer-is : (w : World) (r : Running) → r.begun ≡ fresh_store r.request.named.tree → answer w r ≡ fresh_answer w.limits r.request
-answer-is w r e = let q : Request = r.request in ap (λ (s : Store). outcome_of (result_from q.named.tree (run_limits w.limits) q.function q.arguments s q.fuel)) e
+answer-is w r e = let q : Request = r.request in ap (λ (s : Store). told (result_from q.named.tree (terms_of w.limits q.sent) q.function q.arguments s q.fuel)) e
 
 sound-shadows : (w : World) (p : Machine) (i : ℕ) (a : Option Running) (b : Option FreshCall) → GoodCall w p i a b → ShadowsCall w p i a b
 sound-shadows w p i None None g = tt
 sound-shadows w p i (Some r) (Some c) g = record {
   request = sym g.request;
   turns = sym g.turns;
-  store = g.store ∙ sym g.fresh;
+  store = g.store ∙ ap in_slots (sym g.fresh);
   past = g.past;
   answer = answer-is w r g.begun_is ∙ ap (fresh_answer w.limits) (sym g.request);
 }
@@ -46,7 +46,7 @@ always-shadow w p es opens may i = sound-shadows w (after_all w p es) i ((after_
 -- ---- two worlds
 
 record Seen (w : World) (p : Machine) (i : ℕ) (r : Running) : Type 0 where
-  pub store : shown r.request.named.tree (slots_of w p i) ≡ fresh_store_after w.limits r.request r.turns
+  pub store : shown r.request.named.tree (slots_of w p i) ≡ in_slots (fresh_store_after w.limits r.request r.turns)
   pub size : needs Memory r.request.named.tree ≡ true → (slots_of w p i Memory).pages ≡ length (fresh_store_after w.limits r.request r.turns).memory / page_size
   pub answered : answer w r ≡ fresh_answer w.limits r.request
 
@@ -55,17 +55,17 @@ good-at w p e = (fresh_after_all w.limits nothing_runs e.events, subst (λ (x : 
 
 seen : (w : World) (p : Machine) (i : ℕ) (r : Running) → Calls w p i r → Seen w p i r
 seen w p i r c = let g = good-at w p c.reached in let x = found w p i (p.calls i) (g.0 i) r (g.1.calls i) c.calls in
-    record { store = x.2.store; size = λ need. size-shown w r.request.named.tree (slots_of w p i) (fresh_store_after w.limits r.request r.turns) need (g.1.kept Memory (slot_of w p i Memory)) x.2.store; answered = answer-is w r x.2.begun_is }
+    record { store = x.2.store; size = λ need. size-shown w r.request.named.tree (slots_of w p i) (in_slots (fresh_store_after w.limits r.request r.turns)) need (g.1.kept Memory (slot_of w p i Memory)) x.2.store; answered = answer-is w r x.2.begun_is }
 
 same-store : (l k : InstanceLimits) (a b : Request) → l ≡ k → IsSameRequest a b → (m n : ℕ) → m ≡ n → fresh_store_after l a m ≡ fresh_store_after k b n
-same-store l k a b e s m n turns = λ i. store_or (fresh_store (s.tree i)) (result_from (s.tree i) (run_limits (e i)) (s.function i) (s.arguments i) (fresh_store (s.tree i)) (turns i))
+same-store l k a b e s m n turns = λ i. cond (turns i == 0) (fresh_store (s.tree i)) (store_or (fresh_store (s.tree i)) (result_from (s.tree i) (terms_of (e i) (s.sent i)) (s.function i) (s.arguments i) (fresh_store (s.tree i)) (turns i)))
 
 same-answer : (l k : InstanceLimits) (a b : Request) → l ≡ k → IsSameRequest a b → fresh_answer l a ≡ fresh_answer k b
-same-answer l k a b e s = λ i. outcome_of (result_from (s.tree i) (run_limits (e i)) (s.function i) (s.arguments i) (fresh_store (s.tree i)) (s.fuel i))
+same-answer l k a b e s = λ i. told (result_from (s.tree i) (terms_of (e i) (s.sent i)) (s.function i) (s.arguments i) (fresh_store (s.tree i)) (s.fuel i))
 
 pub two-worlds : TwoWorldsAgree
 two-worlds w v p q i j r c limits here there same = let a = seen w p i r here in let b = seen v q j c there in record {
-  stores = λ turns. a.store ∙ same-store w.limits v.limits r.request c.request limits same r.turns c.turns turns ∙ sym b.store;
+  stores = λ turns. a.store ∙ ap in_slots (same-store w.limits v.limits r.request c.request limits same r.turns c.turns turns) ∙ sym b.store;
   sizes = λ turns need. a.size need
       ∙ ap (λ (s : Store). length s.memory / page_size) (same-store w.limits v.limits r.request c.request limits same r.turns c.turns turns)
       ∙ sym (b.size (ap (needs Memory) (sym same.tree) ∙ need));
@@ -74,20 +74,20 @@ two-worlds w v p q i j r c limits here there same = let a = seen w p i r here in
 
 -- ---- answers
 
-AllFresh : InstanceLimits → List (Request × Option Outcome) → Type 0
+AllFresh : InstanceLimits → List (Request × Option (Outcome × List ℕ)) → Type 0
 AllFresh l [] = Unit {0}
 AllFresh l (a ∷ rest) = (a.1 ≡ fresh_answer l a.0) × AllFresh l rest
 
-all-append : (l : InstanceLimits) (xs ys : List (Request × Option Outcome)) → AllFresh l xs → AllFresh l ys → AllFresh l (xs ++ ys)
+all-append : (l : InstanceLimits) (xs ys : List (Request × Option (Outcome × List ℕ))) → AllFresh l xs → AllFresh l ys → AllFresh l (xs ++ ys)
 unfolding AllFresh
 all-append l [] ys h k = k
 all-append l (x ∷ xs) ys h k = (h.0, all-append l xs ys h.1 k)
 
-all-at : (l : InstanceLimits) (xs : List (Request × Option Outcome)) (n : ℕ) (a : Request × Option Outcome) → AllFresh l xs → slice_get xs n ≡ Some a → a.1 ≡ fresh_answer l a.0
+all-at : (l : InstanceLimits) (xs : List (Request × Option (Outcome × List ℕ))) (n : ℕ) (a : Request × Option (Outcome × List ℕ)) → AllFresh l xs → slice_get xs n ≡ Some a → a.1 ≡ fresh_answer l a.0
 unfolding AllFresh
 all-at l [] n a h e = absurd (cc)
-all-at l (x ∷ xs) zero a h e = subst (λ (o : Option (Request × Option Outcome)). IsFresh o) e h.0 where
-  IsFresh : Option (Request × Option Outcome) → Type 0
+all-at l (x ∷ xs) zero a h e = subst (λ (o : Option (Request × Option (Outcome × List ℕ))). IsFresh o) e h.0 where
+  IsFresh : Option (Request × Option (Outcome × List ℕ)) → Type 0
   IsFresh None = Unit {0}
   IsFresh (Some a) = a.1 ≡ fresh_answer l a.0
 all-at l (x ∷ xs) (suc n) a h e = all-at l xs n a h.1 e
@@ -100,7 +100,7 @@ call-fresh w p i (Some r) (Some c) g = (answer-is w r g.begun_is, tt)
 
 event-fresh : (w : World) (p : Machine) (f : FreshMachine) (e : WorldEvent) (i : ℕ) → Good w p f → AllFresh w.limits (answered w p e i)
 unfolding AllFresh
-event-fresh w p f (End j) i g = let split : (b : Bool) → AllFresh w.limits (cond b (answered_by w (p.calls j)) []) = elim [
+event-fresh w p f (End j marks) i g = let split : (b : Bool) → AllFresh w.limits (cond b (answered_by w (p.calls j)) []) = elim [
   | true ↦ call-fresh w p j (p.calls j) (f j) (g.calls j)
   | false ↦ tt
 ] in split (j == i)

@@ -1,12 +1,13 @@
 -- Each event keeps what holds of a pool in use beside the fresh machine.
-use Rattle.std.proofs.Common.{◌≡◌, ◌≢◌, ℕ, ◌+◌, Bool, true, false, cond, ◌&&◌, List, refl, sym, ap, ◌∙◌, subst, true≢false, eq-eqb}
+use Rattle.std.proofs.Common.{◌≡◌, ◌≢◌, ℕ, ◌+◌, Bool, true, false, cond, ◌&&◌, List, refl, sym, ap, ◌∙◌, subst, arith, true≢false, eq-eqb}
 use Rattle.std.specs.Prelude.{Option, Some, None, ◌==◌, unwrap_or}
+use Rattle.std.proofs.lemmas.Bool.Decides.{nat_tests}
 use Rattle.std.proofs.lemmas.Bool.{eqb-true, eqb-false, and_parts}
 use Rattle.wasm_types.specs.Tree.{ModuleTree}
 use Rattle.wasm_spec.specs.Store.{Store, fresh_store}
 use Rattle.wasm_spec.specs.Result.{CallResult, result_from}
 use Rattle.wasm_spec.specs.Instances.{IsInstance}
-use Rattle.wasm_spec.proofs.ResultLaws.{result-keeps, result-at_zero, instance-kept, fresh-instance}
+use Rattle.wasm_spec.proofs.ResultLaws.{result-keeps, instance-kept, fresh-instance}
 use Rattle.pool_core.specs.declared.events.Event.{Event}
 use Rattle.pool_core.specs.PoolCore.{PoolCore, seat_at}
 use Rattle.pool_core.specs.EventEffects.{core_after}
@@ -15,9 +16,9 @@ use Rattle.pool_core.specs.Lawful.{Lawful}
 use Rattle.pool_core.proofs.Holders.{one_holder}
 use Rattle.pool_core.proofs.LawfulSteps.{lawful_after}
 use Rattle.pool_worlds.specs.Contents.{Named, Kind, Ticket, Memory, Table, Contents, prepared, restored, replaced, needs, shown, turned}
-use Rattle.pool_worlds.specs.PoolMachine.{World, Request, Running, Machine, WorldEvent, Step, Prepare, Restore, Clear, Begin, Turn, End, held_by, slot_of, slots_of, same_kind, is_slot_of_seat, is_slot_of_call, with_contents, with_core, with_call, store_or, store_after, begun, after_turn, after, IsFree, HasOut, IsModule, MarksTurn, MayHappen, run_limits}
-use Rattle.pool_worlds.specs.FreshMachine.{FreshCall, FreshMachine, fresh_store_after, fresh_turn, with_fresh_call, fresh_after}
-use Rattle.pool_worlds.specs.Worlds.{IsZeroPast}
+use Rattle.pool_worlds.specs.PoolMachine.{World, Request, Running, Machine, WorldEvent, Step, Prepare, Restore, Clear, Begin, Turn, End, held_by, slot_of, slots_of, same_kind, is_slot_of_seat, is_slot_of_call, with_contents, with_core, with_call, store_or, store_after, begun, after_turn, after, IsFree, HasOut, IsModule, MarksTurn, MarksEnd, MayHappen, terms_of, last_store, after_end}
+use Rattle.pool_worlds.specs.FreshMachine.{FreshCall, FreshMachine, fresh_store_on, fresh_store_after, fresh_turn, with_fresh_call, fresh_after}
+use Rattle.pool_worlds.specs.Worlds.{IsZeroPast, in_slots}
 use Rattle.pool_worlds.proofs.Parts.{IsKept, fits, shown-same, shows-store, shows-fresh, prepared-kept, prepared-past, restored-kept, replaced-kept, turned-kept, turned-past}
 use Rattle.pool_worlds.proofs.Seats.{Stays, holder_stays}
 
@@ -29,7 +30,7 @@ pub record IsSound (w : World) (p : Machine) (i : ℕ) (r : Running) (c : FreshC
   pub begun_is : r.begun ≡ fresh_store r.request.named.tree
   pub fresh : c.store ≡ fresh_store_after w.limits r.request r.turns
   pub holds : (k : Kind) → needs k r.request.named.tree ≡ true → HasOut p k (w.seats k i)
-  pub store : shown r.request.named.tree (slots_of w p i) ≡ fresh_store_after w.limits r.request r.turns
+  pub store : shown r.request.named.tree (slots_of w p i) ≡ in_slots (fresh_store_after w.limits r.request r.turns)
   pub past : needs Memory r.request.named.tree ≡ true → IsZeroPast (slots_of w p i Memory)
   pub owner : needs Table r.request.named.tree ≡ true → (slots_of w p i Table).holds ≡ Some r.request.named
 
@@ -192,12 +193,14 @@ own-slots w p i m change k need = let n : ℕ = slot_of w p i k in let x : Conte
 
 -- ---- a call begins
 
-store_at_zero : (w : World) (q : Request) (o : Option CallResult) → result_from q.named.tree (run_limits w.limits) q.function q.arguments (fresh_store q.named.tree) 0 ≡ o → store_or (fresh_store q.named.tree) o ≡ fresh_store q.named.tree
-store_at_zero w q None e = refl
-store_at_zero w q (Some r) e = result-at_zero q.named.tree (run_limits w.limits) q.function q.arguments (fresh_store q.named.tree) r e
-
 fresh-at_zero : (w : World) (q : Request) → fresh_store_after w.limits q 0 ≡ fresh_store q.named.tree
-fresh-at_zero w q = store_at_zero w q (result_from q.named.tree (run_limits w.limits) q.function q.arguments (fresh_store q.named.tree) 0) refl
+fresh-at_zero w q = refl
+
+-- after a turn it is the store of what the call comes to on so much fuel
+pub fresh-later : (w : World) (q : Request) (turns : ℕ) → fresh_store_after w.limits q (turns + 1) ≡ fresh_store_on w.limits q (turns + 1)
+fresh-later w q turns = ap (λ (b : Bool). cond b (fresh_store q.named.tree) (fresh_store_on w.limits q (turns + 1))) (later turns) where
+  later : (t : ℕ) → ((t + 1) == 0) ≡ false
+  later t = grind (arith, nat_tests)
 
 begin-good : (w : World) (p : Machine) (f : FreshMachine) (i : ℕ) (q : Request) → Good w p f → ((k : Kind) → needs k q.named.tree ≡ true → HasOut p k (w.seats k i)) → IsModule w q.named
     → Good w (begun w p i q) (with_fresh_call f i (Some (record { request = q; store = fresh_store q.named.tree; turns = 0 })))
@@ -215,9 +218,9 @@ begin-good w p f i q g outs is =
       request = refl;
       turns = refl;
       begun_is = store;
-      fresh = sym (fresh-at_zero w q);
+      fresh = refl;
       holds = λ k need. let o = outs k need in record { number = o.number; holds = o.holds; out = o.out };
-      store = store ∙ sym (fresh-at_zero w q);
+      store = store;
       past = λ need. subst IsZeroPast (sym (own Memory need)) (prepared-past w q.named (slots_of w p i Memory) is (g.kept Memory (slot_of w p i Memory)));
       owner = λ need. ap (λ (x : Contents Table). x.holds) (own Table need);
     } in record {
@@ -230,16 +233,16 @@ begin-good w p f i q g outs is =
 
 -- ---- a turn
 
-pub next-is : (w : World) (r : Running) → r.begun ≡ fresh_store r.request.named.tree → (turns : ℕ) → store_after w r turns ≡ fresh_store_after w.limits r.request turns
-next-is w r e turns = let q : Request = r.request in ap (λ (s : Store). store_or s (result_from q.named.tree (run_limits w.limits) q.function q.arguments s turns)) e
+pub next-is : (w : World) (r : Running) → r.begun ≡ fresh_store r.request.named.tree → (fuel : ℕ) → store_after w r fuel ≡ fresh_store_on w.limits r.request fuel
+next-is w r e turns = let q : Request = r.request in ap (λ (s : Store). store_or s (result_from q.named.tree (terms_of w.limits q.sent) q.function q.arguments s turns)) e
 
-pub instance-at : (w : World) (q : Request) → IsModule w q.named → (turns : ℕ) → IsInstance q.named.tree w.limits.pages (fresh_store q.named.tree).table (fresh_store_after w.limits q turns)
+pub instance-at : (w : World) (q : Request) → IsModule w q.named → (turns : ℕ) → IsInstance q.named.tree w.limits.pages (fresh_store q.named.tree).table (fresh_store_on w.limits q turns)
 instance-at w q is turns = let m : ModuleTree = q.named.tree in let fresh : Store = fresh_store m in let f = fits w q.named is in
     let first : IsInstance m w.limits.pages fresh.table fresh = fresh-instance m f.misfit w.limits.pages f.size in
-    let split : (o : Option CallResult) → result_from m (run_limits w.limits) q.function q.arguments fresh turns ≡ o → IsInstance m w.limits.pages fresh.table (store_or fresh o) = elim [
+    let split : (o : Option CallResult) → result_from m (terms_of w.limits q.sent) q.function q.arguments fresh turns ≡ o → IsInstance m w.limits.pages fresh.table (store_or fresh o) = elim [
       | None ↦ λ e. first
-      | Some r ↦ λ e. result-keeps m (run_limits w.limits) (IsInstance m w.limits.pages fresh.table) (instance-kept m (run_limits w.limits) fresh.table) q.function q.arguments fresh turns r first e
-    ] in split (result_from m (run_limits w.limits) q.function q.arguments fresh turns) refl
+      | Some r ↦ λ e. result-keeps m (terms_of w.limits q.sent) (IsInstance m w.limits.pages fresh.table) (instance-kept m (terms_of w.limits q.sent) fresh.table) q.function q.arguments fresh turns r first e
+    ] in split (result_from m (terms_of w.limits q.sent) q.function q.arguments fresh turns) refl
 
 turn-good : (w : World) (p : Machine) (f : FreshMachine) (i : ℕ) (marks : List Bool) (r : Running) (c : FreshCall) → Good w p f → IsSound w p i r c → MarksTurn w p i r marks
     → Good w (after_turn w p i marks (Some r)) (with_fresh_call f i (fresh_turn w.limits (Some c)))
@@ -248,7 +251,7 @@ turn-good w p f i marks r c g s marked =
     let m : Named = q.named in
     let pages : ℕ = w.limits.pages in
     let next : Store = store_after w r (r.turns + 1) in
-    let next_is : next ≡ fresh_store_after w.limits q (r.turns + 1) = next-is w r s.begun_is (r.turns + 1) in
+    let next_is : next ≡ fresh_store_on w.limits q (r.turns + 1) = next-is w r s.begun_is (r.turns + 1) in
     let instance : IsInstance m.tree pages (fresh_store m.tree).table next = subst (IsInstance m.tree pages (fresh_store m.tree).table) (sym next_is) (instance-at w q s.is_module (r.turns + 1)) in
     let change : (k : Kind) → Contents k → Contents k = turned pages next marks in
     let hits : Kind → ℕ → Bool = is_slot_of_call w p i m.tree in
@@ -256,15 +259,15 @@ turn-good w p f i marks r c g s marked =
     let own = own-slots w p i m.tree change in
     let f' = fits w m s.is_module in
     let r' : Running = record r { turns = r.turns + 1 } in
-    let c' : FreshCall = record c { store = fresh_store_after w.limits c.request (c.turns + 1); turns = c.turns + 1 } in
+    let c' : FreshCall = record c { store = fresh_store_on w.limits c.request (c.turns + 1); turns = c.turns + 1 } in
     let here : IsSound w ready i r' c' = record {
       is_module = s.is_module;
       request = s.request;
       turns = ap (λ (n : ℕ). n + 1) s.turns;
       begun_is = s.begun_is;
-      fresh = λ k. fresh_store_after w.limits (s.request k) (s.turns k + 1);
+      fresh = (λ k. fresh_store_on w.limits (s.request k) (s.turns k + 1)) ∙ sym (fresh-later w q r.turns);
       holds = λ k need. let o = s.holds k need in record { number = o.number; holds = o.holds; out = o.out };
-      store = shown-same m.tree (slots_of w ready i) (λ k. change k (slots_of w p i k)) own ∙ shows-store w m.tree next marks (slots_of w p i) f'.misfit instance ∙ next_is;
+      store = shown-same m.tree (slots_of w ready i) (λ k. change k (slots_of w p i k)) own ∙ shows-store w m.tree next marks (slots_of w p i) f'.misfit instance ∙ ap in_slots (next_is ∙ sym (fresh-later w q r.turns));
       past = λ need. subst IsZeroPast (sym (own Memory need)) (turned-past pages next marks (slots_of w p i Memory) instance.size instance.whole);
       owner = λ need. ap (λ (x : Contents Table). x.holds) (own Table need) ∙ s.owner need;
     } in record {
@@ -276,6 +279,27 @@ turn-good w p f i marks r c g s marked =
       calls = calls-with w (with_call ready i (Some r')) i (Some r') (Some c') p.calls f
           (call-set w ready i (Some r') i (Some r') (Some c') here)
           (λ j other. call-set w ready i (Some r') j (p.calls j) (f j) (other-good w p f i m.tree change g s.holds j other));
+    }
+
+-- ---- an end
+
+end-good : (w : World) (p : Machine) (f : FreshMachine) (i : ℕ) (marks : List Bool) (r : Running) (c : FreshCall) → Good w p f → IsSound w p i r c → MarksEnd w p i r marks
+    → Good w (after_end w p i marks (Some r)) (with_fresh_call f i None)
+end-good w p f i marks r c g s marked =
+    let q : Request = r.request in
+    let m : Named = q.named in
+    let last : Store = last_store w r in
+    let instance : IsInstance m.tree w.limits.pages (fresh_store m.tree).table last = subst (IsInstance m.tree w.limits.pages (fresh_store m.tree).table) (sym (next-is w r s.begun_is q.fuel)) (instance-at w q s.is_module q.fuel) in
+    let change : (k : Kind) → Contents k → Contents k = turned w.limits.pages last marks in
+    let hits : Kind → ℕ → Bool = is_slot_of_call w p i m.tree in
+    let ready : Machine = with_contents p hits change in record {
+      lawful = g.lawful;
+      kept = kept-with w p hits change g.kept (λ k n hit.
+          let both = and_parts (needs k m.tree) (n == slot_of w p i k) hit in
+          subst (λ (n : ℕ). IsKept w k (change k (p.contents k n))) (sym (eqb-true n (slot_of w p i k) both.1))
+          (turned-kept w m last marks (slots_of w p i) instance marked s.owner k both.0 (g.kept k (slot_of w p i k))));
+      calls = calls-with w (with_call ready i None) i None None p.calls f tt
+          (λ j other. call-set w ready i None j (p.calls j) (f j) (other-good w p f i m.tree change g s.holds j other));
     }
 
 -- ---- each event
@@ -290,8 +314,5 @@ after-good w p f (Turn i marks) g may = let r : Running = may.0 in let x = found
     subst (λ (a : Option Running). Good w (after_turn w p i marks a) (with_fresh_call f i (fresh_turn w.limits (f i)))) (sym may.1)
     (subst (λ (b : Option FreshCall). Good w (after_turn w p i marks (Some r)) (with_fresh_call f i (fresh_turn w.limits b))) (sym x.1)
     (turn-good w p f i marks r x.0 g x.2 may.3))
-after-good w p f (End i) g may = record {
-  lawful = g.lawful;
-  kept = g.kept;
-  calls = calls-with w (with_call p i None) i None None p.calls f tt (λ j other. call-set w p i None j (p.calls j) (f j) (g.calls j));
-}
+after-good w p f (End i marks) g may = let r : Running = may.0 in let x = found w p i (p.calls i) (f i) r (g.calls i) may.1 in
+    subst (λ (a : Option Running). Good w (after_end w p i marks a) (with_fresh_call f i None)) (sym may.1) (end-good w p f i marks r x.0 g x.2 may.3)

@@ -1,5 +1,5 @@
 -- What a host does for a call is turns of it.
-use Rattle.wasm_types.specs.declared.limits.RunLimits.{RunLimits}
+use Rattle.wasm_spec.specs.Execution.{Terms}
 use Rattle.std.proofs.Common.{◌≡◌, ℕ, zero, suc, ◌+◌, ◌-◌, ◌<◌, ◌≤◌, Bool, true, false, cond, List, [], length, refl, sym, ap, ◌∙◌, subst, arith, true≢false, ◌⊎◌, inl, inr, eq-eqb}
 use Rattle.std.specs.Prelude.{Option, Some, None, is_some, replicate, slice_index}
 use Rattle.wasm_types.specs.declared.outcome.Outcome.{Outcome}
@@ -9,15 +9,15 @@ use Rattle.wasm_spec.specs.Store.{Store, fresh_store}
 use Rattle.wasm_spec.specs.Result.{CallResult, function_result, if_done_by, if_done, after_start}
 use Rattle.wasm_spec.specs.MoreFuel.{is_fuel, is_fuel_end, with_more}
 use Rattle.wasm_spec.specs.Instances.{IsInstance}
-use Rattle.wasm_spec.proofs.ResultLaws.{result-spends, function-spends, function-keeps, instance-kept, fresh-instance}
+use Rattle.wasm_spec.proofs.ResultLaws.{function-spends, function-keeps, instance-kept, fresh-instance}
 use Rattle.wasm_spec.proofs.MoreFuel.{result-more, function-more}
 use Rattle.wasm_types.specs.declared.outcome.Val.{Val}
-use Rattle.pool_worlds.specs.Contents.{Kind, Memory, MemoryContents, Contents, needs, filled, shown, turned, Marks, is_marked}
-use Rattle.pool_worlds.specs.PoolMachine.{World, Request, Running, Machine, Turn, slot_of, slots_of, result, store_or, store_after, outcome_of, IsFuelEnd, CanTurn, after_turn, after, after_all, AllMayHappen, MayHappen, run_limits}
+use Rattle.pool_worlds.specs.Contents.{Kind, Memory, MemoryContents, Contents, needs, filled, turned, Marks, is_marked}
+use Rattle.pool_worlds.specs.PoolMachine.{World, Request, Running, Machine, Turn, End, slots_of, result, store_or, store_after, last_store, after_end, told, IsFuelEnd, CanTurn, after_turn, after, after_all, AllMayHappen, MayHappen, terms_of}
 use Rattle.pool_worlds.specs.FreshMachine.{FreshCall, FreshMachine}
 use Rattle.pool_worlds.specs.Runs.{Leaves, RunsFunction, GoesOn, StartsAndGoesOn, HostRunsBy, AreItsTurns}
 use Rattle.pool_worlds.specs.Worlds.{RunsAreTurns, PreparingTwiceIsOnce}
-use Rattle.pool_worlds.proofs.Parts.{fits, turned-still, turned-twice, prepared-twice}
+use Rattle.pool_worlds.proofs.Parts.{fits, turned-twice, prepared-twice}
 use Rattle.pool_worlds.proofs.Steps.{IsSound, Good, found, own-slots, next-is, instance-at}
 use Rattle.pool_worlds.proofs.Shadows.{good-at}
 
@@ -89,16 +89,12 @@ at_all : (w : World) (r : Running) (l : Lasts w r r.request.fuel) → (l.count �
 at_all w r l = let q : Request = r.request in elim l.ends [
   | inl is ↦ inl is
   | inr e ↦ inr (let le = l.within in let sum : q.fuel ≡ l.count + (q.fuel - l.count) = omega arith in
-      ap (result w r) sum ∙ result-more (q.fuel - l.count) q.named.tree (run_limits w.limits) q.function q.arguments r.begun l.count e)
+      ap (result w r) sum ∙ result-more (q.fuel - l.count) q.named.tree (terms_of w.limits q.sent) q.function q.arguments r.begun l.count e)
 ]
 
 with_more-some : (d : ℕ) (o : Option CallResult) → is_some (with_more d o) ≡ true → is_some o ≡ true
 with_more-some d None h = h
 with_more-some d (Some r) h = refl
-
-with_more-store : (d : ℕ) (s : Store) (o : Option CallResult) → store_or s (with_more d o) ≡ store_or s o
-with_more-store d s None = refl
-with_more-store d s (Some r) = refl
 
 module _ (w : World) (r : Running) (given : is_some (result w r r.request.fuel) ≡ true) where
   all-given : (l : Lasts w r r.request.fuel) (j : ℕ) → j ≤ l.count → is_some (result w r j) ≡ true
@@ -111,12 +107,6 @@ module _ (w : World) (r : Running) (given : is_some (result w r r.request.fuel) 
   ] where
     split : (j n : ℕ) → j ≤ n → (j < n) ⊎ (j ≡ n)
     split j n le = grind arith
-
-  last-store : (l : Lasts w r r.request.fuel) → store_after w r l.count ≡ store_after w r r.request.fuel
-  last-store l = elim (at_all w r l) [
-    | inl is ↦ ap (store_after w r) is
-    | inr e ↦ sym (with_more-store (r.request.fuel - l.count) r.begun (result w r l.count)) ∙ ap (store_or r.begun) (sym e)
-  ]
 
 -- the call after so many turns
 abbrev at_turn : Running → ℕ → Running
@@ -218,44 +208,50 @@ record Begun (w : World) (p : Machine) (i : ℕ) (r : Running) : Type 0 where
 globals-are : (w : World) (p : Machine) (i : ℕ) (r : Running) (c : FreshCall) → IsSound w p i r c → (t : ℕ) → length (store_after w r t).globals ≡ length r.request.named.tree.globals
 globals-are w p i r c s t = ap (λ (x : Store). length x.globals) (next-is w r s.begun_is t) ∙ (instance-at w r.request s.is_module t).globals_are
 
-spent-none : (w : World) (c : Running) (r : CallResult) (l : Lasts w c c.request.fuel) → l.count ≡ 0 → result w c c.request.fuel ≡ Some r → r.fuel ≡ c.request.fuel
-spent-none w c r l none gives = let q : Request = c.request in
-    let le = result-spends q.named.tree (run_limits w.limits) q.function q.arguments c.begun q.fuel r gives in
-    elim (at_all w c l) [
-      | inl is ↦ omega arith
-      | inr e ↦ at_least (q.fuel - l.count) (result w c l.count) r (omega arith) le (sym e ∙ gives)
-    ] where
-      at_least : (d : ℕ) (o : Option CallResult) (r : CallResult) → d ≡ c.request.fuel → r.fuel ≤ c.request.fuel → with_more d o ≡ Some r → r.fuel ≡ c.request.fuel
-      at_least d None r is le e = absurd (cc)
-      at_least d (Some x) r is le e = let sum : x.fuel + d ≡ r.fuel = ap (fuel_or 0) e in omega arith
+-- where the call ends after so many turns, its slots become those of the store that it ends with
+end-slots : (w : World) (p : Machine) (i : ℕ) (r : Running) (marks : List Bool) (k : Kind) → p.calls i ≡ Some r → needs k r.request.named.tree ≡ true
+    → slots_of w (after w p (End i marks)) i k ≡ turned w.limits.pages (last_store w r) marks k (slots_of w p i k)
+end-slots w p i r marks k e need = ap (λ (a : Option Running). slots_of w (after_end w p i marks a) i k) e ∙ own-slots w p i r.request.named.tree (turned w.limits.pages (last_store w r) marks) k need
 
 runs-are : (w : World) (p : Machine) (i : ℕ) (c : Running) (new : (k : Kind) → Contents k) (marks : List Bool) (r : CallResult) → Begun w p i c → p.calls i ≡ Some c → c.turns ≡ 0
     → Leaves w.limits.pages c.request.named.tree (result w c) c.request.fuel (slots_of w p i) new marks r → (l : Lasts w c c.request.fuel) (n : ℕ) → n ≡ l.count → AreItsTurns w p i c new marks
-runs-are w p i c new marks r b e none run l zero is = let s = b.sound in
-    let given : is_some (result w c c.request.fuel) ≡ true = ap is_some run.gives in
-    let final : store_after w c c.request.fuel ≡ r.store = ap (store_or c.begun) run.gives in
+runs-are w p i c new marks r b e none run l zero is =
     let stuck : CanTurn w c → ⊥ = cannot-turn w c l c.turns (none ∙ is) in
-    let begins : r.store ≡ shown c.request.named.tree (slots_of w p i) =
-    sym final ∙ sym (last-store w c given l) ∙ ap (store_after w c) (sym is ∙ sym none) ∙ next-is w c s.begun_is c.turns ∙ sym s.store in record {
+    let last : last_store w c ≡ r.store = ap (store_or c.begun) run.gives in record {
       count = 0;
       happen = tt;
-      ends = (c, e, stuck);
-      contents = λ k need. sym (run.left k need ∙ turned-still w c.request.named.tree r.store marks (slots_of w p i) (sym begins)
-          (λ k. b.good.kept k (slot_of w p i k)) (ap (λ (x : Store). length x.globals) (sym final) ∙ globals-are w p i c b.fresh s c.request.fuel) s.past (λ need. run.still need (spent-none w c r l (sym is) run.gives)) k need);
+      ends = (c, e, stuck, λ need. subst (λ (s : Store). Marks (slots_of w p i Memory).bytes (filled w.limits.pages s.memory) (slots_of w p i Memory).marks marks) (sym last) (run.marked need c.request.fuel r (omega arith) run.gives));
+      contents = λ k need. end-slots w p i c marks k e need ∙ ap (λ (s : Store). turned w.limits.pages s marks k (slots_of w p i k)) last ∙ sym (run.left k need);
     }
 runs-are w p i c new marks r b e none run l (suc n) is = let s = b.sound in
     let given : is_some (result w c c.request.fuel) ≡ true = ap is_some run.gives in
-    let final : store_after w c c.request.fuel ≡ r.store = ap (store_or c.begun) run.gives in
+    let last : last_store w c ≡ r.store = ap (store_or c.begun) run.gives in
     let same : c ≡ at_turn c 0 = λ k. record { request = c.request; begun = c.begun; turns = none k } in
     let globals : (a d : ℕ) → length (store_after w c a).globals ≡ length (store_after w c d).globals = λ a d. globals-are w p i c b.fresh s a ∙ sym (globals-are w p i c b.fresh s d) in
     let first = first-turn w i c marks (slots_of w p i) given l globals run.marked p (e ∙ ap (λ (x : Running). Some x) same) (λ k. refl) (omega arith) in
-    let rest = more-turns w i c marks (slots_of w p i) given l globals run.marked n 1 (after w p (Turn i marks)) first.1 (omega arith) in record {
+    let rest = more-turns w i c marks (slots_of w p i) given l globals run.marked n 1 (after w p (Turn i marks)) first.1 (omega arith) in
+    let q : Machine = after_all w p (replicate (suc n) (Turn i marks)) in
+    let before : Store = store_after w c (1 + n) in record {
       count = suc n;
       happen = (first.0, rest.happen);
-      ends = (at_turn c (1 + n), rest.at.calls, cannot-turn w c l (1 + n) (omega arith));
-      contents = λ k need. rest.at.contents k need
-          ∙ ap (λ (t : ℕ). turned w.limits.pages (store_after w c t) marks k (slots_of w p i k)) (omega arith)
-          ∙ ap (λ (x : Store). turned w.limits.pages x marks k (slots_of w p i k)) (last-store w c given l ∙ final) ∙ sym (run.left k need);
+      ends = (
+        at_turn c (1 + n),
+        rest.at.calls,
+        cannot-turn w c l (1 + n) (omega arith),
+        λ need.
+            let base : MemoryContents = slots_of w p i Memory in
+            let there : slots_of w q i Memory ≡ turned w.limits.pages before marks Memory base = rest.at.contents Memory need in
+            let now = marked w i c marks (slots_of w p i) given l globals run.marked need (1 + n) (omega arith) in
+            let end : Marks base.bytes (filled w.limits.pages (last_store w c).memory) base.marks marks =
+            subst (λ (t : Store). Marks base.bytes (filled w.limits.pages t.memory) base.marks marks) (sym last) (run.marked need c.request.fuel r (omega arith) run.gives) in record {
+              changed = λ j h. end.changed j h ∙ sym (now.changed j h) ∙ ap (λ (y : MemoryContents). slice_index y.bytes j) (sym there);
+              kept = λ j h. ap (λ (y : MemoryContents). is_marked y.marks j) there ∙ h;
+            },
+      );
+      contents = λ k need. end-slots w q i (at_turn c (1 + n)) marks k rest.at.calls need
+          ∙ ap (turned w.limits.pages (last_store w c) marks k) (rest.at.contents k need)
+          ∙ turned-twice w.limits.pages before (last_store w c) marks marks k (slots_of w p i k) (globals (1 + n) c.request.fuel)
+          ∙ ap (λ (t : Store). turned w.limits.pages t marks k (slots_of w p i k)) last ∙ sym (run.left k need);
     }
 
 -- ---- the start function's run and the export's
@@ -263,7 +259,7 @@ runs-are w p i c new marks r b e none run l (suc n) is = let s = b.sound in
 marks-more : (old mid new : List ℕ) (before between after : List Bool) → Marks old mid before between → Marks mid new between after → Marks old new before after
 marks-more old mid new before between after a b = record { changed = λ i h. b.changed i h ∙ a.changed i (b.kept i h); kept = λ i h. a.kept i (b.kept i h) }
 
-module _ (pages : ℕ) (m : ModuleTree) (limits : RunLimits) (x : ℕ) (arguments : List Val) (store : Store) (fuel : ℕ) (old new : (k : Kind) → Contents k) (marks : List Bool) (r : CallResult)
+module _ (pages : ℕ) (m : ModuleTree) (limits : Terms) (x : ℕ) (arguments : List Val) (store : Store) (fuel : ℕ) (old new : (k : Kind) → Contents k) (marks : List Bool) (r : CallResult)
     (wide : (s : Store) (g : ℕ) (y : ℕ) (args : List Val) (r : CallResult) → IsInstance m pages (fresh_store m).table s → function_result m limits y args s g ≡ Some r → IsInstance m pages (fresh_store m).table r.store)
     (begins : IsInstance m pages (fresh_store m).table store) where
   abbrev next : Store → ℕ → Option CallResult
@@ -323,7 +319,6 @@ module _ (pages : ℕ) (m : ModuleTree) (limits : RunLimits) (x : ℕ) (argument
                     (subst (λ (c : MemoryContents). Marks (old Memory).bytes c.bytes (old Memory).marks c.marks) (sym (mid-is need)) (run.starts.marked need fuel first (omega arith) run.starts.gives))
                     (second.marked need (b.0).fuel z b.4 there)
               ] in split (is_fuel_end (function_result m limits y [] store j)) refl;
-          still = λ need e. second.still need (omega arith) ∙ ap (λ (c : MemoryContents). c.marks) (mid-is need) ∙ run.starts.still need (omega arith);
         }
 
     whole-stopped : ((f : CallResult) → f.outcome ≡ first.outcome → if_done_by f.outcome f next ≡ Some f) → (r ≡ first) × (marks ≡ run.mid_marks) × ((k : Kind) → needs k m ≡ true → new k ≡ run.mid k) → Leaves pages m (whole y) fuel old new marks r
@@ -339,7 +334,6 @@ module _ (pages : ℕ) (m : ModuleTree) (limits : RunLimits) (x : ℕ) (argument
                     let store_is : first.store ≡ z.store = sym b.3 ∙ ap (store_or (b.0).store) there in
                     subst (λ (s : Store). Marks (old Memory).bytes (filled pages s.memory) (old Memory).marks marks) store_is (after-first kept need fuel first (omega arith) run.starts.gives)
               ] in split (is_fuel_end (function_result m limits y [] store j)) refl;
-          still = λ need e. same.1 ∙ run.starts.still need (ap (λ (a : CallResult). a.fuel) (sym same.0) ∙ e);
         }
 
     whole-by : (o : Outcome) → o ≡ first.outcome → GoesOn pages m limits x arguments o first run.mid new run.mid_marks marks r → Leaves pages m (whole y) fuel old new marks r
@@ -354,13 +348,13 @@ module _ (pages : ℕ) (m : ModuleTree) (limits : RunLimits) (x : ℕ) (argument
 pub runs-are-turns : RunsAreTurns
 runs-are-turns w p i c new marks r calls none runs = let g = good-at w p calls.reached in let x = found w p i (p.calls i) (g.0 i) c (g.1.calls i) calls.calls in
     let q : Request = c.request in let m : ModuleTree = q.named.tree in let s = x.2 in let f = fits w q.named s.is_module in
-    let limits : RunLimits = run_limits w.limits in
+    let limits : Terms = terms_of w.limits q.sent in
     let wide : (s : Store) (g : ℕ) (y : ℕ) (args : List Val) (r : CallResult) → IsInstance m w.limits.pages (fresh_store m).table s → function_result m limits y args s g ≡ Some r → IsInstance m w.limits.pages (fresh_store m).table r.store =
     λ s g y args r is e. function-keeps m limits (IsInstance m w.limits.pages (fresh_store m).table) (instance-kept m limits (fresh_store m).table) y args s g r is e in
     let begins : IsInstance m w.limits.pages (fresh_store m).table c.begun = subst (IsInstance m w.limits.pages (fresh_store m).table) (sym s.begun_is) (fresh-instance m f.misfit w.limits.pages f.size) in
     let run = whole-is w.limits.pages m limits q.function q.arguments c.begun q.fuel (slots_of w p i) new marks r wide begins m.start runs in
     let l = lasts w c q.fuel in
-    (runs-are w p i c new marks r (record { f = g.0; good = g.1; fresh = x.0; sound = s }) calls.calls none run l l.count refl, ap outcome_of run.gives)
+    (runs-are w p i c new marks r (record { f = g.0; good = g.1; fresh = x.0; sound = s }) calls.calls none run l l.count refl, ap told run.gives)
 
 pub preparing-twice : PreparingTwiceIsOnce
 preparing-twice w p m k n e is = prepared-twice w m is k (p.contents k n) ((good-at w p e).1.kept k n)

@@ -113,12 +113,14 @@ abbrev pub shown_table : Bool → TableContents → List (Option ℕ)
 shown_table false x = []
 shown_table true x = x.entries
 
--- the store that a call of the module has in these contents: the memory up to its size, the table, and the module's globals
+-- the store that a call of the module has in these contents: the memory up to its size, the table, and the module's globals.
+-- An answer does not lie in a slot.
 abbrev pub shown : ModuleTree → ((k : Kind) → Contents k) → Store
 shown m x = record {
   memory = shown_memory (needs Memory m) (x Memory);
   table = shown_table (needs Table m) (x Table);
   globals = take (length m.globals) (x Ticket);
+  answer = [];
 }
 
 -- the contents after a turn that left this store and these marks

@@ -1,6 +1,6 @@
 -- A pool in use: its slots, its callers' running calls, and the events that change them.
+use Rattle.wasm_spec.specs.Execution.{Terms}
 use Rattle.wasm_types.specs.declared.profile.Profile.{Profile}
-use Rattle.wasm_types.specs.declared.limits.RunLimits.{RunLimits}
 use Rattle.wasm_types.specs.declared.limits.LoadLimits.{LoadLimits}
 use Rattle.std.specs.Prelude.{◌≡◌, ℕ, ◌+◌, ◌<◌, ◌==◌, ◌&&◌, Bool, true, false, if◌then◌else◌, List, [], ◌∷◌, Option, Some, None, is_some, unwrap_or, map}
 use Rattle.wasm_types.specs.declared.types.FuncType.{FuncType}
@@ -8,12 +8,13 @@ use Rattle.wasm_types.specs.declared.outcome.Val.{Val}
 use Rattle.wasm_types.specs.declared.outcome.Outcome.{Outcome}
 use Rattle.wasm_types.specs.declared.outcome.Outcome.TheVariants as outcome
 use Rattle.wasm_types.specs.Tree.{ModuleTree}
-use Rattle.wasm_spec.specs.Typing.{type_of, function_type}
+use Rattle.wasm_spec.specs.Functions.{function_type}
+use Rattle.wasm_spec.specs.Typing.{type_of}
 use Rattle.wasm_spec.specs.Validity.{Exports}
 use Rattle.wasm_spec.specs.Store.{Store}
 use Rattle.wasm_spec.specs.Loading.{Loads}
 use Rattle.std.specs.Prelude.{Ok}
-use Rattle.wasm_spec.specs.Result.{CallResult, result_from}
+use Rattle.wasm_spec.specs.Result.{CallResult, answer_of, result_from}
 use Rattle.pool_core.specs.declared.events.Event.{Event}
 use Rattle.pool_core.specs.PoolCore.{PoolCore, seat_at, opening_core}
 use Rattle.pool_core.specs.EventEffects.{core_after}
@@ -29,8 +30,9 @@ pub record InstanceLimits : Type 0 where
 abbrev pub load_limits : InstanceLimits → LoadLimits
 load_limits l = record { pages = l.pages; elements = l.elements; frame = l.frame }
 
-abbrev pub run_limits : InstanceLimits → RunLimits
-run_limits l = record { pages = l.pages; depth = l.depth }
+-- the terms of a run that is sent these bytes
+abbrev pub terms_of : InstanceLimits → List ℕ → Terms
+terms_of l sent = record { pages = l.pages; depth = l.depth; request = sent }
 
 -- What does not change: the limits, the modules by number, and each caller's seat of each kind. No two callers have one seat.
 pub record World : Type 0 where
@@ -39,11 +41,12 @@ pub record World : Type 0 where
   pub seats : Kind → ℕ → ℕ
   pub apart : (k : Kind) (i j : ℕ) → seats k i ≡ seats k j → i ≡ j
 
--- which export is called, with what and on how much fuel
+-- which export is called, with what, with which bytes and on how much fuel
 pub record Request : Type 0 where
   pub named : Named
   pub function : ℕ
   pub arguments : List Val
+  pub sent : List ℕ
   pub fuel : ℕ
 
 -- a call that runs: the store that it had in its slots as it began, and its turns so far
@@ -66,10 +69,10 @@ pub data WorldEvent : Type 0 where
   Prepare : (k : Kind) (s : ℕ) (m : Named) → WorldEvent
   Restore : (k : Kind) (s : ℕ) → WorldEvent
   Clear : (k : Kind) (s : ℕ) (x : Contents k) → WorldEvent
-  -- by the caller i: a call begins; it makes a turn, which leaves these marks; it ends, and is answered
+  -- by the caller i: a call begins; it makes a turn, which leaves these marks; it ends, which leaves these marks too, and is answered
   Begin : (i : ℕ) (request : Request) → WorldEvent
   Turn : (i : ℕ) (marks : List Bool) → WorldEvent
-  End : (i : ℕ) → WorldEvent
+  End : (i : ℕ) (marks : List Bool) → WorldEvent
 
 -- ---- slots
 
@@ -112,7 +115,7 @@ with_call p i call = record p { calls = λ j. if j == i then call else p.calls j
 
 -- what the call comes to on this fuel, from the store that it began with
 abbrev pub result : World → Running → ℕ → Option CallResult
-result w r fuel = result_from r.request.named.tree (run_limits w.limits) r.request.function r.request.arguments r.begun fuel
+result w r fuel = result_from r.request.named.tree (terms_of w.limits r.request.sent) r.request.function r.request.arguments r.begun fuel
 
 abbrev pub store_or : Store → Option CallResult → Store
 store_or other None = other
@@ -129,9 +132,18 @@ IsFuelEnd r = outcome_of r ≡ Some outcome.Fuel
 abbrev pub store_after : World → Running → ℕ → Store
 store_after w r turns = store_or r.begun (result w r turns)
 
+-- the store that the call ends with. Where its function is imported it may end so without a turn.
+abbrev pub last_store : World → Running → Store
+last_store w r = store_or r.begun (result w r r.request.fuel)
+
+-- how a call ended, and the bytes that it answers
+abbrev pub told : Option CallResult → Option (Outcome × List ℕ)
+told None = None
+told (Some r) = Some (r.outcome, answer_of r)
+
 -- what the call is answered
-abbrev pub answer : World → Running → Option Outcome
-answer w r = outcome_of (result w r r.request.fuel)
+abbrev pub answer : World → Running → Option (Outcome × List ℕ)
+answer w r = told (result w r r.request.fuel)
 
 -- it has fuel left, and on what it used so far ends for want of it
 pub record CanTurn (w : World) (r : Running) : Type 0 where
@@ -151,6 +163,10 @@ after_turn w p i marks (Some r) =
     with_call (with_contents p (is_slot_of_call w p i r.request.named.tree) (turned w.limits.pages (store_after w r (r.turns + 1)) marks))
     i (Some (record r { turns = r.turns + 1 }))
 
+abbrev pub after_end : World → Machine → ℕ → List Bool → Option Running → Machine
+after_end w p i marks None = p
+after_end w p i marks (Some r) = with_call (with_contents p (is_slot_of_call w p i r.request.named.tree) (turned w.limits.pages (last_store w r) marks)) i None
+
 abbrev pub after : World → Machine → WorldEvent → Machine
 after w p (Step k e) = with_core p k (core_after (p.core k) e)
 after w p (Prepare k s m) = with_contents p (is_slot_of_seat p k s) (prepared w.limits.pages m)
@@ -158,7 +174,7 @@ after w p (Restore k s) = with_contents p (is_slot_of_seat p k s) (restored w.li
 after w p (Clear k s x) = with_contents p (is_slot_of_seat p k s) (replaced k x)
 after w p (Begin i q) = begun w p i q
 after w p (Turn i marks) = after_turn w p i marks (p.calls i)
-after w p (End i) = with_call p i None
+after w p (End i marks) = after_end w p i marks (p.calls i)
 
 -- ---- when an event may come
 
@@ -187,11 +203,18 @@ pub record IsCallable (q : Request) : Type 0 where
   pub typed : function_type q.named.tree q.function ≡ Some type
   pub fitting : map type_of q.arguments ≡ type.params
 
--- the marks of a turn
-abbrev pub MarksTurn : World → Machine → ℕ → Running → List Bool → Type 0
-MarksTurn w p i r marks = let old : MemoryContents = slots_of w p i Memory in
-    let new : MemoryContents = turned w.limits.pages (store_after w r (r.turns + 1)) marks Memory old in
+-- the marks where a call's memory becomes that of a store
+abbrev pub MarksStore : World → Machine → ℕ → Running → Store → List Bool → Type 0
+MarksStore w p i r store marks = let old : MemoryContents = slots_of w p i Memory in
+    let new : MemoryContents = turned w.limits.pages store marks Memory old in
     needs Memory r.request.named.tree ≡ true → Marks old.bytes new.bytes old.marks marks
+
+-- those of a turn, and of its end
+abbrev pub MarksTurn : World → Machine → ℕ → Running → List Bool → Type 0
+MarksTurn w p i r marks = MarksStore w p i r (store_after w r (r.turns + 1)) marks
+
+abbrev pub MarksEnd : World → Machine → ℕ → Running → List Bool → Type 0
+MarksEnd w p i r marks = MarksStore w p i r (last_store w r) marks
 
 abbrev pub MayTurn : World → Machine → ℕ → List Bool → Type 0
 MayTurn w p i marks = (r : Running) × (p.calls i ≡ Some r) × CanTurn w r × MarksTurn w p i r marks
@@ -203,7 +226,7 @@ MayHappen w p (Restore k s) = HasOut p k s × IsFree w p k s × (is_some (owner 
 MayHappen w p (Clear k s x) = HasOut p k s × IsFree w p k s × IsCold w.limits.pages k x
 MayHappen w p (Begin i q) = (p.calls i ≡ None) × ((k : Kind) → needs k q.named.tree ≡ true → HasOut p k (w.seats k i)) × IsModule w q.named × IsCallable q
 MayHappen w p (Turn i marks) = MayTurn w p i marks
-MayHappen w p (End i) = (r : Running) × (p.calls i ≡ Some r) × ¬ (CanTurn w r)
+MayHappen w p (End i marks) = (r : Running) × (p.calls i ≡ Some r) × ¬ (CanTurn w r) × MarksEnd w p i r marks
 
 -- ---- lists of events
 

@@ -1,5 +1,5 @@
 -- What a host does for one call, by the machine's contract, and the turns that it comes to.
-use Rattle.wasm_types.specs.declared.limits.RunLimits.{RunLimits}
+use Rattle.wasm_spec.specs.Execution.{Terms}
 use Rattle.std.specs.Prelude.{◌≡◌, ℕ, ◌≤◌, Bool, true, List, [], Option, Some, None, replicate}
 use Rattle.wasm_types.specs.declared.outcome.Val.{Val}
 use Rattle.wasm_types.specs.declared.outcome.Outcome.{Outcome}
@@ -8,7 +8,7 @@ use Rattle.wasm_types.specs.Tree.{ModuleTree}
 use Rattle.wasm_spec.specs.Store.{Store}
 use Rattle.wasm_spec.specs.Result.{CallResult, function_result}
 use Rattle.pool_worlds.specs.Contents.{Kind, Memory, Contents, needs, filled, turned, Marks}
-use Rattle.pool_worlds.specs.PoolMachine.{World, Running, Machine, Turn, End, slots_of, run_limits, after_all, AllMayHappen, MayHappen}
+use Rattle.pool_worlds.specs.PoolMachine.{World, Running, Machine, Turn, End, slots_of, terms_of, after, after_all, AllMayHappen, MayHappen}
 
 -- What comes of a run that gives `result` on each fuel, where it is made on this fuel from these contents.
 pub record Leaves (pages : ℕ) (m : ModuleTree) (result : ℕ → Option CallResult) (fuel : ℕ) (old new : (k : Kind) → Contents k) (marks : List Bool) (r : CallResult) : Type 0 where
@@ -18,20 +18,18 @@ pub record Leaves (pages : ℕ) (m : ModuleTree) (result : ℕ → Option CallRe
   -- every block that differs after any number of turns is marked, even if a later turn changed it back, and no mark was taken away
   pub marked : needs Memory m ≡ true → (turns : ℕ) (x : CallResult) → turns ≤ fuel → result turns ≡ Some x
       → Marks (old Memory).bytes (filled pages x.store.memory) (old Memory).marks marks
-  -- where no fuel was spent nothing was marked
-  pub still : needs Memory m ≡ true → r.fuel ≡ fuel → marks ≡ (old Memory).marks
 
 -- the contract of the machine's `run`: one function, on this fuel, from parts that show this store
-abbrev pub RunsFunction : ℕ → ModuleTree → RunLimits → ℕ → List Val → Store → ℕ → (old new : (k : Kind) → Contents k) → List Bool → CallResult → Type 0
+abbrev pub RunsFunction : ℕ → ModuleTree → Terms → ℕ → List Val → Store → ℕ → (old new : (k : Kind) → Contents k) → List Bool → CallResult → Type 0
 RunsFunction pages m limits x arguments store fuel old new marks r = Leaves pages m (function_result m limits x arguments store) fuel old new marks r
 
 -- after the start function the export runs, on the fuel left, if the start function ended well
-abbrev pub GoesOn : ℕ → ModuleTree → RunLimits → ℕ → List Val → Outcome → CallResult → (mid new : (k : Kind) → Contents k) → (marks marked : List Bool) → CallResult → Type 0
+abbrev pub GoesOn : ℕ → ModuleTree → Terms → ℕ → List Val → Outcome → CallResult → (mid new : (k : Kind) → Contents k) → (marks marked : List Bool) → CallResult → Type 0
 GoesOn pages m limits x arguments (outcome.Done v) first mid new marks marked r = RunsFunction pages m limits x arguments first.store first.fuel mid new marked r
 GoesOn pages m limits x arguments stopped first mid new marks marked r = (r ≡ first) × (marked ≡ marks) × ((k : Kind) → needs k m ≡ true → new k ≡ mid k)
 
 -- the start function's run, and what follows it
-pub record StartsAndGoesOn (pages : ℕ) (m : ModuleTree) (limits : RunLimits) (start x : ℕ) (arguments : List Val) (store : Store) (fuel : ℕ) (old new : (k : Kind) → Contents k) (marks : List Bool) (r : CallResult) : Type 0 where
+pub record StartsAndGoesOn (pages : ℕ) (m : ModuleTree) (limits : Terms) (start x : ℕ) (arguments : List Val) (store : Store) (fuel : ℕ) (old new : (k : Kind) → Contents k) (marks : List Bool) (r : CallResult) : Type 0 where
   pub mid : (k : Kind) → Contents k
   pub mid_marks : List Bool
   pub first : CallResult
@@ -39,17 +37,17 @@ pub record StartsAndGoesOn (pages : ℕ) (m : ModuleTree) (limits : RunLimits) (
   pub goes_on : GoesOn pages m limits x arguments first.outcome first mid new mid_marks marks r
 
 -- what a host does for a call: the start function, if there is one, and then the export
-abbrev pub HostRunsBy : ℕ → ModuleTree → RunLimits → Option ℕ → ℕ → List Val → Store → ℕ → (old new : (k : Kind) → Contents k) → List Bool → CallResult → Type 0
+abbrev pub HostRunsBy : ℕ → ModuleTree → Terms → Option ℕ → ℕ → List Val → Store → ℕ → (old new : (k : Kind) → Contents k) → List Bool → CallResult → Type 0
 HostRunsBy pages m limits None x arguments store fuel old new marks r = RunsFunction pages m limits x arguments store fuel old new marks r
 HostRunsBy pages m limits (Some start) x arguments store fuel old new marks r = StartsAndGoesOn pages m limits start x arguments store fuel old new marks r
 
 abbrev pub HostRuns : World → Running → (old new : (k : Kind) → Contents k) → List Bool → CallResult → Type 0
 HostRuns w c old new marks r = let m : ModuleTree = c.request.named.tree in
-    HostRunsBy w.limits.pages m (run_limits w.limits) m.start c.request.function c.request.arguments c.begun c.request.fuel old new marks r
+    HostRunsBy w.limits.pages m (terms_of w.limits c.request.sent) m.start c.request.function c.request.arguments c.begun c.request.fuel old new marks r
 
--- so many turns of the call, each of which may happen and after which it ends, leave the slots with these contents
+-- so many turns of the call, each of which may happen, and its end after them leave the slots with these contents
 pub record AreItsTurns (w : World) (p : Machine) (i : ℕ) (r : Running) (new : (k : Kind) → Contents k) (marks : List Bool) : Type 0 where
   pub count : ℕ
   pub happen : AllMayHappen w p (replicate count (Turn i marks))
-  pub ends : MayHappen w (after_all w p (replicate count (Turn i marks))) (End i)
-  pub contents : (k : Kind) → needs k r.request.named.tree ≡ true → slots_of w (after_all w p (replicate count (Turn i marks))) i k ≡ new k
+  pub ends : MayHappen w (after_all w p (replicate count (Turn i marks))) (End i marks)
+  pub contents : (k : Kind) → needs k r.request.named.tree ≡ true → slots_of w (after w (after_all w p (replicate count (Turn i marks))) (End i marks)) i k ≡ new k

@@ -1,8 +1,8 @@
 -- What callers can see of a pool: the same as of fresh instances, so the same in any two worlds.
 use Rattle.std.specs.Prelude.{◌≡◌, ℕ, ◌*◌, ◌≤◌, Bool, true, List, Option, Some, None, slice_index, ◌++◌, ◌==◌, if◌then◌else◌, slice_get, [], ◌∷◌}
 use Rattle.wasm_types.specs.declared.outcome.Outcome.{Outcome}
-use Rattle.wasm_spec.specs.Store.{page_size}
-use Rattle.wasm_spec.specs.Result.{CallResult}
+use Rattle.wasm_spec.specs.Store.{Store, page_size}
+use Rattle.wasm_spec.specs.Result.{CallResult, answer_of}
 use Rattle.pool_worlds.specs.Contents.{Named, Kind, Memory, MemoryContents, Contents, prepared, needs, shown}
 use Rattle.pool_worlds.specs.PoolMachine.{World, Request, Running, Machine, WorldEvent, slots_of, answer, after_all, AllMayHappen, IsOpening, IsModule, End, after}
 use Rattle.pool_worlds.specs.Runs.{HostRuns, AreItsTurns}
@@ -12,11 +12,15 @@ use Rattle.pool_worlds.specs.FreshMachine.{FreshCall, FreshMachine, fresh_answer
 abbrev pub IsZeroPast : MemoryContents → Type 0
 IsZeroPast x = (i : ℕ) → x.pages * page_size ≤ i → slice_index x.bytes i ≡ 0
 
--- a caller's call shows the store of the fresh call, and nothing past its memory
+-- the part of a store that lies in slots
+abbrev pub in_slots : Store → Store
+in_slots s = record s { answer = [] }
+
+-- a caller's call shows the store of the fresh call, its answer apart, and nothing past its memory
 pub record Shadows (w : World) (p : Machine) (i : ℕ) (r : Running) (c : FreshCall) : Type 0 where
   pub request : r.request ≡ c.request
   pub turns : r.turns ≡ c.turns
-  pub store : shown r.request.named.tree (slots_of w p i) ≡ c.store
+  pub store : shown r.request.named.tree (slots_of w p i) ≡ in_slots c.store
   pub past : needs Memory r.request.named.tree ≡ true → IsZeroPast (slots_of w p i Memory)
   pub answer : answer w r ≡ fresh_answer w.limits c.request
 
@@ -34,11 +38,12 @@ abbrev pub AlwaysShadow : Type 0
 AlwaysShadow = (w : World) (p : Machine) (es : List WorldEvent) → IsOpening w p → AllMayHappen w p es
     → Shadow w (after_all w p es) (fresh_after_all w.limits nothing_runs es)
 
--- one export of one module is called, with the same arguments and fuel; the module's number and tag may differ
+-- one export of one module is called, with the same arguments, bytes and fuel; the module's number and tag may differ
 pub record IsSameRequest (a b : Request) : Type 0 where
   pub tree : a.named.tree ≡ b.named.tree
   pub function : a.function ≡ b.function
   pub arguments : a.arguments ≡ b.arguments
+  pub sent : a.sent ≡ b.sent
   pub fuel : a.fuel ≡ b.fuel
 
 -- a world that events led to from its opening
@@ -55,7 +60,7 @@ pub record Calls (w : World) (q : Machine) (i : ℕ) (r : Running) : Type 0 wher
   pub calls : q.calls i ≡ Some r
 
 -- Two calls of one request, in worlds with the same limits: whatever else runs there, after the same turns their memory, its
--- size, their table and their globals are the same, and so are their answers.
+-- size, their table and their globals are the same, and so are their answers, the bytes among them.
 pub record SameToCaller (w v : World) (p q : Machine) (i j : ℕ) (r c : Running) : Type 0 where
   pub stores : r.turns ≡ c.turns → shown r.request.named.tree (slots_of w p i) ≡ shown c.request.named.tree (slots_of v q j)
   pub sizes : r.turns ≡ c.turns → needs Memory r.request.named.tree ≡ true → (slots_of w p i Memory).pages ≡ (slots_of v q j Memory).pages
@@ -66,29 +71,29 @@ TwoWorldsAgree = (w v : World) (p q : Machine) (i j : ℕ) (r c : Running) → w
     → IsSameRequest r.request c.request → SameToCaller w v p q i j r c
 
 -- what a caller is answered as this event comes, with the request
-abbrev pub answered_by : World → Option Running → List (Request × Option Outcome)
+abbrev pub answered_by : World → Option Running → List (Request × Option (Outcome × List ℕ))
 answered_by w None = []
 answered_by w (Some r) = (r.request, answer w r) ∷ []
 
-abbrev pub answered : World → Machine → WorldEvent → ℕ → List (Request × Option Outcome)
-answered w p (End j) i = if j == i then answered_by w (p.calls j) else []
+abbrev pub answered : World → Machine → WorldEvent → ℕ → List (Request × Option (Outcome × List ℕ))
+answered w p (End j marks) i = if j == i then answered_by w (p.calls j) else []
 answered w p e i = []
 
 -- all that a caller is answered, in order
-abbrev pub answers : World → Machine → List WorldEvent → ℕ → List (Request × Option Outcome)
+abbrev pub answers : World → Machine → List WorldEvent → ℕ → List (Request × Option (Outcome × List ℕ))
 answers w p [] i = []
 answers w p (e ∷ es) i = answered w p e i ++ answers w (after w p e) es i
 
 -- One request has one answer, in whatever world, place and order it was made.
 abbrev pub AnswersAgree : Type 0
-AnswersAgree = (w v : World) (p q : Machine) (es ds : List WorldEvent) (i j n m : ℕ) (a b : Request × Option Outcome) → w.limits ≡ v.limits
+AnswersAgree = (w v : World) (p q : Machine) (es ds : List WorldEvent) (i j n m : ℕ) (a b : Request × Option (Outcome × List ℕ)) → w.limits ≡ v.limits
     → IsOpening w p → AllMayHappen w p es → IsOpening v q → AllMayHappen v q ds
     → slice_get (answers w p es i) n ≡ Some a → slice_get (answers v q ds j) m ≡ Some b → IsSameRequest a.0 b.0 → a.1 ≡ b.1
 
 -- What a host does for a call that has just begun is turns of it, as many as it can make; and it answers as the call does.
 abbrev pub RunsAreTurns : Type 0
 RunsAreTurns = (w : World) (p : Machine) (i : ℕ) (c : Running) (new : (k : Kind) → Contents k) (marks : List Bool) (r : CallResult) → Calls w p i c → c.turns ≡ 0
-    → HostRuns w c (slots_of w p i) new marks r → AreItsTurns w p i c new marks × (answer w c ≡ Some r.outcome)
+    → HostRuns w c (slots_of w p i) new marks r → AreItsTurns w p i c new marks × (answer w c ≡ Some (r.outcome, answer_of r))
 
 -- To prepare what is prepared for the same module changes nothing. So a pool's take may prepare before the call begins.
 abbrev pub PreparingTwiceIsOnce : Type 0

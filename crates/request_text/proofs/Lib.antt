@@ -2,8 +2,7 @@ pub mod LineLemmas
 pub mod NumberLemmas
 pub mod ReadingLemmas
 pub mod WordLemmas
-pub mod SummaryLemmas
 pub mod PlaceLemmas
-pub mod LineExamples
 pub mod TextExamples
 pub mod ProfileExamples
+pub mod RefusalExamples

@@ -1,12 +1,12 @@
 -- Lines that begin with `profile`: worked by hand.
 use Rattle.std.proofs.Common.{◌≡◌, ℕ, List, [], ◌∷◌, refl, codes, Ok, Err, Result}
 use Rattle.wasm_types.specs.declared.profile.Profile.{Profile}
-use Rattle.wasm_types.specs.declared.profile.Profile.TheVariants.{One, Two}
+use Rattle.wasm_types.specs.declared.profile.Profile.TheVariants.{One, Two, Three}
 use Rattle.request_text.specs.declared.request.Directive.{Directive}
 use Rattle.request_text.specs.declared.request.Directive.TheVariants.{Module}
 use Rattle.request_text.specs.declared.request.Reason.{Reason}
-use Rattle.request_text.specs.declared.request.Reason.TheVariants.{BadByte, UnknownDirective, LateProfile, BadProfile}
-use Rattle.request_text.specs.Text.{Asked, BadLine, FileRefusal, directive_of, directive_of_words, line_words, module_directive_of, place_of, profile_after, profile_of, requests_after, requests_of}
+use Rattle.request_text.specs.declared.request.Reason.TheVariants.{BadByte, BadWords, UnknownDirective, LateProfile, BadProfile}
+use Rattle.request_text.specs.Text.{Asked, BadLine, FileRefusal, directive_of, directive_of_words, line_words, module_directive_of, place_of, profile_after, profile_of, requests_after, requests_of, send_directive_of}
 use Rattle.hex.specs.Hex.{decode_pairs}
 
 -- a file of this profile and these directives
@@ -33,9 +33,13 @@ profile_2 : requests_of (codes "profile 2") ≡ asks Two []
 unfolding requests_of requests_after profile_after profile_of line_words
 profile_2 = refl
 
-profile_3 : requests_of (codes "profile 3") ≡ refused 1 BadProfile
+profile_3 : requests_of (codes "profile 3") ≡ asks Three []
 unfolding requests_of requests_after profile_after profile_of line_words
 profile_3 = refl
+
+profile_4 : requests_of (codes "profile 4") ≡ refused 1 BadProfile
+unfolding requests_of requests_after profile_after profile_of line_words
+profile_4 = refl
 
 no_number : requests_of (codes "profile") ≡ refused 1 BadProfile
 unfolding requests_of requests_after profile_after profile_of line_words
@@ -80,3 +84,16 @@ another_word = refl
 another_case : requests_of (codes "Profile 2") ≡ refused 1 UnknownDirective
 unfolding requests_of requests_after line_words directive_of directive_of_words
 another_case = refl
+
+-- a line sends from profile 3 on
+sends_in_profile_2 : requests_of (codes "profile 2\nsend") ≡ refused 2 UnknownDirective
+unfolding requests_of requests_after profile_after profile_of line_words directive_of directive_of_words
+sends_in_profile_2 = refl
+
+sends_in_profile_3 : requests_of (codes "profile 3\nsend") ≡ refused 2 BadWords
+unfolding requests_of requests_after profile_after profile_of line_words directive_of directive_of_words send_directive_of
+sends_in_profile_3 = refl
+
+sends_without_a_profile : requests_of (codes "send") ≡ refused 1 UnknownDirective
+unfolding requests_of requests_after line_words directive_of directive_of_words
+sends_without_a_profile = refl

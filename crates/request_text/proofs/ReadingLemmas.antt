@@ -21,18 +21,18 @@ declared_by-more before (Module name bytes) =
     let d : Directive = Module name bytes in
     ap (λ (names : List (List ℕ)). declared names (call_count (before ++ d ∷ []))) (module_names-more before d)
     ∙ ap (declared (module_names before ++ name ∷ [])) (call_count-more before d ∙ add-zero (call_count before))
-declared_by-more before (Call place export fuel args) =
-    let d : Directive = Call place export fuel args in
+declared_by-more before (Call place invocation) =
+    let d : Directive = Call place invocation in
     ap (λ (names : List (List ℕ)). declared names (call_count (before ++ d ∷ []))) (module_names-more before d ∙ append-nil (module_names before))
     ∙ ap (declared (module_names before)) (call_count-more before d)
 
 few_names_after : (before : Declared) (directive : Directive) → HasRoom before directive → length before.names ≤ most_modules → length (declared_after before directive).names ≤ most_modules
 few_names_after before (Module name bytes) room few = omega (arith, room.0, length-append before.names (name ∷ []))
-few_names_after before (Call place export fuel args) room few = few
+few_names_after before (Call place invocation) room few = few
 
 few_calls_after : (before : Declared) (directive : Directive) → HasRoom before directive → before.calls ≤ most_calls → (declared_after before directive).calls ≤ most_calls
 few_calls_after before (Module name bytes) room few = few
-few_calls_after before (Call place export fuel args) room few = omega (arith, room.0)
+few_calls_after before (Call place invocation) room few = omega (arith, room.0)
 
 -- a call of an earlier module may follow
 placed_from-more : (modules : ℕ) (before : List Directive) (directive : Directive) → IsPlacedFrom modules before → IsPlacedFrom (modules + length (module_names before)) (directive ∷ []) → IsPlacedFrom modules (before ++ directive ∷ [])
@@ -40,13 +40,13 @@ placed_from-more modules [] directive placed last = subst (λ (m : ℕ). IsPlace
 placed_from-more modules (Module name bytes ∷ before) directive placed last =
     let moved : modules + suc (length (module_names before)) ≡ modules + 1 + length (module_names before) = omega arith in
     placed_from-more (modules + 1) before directive placed (subst (λ (m : ℕ). IsPlacedFrom m (directive ∷ [])) moved last)
-placed_from-more modules (Call place export fuel args ∷ before) directive placed last = (placed.0, placed_from-more modules before directive placed.1 last)
+placed_from-more modules (Call place invocation ∷ before) directive placed last = (placed.0, placed_from-more modules before directive placed.1 last)
 
 placed_after : (before : List Directive) (directive : Directive) → HasRoom (declared_by before) directive → IsPlacedFrom 0 before → IsPlacedFrom 0 (before ++ directive ∷ [])
 placed_after before (Module name bytes) room placed = placed_from-more 0 before (Module name bytes) placed tt
-placed_after before (Call place export fuel args) room placed =
+placed_after before (Call place invocation) room placed =
     let earlier : place < 0 + length (module_names before) = omega (arith, room.1) in
-    placed_from-more 0 before (Call place export fuel args) placed (earlier, tt)
+    placed_from-more 0 before (Call place invocation) placed (earlier, tt)
 
 -- one more directive for which there is room
 pub requests_with : (before : List Directive) (directive : Directive) → HasRoom (declared_by before) directive → AreRequests before → AreRequests (before ++ directive ∷ [])

@@ -1,4 +1,4 @@
-pub mod Lines
-pub mod Reading
-pub mod Summary
 pub mod Text
+pub mod Invocations
+pub mod Reading
+pub mod Refusal

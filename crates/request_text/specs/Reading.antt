@@ -4,7 +4,6 @@ use Rattle.std.specs.Prelude.{None, Vec, ◌≡◌, ◌<◌, ℕ, List, length, 
 use Rattle.request_text.specs.declared.request.Directive.{Directive}
 use Rattle.request_text.specs.declared.request.Directive.TheVariants.{Module, Call}
 use Rattle.request_text.specs.declared.request.Reason.{Reason}
-use Rattle.request_text.specs.declared.request.Reason.TheVariants.{BadHex}
 use Rattle.hex.specs.declared.error.FromHexError.{FromHexError}
 use Rattle.hex.specs.declared.error.FromHexError.TheVariants.{OutOfMemory}
 use Rattle.request_text.specs.declared.directive.LineFault.{LineFault}
@@ -25,10 +24,10 @@ Explains judged.NoMemory meaning = ⊤
 abbrev pub Agrees : {A : Type 0} → Result A LineFault → Result A Reason → Type 0
 Agrees result meaning = MatchResult result (λ x. meaning ≡ Ok x) (λ fault. Explains fault meaning)
 
--- the fault of digits that are not decoded: want of memory stays want of memory, and every other error is bad hex
-abbrev pub hex_fault : FromHexError → LineFault
-hex_fault OutOfMemory = judged.NoMemory
-hex_fault error = judged.Refused BadHex
+-- the fault of digits that are not decoded: want of memory stays want of memory, and every other error has this reason
+abbrev pub hex_fault : Reason → FromHexError → LineFault
+hex_fault reason OutOfMemory = judged.NoMemory
+hex_fault reason error = judged.Refused reason
 
 -- the parser's fault for that of the line with this number
 abbrev pub fault_at : ℕ → LineFault → ParseFault
@@ -48,4 +47,4 @@ ArePlaces places names = (name : List ℕ) → get_by (λ key. slice_cmp nat_cmp
 -- one more directive keeps within the numbers of modules and calls; a module's name is new, and a call is of one of the modules
 abbrev pub HasRoom : Declared → Directive → Type 0
 HasRoom before (Module name bytes) = (length before.names < most_modules) × (place_of before.names name ≡ None)
-HasRoom before (Call place export fuel args) = (before.calls < most_calls) × (place < length before.names)
+HasRoom before (Call place invocation) = (before.calls < most_calls) × (place < length before.names)

@@ -10,11 +10,12 @@ use Rattle.hex.specs.Hex.{decode_of}
 use Rattle.wasm_types.specs.declared.outcome.Val.{Val}
 use Rattle.wasm_types.specs.declared.outcome.Val.TheVariants.{I32, I64}
 use Rattle.wasm_types.specs.declared.profile.Profile.{Profile}
-use Rattle.wasm_types.specs.declared.profile.Profile.TheVariants.{One, Two}
+use Rattle.wasm_types.specs.declared.profile.Profile.TheVariants.{One, Two, Three}
+use Rattle.request_text.specs.declared.invocation.Invocation.{Invocation}
 use Rattle.request_text.specs.declared.request.Directive.{Directive}
 use Rattle.request_text.specs.declared.request.Directive.TheVariants.{Module, Call}
 use Rattle.request_text.specs.declared.request.Reason.{Reason}
-use Rattle.request_text.specs.declared.request.Reason.TheVariants.{BadByte, UnknownDirective, LateProfile, BadProfile, BadWords, BadName, BadHex, NameUsedTwice, TooManyModules, UnknownModule, BadFuel, BadArgument, TooManyCalls}
+use Rattle.request_text.specs.declared.request.Reason.TheVariants.{BadByte, UnknownDirective, LateProfile, BadProfile, BadWords, BadName, BadHex, NameUsedTwice, TooManyModules, UnknownModule, BadFuel, BadRequest, RequestTooLong, BadArgument, TooManyCalls}
 use Rattle.request_text.specs.declared.request.ParseFault.{ParseFault}
 use Rattle.request_text.specs.declared.request.ParseFault.TheVariants.{TextFault, TooLong, NoMemory}
 
@@ -125,34 +126,61 @@ module_directive_of before (name ∷ digits ∷ []) = do
   Ok (Module name bytes)
 module_directive_of before words = Err BadWords
 
+-- the bytes of a request: `-` is none of them
+unfoldable pub request_of : List ℕ → Result (List ℕ) Reason
+request_of word = if bytes_eq word (codes "-") then Ok [] else do
+  bytes ← ok_or (hex_bytes word) BadRequest
+  _ ← demand (nat_le (length bytes) 65536) RequestTooLong
+  Ok bytes
+
+-- a call of the module at this place, with the arguments that the words are
+unfoldable pub call_of : Declared → (place : ℕ) (export : List ℕ) (fuel : ℕ) (request : Option (List ℕ)) → List (List ℕ) → Result Directive Reason
+call_of before place export fuel request words = do
+  args ← ok_or (arguments_of words) BadArgument
+  _ ← demand (nat_lt before.calls most_calls) TooManyCalls
+  Ok (Call place (record { export = export; fuel = fuel; request = request; args = args }))
+
 -- what the words after `call` ask for
 unfoldable pub call_directive_of : Declared → List (List ℕ) → Result Directive Reason
 call_directive_of before (name ∷ export ∷ fuel_word ∷ words) = do
   place ← ok_or (place_of before.names name) UnknownModule
   fuel ← ok_or (fuel_of fuel_word) BadFuel
-  args ← ok_or (arguments_of words) BadArgument
-  _ ← demand (nat_lt before.calls most_calls) TooManyCalls
-  Ok (Call place export fuel args)
+  call_of before place export fuel None words
 call_directive_of before words = Err BadWords
 
-unfoldable pub directive_of_words : Declared → List (List ℕ) → Result Directive Reason
-directive_of_words before [] = Err UnknownDirective
-directive_of_words before (word ∷ words) =
+-- what the words after `send` ask for
+unfoldable pub send_directive_of : Declared → List (List ℕ) → Result Directive Reason
+send_directive_of before (name ∷ export ∷ fuel_word ∷ digits ∷ words) = do
+  place ← ok_or (place_of before.names name) UnknownModule
+  fuel ← ok_or (fuel_of fuel_word) BadFuel
+  request ← request_of digits
+  call_of before place export fuel (Some request) words
+send_directive_of before words = Err BadWords
+
+-- lines send from profile 3 on
+abbrev pub sends : Profile → Bool
+sends Three = true
+sends profile = false
+
+unfoldable pub directive_of_words : Profile → Declared → List (List ℕ) → Result Directive Reason
+directive_of_words profile before [] = Err UnknownDirective
+directive_of_words profile before (word ∷ words) =
     if bytes_eq word (codes "module") then module_directive_of before words
     else if bytes_eq word (codes "call") then call_directive_of before words
+    else if sends profile && bytes_eq word (codes "send") then send_directive_of before words
     else Err UnknownDirective
 
-unfoldable pub directive_of : Declared → List ℕ → Result Directive Reason
-directive_of before line = do
+unfoldable pub directive_of : Profile → Declared → List ℕ → Result Directive Reason
+directive_of profile before line = do
   _ ← demand (list_all is_printable line) BadByte
-  directive_of_words before (line_words line)
+  directive_of_words profile before (line_words line)
 
 -- ---- the file
 
 -- the name of a module line
 abbrev pub module_name : Directive → Option (List ℕ)
 module_name (Module name bytes) = Some name
-module_name (Call place export fuel args) = None
+module_name (Call place invocation) = None
 
 abbrev pub module_names : List Directive → List (List ℕ)
 module_names directives = filter_map module_name directives
@@ -160,7 +188,7 @@ module_names directives = filter_map module_name directives
 -- the bytes of a module line
 abbrev pub module_bytes : Directive → Option (List ℕ)
 module_bytes (Module name bytes) = Some bytes
-module_bytes (Call place export fuel args) = None
+module_bytes (Call place invocation) = None
 
 -- the modules of a request file, in the order of their lines
 abbrev pub modules_of : List Directive → List (List ℕ)
@@ -168,7 +196,7 @@ modules_of directives = filter_map module_bytes directives
 
 abbrev pub is_call : Directive → Bool
 is_call (Module name bytes) = false
-is_call (Call place export fuel args) = true
+is_call (Call place invocation) = true
 
 abbrev pub call_count : List Directive → ℕ
 call_count directives = count_by is_call directives
@@ -177,7 +205,7 @@ call_count directives = count_by is_call directives
 abbrev pub IsPlacedFrom : ℕ → List Directive → Type 0
 IsPlacedFrom modules [] = Unit {0}
 IsPlacedFrom modules (Module name bytes ∷ rest) = IsPlacedFrom (modules + 1) rest
-IsPlacedFrom modules (Call place export fuel args ∷ rest) = (place < modules) × IsPlacedFrom modules rest
+IsPlacedFrom modules (Call place invocation ∷ rest) = (place < modules) × IsPlacedFrom modules rest
 
 -- what holds of the directives of each file that is read
 pub record AreRequests (directives : List Directive) : Type 0 where
@@ -192,7 +220,7 @@ declared_by directives = record { names = module_names directives; calls = call_
 -- what is declared once this directive is read too
 abbrev pub declared_after : Declared → Directive → Declared
 declared_after before (Module name bytes) = record before { names = before.names ++ name ∷ [] }
-declared_after before (Call place export fuel args) = record before { calls = before.calls + 1 }
+declared_after before (Call place invocation) = record before { calls = before.calls + 1 }
 
 -- what the lines so far ask for: the profile, if one of them names it, and directives
 pub record ReadLines : Type 0 where
@@ -217,6 +245,7 @@ abbrev pub profile_named : List ℕ → Result Profile Reason
 profile_named word =
     if bytes_eq word (codes "1") then Ok One
     else if bytes_eq word (codes "2") then Ok Two
+    else if bytes_eq word (codes "3") then Ok Three
     else Err BadProfile
 
 -- the profile that the words of a line name, of which the first is `profile`
@@ -238,12 +267,16 @@ profile_after before line = do
 
 -- ---- the lines in turn
 
+-- the profile of the lines that follow: where none names one it is 1
+abbrev pub profile_in : ReadLines → Profile
+profile_in before = unwrap_or before.profile One
+
 -- what is asked for once a line is read
 unfoldable pub requests_after : ReadLines → List ℕ → Result ReadLines Reason
 requests_after before line =
     if is_skipped line then Ok before
     else if begins_profile (line_words line) then profile_after before line
-    else (directive_of (declared_by before.directives) line >>= λ directive. Ok (with_directive before directive))
+    else (directive_of (profile_in before) (declared_by before.directives) line >>= λ directive. Ok (with_directive before directive))
 
 -- Why a file is refused: it is too long, or its first bad line, counted from 1, is refused for this reason.
 pub data FileRefusal : Type 0 where
@@ -273,9 +306,9 @@ pub record Asked : Type 0 where
   pub profile : Profile
   pub directives : List Directive
 
--- what lines ask for that are all of a file: where none names a profile it is 1
+-- what lines ask for that are all of a file
 abbrev pub asked_by : ReadLines → Asked
-asked_by read = record { profile = unwrap_or read.profile One; directives = read.directives }
+asked_by read = record { profile = profile_in read; directives = read.directives }
 
 -- what a request file of these bytes asks for, or why it is refused
 unfoldable pub requests_of : List ℕ → Result Asked FileRefusal

@@ -1,14 +1,16 @@
 //! One line of a request file is read.
-ghost use Rattle.std.specs.Prelude.{◌≡◌, IfOk};
+ghost use Rattle.std.specs.Prelude.{◌≡◌, ◌<◌, IfOk, length};
 ghost use Rattle.std.specs.List.{list_all};
 ghost use Rattle.std.specs.Option.{ok_or};
-ghost use Rattle.request_text.specs.Text.{arguments_of, call_directive_of, directive_of, directive_of_words, hex_bytes, is_printable, line_words, module_directive_of, profile_of};
-ghost use Rattle.request_text.specs.Reading.{Agrees, HasRoom};
+ghost use Rattle.request_text.specs.Text.{arguments_of, call_directive_of, call_of, directive_of, directive_of_words, hex_bytes, is_printable, line_words, module_directive_of, profile_of, request_of, send_directive_of, sends};
+ghost use Rattle.request_text.specs.Reading.{Agrees, HasRoom, hex_fault};
 
+use crate::invocation::Invocation;
 use crate::numbers::{argument, fuel};
 use crate::request::{Directive, MOST_NAME_BYTES, Reason};
 use crate::scope::Scope;
 use crate::words::next_word;
+use call_payload::Payload;
 use hex::FromHexError;
 use std::alloc::{AllocError, Global};
 use thiserror::Error;
@@ -43,22 +45,6 @@ impl From<Reason> for LineFault {
     }
 }
 
-// Bad digits are refused, and want of memory stays want of memory.
-impl From<FromHexError> for LineFault {
-    ghost use Rattle.request_text.specs.Reading.{hex_fault};
-
-    ghost from_gives = { λ error fault. fault ≡ hex_fault error };
-
-    fn from(error: FromHexError) -> Self {
-        match error {
-            FromHexError::OutOfMemory => LineFault::NoMemory,
-            FromHexError::InvalidHexCharacter { .. }
-            | FromHexError::OddLength
-            | FromHexError::InvalidStringLength => LineFault::Refused(Reason::BadHex),
-        }
-    }
-}
-
 // A copy of some bytes.
 fn copied(alloc: Global, bytes: &[u8]) -> Result<Items<u8>, LineFault>
     ensures { Agrees result (Ok bytes.now) }
@@ -67,12 +53,26 @@ fn copied(alloc: Global, bytes: &[u8]) -> Result<Items<u8>, LineFault>
     Ok(Items::new(copy))
 }
 
-// The bytes that hex digits spell.
-fn hex_bytes(alloc: Global, digits: &[u8]) -> Result<Items<u8>, LineFault>
-    ensures { Agrees result (ok_or (hex_bytes digits.now) Reason.BadHex) }
+// The fault of digits that are not decoded: they are refused for this reason, and want of memory stays want of memory.
+fn hex_fault(reason: Reason, error: FromHexError) -> LineFault
+    ensures { result ≡ hex_fault reason error }
 {
-    let bytes = hex::decode(alloc, digits)?;
-    Ok(Items::new(bytes))
+    match error {
+        FromHexError::OutOfMemory => LineFault::NoMemory,
+        FromHexError::InvalidHexCharacter { .. }
+        | FromHexError::OddLength
+        | FromHexError::InvalidStringLength => LineFault::Refused(reason),
+    }
+}
+
+// The bytes that hex digits spell, or this reason.
+fn hex_bytes(alloc: Global, digits: &[u8], reason: Reason) -> Result<Items<u8>, LineFault>
+    ensures { Agrees result (ok_or (hex_bytes digits.now) reason) }
+{
+    match hex::decode(alloc, digits) {
+        Ok(bytes) => Ok(Items::new(bytes)),
+        Err(error) => Err(hex_fault(reason, error)),
+    }
 }
 
 // What the words after `module` ask for.
@@ -89,7 +89,7 @@ fn module_directive(alloc: Global, scope: &Scope, words: &[u8]) -> Result<Direct
     if name.len() > MOST_NAME_BYTES {
         return Err(LineFault::Refused(Reason::BadName));
     }
-    let bytes = hex_bytes(alloc, digits)?;
+    let bytes = hex_bytes(alloc, digits, Reason::BadHex)?;
     if scope.place(name).is_some() {
         return Err(LineFault::Refused(Reason::NameUsedTwice));
     }
@@ -114,6 +114,51 @@ fn arguments(alloc: Global, words: &[u8]) -> Result<Items<Val>, LineFault>
     Ok(Items::new(args))
 }
 
+// The bytes of a request.
+#[tactic(auto, unfolding(crate::specs::Text::request_of))]
+fn request(alloc: Global, word: &[u8]) -> Result<Payload, LineFault>
+    ensures { Agrees result (request_of word.now) }
+{
+    let bytes = if word == b"-".as_slice() {
+        Items::new(Vec::new(alloc))
+    } else {
+        hex_bytes(alloc, word, Reason::BadRequest)?
+    };
+    let request = Payload::new(bytes).ok_or(Reason::RequestTooLong)?;
+    Ok(request)
+}
+
+// A call of the module at this place, with the arguments that the words are.
+#[tactic(auto, unfolding(crate::specs::Text::call_of))]
+fn call(
+    alloc: Global,
+    scope: &Scope,
+    place: u32,
+    export: &[u8],
+    fuel: u32,
+    request: Option<Payload>,
+    words: &[u8],
+) -> Result<Directive, LineFault>
+    requires { place < length scope.now.names }
+    ensures meaning { Agrees result (call_of scope.now place export.now fuel request (line_words words.now)) }
+    ensures room { IfOk result (HasRoom scope.now) }
+{
+    let args = arguments(alloc, words)?;
+    if !scope.takes_call() {
+        return Err(LineFault::Refused(Reason::TooManyCalls));
+    }
+    let invocation = Invocation {
+        export: copied(alloc, export)?,
+        fuel,
+        request,
+        args,
+    };
+    Ok(Directive::Call {
+        module: place,
+        invocation,
+    })
+}
+
 // What the words after `call` ask for.
 #[tactic(auto, unfolding(crate::specs::Text::call_directive_of))]
 fn call_directive(alloc: Global, scope: &Scope, words: &[u8]) -> Result<Directive, LineFault>
@@ -125,17 +170,23 @@ fn call_directive(alloc: Global, scope: &Scope, words: &[u8]) -> Result<Directiv
     let (fuel_word, rest) = next_word(rest).ok_or(Reason::BadWords)?;
     let module = scope.place(name).ok_or(Reason::UnknownModule)?;
     let fuel = fuel(fuel_word).ok_or(Reason::BadFuel)?;
-    let args = arguments(alloc, rest)?;
-    if !scope.takes_call() {
-        return Err(LineFault::Refused(Reason::TooManyCalls));
-    }
-    let export = copied(alloc, export)?;
-    Ok(Directive::Call {
-        module,
-        export,
-        fuel,
-        args,
-    })
+    call(alloc, scope, module, export, fuel, None, rest)
+}
+
+// What the words after `send` ask for.
+#[tactic(auto, unfolding(crate::specs::Text::send_directive_of))]
+fn send_directive(alloc: Global, scope: &Scope, words: &[u8]) -> Result<Directive, LineFault>
+    ensures meaning { Agrees result (send_directive_of scope.now (line_words words.now)) }
+    ensures room { IfOk result (HasRoom scope.now) }
+{
+    let (name, rest) = next_word(words).ok_or(Reason::BadWords)?;
+    let (export, rest) = next_word(rest).ok_or(Reason::BadWords)?;
+    let (fuel_word, rest) = next_word(rest).ok_or(Reason::BadWords)?;
+    let (digits, rest) = next_word(rest).ok_or(Reason::BadWords)?;
+    let module = scope.place(name).ok_or(Reason::UnknownModule)?;
+    let fuel = fuel(fuel_word).ok_or(Reason::BadFuel)?;
+    let request = request(alloc, digits)?;
+    call(alloc, scope, module, export, fuel, Some(request), rest)
 }
 
 // Whether each byte is printable ASCII.
@@ -145,10 +196,25 @@ pub(crate) fn is_printable(line: &[u8]) -> bool
     line.iter().all(|byte| b' ' <= *byte && *byte <= b'~')
 }
 
+// Whether lines send in this profile.
+fn sends(profile: Profile) -> bool
+    ensures { result ≡ sends profile }
+{
+    match profile {
+        Profile::One | Profile::Two => false,
+        Profile::Three => true,
+    }
+}
+
 // What the words of a line ask for.
 #[tactic(auto, unfolding(crate::specs::Text::directive_of_words))]
-fn words_directive(alloc: Global, scope: &Scope, words: &[u8]) -> Result<Directive, LineFault>
-    ensures meaning { Agrees result (directive_of_words scope.now (line_words words.now)) }
+fn words_directive(
+    alloc: Global,
+    profile: Profile,
+    scope: &Scope,
+    words: &[u8],
+) -> Result<Directive, LineFault>
+    ensures meaning { Agrees result (directive_of_words profile scope.now (line_words words.now)) }
     ensures room { IfOk result (HasRoom scope.now) }
 {
     let Some((word, rest)) = next_word(words) else {
@@ -158,6 +224,8 @@ fn words_directive(alloc: Global, scope: &Scope, words: &[u8]) -> Result<Directi
         module_directive(alloc, scope, rest)
     } else if word == b"call".as_slice() {
         call_directive(alloc, scope, rest)
+    } else if sends(profile) && word == b"send".as_slice() {
+        send_directive(alloc, scope, rest)
     } else {
         Err(LineFault::Refused(Reason::UnknownDirective))
     }
@@ -167,16 +235,17 @@ fn words_directive(alloc: Global, scope: &Scope, words: &[u8]) -> Result<Directi
 #[tactic(auto, unfolding(crate::specs::Text::directive_of))]
 pub(crate) fn line_directive(
     alloc: Global,
+    profile: Profile,
     scope: &Scope,
     line: &[u8],
 ) -> Result<Directive, LineFault>
-    ensures meaning { Agrees result (directive_of scope.now line.now) }
+    ensures meaning { Agrees result (directive_of profile scope.now line.now) }
     ensures room { IfOk result (HasRoom scope.now) }
 {
     if !is_printable(line) {
         return Err(LineFault::Refused(Reason::BadByte));
     }
-    words_directive(alloc, scope, line)
+    words_directive(alloc, profile, scope, line)
 }
 
 // The profile that the words of a line name, the first of which is `profile`.
@@ -193,6 +262,8 @@ pub(crate) fn line_profile(line: &[u8]) -> Result<Profile, Reason>
         Ok(Profile::One)
     } else if word == b"2".as_slice() {
         Ok(Profile::Two)
+    } else if word == b"3".as_slice() {
+        Ok(Profile::Three)
     } else {
         Err(Reason::BadProfile)
     }

@@ -99,7 +99,8 @@ impl Reading {
         if begins_profile(line) {
             return self.with_profile(line);
         }
-        let directive = line_directive(alloc, &self.scope, line)?;
+        let profile = self.profile.unwrap_or(Profile::One);
+        let directive = line_directive(alloc, profile, &self.scope, line)?;
         self.with(alloc, directive)
     }
 

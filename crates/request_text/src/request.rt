@@ -1,12 +1,13 @@
 //! What a request file asks for, and why one is refused.
 ghost use Rattle.std.specs.Prelude.{◌≡◌, Some};
-ghost use Rattle.request_text.specs.Lines.{reason_text};
+ghost use Rattle.request_text.specs.Refusal.{reason_text};
 ghost use Rattle.request_text.specs.Text.{AreRequests};
 
+use crate::invocation::Invocation;
 use std::fmt;
 use std::marker::Model;
 use thiserror::Error;
-use wasm_types::{Items, Profile, Val};
+use wasm_types::{Items, Profile};
 
 /// The greatest size of a request file, in bytes.
 pub const MOST_BYTES: usize = 67_108_864;
@@ -24,18 +25,9 @@ pub const MOST_CALLS: usize = 1_000_000;
 #[derive(Drop)]
 pub enum Directive {
     /// The bytes of a module binary, known by a name from here on.
-    Module {
-        name: Items<u8>,
-        bytes: Items<u8>,
-    },
-    /// A call of a module's export with this fuel, in instructions. `module` is the place of its module line among the
-    /// module lines, from 0.
-    Call {
-        module: u32,
-        export: Items<u8>,
-        fuel: u32,
-        args: Items<Val>,
-    },
+    Module { name: Items<u8>, bytes: Items<u8> },
+    /// A call, by a `call` or a `send` line. `module` is the place of its module line among the module lines, from 0.
+    Call { module: u32, invocation: Invocation },
 }
 
 /// What a request file asks for, which contracts see as the profile of its modules and the list of its directives, in file
@@ -92,13 +84,13 @@ impl Requests {
 pub enum Reason {
     /// A byte is outside 0x20 to 0x7E.
     BadByte,
-    /// The first word is none of `profile`, `module` and `call`.
+    /// The first word is none of `profile`, `module` and `call`, nor, from profile 3 on, `send`.
     UnknownDirective,
     /// `profile` where a line that isn't skipped stands before.
     LateProfile,
-    /// `profile` without exactly one more word, which is `1` or `2`.
+    /// `profile` without exactly one more word, which is `1`, `2` or `3`.
     BadProfile,
-    /// `module` without exactly two more words, or `call` with fewer than three.
+    /// `module` without exactly two more words, `call` with fewer than three, or `send` with fewer than four.
     BadWords,
     /// A module's name has more than 64 bytes.
     BadName,
@@ -112,6 +104,10 @@ pub enum Reason {
     UnknownModule,
     /// The fuel isn't digits alone, or is above 4,294,967,295.
     BadFuel,
+    /// A request is neither `-` nor an even number of hex digits.
+    BadRequest,
+    /// A request has more than 65,536 bytes.
+    RequestTooLong,
     /// An argument is no `i32:n` or `i64:n` with n in the range of its type, read as signed or as unsigned.
     BadArgument,
     /// 1,000,000 call lines stand before.
@@ -135,6 +131,8 @@ impl Reason {
             Reason::TooManyModules => "too many modules",
             Reason::UnknownModule => "unknown module",
             Reason::BadFuel => "bad fuel",
+            Reason::BadRequest => "bad request",
+            Reason::RequestTooLong => "request too long",
             Reason::BadArgument => "bad argument",
             Reason::TooManyCalls => "too many calls",
         }

@@ -1,13 +1,36 @@
-//! Texts and what is read from them, and lines of the report.
-use crate::{
-    CallLine, Directive, ModuleLine, ParseFault, Reason, ReportLine, Requests, parse, report_text,
-    write_call, write_module, write_summary, write_text_fault,
-};
+//! Texts and what is read from them.
+use crate::{Directive, Invocation, ParseFault, Reason, Requests, parse, write_text_fault};
 use std::alloc::{AllocError, Global};
 use std::test::Fail;
-use wasm_types::{Items, Outcome, Profile, TrapKind, Val};
+use wasm_types::Profile;
 
-// Pushes a directive as one line: a module's name and bytes, or a call's place, export, fuel and arguments.
+// Pushes a call: its module's place, its export, its fuel, its request if it has one, and its arguments.
+fn push_invocation(
+    text: &mut String,
+    module: u32,
+    invocation: &Invocation,
+) -> Result<(), AllocError> {
+    match &invocation.request {
+        None => write!(text, "call {module} ")?,
+        Some(_) => write!(text, "send {module} ")?,
+    }
+    for byte in invocation.export.as_slice() {
+        text.push(char::from(*byte))?;
+    }
+    write!(text, " {}", invocation.fuel)?;
+    if let Some(request) = &invocation.request {
+        text.push_str(" =")?;
+        for byte in request.bytes() {
+            write!(text, "{byte:02x}")?;
+        }
+    }
+    for arg in invocation.args.as_slice() {
+        write!(text, " {arg:?}")?;
+    }
+    Ok(())
+}
+
+// Pushes a directive as one line: a module's name and bytes, or a call.
 fn push_directive(text: &mut String, directive: &Directive) -> Result<(), AllocError> {
     match directive {
         Directive::Module { name, bytes } => {
@@ -20,21 +43,7 @@ fn push_directive(text: &mut String, directive: &Directive) -> Result<(), AllocE
                 write!(text, "{byte:02x}")?;
             }
         }
-        Directive::Call {
-            module,
-            export,
-            fuel,
-            args,
-        } => {
-            write!(text, "call {module} ")?;
-            for byte in export.as_slice() {
-                text.push(char::from(*byte))?;
-            }
-            write!(text, " {fuel}")?;
-            for arg in args.as_slice() {
-                write!(text, " {arg:?}")?;
-            }
-        }
+        Directive::Call { module, invocation } => push_invocation(text, *module, invocation)?,
     }
     text.push_str("\n")
 }
@@ -44,8 +53,10 @@ fn described(alloc: Global, parsed: &Result<Requests, ParseFault>) -> Result<Str
     let mut text = String::new(alloc);
     match parsed {
         Ok(requests) => {
-            if requests.profile() == Profile::Two {
-                text.push_str("profile 2\n")?;
+            match requests.profile() {
+                Profile::One => {}
+                Profile::Two => text.push_str("profile 2\n")?,
+                Profile::Three => text.push_str("profile 3\n")?,
             }
             for directive in requests.directives() {
                 push_directive(&mut text, directive)?;
@@ -124,6 +135,34 @@ fn texts_are_read_or_refused_at_their_first_bad_line(rt: HostRuntime) -> Result<
         ("profile 1 2", "line 1: bad profile"),
         ("profile 2\t", "line 1: bad byte"),
         ("profiles 2", "line 1: unknown directive"),
+        (
+            "profile 3\nmodule a 00\nsend a f 7 00fFaB i32:1\nsend a f 0 -\ncall a - 1",
+            "profile 3\nmodule a 00\nsend 0 f 7 =00ffab I32(1)\nsend 0 f 0 =\ncall 0 - 1\n",
+        ),
+        ("module a 00\nsend a f 1 -", "line 2: unknown directive"),
+        (
+            "profile 2\nmodule a 00\nsend a f 1 -",
+            "line 3: unknown directive",
+        ),
+        ("profile 3\nmodule a 00\nsend a f 1", "line 3: bad words"),
+        ("profile 3\nsend a f x 0 x", "line 2: unknown module"),
+        ("profile 3\nmodule a 00\nsend a f x 0 x", "line 3: bad fuel"),
+        (
+            "profile 3\nmodule a 00\nsend a f 1 0 x",
+            "line 3: bad request",
+        ),
+        (
+            "profile 3\nmodule a 00\nsend a f 1 0g",
+            "line 3: bad request",
+        ),
+        (
+            "profile 3\nmodule a 00\nsend a f 1 -- x",
+            "line 3: bad request",
+        ),
+        (
+            "profile 3\nmodule a 00\nsend a f 1 - x",
+            "line 3: bad argument",
+        ),
         ("module a 00\ncall a f 1 i32:", "line 2: bad argument"),
         ("module a 00\ncall a f 1 i32:+1", "line 2: bad argument"),
         (
@@ -214,7 +253,7 @@ fn a_large_module_and_many_arguments_are_read(rt: HostRuntime) -> Result<(), Fai
     for directive in parse(alloc, text.as_bytes())?.directives() {
         match directive {
             Directive::Module { bytes, .. } => sizes.0 = bytes.len(),
-            Directive::Call { args, .. } => sizes.1 = args.len(),
+            Directive::Call { invocation, .. } => sizes.1 = invocation.args.len(),
         }
     }
     assert_eq!(rt; sizes, (1_000_000, 20_000));
@@ -222,94 +261,28 @@ fn a_large_module_and_many_arguments_are_read(rt: HostRuntime) -> Result<(), Fai
 }
 
 #[test]
-fn lines_are_appended(rt: HostRuntime) -> Result<(), Fail> {
+fn a_request_has_at_most_65536_bytes(rt: HostRuntime) -> Result<(), Fail> {
     let alloc = rt.alloc();
-    let mut out = Vec::new(alloc);
-    let modules = [
-        ModuleLine::Accepted,
-        ModuleLine::Malformed,
-        ModuleLine::Unsupported,
-        ModuleLine::Invalid,
-        ModuleLine::Limit,
-        ModuleLine::Segment,
+    let digits = "0a".repeat(alloc, 65536)?;
+    let rows = [
+        ("", "line 3: bad argument"),
+        ("00", "line 3: request too long"),
+        ("0", "line 3: bad request"),
+        ("0g", "line 3: bad request"),
     ];
-    for line in modules {
-        write_module(alloc, &mut out, b"e", line)?;
+    for (more, want) in rows {
+        let text = format!(in alloc; "profile 3\nmodule a 00\nsend a f 1 {digits}{more} x")?;
+        let got = described(alloc, &parse(alloc, text.as_bytes()))?;
+        assert_eq!(rt; got.as_str(), want, "with {more}");
     }
-    let calls = [
-        CallLine::Done(Outcome::Done(None)),
-        CallLine::Done(Outcome::Done(Some(Val::I32(5)))),
-        CallLine::Done(Outcome::Done(Some(Val::I32(2147483648)))),
-        CallLine::Done(Outcome::Done(Some(Val::I64(18446744073709551615)))),
-        CallLine::Done(Outcome::Trap(TrapKind::Unreachable)),
-        CallLine::Done(Outcome::Trap(TrapKind::Memory)),
-        CallLine::Done(Outcome::Trap(TrapKind::Element)),
-        CallLine::Done(Outcome::Trap(TrapKind::Uninit)),
-        CallLine::Done(Outcome::Trap(TrapKind::Signature)),
-        CallLine::Done(Outcome::Trap(TrapKind::Divide)),
-        CallLine::Done(Outcome::Trap(TrapKind::Overflow)),
-        CallLine::Done(Outcome::Trap(TrapKind::Exhausted)),
-        CallLine::Done(Outcome::Fuel),
-        CallLine::NoModule,
-        CallLine::NoExport,
-        CallLine::BadArgs,
-    ];
-    let mut k = 1u32;
-    for line in calls {
-        write_call(alloc, &mut out, k, line)?;
-        k = k.saturating_add(1);
-    }
-    write_text_fault(alloc, &mut out, 2, Reason::BadArgument)?;
-    let want =
-        "module e ok\nmodule e refused malformed\nmodule e refused unsupported\nmodule e refused invalid\n\
-        module e refused limit\nmodule e refused segment\n1 ok\n2 ok i32:5\n3 ok i32:-2147483648\n4 ok i64:-1\n\
-        5 trap unreachable\n6 trap memory\n7 trap element\n8 trap uninit\n9 trap signature\n10 trap divide\n\
-        11 trap overflow\n12 trap exhausted\n13 fuel\n14 refused module\n15 refused export\n16 refused args\n\
-        line 2: bad argument\n";
-    assert_eq!(rt; out.as_slice(), want.as_bytes());
     Ok(())
 }
 
 #[test]
-fn a_report_has_its_text_and_its_summary(rt: HostRuntime) -> Result<(), Fail> {
+fn a_refusal_is_appended(rt: HostRuntime) -> Result<(), Fail> {
     let alloc = rt.alloc();
-    let mut lines = Vec::new(alloc);
-    let modules = [
-        ModuleLine::Accepted,
-        ModuleLine::Malformed,
-        ModuleLine::Accepted,
-        ModuleLine::Segment,
-        ModuleLine::Limit,
-    ];
-    for line in modules {
-        let name = Items::new(Vec::from_slice(alloc, b"calls")?);
-        lines.push(ReportLine::Module { name, line })?;
-    }
-    let calls = [
-        CallLine::Done(Outcome::Done(None)),
-        CallLine::Done(Outcome::Done(Some(Val::I32(5)))),
-        CallLine::Done(Outcome::Trap(TrapKind::Uninit)),
-        CallLine::Done(Outcome::Fuel),
-        CallLine::Done(Outcome::Fuel),
-        CallLine::Done(Outcome::Fuel),
-        CallLine::NoModule,
-        CallLine::NoExport,
-        CallLine::BadArgs,
-        CallLine::BadArgs,
-    ];
-    for line in calls {
-        lines.push(ReportLine::Call { number: 1, line })?;
-    }
-    let mut out = Vec::from_slice(alloc, b"before\n")?;
-    write_summary(alloc, &mut out, &lines)?;
-    let want =
-        "before\nmodules ok 2\nmodules refused 3\ncalls ok 2\ncalls trap 1\ncalls fuel 3\ncalls refused 4\n";
-    assert_eq!(rt; out.as_slice(), want.as_bytes());
-    let want =
-        "module calls ok\nmodule calls refused malformed\nmodule calls ok\nmodule calls refused segment\n\
-        module calls refused limit\n1 ok\n1 ok i32:5\n1 trap uninit\n1 fuel\n1 fuel\n1 fuel\n1 refused module\n\
-        1 refused export\n1 refused args\n1 refused args\n";
-    let text = report_text(alloc, &lines)?;
-    assert_eq!(rt; text.as_slice(), want.as_bytes());
+    let mut out = Vec::from_slice(alloc, b"a\n")?;
+    write_text_fault(alloc, &mut out, 2, Reason::BadArgument)?;
+    assert_eq!(rt; out.as_slice(), b"a\nline 2: bad argument\n".as_slice());
     Ok(())
 }

@@ -3,6 +3,7 @@
 ghost use Rattle.std.specs.Prelude.{◌≡◌, ℕ, ◌≤◌, List, [], ◌∷◌, Option, MatchResult, slice_get};
 ghost use Rattle.wasm_types.specs.Tree.{module_tree};
 ghost use Rattle.wasm_spec.specs.Typing.{Fixed, rule, calling, calling_indirect};
+ghost use Rattle.wasm_spec.specs.Functions as functions;
 ghost use Rattle.wasm_spec.specs.Typing as typing;
 ghost use Rattle.wasm_checker.specs.Subject.{HaveOneResult, locals_of};
 ghost use Rattle.wasm_checker.specs.Position.{inside};
@@ -84,7 +85,7 @@ impl Checker {
     /// A call of a function.
     pub(crate) fn call(&mut self, m: &Module, x: u32) -> Result<(), CheckFault>
         requires { HaveOneResult m.now }
-        ensures { let callee = typing.function_type (module_tree m.now) x in
+        ensures { let callee = functions.function_type (module_tree m.now) x in
             Applies (λ _. calling callee) self.old result self.new }
     {
         let t = function_type(m, x).ok_or(CheckFault::Invalid)?;

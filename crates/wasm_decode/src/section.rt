@@ -62,7 +62,7 @@ fn last_id(profile: Profile) -> u8
 {
     match profile {
         Profile::One => 11,
-        Profile::Two => 12,
+        Profile::Two | Profile::Three => 12,
     }
 }
 

@@ -30,7 +30,7 @@ outcome_of None = None
 outcome_of (Some r) = Some r.outcome
 
 abbrev after : (a b c : ℕ) → Instr → Option Outcome
-after a b c i = outcome_of (call_result (with_bytes a b c i) (record { pages = 32; depth = 4 }) 0 [] 20)
+after a b c i = outcome_of (call_result (with_bytes a b c i) (record { pages = 32; depth = 4; request = [] }) 0 [] 20)
 
 abbrev gives : ℕ → Option Outcome
 gives n = Some (Done (Some (I64 n)))
@@ -88,17 +88,17 @@ abbrev byte_of : ℕ → Option CallResult → Option ℕ
 byte_of at None = None
 byte_of at (Some r) = slice_get r.store.memory at
 
-fill_that_traps_writes_nothing : byte_of 8 (call_result (with_bytes 8 7 65529 instr.MemoryFill) (record { pages = 32; depth = 4 }) 0 [] 20) ≡ Some 1
+fill_that_traps_writes_nothing : byte_of 8 (call_result (with_bytes 8 7 65529 instr.MemoryFill) (record { pages = 32; depth = 4; request = [] }) 0 [] 20) ≡ Some 1
 unfolding exec
 fill_that_traps_writes_nothing = refl
 
-copy_that_traps_writes_nothing : byte_of 8 (call_result (with_bytes 8 7 65529 instr.MemoryCopy) (record { pages = 32; depth = 4 }) 0 [] 20) ≡ Some 1
+copy_that_traps_writes_nothing : byte_of 8 (call_result (with_bytes 8 7 65529 instr.MemoryCopy) (record { pages = 32; depth = 4; request = [] }) 0 [] 20) ≡ Some 1
 unfolding exec
 copy_that_traps_writes_nothing = refl
 
 -- all three operands are numbers of 32 bits, and there are three
 abbrev stuck_on : List Instr → Option CallResult
-stuck_on operands = call_result (record (bare (function_type [] [] ∷ []) (function_of 0 (straight operands End) ∷ []) []) { memories = at_least 1 ∷ [] }) (record { pages = 32; depth = 4 }) 0 [] 20
+stuck_on operands = call_result (record (bare (function_type [] [] ∷ []) (function_of 0 (straight operands End) ∷ []) []) { memories = at_least 1 ∷ [] }) (record { pages = 32; depth = 4; request = [] }) 0 [] 20
 
 fill_of_64_bits : stuck_on (i32_const 0 ∷ i32_const 0 ∷ instr.Const (I64 0) ∷ instr.MemoryFill ∷ []) ≡ None
 unfolding exec

@@ -27,7 +27,7 @@ ending (Some r) = Some (r.outcome, r.fuel)
 
 -- how a call ends and the fuel that it leaves, where a memory may have so many pages and 128 calls may be open
 abbrev called_within : ℕ → ModuleTree → ℕ → List Val → ℕ → Option (Outcome × ℕ)
-called_within pages m x arguments fuel = ending (call_result m (record { pages = pages; depth = 128 }) x arguments fuel)
+called_within pages m x arguments fuel = ending (call_result m (record { pages = pages; depth = 128; request = [] }) x arguments fuel)
 
 abbrev called : ModuleTree → ℕ → List Val → ℕ → Option (Outcome × ℕ)
 called m x arguments fuel = called_within 32 m x arguments fuel
@@ -268,11 +268,11 @@ unfolding exec
 indirect-of_other_parameters = refl
 
 -- its other traps come before the depth
-indirect-past_the_table_at_the_depth : ending (call_result other_types_module (record { pages = 0; depth = 1 }) 2 (I32 2 ∷ []) 100) ≡ Some (Trap trap.Element, 97)
+indirect-past_the_table_at_the_depth : ending (call_result other_types_module (record { pages = 0; depth = 1; request = [] }) 2 (I32 2 ∷ []) 100) ≡ Some (Trap trap.Element, 97)
 unfolding exec
 indirect-past_the_table_at_the_depth = refl
 
-indirect-at_the_depth : ending (call_result other_types_module (record { pages = 0; depth = 1 }) 2 (I32 0 ∷ []) 100) ≡ Some (Trap trap.Exhausted, 97)
+indirect-at_the_depth : ending (call_result other_types_module (record { pages = 0; depth = 1; request = [] }) 2 (I32 0 ∷ []) 100) ≡ Some (Trap trap.Exhausted, 97)
 unfolding exec
 indirect-at_the_depth = refl
 
@@ -369,20 +369,20 @@ stored_code = straight (i32_const 1 ∷ i32_const 77 ∷ instr.StorePacked W32 P
 abbrev stored_module : ModuleTree
 stored_module = paged (empty_type ∷ []) (function_of 0 stored_code ∷ []) []
 
-store-after_a_trap : left_in (λ s. take 4 s.memory) (call_result stored_module (record { pages = 1; depth = 1 }) 0 [] 100) ≡ 0 ∷ 0 ∷ 77 ∷ 0 ∷ []
+store-after_a_trap : left_in (λ s. take 4 s.memory) (call_result stored_module (record { pages = 1; depth = 1; request = [] }) 0 [] 100) ≡ 0 ∷ 0 ∷ 77 ∷ 0 ∷ []
 unfolding exec
 store-after_a_trap = refl
 
-store-at_the_end_of_fuel : left_in (λ s. take 4 s.memory) (call_result stored_module (record { pages = 1; depth = 1 }) 0 [] 3) ≡ 0 ∷ 0 ∷ 77 ∷ 0 ∷ []
+store-at_the_end_of_fuel : left_in (λ s. take 4 s.memory) (call_result stored_module (record { pages = 1; depth = 1; request = [] }) 0 [] 3) ≡ 0 ∷ 0 ∷ 77 ∷ 0 ∷ []
 unfolding exec
 store-at_the_end_of_fuel = refl
 
 -- a store that reaches past the end writes nothing
-store-past_the_end : left_in (λ s. drop 65532 s.memory) (call_result poke_module (record { pages = 1; depth = 1 }) 0 (I32 65533 ∷ I32 4294967295 ∷ []) 100) ≡ 0 ∷ 0 ∷ 0 ∷ 0 ∷ []
+store-past_the_end : left_in (λ s. drop 65532 s.memory) (call_result poke_module (record { pages = 1; depth = 1; request = [] }) 0 (I32 65533 ∷ I32 4294967295 ∷ []) 100) ≡ 0 ∷ 0 ∷ 0 ∷ 0 ∷ []
 unfolding exec
 store-past_the_end = refl
 
-grown-memory_has_whole_pages : left_in (λ s. length s.memory ∷ []) (call_result grow_module (record { pages = 3; depth = 1 }) 0 (I32 2 ∷ []) 100) ≡ 196608 ∷ []
+grown-memory_has_whole_pages : left_in (λ s. length s.memory ∷ []) (call_result grow_module (record { pages = 3; depth = 1; request = [] }) 0 (I32 2 ∷ []) 100) ≡ 196608 ∷ []
 unfolding exec
 grown-memory_has_whole_pages = refl
 
@@ -412,7 +412,7 @@ abbrev global_left : Option CallResult → List Val
 global_left None = []
 global_left (Some r) = r.store.globals
 
-start-keeps_its_store : global_left (call_result started_module (record { pages = 0; depth = 1 }) 0 [] 3) ≡ I32 5 ∷ []
+start-keeps_its_store : global_left (call_result started_module (record { pages = 0; depth = 1; request = [] }) 0 [] 3) ≡ I32 5 ∷ []
 unfolding exec
 start-keeps_its_store = refl
 

@@ -178,7 +178,7 @@ outcome_of None = None
 outcome_of (Some r) = Some r.outcome
 
 abbrev called : ℕ → List Val → Option Outcome
-called x arguments = outcome_of (call_result programs (record { pages = 32; depth = 128 }) x arguments 10000)
+called x arguments = outcome_of (call_result programs (record { pages = 32; depth = 128; request = [] }) x arguments 10000)
 
 abbrev gives : Val → Option Outcome
 gives v = Some (Done (Some v))

@@ -14,7 +14,7 @@ use Rattle.wasm_spec.specs.Instances.{IsInstance, room_for}
 use Rattle.wasm_examples.proofs.Modules.{straight, i32_const, at_least, bare}
 
 abbrev nothing : Store
-nothing = record { memory = []; table = []; globals = [] }
+nothing = record { memory = []; table = []; globals = []; answer = [] }
 
 abbrev result_with : Outcome → ℕ → CallResult
 result_with o fuel = record { outcome = o; store = nothing; fuel = fuel }
@@ -46,10 +46,10 @@ small = record (bare [] [] []) {
 }
 
 abbrev store_of : ℕ → Store
-store_of bytes = record { memory = replicate bytes 0; table = None ∷ []; globals = I32 4 ∷ [] }
+store_of bytes = record { memory = replicate bytes 0; table = None ∷ []; globals = I32 4 ∷ []; answer = [] }
 
 one_page_of_two : IsInstance small 2 (None ∷ []) (store_of 65536)
-one_page_of_two = record { table_is = refl; globals_are = refl; size = 1; whole = refl; within = omega arith }
+one_page_of_two = record { table_is = refl; globals_are = refl; size = 1; whole = refl; within = omega arith; answered = omega arith }
 
 no_more_pages : IsInstance small 0 (None ∷ []) (store_of 65536) → ⊥
 no_more_pages is = let whole : 65536 ≡ is.size * 65536 = is.whole in let within = is.within in omega (arith, whole, within)
@@ -65,3 +65,6 @@ no_other_table is = let e = is.table_is in cc (e)
 
 no_global_more : IsInstance (record small { globals = [] }) 2 (None ∷ []) (store_of 65536) → ⊥
 no_global_more is = let e = is.globals_are in omega (arith, e)
+
+no_longer_answer : IsInstance small 2 (None ∷ []) (record (store_of 65536) { answer = replicate 65537 7 }) → ⊥
+no_longer_answer is = let few : 65537 ≤ 65536 = is.answered in omega (arith, few)

@@ -4,7 +4,7 @@ use Rattle.std.specs.Prelude.{Option, Some, None, replicate, IsUtf8}
 use Rattle.std.proofs.lemmas.List.{length-append}
 use Rattle.std.specs.Str.{is_utf8, chars}
 use Rattle.std.proofs.lemmas.Str.{is_utf8-from_IsUtf8}
-use Rattle.wasm_types.specs.declared.profile.Profile.TheVariants.{One, Two}
+use Rattle.wasm_types.specs.declared.profile.Profile.TheVariants.{One, Two, Three}
 use Rattle.wasm_types.specs.declared.instr.Instr.{Instr}
 use Rattle.wasm_types.specs.declared.instr.Instr.TheVariants as instr
 use Rattle.wasm_types.specs.declared.module.LocalRun.{LocalRun}
@@ -124,6 +124,14 @@ no_count_twice (inr a) = elim (a.2) [ inl b ↦ absurd (omega (arith, b.0)) | in
 no_section_13 : IsOrderedAbove Two 0 (section_of 13 ∷ []) → ⊥
 no_section_13 (inl a) = absurd (omega (arith, a.0))
 no_section_13 (inr a) = absurd (omega (arith, a.1))
+
+-- profile 3 has the same sections
+count_in_profile_3 : IsOrderedAbove Three 0 (section_of 9 ∷ section_of 12 ∷ section_of 10 ∷ section_of 11 ∷ [])
+count_in_profile_3 = inr (omega arith, omega arith, inr (omega arith, omega arith, inr (omega arith, omega arith, inr (omega arith, omega arith, tt))))
+
+no_section_13_in_profile_3 : IsOrderedAbove Three 0 (section_of 13 ∷ []) → ⊥
+no_section_13_in_profile_3 (inl a) = absurd (omega (arith, a.0))
+no_section_13_in_profile_3 (inr a) = absurd (omega (arith, a.1))
 
 -- it says how many data segments there are, in one number and nothing more
 count_of_none : SpellsCount 0 (Some (section_of 12))

@@ -22,3 +22,5 @@ pub mod ReturnExamples
 pub mod FuelExamples
 pub mod RelationExamples
 pub mod OperandExamples
+pub mod ImportExamples
+pub mod FunctionExamples

@@ -58,6 +58,10 @@ frame_of_the_last = refl
 frame_of_the_first : late_refusal (record { pages = 32; elements = 1024; frame = 1 }) framed ≡ Some (OverLimit (record { which = Frame 0; value = 2; limit = 1 }))
 frame_of_the_first = refl
 
+-- imports have the first numbers, and need no frame
+frame_behind_two_imports : late_refusal (record { pages = 32; elements = 1024; frame = 2 }) (record framed { imports = record { module_name = []; item_name = []; desc = import.Func 0 } ∷ record { module_name = []; item_name = []; desc = import.Func 0 } ∷ [] }) ≡ Some (OverLimit (record { which = Frame 4; value = 3; limit = 2 }))
+frame_behind_two_imports = refl
+
 frames_before_segments : late_refusal (record { pages = 32; elements = 1024; frame = 3 }) framed ≡ Some (Segment (record { which = Data 0; end = 1; size = 0 }))
 frames_before_segments = refl
 
@@ -206,27 +210,27 @@ bad_in_three_ways = record (bare [] [] []) {
   memories = at_least 33 ∷ at_least 33 ∷ [];
 }
 
-unsupported_comes_first : Answers IsSupported usual bad_in_three_ways (Err Unsupported)
-unsupported_comes_first s = let e = s.no_import in cc (e)
+unsupported_comes_first : Answers (IsSupported One) usual bad_in_three_ways (Err Unsupported)
+unsupported_comes_first s = let e = s.imports in cc (e)
 
-invalid_comes_next : Answers IsSupported usual (record bad_in_three_ways { imports = [] }) (Err Invalid)
-invalid_comes_next = (record { no_import = refl; no_float = refl }, λ v. let few = v.one_memory in omega (arith, few))
+invalid_comes_next : Answers (IsSupported One) usual (record bad_in_three_ways { imports = [] }) (Err Invalid)
+invalid_comes_next = (record { imports = refl; no_float = refl }, λ v. let few = v.one_memory in omega (arith, few))
 
 -- what is no answer: another module; a module over a limit, or an invalid one, as it is; a refusal of what is supported or spelled
-another_module_is_no_answer : Answers IsSupported usual add (Ok all_over) → ⊥
+another_module_is_no_answer : Answers (IsSupported One) usual add (Ok all_over) → ⊥
 another_module_is_no_answer h = let e = ap (λ (m : ModuleTree). m.memories) h.1 in cc (e)
 
-over_its_frame_is_not_taken : Answers IsSupported narrow add (Ok add) → ⊥
+over_its_frame_is_not_taken : Answers (IsSupported One) narrow add (Ok add) → ⊥
 over_its_frame_is_not_taken h = let e = h.0.late_is in cc (e)
 
-invalid_is_not_taken : Answers IsSupported usual (record bad_in_three_ways { imports = [] }) (Ok (record bad_in_three_ways { imports = [] })) → ⊥
+invalid_is_not_taken : Answers (IsSupported One) usual (record bad_in_three_ways { imports = [] }) (Ok (record bad_in_three_ways { imports = [] })) → ⊥
 invalid_is_not_taken h = let few = h.0.valid.one_memory in omega (arith, few)
 
-unsupported_is_not_invalid : Answers IsSupported usual bad_in_three_ways (Err Invalid) → ⊥
-unsupported_is_not_invalid h = let e = h.0.no_import in cc (e)
+unsupported_is_not_invalid : Answers (IsSupported One) usual bad_in_three_ways (Err Invalid) → ⊥
+unsupported_is_not_invalid h = let e = h.0.imports in cc (e)
 
-supported_is_not_unsupported : Answers IsSupported usual add (Err Unsupported) → ⊥
+supported_is_not_unsupported : Answers (IsSupported One) usual add (Err Unsupported) → ⊥
 supported_is_not_unsupported h = h add_supported
 
-valid_is_not_invalid : Answers IsSupported usual add (Err Invalid) → ⊥
+valid_is_not_invalid : Answers (IsSupported One) usual add (Err Invalid) → ⊥
 valid_is_not_invalid h = h.1 add_valid

@@ -24,7 +24,7 @@ around is = record (paged (constant_type ∷ [])
     }
 
 abbrev difference : List Instr → Option Outcome
-difference is = outcome_of (call_result (around is) (record { pages = 2; depth = 1 }) 0 [] 100)
+difference is = outcome_of (call_result (around is) (record { pages = 2; depth = 1; request = [] }) 0 [] 100)
 
 abbrev gives_95 : Option Outcome
 gives_95 = Some (Done (Some (I32 95)))

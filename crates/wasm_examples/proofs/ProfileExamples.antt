@@ -149,6 +149,7 @@ one_pair R x i j d lt le = absurd (omega arith)
 extend_valid : IsValid extend_module
 extend_valid = record {
   function_types = All-cons (λ (t : FuncType). length t.results ≤ 1) unary_type [] (omega arith) (All-nil (λ (t : FuncType). length t.results ≤ 1));
+  imports = All-nil _;
   functions = All-cons (IsTypedFunction extend_module) extend_function [] extend_typed (All-nil (IsTypedFunction extend_module));
   one_table = omega arith;
   table_types = All-nil _;
@@ -162,8 +163,8 @@ extend_valid = record {
   names_differ = one_pair (λ (a b : Export). a.name ≢ b.name) (exported (codes "e") 0);
 }
 
-extend_supported : IsSupported extend_module
-extend_supported = record { no_import = refl; no_float = refl }
+extend_supported : IsSupported Two extend_module
+extend_supported = record { imports = refl; no_float = refl }
 
 abbrev limits : LoadLimits
 limits = record { pages = 1; elements = 0; frame = 8 }

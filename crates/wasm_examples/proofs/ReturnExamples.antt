@@ -19,7 +19,7 @@ ending None = None
 ending (Some r) = Some (r.outcome, r.fuel)
 
 abbrev called : ModuleTree → List Val → Option (Outcome × ℕ)
-called m arguments = ending (call_result m (record { pages = 1; depth = 2 }) 0 arguments 100)
+called m arguments = ending (call_result m (record { pages = 1; depth = 2; request = [] }) 0 arguments 100)
 
 -- ---- its own locals: 5, where the function set its own one to 9
 

@@ -15,7 +15,7 @@ use Rattle.wasm_examples.proofs.Modules.{straight, i32_const, i32_add, function_
 abbrev ran_as : FuncType → Code → Option CallResult
 ran_as t body = call_result
     (bare (t ∷ function_type (type.I32 ∷ []) [] ∷ empty_type ∷ []) (function_of 0 body ∷ function_of 1 End ∷ function_of 2 (straight (instr.Drop ∷ []) End) ∷ []) [])
-    (record { pages = 1; depth = 4 }) 0 [] 100
+    (record { pages = 1; depth = 4; request = [] }) 0 [] 100
 
 abbrev ran : List Instr → Option CallResult
 ran is = ran_as empty_type (straight is End)

@@ -13,6 +13,8 @@ use Rattle.wasm_types.specs.declared.module.ExportDesc.{ExportDesc}
 use Rattle.wasm_types.specs.declared.module.ExportDesc.TheVariants as desc
 use Rattle.wasm_types.specs.declared.module.ImportDesc.TheVariants as import
 use Rattle.wasm_types.specs.Tree.{Code, End, FunctionTree, GlobalTree, ElementTree, DataTree, ModuleTree}
+use Rattle.wasm_types.specs.declared.profile.Profile.TheVariants.{One}
+use Rattle.wasm_spec.specs.Functions.{callee_at}
 use Rattle.wasm_spec.specs.Typing.{IsTypedFunction}
 use Rattle.wasm_spec.specs.Validity.{IsValid, IsSupported, IsDefined, IsInitialised, IsElementSegment, IsDataSegment, IsMemoryType, AreOrdered, IsStart, Exports}
 use Rattle.wasm_examples.proofs.Modules.{straight, i32_const, function_type, function_of, empty_type, unary_type}
@@ -96,11 +98,12 @@ memory_type : IsMemoryType (range 65536 (Some 65536))
 memory_type = record { least = omega arith; most = omega arith; ordered = omega arith }
 
 element_segment : IsElementSegment whole (elements_at (at_global 0) (0 ∷ []))
-element_segment = record { table = refl; offset = refl; functions = one (λ x. IsSome (slice_get whole.functions x)) 0 refl }
+element_segment = record { table = refl; offset = refl; functions = one (λ x. IsSome (callee_at whole x)) 0 refl }
 
 whole_is_valid : IsValid whole
 whole_is_valid = record {
   function_types = two (λ (t : FuncType). length t.results ≤ 1) empty_type unary_type (omega arith) (omega arith);
+  imports = All-nil _;
   functions = one (IsTypedFunction whole) the_function (refl, refl);
   one_table = omega arith;
   table_types = one AreOrdered (range 2 (Some 2)) (omega arith);
@@ -116,13 +119,13 @@ whole_is_valid = record {
   names_differ = names_differ;
 }
 
-whole_is_supported : IsSupported whole
-whole_is_supported = record { no_import = refl; no_float = refl }
+whole_is_supported : IsSupported One whole
+whole_is_supported = record { imports = refl; no_float = refl }
 
-an_import_is_unsupported : IsSupported (record whole { imports = record { module_name = []; item_name = []; desc = import.Func 0 } ∷ [] }) → ⊥
-an_import_is_unsupported s = let e = s.no_import in cc (e)
+an_import_is_unsupported : IsSupported One (record whole { imports = record { module_name = []; item_name = []; desc = import.Func 0 } ∷ [] }) → ⊥
+an_import_is_unsupported s = let e = s.imports in cc (e)
 
-a_float_is_unsupported : IsSupported (record whole { types = empty_type ∷ function_type [] (type.F32 ∷ []) ∷ [] }) → ⊥
+a_float_is_unsupported : IsSupported One (record whole { types = empty_type ∷ function_type [] (type.F32 ∷ []) ∷ [] }) → ⊥
 a_float_is_unsupported s = let e : true ≡ false = s.no_float in cc (e)
 
 -- ---- an invalid module for each condition

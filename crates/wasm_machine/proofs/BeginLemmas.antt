@@ -1,21 +1,24 @@
 -- The beginning of a run.
 use Rattle.wasm_types.proofs.SequenceLemmas.{tree_is}
-use Rattle.wasm_types.specs.declared.limits.RunLimits.{RunLimits}
-use Rattle.std.proofs.Common.{◌≡◌, ℕ, ◌<◌, List, [], ◌++◌, false, length, map, take, drop, reverse, Some, refl, sym, ap, ◌∙◌, arith, append-nil}
+use Rattle.wasm_spec.specs.Execution.{Terms}
+use Rattle.std.proofs.Common.{◌≡◌, ℕ, ◌+◌, ◌<◌, List, [], ◌++◌, false, length, map, take, drop, reverse, Some, refl, sym, ap, ◌∙◌, arith, append-nil}
 use Rattle.std.proofs.lemmas.List.{length-map, length-reverse, reverse-reverse, take_all, drop_all}
 use Rattle.wasm_types.specs.declared.types.ValType.{ValType}
 use Rattle.wasm_types.specs.declared.outcome.Val.{Val}
 use Rattle.wasm_types.specs.declared.module.Module.{Module}
 use Rattle.wasm_types.specs.Tree.{Code, FunctionTree, function_tree, module_tree}
-use Rattle.wasm_spec.specs.Typing.{type_of, function_type, params_or_none, results_or_none}
+use Rattle.wasm_spec.specs.Typing.{type_of, params_or_none, results_or_none}
 use Rattle.wasm_spec.specs.Validity.{has_float}
 use Rattle.wasm_spec.specs.Store.{Store}
-use Rattle.wasm_spec.specs.Execution.{State, Ended, exec, invoke, return, zero_of}
+use Rattle.std.specs.Prelude.{option_map}
+use Rattle.wasm_spec.specs.Functions.{Own}
+use Rattle.wasm_spec.proofs.FunctionNumbers.{callee-own}
+use Rattle.wasm_spec.specs.Execution.{State, Ended, exec, call as called, return, zero_of}
 use Rattle.wasm_spec.specs.Result.{finish, run_function}
 use Rattle.wasm_types.specs.Sequences.{code_at}
 use Rattle.machine_steps.specs.declared.machine.Machine.{Machine}
-use Rattle.wasm_machine.specs.Calls.{IsCall}
-use Rattle.wasm_machine.specs.Remaining.{resting, function_of, results}
+use Rattle.wasm_machine.specs.Calls.{IsOwnCall}
+use Rattle.wasm_machine.specs.Remaining.{body_type, resting, function_of, results}
 use Rattle.machine_steps.specs.StackLayout.{HasRoom, KeepsRoom}
 use Rattle.wasm_machine.specs.TypedConfiguration.{IsRunnable, IsTypedStore, local_types}
 use Rattle.wasm_machine.specs.Simulation.{Simulates, start_of}
@@ -24,22 +27,22 @@ use Rattle.machine_steps.proofs.StackLayoutLemmas.{room_kept}
 use Rattle.wasm_machine.proofs.CallLemmas.{type_known, tree_known, body_resumes, no_floats, zero_types, same_return, entered_by}
 use Rattle.wasm_machine.proofs.StepLemmas.{calls_it}
 
-pub begins_run : (m : Module) (limits : RunLimits) (frame x : ℕ) (args : List Val) (old new : Machine) (store : Store) → IsRunnable m frame → IsCall m x args → 0 < limits.depth → IsTypedStore m store → HasRoom limits.depth frame old → KeepsRoom old new
+pub begins_run : (m : Module) (limits : Terms) (frame x : ℕ) (args : List Val) (old new : Machine) (store : Store) → IsRunnable m frame → IsOwnCall m x args → 0 < limits.depth → IsTypedStore m store → HasRoom limits.depth frame old → KeepsRoom old new
     → new.at ≡ record { function = x; sequence = start_of m x; place = 0; locals = 0; labels = 0 } → new.values.items ≡ args ++ map zero_of (function_tree (function_of m x)).locals → new.labels.items ≡ [] → new.frames.items ≡ []
-    → Simulates m limits frame new store (run_function (module_tree m) limits x args store)
+    → Simulates m limits frame new store (run_function (module_tree m) limits (length m.imports + x) args store)
 begins_run m limits frame x args old new store run call deep stored room keeps at values labels frames =
     let f = call.function in
     let t = call.type in
     let n = length t.params in
     let zeros = (function_tree (function_of m x)).locals in
-    let known : function_type (module_tree m) x ≡ Some t = type_known m frame x f t run call.there call.typed in
+    let known : body_type (module_tree m) x ≡ Some t = type_known m frame x f t run call.there call.typed in
     let tree : f ≡ function_tree (function_of m x) = tree_known m frame x f t run call.there call.typed in
     let gives : results m x ≡ t.results = ap results_or_none known in
     let floats : has_float zeros ≡ false = ap (λ (g : FunctionTree). has_float g.locals) (sym tree) ∙ no_floats m x f run.supported call.there in
     let locals : map type_of (args ++ map zero_of zeros) ≡ local_types m frame x =
     map-append args (map zero_of zeros)
     ∙ ap (λ (l : List ValType). l ++ map type_of (map zero_of zeros)) (call.args_fit ∙ ap params_or_none (sym known))
-    ∙ ap (λ (l : List ValType). params_or_none (function_type (module_tree m) x) ++ l) (zero_types zeros floats) in
+    ∙ ap (λ (l : List ValType). params_or_none (body_type (module_tree m) x) ++ l) (zero_types zeros floats) in
     let counted : length args ≡ n = sym (length-map args type_of) ∙ ap length call.args_fit in
     let whole : take n (reverse args) ≡ reverse args = take_all n (reverse args) (omega (arith, length-reverse args)) in
     let arguments : reverse (take n (reverse args)) ≡ args = ap reverse whole ∙ reverse-reverse args in
@@ -65,5 +68,6 @@ begins_run m limits frame x args old new store run call deep stored room keeps a
           ∙ ap (λ (ls : List Val). return (length t.results) s (drop n (reverse args)) (exec (module_tree m) limits 1 f.body (record { locals = ls ++ map zero_of zeros; operands = []; store = store }) fuel) finish) (sym arguments)
           ∙ ap (λ (g : FunctionTree). return (length t.results) s (drop n (reverse args)) (exec (module_tree m) limits 1 f.body (record { locals = reverse (take n (reverse args)) ++ map zero_of g.locals; operands = []; store = store }) fuel) finish) (sym tree)
           ∙ sym (entered_by limits 0 f t (exec (module_tree m) limits 1 f.body) finish s fuel (omega (arith, length-reverse args)) deep)
-          ∙ sym (calls_it m x f t (λ g u. invoke limits 0 g u (exec (module_tree m) limits 1 g.body) finish) s fuel call.there call.typed);
+          ∙ sym (calls_it m (length m.imports + x) (Own f) t (called (module_tree m) limits 0 (exec (module_tree m) limits 1) finish) s fuel
+          (callee-own (module_tree m) x ∙ ap (option_map (λ (g : FunctionTree). Own g)) call.there) call.typed);
     }

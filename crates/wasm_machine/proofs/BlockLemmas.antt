@@ -1,5 +1,5 @@
 -- Into inner sequences.
-use Rattle.wasm_types.specs.declared.limits.RunLimits.{RunLimits}
+use Rattle.wasm_spec.specs.Execution.{Terms}
 use Rattle.std.proofs.Common.{◌≡◌, ◌≢◌, ℕ, suc, ◌+◌, ◌*◌, ◌≤◌, List, [], ◌∷◌, ◌++◌, length, map, drop, reverse, Option, Some, None, refl, sym, ap, ◌∙◌, subst, arith, length-append, false}
 use Rattle.std.specs.Prelude.{slice_get}
 use Rattle.std.proofs.lemmas.List.{length-reverse, length-map}
@@ -69,7 +69,7 @@ pub arity_is : (t : Option ValType) → arity t ≡ length (result_types t)
 arity_is None = refl
 arity_is (Some t) = refl
 
-module _ (m : Module) (limits : RunLimits) (frame : ℕ) where
+module _ (m : Module) (limits : Terms) (frame : ℕ) where
   -- a machine at an instruction goes behind it
   pub begins : (old new : Machine) (store : Store) (o : Op) (r : ℕ → Ended) → Simulates m limits frame old store r → op_at m old ≡ Some o
       → new.at ≡ record old.at { place = old.at.place + 1 } → new.values.items ≡ old.values.items → new.labels.items ≡ old.labels.items → new.frames.items ≡ old.frames.items → KeepsRoom old new

@@ -1,5 +1,5 @@
 -- Conditional branches, and instructions that only put an operand on the top.
-use Rattle.wasm_types.specs.declared.limits.RunLimits.{RunLimits}
+use Rattle.wasm_spec.specs.Execution.{Terms}
 use Rattle.std.proofs.Common.{◌≡◌, ◌≢◌, ℕ, zero, suc, ◌+◌, ◌<◌, List, [], ◌∷◌, ◌++◌, length, map, Option, Some, None, refl, sym, ap, ◌∙◌, arith, length-append}
 use Rattle.std.specs.Prelude.{slice_get, vec_capacity}
 use Rattle.std.proofs.lemmas.List.{length-map}
@@ -57,7 +57,7 @@ conditional C l (Some us) (val.I32 n ∷ rest) middle e (below, takes, gives) = 
   counted = ap (λ (o : Option (List ValType)). height (branch_if o) (length (map type_of (val.I32 n ∷ rest)))) e ∙ omega (arith, ap length takes, ap length gives, length-append us below);
 }
 
-module _ (m : Module) (limits : RunLimits) (frame : ℕ) where
+module _ (m : Module) (limits : Terms) (frame : ℕ) where
   condition : (machine : Machine) (store : Store) (here l : ℕ) (r : ℕ → Ended) (b : HasFetched m limits frame machine store here (op.Plain (instr.BrIf l)) r)
       → (middle : List ValType) × Conditional (context m frame b.configuration.function b.configuration.blocks) l b.configuration.operands middle
   condition machine store here l r b =

@@ -1,5 +1,5 @@
 -- Branches to open blocks, and ends of blocks.
-use Rattle.wasm_types.specs.declared.limits.RunLimits.{RunLimits}
+use Rattle.wasm_spec.specs.Execution.{Terms}
 use Rattle.std.proofs.Common.{◌≡◌, ◌≢◌, ℕ, zero, suc, ◌+◌, ◌-◌, ◌<◌, ◌≤◌, List, [], ◌∷◌, ◌++◌, length, map, take, drop, get_or, reverse, refl, sym, ap, ◌∙◌, subst, arith, append_assoc, append-nil, length-append}
 use Rattle.std.proofs.lemmas.List.{same_from_push}
 use Rattle.wasm_types.specs.declared.types.ValType.{ValType}
@@ -22,7 +22,7 @@ use Rattle.wasm_machine.proofs.LabelLemmas.{Cut, types_cut, map-append, Found, f
 use Rattle.machine_steps.proofs.StackLayoutLemmas.{room_kept, count_values}
 use Rattle.wasm_machine.proofs.ReturnLemmas.{configuration_of, KeptTo}
 
-module _ (m : Module) (limits : RunLimits) (frame : ℕ) where
+module _ (m : Module) (limits : Terms) (frame : ℕ) where
   -- what surrounds a block that a branch finds
   pub record Target (x : ℕ) (o : OpenBlock) (rest : List OpenBlock) : Type 0 where
     pub resumes : IsTypedAt m frame x rest (o.label ++ map type_of o.below) o.sequence o.target

@@ -1,5 +1,5 @@
 -- Branches by a table of labels.
-use Rattle.wasm_types.specs.declared.limits.RunLimits.{RunLimits}
+use Rattle.wasm_spec.specs.Execution.{Terms}
 use Rattle.std.proofs.Common.{◌≡◌, ℕ, zero, suc, ◌+◌, List, [], ◌∷◌, ◌++◌, length, map, Bool, true, false, Option, Some, None, refl, sym, ap, ◌∙◌}
 use Rattle.std.specs.Prelude.{slice_get, unwrap_or, if◌then◌else◌}
 use Rattle.std.proofs.lemmas.Bool.{and_parts}
@@ -56,7 +56,7 @@ tabled C names l (Some label) ts middle e h =
     let (all, below, takes) = tabled_by (list_all (λ x. is_label label (slice_get C.labels x)) names) label ts middle h in
     record { label = label; below = below; takes = takes; there = λ n. named_label C.labels names n l label all e }
 
-module _ (m : Module) (limits : RunLimits) (frame : ℕ) where
+module _ (m : Module) (limits : Terms) (frame : ℕ) where
   table_of : (machine : Machine) (store : Store) (here l : ℕ) (names : List ℕ) (r : ℕ → Ended) (b : HasFetched m limits frame machine store here (op.Plain (instr.BrTable names l)) r)
       → Tabled (context m frame b.configuration.function b.configuration.blocks) names l (map type_of b.configuration.operands)
   table_of machine store here l names r b =

@@ -1,7 +1,7 @@
 -- A function is called.
 use Rattle.wasm_types.proofs.SequenceLemmas.{tree_is}
 use Rattle.wasm_types.proofs.Found.{all_found}
-use Rattle.wasm_types.specs.declared.limits.RunLimits.{RunLimits}
+use Rattle.wasm_spec.specs.Execution.{Terms}
 use Rattle.std.proofs.Common.{◌≡◌, ℕ, zero, suc, ◌+◌, ◌-◌, ◌*◌, ◌<◌, ◌≤◌, List, [], ◌∷◌, ◌++◌, Bool, true, false, length, map, take, drop, get_or, reverse, Option, Some, refl, sym, ap, ◌∙◌, subst, arith, append_assoc, append-nil, length-append, length-take-le, mul-le-mul_right}
 use Rattle.std.specs.Prelude.{slice_get, nat_lt, nat_le, ◌||◌, option_and_then, vec_capacity}
 use Rattle.std.specs.List.{list_any}
@@ -16,8 +16,9 @@ use Rattle.wasm_types.specs.declared.outcome.TrapKind.TheVariants as trap
 use Rattle.wasm_types.specs.declared.module.Function.{Function}
 use Rattle.wasm_types.specs.declared.module.Module.{Module}
 use Rattle.wasm_types.specs.Tree.{Code, FunctionTree, function_tree, module_tree}
-use Rattle.wasm_spec.specs.Typing.{Context, Typed, type_of, function_type, params_or_none, results_or_none, body_context, IsTypedFunction}
+use Rattle.wasm_spec.specs.Typing.{Context, Typed, type_of, params_or_none, results_or_none, body_context, IsTypedFunction}
 use Rattle.wasm_spec.specs.Need.{highest, deepest}
+use Rattle.wasm_types.specs.declared.profile.Profile.TheVariants.{Three}
 use Rattle.wasm_spec.specs.Validity.{IsSupported, has_float, code_uses_floats}
 use Rattle.wasm_spec.specs.Store.{Store}
 use Rattle.wasm_spec.specs.Execution.{State, Signal, Next, Branch, Returned, Trapped, OutOfFuel, Stuck, Ended, Continuation, ended, exec, return_by, return, invoke, entered, zero_of}
@@ -25,7 +26,7 @@ use Rattle.wasm_types.specs.Sequences.{code_at}
 use Rattle.machine_steps.specs.declared.machine.Position.{Position}
 use Rattle.machine_steps.specs.declared.machine.Machine.{Machine}
 use Rattle.machine_steps.specs.Configuration.{Activation, Configuration, state}
-use Rattle.wasm_machine.specs.Remaining.{resting, function_of, results, resume_at, after_sequence}
+use Rattle.wasm_machine.specs.Remaining.{body_type, resting, function_of, results, resume_at, after_sequence}
 use Rattle.machine_steps.specs.StackLayout as flat
 use Rattle.machine_steps.specs.StackLayout.{frames_under, bottom_of, labels_of, labels_under, position_of, frames_of, Represents, KeepsRoom}
 use Rattle.wasm_machine.specs.TypedConfiguration.{operand_count, IsRunnable, IsTypedAt, context, local_types}
@@ -88,10 +89,10 @@ record Fits (m : Module) (frame : ℕ) (C : Context) (code : Code) : Type 0 wher
   fits : length C.locals + highest 0 C code 0 + deepest 1 code ≤ frame
 
 module _ (m : Module) (frame x : ℕ) (f : FunctionTree) (t : FuncType) (run : IsRunnable m frame) (there : slice_get (module_tree m).functions x ≡ Some f) (has : slice_get m.types f.type_index ≡ Some t) where
-  type_is : function_type (module_tree m) x ≡ slice_get m.types f.type_index
+  type_is : body_type (module_tree m) x ≡ slice_get m.types f.type_index
   type_is = ap (option_and_then (λ (g : FunctionTree). slice_get m.types g.type_index)) there
 
-  pub type_known : function_type (module_tree m) x ≡ Some t
+  pub type_known : body_type (module_tree m) x ≡ Some t
   type_known = type_is ∙ has
 
   pub tree_known : f ≡ function_tree (function_of m x)
@@ -104,7 +105,7 @@ module _ (m : Module) (frame x : ℕ) (f : FunctionTree) (t : FuncType) (run : I
       let whole : Fits m frame (body_context (module_tree m) f) f.body = record { typed = typed.1; fits = run.needs x f there } in
       let tree : f.body ≡ code_at (function_of m x).body (start_of m x) 0 = ap (λ (g : FunctionTree). g.body) tree_known ∙ tree_is (function_of m x).body (start_of m x) in
       let named : body_context (module_tree m) f ≡ context m frame x [] =
-      ap (λ (o : Option FuncType). context_of m o f.locals) (sym type_is) ∙ ap (λ (g : FunctionTree). context_of m (function_type (module_tree m) x) g.locals) tree_known in
+      ap (λ (o : Option FuncType). context_of m o f.locals) (sym type_is) ∙ ap (λ (g : FunctionTree). context_of m (body_type (module_tree m) x) g.locals) tree_known in
       let here : Fits m frame (context m frame x []) (code_at (function_of m x).body (start_of m x) 0) = subst (λ (C : Context). Fits m frame C (code_at (function_of m x).body (start_of m x) 0)) named (subst (λ (c : Code). Fits m frame (body_context (module_tree m) f) c) tree whole) in
       record {
         typed = here.typed;
@@ -124,7 +125,7 @@ same_return n s s' below (OutOfFuel store) fuel next e = refl
 same_return n s s' below Stuck fuel next e = refl
 
 -- a call that may be made
-pub entered_by : (limits : RunLimits) (d : ℕ) (f : FunctionTree) (t : FuncType) (run next : Continuation) (s : State) (fuel : ℕ) → length t.params ≤ length s.operands → d < limits.depth
+pub entered_by : (limits : Terms) (d : ℕ) (f : FunctionTree) (t : FuncType) (run next : Continuation) (s : State) (fuel : ℕ) → length t.params ≤ length s.operands → d < limits.depth
     → invoke limits d f t run next s fuel ≡ return (length t.results) s (drop (length t.params) s.operands) (run (entered f t s) fuel) next
 entered_by limits d f t run next s fuel enough deep =
     let short : nat_lt (length s.operands) (length t.params) ≡ false = not_below (length s.operands) (length t.params) enough in
@@ -132,7 +133,7 @@ entered_by limits d f t run next s fuel enough deep =
     rw (short, open_)
 
 -- and one that may not
-exhausted_by : (limits : RunLimits) (d : ℕ) (f : FunctionTree) (t : FuncType) (run next : Continuation) (s : State) (fuel : ℕ) → length t.params ≤ length s.operands → limits.depth ≤ d
+exhausted_by : (limits : Terms) (d : ℕ) (f : FunctionTree) (t : FuncType) (run next : Continuation) (s : State) (fuel : ℕ) → length t.params ≤ length s.operands → limits.depth ≤ d
     → invoke limits d f t run next s fuel ≡ ended (Trapped trap.Exhausted s.store) fuel
 exhausted_by limits d f t run next s fuel enough deep =
     let short : nat_lt (length s.operands) (length t.params) ≡ false = not_below (length s.operands) (length t.params) enough in
@@ -152,12 +153,12 @@ any_at p [] i x e got = absurd (cc)
 any_at p (y ∷ xs) zero x e got = let h = (or_parts (p y) (list_any p xs) e).0 in let s : y ≡ x = cc in ap p (sym s) ∙ h
 any_at p (y ∷ xs) (suc i) x e got = any_at p xs i x (or_parts (p y) (list_any p xs) e).1 got
 
-pub no_floats : (m : Module) (x : ℕ) (f : FunctionTree) → IsSupported (module_tree m) → slice_get (module_tree m).functions x ≡ Some f → has_float f.locals ≡ false
+pub no_floats : (m : Module) (x : ℕ) (f : FunctionTree) → IsSupported Three (module_tree m) → slice_get (module_tree m).functions x ≡ Some f → has_float f.locals ≡ false
 no_floats m x f s there =
     let functions : list_any (λ (g : FunctionTree). has_float g.locals || code_uses_floats g.body) (module_tree m).functions ≡ false = (or_parts _ _ (or_parts _ _ (or_parts _ _ (or_parts _ _ s.no_float).0).0).0).1 in
     (or_parts (has_float f.locals) (code_uses_floats f.body) (any_at (λ (g : FunctionTree). has_float g.locals || code_uses_floats g.body) (module_tree m).functions x f functions there)).0
 
-module _ (m : Module) (limits : RunLimits) (frame : ℕ) where
+module _ (m : Module) (limits : Terms) (frame : ℕ) where
   arguments_cut : (k : Configuration) (t : FuncType) (below : List ValType) → map type_of k.operands ≡ reverse t.params ++ below → Cut k.operands (reverse t.params) below
   arguments_cut k t below e = types_cut k.operands (reverse t.params) below e
 
@@ -183,7 +184,7 @@ module _ (m : Module) (limits : RunLimits) (frame : ℕ) where
       let cut = arguments_cut k t c.below c.arguments in
       let enough = enough_arguments old store x r c in
       let count : length (reverse t.params) ≡ n = length-reverse t.params in
-      let known : function_type (module_tree m) x ≡ Some t = type_known m frame x f t run c.there c.typed in
+      let known : body_type (module_tree m) x ≡ Some t = type_known m frame x f t run c.there c.typed in
       let gives : results m x ≡ t.results = ap results_or_none known in
       let tree : f ≡ function_tree (function_of m x) = tree_known m frame x f t run c.there c.typed in
       let args : map type_of (take n k.operands) ≡ reverse t.params = ap (λ (z : ℕ). map type_of (take z k.operands)) (sym count) ∙ cut.upper in
@@ -193,7 +194,7 @@ module _ (m : Module) (limits : RunLimits) (frame : ℕ) where
       let locals : map type_of (reverse (take n k.operands) ++ map zero_of zeros) ≡ local_types m frame x =
       map-append (reverse (take n k.operands)) (map zero_of zeros)
       ∙ ap (λ (l : List ValType). l ++ map type_of (map zero_of zeros)) (map-reverse (take n k.operands) ∙ ap reverse args ∙ reverse-reverse t.params ∙ ap params_or_none (sym known))
-      ∙ ap (λ (l : List ValType). params_or_none (function_type (module_tree m) x) ++ l) (zero_types zeros floats) in
+      ∙ ap (λ (l : List ValType). params_or_none (body_type (module_tree m) x) ++ l) (zero_types zeros floats) in
       let resumes : IsTypedAt m frame k.function k.blocks (results m x ++ map type_of (drop n k.operands)) k.sequence k.place =
       subst (λ (us : List ValType). IsTypedAt m frame k.function k.blocks us k.sequence k.place) (ap (λ (us : List ValType). us ++ c.below) (sym gives) ∙ ap (λ (us : List ValType). results m x ++ us) (sym left)) c.resumes in
       let next : Continuation = resume_at m limits d k.function k.sequence k.place in

@@ -1,5 +1,5 @@
 -- Into an arm of an `if`.
-use Rattle.wasm_types.specs.declared.limits.RunLimits.{RunLimits}
+use Rattle.wasm_spec.specs.Execution.{Terms}
 use Rattle.std.proofs.Common.{◌≡◌, ℕ, zero, suc, ◌+◌, ◌-◌, ◌<◌, ◌≤◌, List, [], ◌∷◌, ◌++◌, length, map, Option, refl, sym, ap, ◌∙◌, subst, arith, length-append, false}
 use Rattle.std.specs.Prelude.{vec_capacity, ◌||◌}
 use Rattle.std.proofs.lemmas.List.{length-map}
@@ -43,7 +43,7 @@ condition_of [] below e = absurd (cc)
 condition_of (val.I64 n ∷ vs) below e = absurd (cc)
 condition_of (val.I32 n ∷ vs) below e = record { n = n; rest = vs; are = refl; types = cc }
 
-module _ (m : Module) (limits : RunLimits) (frame : ℕ) where
+module _ (m : Module) (limits : Terms) (frame : ℕ) where
   chosen : (d c : ℕ) (trees : ℕ → Code) (n j : ℕ) (u : State) (fuel : ℕ)
       → choose c (exec (module_tree m) limits d (trees n)) (exec (module_tree m) limits d (trees j)) u fuel ≡ exec (module_tree m) limits d (trees (chosen_arm c n j)) u fuel
   chosen d zero trees n j u fuel = refl

@@ -1,8 +1,8 @@
 -- Calls of elements of the table.
 use Rattle.wasm_types.specs.SameTypes.{same_type}
-use Rattle.wasm_types.specs.declared.limits.RunLimits.{RunLimits}
-use Rattle.std.proofs.Common.{◌≡◌, ℕ, zero, suc, ◌+◌, ◌<◌, List, [], ◌∷◌, ◌++◌, length, map, reverse, Bool, true, false, Option, Some, None, refl, sym, ap, ◌∙◌, subst, arith, length-append}
-use Rattle.std.specs.Prelude.{slice_get, not, option_and_then}
+use Rattle.wasm_spec.specs.Execution.{Terms}
+use Rattle.std.proofs.Common.{◌≡◌, ℕ, suc, ◌+◌, ◌<◌, List, [], ◌∷◌, ◌++◌, length, map, reverse, Bool, true, false, Option, Some, None, refl, sym, ap, ◌∙◌, subst, arith, length-append}
+use Rattle.std.specs.Prelude.{slice_get, not, option_and_then, IsSome, ◌-◌}
 use Rattle.wasm_types.specs.declared.types.ValType.{ValType}
 use Rattle.wasm_types.specs.declared.types.ValType.TheVariants.{I32}
 use Rattle.wasm_types.specs.declared.types.FuncType.{FuncType}
@@ -10,10 +10,13 @@ use Rattle.wasm_types.specs.declared.types.Limits.{Limits}
 use Rattle.wasm_types.specs.declared.outcome.Val.{Val}
 use Rattle.wasm_types.specs.declared.outcome.TrapKind.TheVariants as trap
 use Rattle.wasm_types.specs.declared.instr.Op.TheVariants as op
-use Rattle.wasm_types.specs.declared.module.Function.{Function}
 use Rattle.wasm_types.specs.declared.module.Module.{Module}
-use Rattle.wasm_types.specs.Tree.{Code, FunctionTree, function_tree, module_tree}
-use Rattle.wasm_spec.specs.Typing.{Context, Takes, Typed, type_of, calling_indirect, call_indirect_rule, function_type, IsTypedFunction}
+use Rattle.wasm_types.specs.Tree.{Code, function_tree, module_tree}
+use Rattle.wasm_spec.specs.Typing.{Context, Takes, Typed, type_of, calling_indirect, call_indirect_rule, IsTypedFunction}
+use Rattle.wasm_spec.specs.Functions.{Callee, Imported, Own, callee_at, callee_type, function_type}
+use Rattle.wasm_spec.proofs.FunctionNumbers.{callee_within, imported_there, own_there}
+use Rattle.wasm_types.specs.declared.module.Import.{Import}
+use Rattle.std.proofs.lemmas.List.{length-map}
 use Rattle.wasm_spec.specs.Need.{height, highest}
 use Rattle.wasm_spec.specs.Store.{Store}
 use Rattle.wasm_spec.specs.Execution.{State, Trapped, Ended, Continuation, ended, pop_index, unless, with_element, with_type, if_there, with_function, call, typed_call, element_call, exec}
@@ -24,7 +27,7 @@ use Rattle.machine_steps.specs.Configuration.{Configuration, state}
 use Rattle.wasm_machine.specs.Remaining.{after_sequence}
 use Rattle.machine_steps.specs.StackLayout.{KeepsRoom}
 use Rattle.wasm_machine.specs.TypedConfiguration.{operand_count, IsRunnable, IsTypedAt, context, ends_of}
-use Rattle.wasm_machine.specs.Simulation.{HasFetched, SimulatesCall, body_of, paid}
+use Rattle.wasm_machine.specs.Simulation.{HasFetched, SimulatesCalling, body_of, paid}
 use Rattle.machine_steps.specs.PlainSteps.{HasNumber}
 use Rattle.machine_steps.proofs.StackLayoutLemmas.{room_kept}
 use Rattle.wasm_machine.proofs.RemainingLemmas.{after_sequence-Trapped}
@@ -35,25 +38,25 @@ use Rattle.wasm_machine.proofs.StepLemmas.{calls_it}
 
 -- ---- functions that are there
 
-tree_within : (fs : List Function) (y : ℕ) → y < length fs → (f : FunctionTree) × (slice_get (map function_tree fs) y ≡ Some f)
-tree_within [] y h = absurd (omega arith)
-tree_within (f ∷ fs) zero h = (function_tree f, refl)
-tree_within (f ∷ fs) (suc y) h = tree_within fs y (omega arith)
-
 -- a function of the module, and its type
 pub record Member (m : Module) (y : ℕ) : Type 0 where
-  pub function : FunctionTree
+  pub callee : Callee
   pub type : FuncType
-  pub there : slice_get (module_tree m).functions y ≡ Some function
-  pub typed : slice_get m.types function.type_index ≡ Some type
+  pub there : callee_at (module_tree m) y ≡ Some callee
+  pub typed : callee_type (module_tree m) callee ≡ Some type
   pub known : function_type (module_tree m) y ≡ Some type
 
-pub member : (m : Module) (frame y : ℕ) → IsRunnable m frame → y < length m.functions → Member m y
+-- each callee of a valid module has a type
+has_type : (m : Module) (frame y : ℕ) (c : Callee) → IsRunnable m frame → callee_at (module_tree m) y ≡ Some c → IsSome (callee_type (module_tree m) c)
+has_type m frame y (Imported i) run there = all_found (λ (i : Import). IsSome (callee_type (module_tree m) (Imported i))) m.imports y i run.valid.imports (imported_there (module_tree m) y i there)
+has_type m frame y (Own f) run there =
+    (all_found (IsTypedFunction (module_tree m)) (module_tree m).functions (y - length m.imports) f run.valid.functions (own_there (module_tree m) y f there)).0
+
+pub member : (m : Module) (frame y : ℕ) → IsRunnable m frame → y < length m.imports + length m.functions → Member m y
 member m frame y run lt =
-    let (f, there) = tree_within m.functions y lt in
-    let typed : IsTypedFunction (module_tree m) f = all_found (IsTypedFunction (module_tree m)) (module_tree m).functions y f run.valid.functions there in
-    let (t, has) = some_found (slice_get m.types f.type_index) typed.0 in
-    record { function = f; type = t; there = there; typed = has; known = ap (option_and_then (λ (g : FunctionTree). slice_get m.types g.type_index)) there ∙ has }
+    let (c, there) = callee_within (module_tree m) y (let long = length-map m.functions function_tree in omega arith) in
+    let (t, has) = some_found (callee_type (module_tree m) c) (has_type m frame y c run there) in
+    record { callee = c; type = t; there = there; typed = has; known = ap (option_and_then (callee_type (module_tree m))) there ∙ has }
 
 -- ---- what the instruction takes
 
@@ -78,7 +81,7 @@ indirect C x ts middle h =
     let (t, below, is, takes, gives, counted) = indirect_by C.defined.tables (slice_get C.defined.types x) ts middle h in
     record { type = t; is = is; below = below; takes = takes; gives = gives; counted = counted }
 
-module _ (m : Module) (limits : RunLimits) (frame : ℕ) where
+module _ (m : Module) (limits : Terms) (frame : ℕ) where
   -- the type that is named, the index on the top, and what is left to do with it
   pub record Element (k : Configuration) (x : ℕ) (store : Store) (r : ℕ → Ended) : Type 0 where
     pub type : FuncType
@@ -146,7 +149,7 @@ module _ (m : Module) (limits : RunLimits) (frame : ℕ) where
     -- one that is a function goes on with the test of its type
     typed_goes : (e : Element b.configuration x store (paid r)) (y : ℕ) (h : Member m y) → slice_get store.table i ≡ Some (Some y) → (g : ℕ)
         → let k = b.configuration in let rest : Code = code_at (body_of m k) k.sequence k.place in
-        after_sequence m limits k (typed_call (module_tree m) limits (length k.activations + 1) (exec (module_tree m) limits (length k.activations + 1 + 1)) (exec (module_tree m) limits (length k.activations + 1) rest) e.type h.function h.type (state (record k { operands = e.index.rest }) store) g) ≡ paid r g
+        after_sequence m limits k (typed_call (module_tree m) limits (length k.activations + 1) (exec (module_tree m) limits (length k.activations + 1 + 1)) (exec (module_tree m) limits (length k.activations + 1) rest) e.type h.callee h.type (state (record k { operands = e.index.rest }) store) g) ≡ paid r g
     typed_goes e y h got g =
         let k = b.configuration in
         let d = length k.activations + 1 in
@@ -155,7 +158,7 @@ module _ (m : Module) (limits : RunLimits) (frame : ℕ) where
         let next : ℕ → Continuation = λ y. with_type (module_tree m) x (λ u. with_function (module_tree m) y (typed_call (module_tree m) limits d (exec (module_tree m) limits (d + 1)) (exec (module_tree m) limits d rest) u)) in
         sym (ap (λ (o : Option (Option ℕ)). after_sequence m limits k (with_element o next s g)) (ap (slice_get store.table) (sym (index_is e)) ∙ got)
         ∙ ap (λ (o : Option FuncType). after_sequence m limits k (if_there o (λ u. with_function (module_tree m) y (typed_call (module_tree m) limits d (exec (module_tree m) limits (d + 1)) (exec (module_tree m) limits d rest) u)) s g)) e.is
-        ∙ ap (after_sequence m limits k) (calls_it m y h.function h.type (typed_call (module_tree m) limits d (exec (module_tree m) limits (d + 1)) (exec (module_tree m) limits d rest) e.type) s g h.there h.typed))
+        ∙ ap (after_sequence m limits k) (calls_it m y h.callee h.type (typed_call (module_tree m) limits d (exec (module_tree m) limits (d + 1)) (exec (module_tree m) limits d rest) e.type) s g h.there h.typed))
         ∙ e.goes g
 
     pub other_type : (y : ℕ) (h : Member m y) → slice_get store.table i ≡ Some (Some y) → (same : Bool) → ((t u : FuncType) → slice_get m.types x ≡ Some t → function_type (module_tree m) y ≡ Some u → same ≡ same_type t u) → same ≡ false
@@ -168,11 +171,11 @@ module _ (m : Module) (limits : RunLimits) (frame : ℕ) where
         let s : State = state (record k { operands = e.index.rest }) store in
         let differ : same_type e.type h.type ≡ false = sym (tests e.type h.type e.is h.known) ∙ differs in
         sym (typed_goes e y h got g)
-        ∙ ap (λ (t : Bool). after_sequence m limits k (unless (not t) (Trapped trap.Signature store) (call (module_tree m) limits d (exec (module_tree m) limits (d + 1)) (exec (module_tree m) limits d rest) h.function h.type) s g)) differ
+        ∙ ap (λ (t : Bool). after_sequence m limits k (unless (not t) (Trapped trap.Signature store) (call (module_tree m) limits d (exec (module_tree m) limits (d + 1)) (exec (module_tree m) limits d rest) h.callee h.type) s g)) differ
         ∙ after_sequence-Trapped m limits k trap.Signature store g
 
     pub element_calls : (y : ℕ) (h : Member m y) → slice_get store.table i ≡ Some (Some y) → (same : Bool) → ((t u : FuncType) → slice_get m.types x ≡ Some t → function_type (module_tree m) y ≡ Some u → same ≡ same_type t u) → same ≡ true
-        → KeepsRoom old mid → SimulatesCall m limits frame mid store y (paid r)
+        → KeepsRoom old mid → SimulatesCalling m limits frame mid store y (paid r)
     element_calls y h got same tests is keeps =
         let e = element old store here x r b in
         let k = b.configuration in
@@ -186,7 +189,7 @@ module _ (m : Module) (limits : RunLimits) (frame : ℕ) where
           configuration = k';
           represents = p.1;
           type = h.type;
-          function = h.function;
+          callee = h.callee;
           there = h.there;
           typed = h.typed;
           below = e.below;
@@ -196,6 +199,6 @@ module _ (m : Module) (limits : RunLimits) (frame : ℕ) where
           stored = b.stored;
           room = room_kept limits.depth frame old mid b.room keeps;
           goes = λ fuel.
-              ap (λ (t : Bool). after_sequence m limits k (unless (not t) (Trapped trap.Signature store) (call (module_tree m) limits d (exec (module_tree m) limits (d + 1)) (exec (module_tree m) limits d rest) h.function h.type) (state k' store) fuel)) (sym agree)
+              ap (λ (t : Bool). after_sequence m limits k (unless (not t) (Trapped trap.Signature store) (call (module_tree m) limits d (exec (module_tree m) limits (d + 1)) (exec (module_tree m) limits d rest) h.callee h.type) (state k' store) fuel)) (sym agree)
               ∙ typed_goes e y h got fuel;
         }

@@ -18,3 +18,5 @@ pub mod RunLemmas
 pub mod StepLemmas
 pub mod TypeLemmas
 pub mod ZeroLemmas
+pub mod HostCallLemmas
+pub mod OutsideLemmas

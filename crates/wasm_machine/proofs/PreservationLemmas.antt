@@ -1,5 +1,5 @@
 -- What typing says of plain instructions, kind by kind.
-use Rattle.wasm_types.specs.declared.limits.RunLimits.{RunLimits}
+use Rattle.wasm_spec.specs.Execution.{Terms}
 use Rattle.std.proofs.Common.{◌≡◌, ℕ, zero, suc, ◌+◌, ◌^◌, ◌<◌, List, [], ◌∷◌, ◌++◌, Bool, true, false, length, map, set, Option, Some, None, Ok, refl, sym, ap, ◌∙◌, subst, arith, length-append}
 use Rattle.std.specs.Prelude.{slice_get, nat_lt, nat_le, ◌&&◌, if◌then◌else◌, take, drop, replicate}
 use Rattle.std.specs.Option.{option_map}
@@ -144,7 +144,7 @@ global_type_at [] x g e = absurd (cc)
 global_type_at (h ∷ gs) zero g e = let same : h.global_type ≡ g = cc in ap (λ (t : GlobalType). Some t.value) same
 global_type_at (h ∷ gs) (suc x) g e = global_type_at gs x g e
 
-module _ (m : Module) (limits : RunLimits) (C : Context) (of_module : C.defined ≡ module_tree m) where
+module _ (m : Module) (limits : Terms) (C : Context) (of_module : C.defined ≡ module_tree m) where
   -- ---- one operand more
 
   -- an instruction that puts this value on the top

@@ -1,5 +1,5 @@
 -- What an instruction needs is there.
-use Rattle.wasm_types.specs.declared.limits.RunLimits.{RunLimits}
+use Rattle.wasm_spec.specs.Execution.{Terms}
 use Rattle.std.proofs.Common.{◌≡◌, ℕ, ◌<◌, map, false, refl, arith}
 use Rattle.std.specs.Prelude.{vec_len, vec_capacity}
 use Rattle.wasm_types.specs.declared.instr.Instr.{Instr}
@@ -20,7 +20,7 @@ use Rattle.wasm_machine.proofs.BranchIfLemmas.{push_free}
 use Rattle.wasm_machine.proofs.StepLemmas.{not_stuck}
 use Rattle.wasm_machine.proofs.PreservationLemmas.{Pushes, local_pushes, global_pushes, const_pushes, size_pushes, global_there, plain_preserved}
 
-module _ (m : Module) (limits : RunLimits) (frame : ℕ) (machine : Machine) (store : Store) (here : ℕ) (r : ℕ → Ended) where
+module _ (m : Module) (limits : Terms) (frame : ℕ) (machine : Machine) (store : Store) (here : ℕ) (r : ℕ → Ended) where
   pushed : (i : Instr) (b : HasFetched m limits frame machine store here (op.Plain i) r) → Pushes m limits (context m frame b.configuration.function b.configuration.blocks) refl i (state b.configuration store)
       → vec_len machine.values < vec_capacity machine.values
   pushed i b p = omega (arith, push_free m limits frame machine store here i p.type r b p.rule_is)

@@ -1,5 +1,5 @@
 -- How ends pass the open blocks and the callers.
-use Rattle.wasm_types.specs.declared.limits.RunLimits.{RunLimits}
+use Rattle.wasm_spec.specs.Execution.{Terms}
 use Rattle.std.proofs.Common.{◌≡◌, ℕ, zero, suc, ◌+◌, ◌≤◌, List, [], ◌∷◌, ◌++◌, false, length, take, drop, refl, ap, ◌∙◌, arith}
 use Rattle.std.specs.Prelude.{nat_lt}
 use Rattle.std.proofs.lemmas.Bool.Decides.{nat_tests}
@@ -19,7 +19,7 @@ pub kept_on : (n : ℕ) (below : List Val) (next : Continuation) (s : State) (fu
     → keep n below next s fuel ≡ next (record s { operands = take n s.operands ++ below }) fuel
 kept_on n below next s fuel h = rw (not_below (length s.operands) n h)
 
-module _ (m : Module) (limits : RunLimits) where
+module _ (m : Module) (limits : Terms) where
   pub leave_blocks-Returned : (d x : ℕ) (os : List OpenBlock) (s : State) (f : ℕ) → leave_blocks m limits d x os (ended (Returned s) f) ≡ ended (Returned s) f
   leave_blocks-Returned d x [] s f = refl
   leave_blocks-Returned d x (o ∷ os) s f = leave_blocks-Returned d x os s f

@@ -1,5 +1,5 @@
 -- The ways out of a sequence.
-use Rattle.wasm_types.specs.declared.limits.RunLimits.{RunLimits}
+use Rattle.wasm_spec.specs.Execution.{Terms}
 use Rattle.std.proofs.Common.{◌≡◌, ℕ, ◌+◌, ◌≤◌, List, [], ◌∷◌, ◌++◌, length, map, take, drop, reverse, refl, sym, ap, ◌∙◌, subst, arith, append-nil, length-append}
 use Rattle.std.proofs.lemmas.List.{reverse-reverse, length-reverse, take_at, same_from_push}
 use Rattle.wasm_types.specs.declared.types.ValType.{ValType}
@@ -35,7 +35,7 @@ pub record IsCut (m : Module) (old new : Machine) : Type 0 where
   pub values : KeptTo old.values.items new.values.items count old.at.locals
   pub labels : new.labels.items ≡ take old.at.labels old.labels.items
 
-module _ (m : Module) (limits : RunLimits) (frame : ℕ) where
+module _ (m : Module) (limits : Terms) (frame : ℕ) where
   -- the results are there
   results_cut : (k : Configuration) → HasExitOperands m frame ByReturn k → Cut k.operands (results m k.function) (map type_of (drop (length (results m k.function)) k.operands))
   results_cut k (below, e) = let c = types_cut k.operands (results m k.function) below e in record { enough = c.enough; upper = c.upper; lower = refl }

@@ -1,5 +1,5 @@
 -- One instruction, as the machine does it.
-use Rattle.wasm_types.specs.declared.limits.RunLimits.{RunLimits}
+use Rattle.wasm_spec.specs.Execution.{Terms}
 use Rattle.std.proofs.Common.{◌≡◌, ℕ, ◌+◌, ◌*◌, ◌<◌, ◌≤◌, List, length, Option, Some, refl, sym, ap, ◌∙◌, subst, arith, length-append, mul-le-mul_right}
 use Rattle.std.specs.Prelude.{vec_capacity}
 use Rattle.std.proofs.lemmas.List.{length-map}
@@ -27,7 +27,7 @@ use Rattle.wasm_machine.proofs.BlockLemmas.{begins, beneath_fits, length-under}
 abbrev pub fetched : Machine → Machine
 fetched old = record { at = record old.at { place = old.at.place + 1 }; values = old.values; labels = old.labels; frames = old.frames }
 
-module _ (m : Module) (limits : RunLimits) (frame : ℕ) where
+module _ (m : Module) (limits : Terms) (frame : ℕ) where
   pub begun : (old : Machine) (store : Store) (o o' : Op) (r : ℕ → Ended) → Simulates m limits frame old store r → op_at m old ≡ Some o → o ≡ o' → HasFetched m limits frame (fetched old) store old.at.place o' r
   begun old store o o' r e there is =
       begins m limits frame old (fetched old) store o' r e (there ∙ ap (λ (x : Op). Some x) is) refl refl refl refl (record { values = omega arith; labels = omega arith; frames = omega arith })

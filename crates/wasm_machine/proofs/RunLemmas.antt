@@ -2,7 +2,7 @@
 use Rattle.std.proofs.Common.{◌≡◌, ℕ, ◌+◌, ◌-◌, ◌<◌, ◌≤◌, ⊎_elim, List, reverse, Option, Some, refl, sym, ap, ◌∙◌, subst, arith}
 use Rattle.std.specs.Prelude.{slice_get, unwrap_or}
 use Rattle.std.proofs.lemmas.Bool.{cases_lt}
-use Rattle.wasm_types.specs.declared.limits.RunLimits.{RunLimits}
+use Rattle.wasm_spec.specs.Execution.{Terms}
 use Rattle.wasm_types.specs.declared.module.Module.{Module}
 use Rattle.wasm_types.specs.declared.outcome.Outcome.TheVariants as outcome
 use Rattle.wasm_types.specs.declared.outcome.TrapKind.{TrapKind}
@@ -13,12 +13,21 @@ use Rattle.wasm_spec.specs.Result.{CallResult, result_of}
 use Rattle.linear_memory.specs.declared.memory.Memory.{Memory}
 use Rattle.linear_memory.specs.Bytes.{IsMemory, shown}
 use Rattle.linear_memory.specs.Marks.{KeepsUnmarked, MarksChanges}
-use Rattle.linear_memory.proofs.MarkedBlocks.{shown_unmarked}
+use Rattle.linear_memory.proofs.MarkedBlocks.{changes_more, shown_unmarked}
+use Rattle.wasm_machine.specs.Lent.{MarksWithin}
 use Rattle.machine_steps.specs.declared.machine.Machine.{Machine}
 use Rattle.wasm_machine.specs.Simulation.{AreMarkedBelow, Simulates, IsOver, after, paid, op_at}
 use Rattle.wasm_machine.proofs.BlockLemmas.{no_fuel}
 
 -- ---- marks
+
+-- marks of one part of a run after those of another
+pub within_more : (m : Module) (old mid new : Memory) (a b c : ℕ) → MarksWithin m old mid a → MarksWithin m mid new b → a + b ≤ c → MarksWithin m old new c
+within_more m old mid new a b c first second le = record {
+  added = first.added + second.added;
+  changes = changes_more old mid new first.added second.added (first.added + second.added) first.changes second.changes (omega arith);
+  few = λ none. let f = first.few none in let s = second.few none in omega arith;
+}
 
 module _ (r : ℕ → Ended) (old : Memory) where
   -- marks only grow
@@ -68,7 +77,7 @@ marked_trap r old t store spent bound most n new below is changes memory traps =
     let y : ℕ → CallResult = λ g. record { outcome = outcome.Trap t; store = store; fuel = g } in
     marked_from r old spent bound most n new y below is changes (λ g lt. ap result_of (traps g)) (λ g. memory)
 
-module _ (m : Module) (limits : RunLimits) (frame : ℕ) where
+module _ (m : Module) (limits : Terms) (frame : ℕ) where
   pub simulates_same : (machine : Machine) (store : Store) (r s : ℕ → Ended) → ((g : ℕ) → r g ≡ s g) → Simulates m limits frame machine store r → Simulates m limits frame machine store s
   simulates_same machine store r s e l = record { configuration = l.configuration; represents = l.represents; typed = l.typed; stored = l.stored; room = l.room; goes = λ g. l.goes g ∙ e g }
 

@@ -1,5 +1,5 @@
 -- What an instruction comes to.
-use Rattle.wasm_types.specs.declared.limits.RunLimits.{RunLimits}
+use Rattle.wasm_spec.specs.Execution.{Terms}
 use Rattle.std.proofs.Common.{◌≡◌, ◌≢◌, ℕ, suc, ◌+◌, ◌≤◌, List, ◌++◌, length, map, reverse, Option, Some, None, refl, sym, ap, ◌∙◌, subst, arith, length-append, false}
 use Rattle.std.specs.Prelude.{slice_get, option_and_then}
 use Rattle.wasm_types.specs.declared.types.ValType.{ValType}
@@ -9,11 +9,12 @@ use Rattle.wasm_types.specs.declared.instr.Instr.{Instr}
 use Rattle.wasm_types.specs.declared.instr.Instr.TheVariants as instr
 use Rattle.wasm_types.specs.declared.instr.Op.TheVariants as op
 use Rattle.wasm_types.specs.declared.module.Module.{Module}
-use Rattle.wasm_types.specs.Tree.{Code, Plain, FunctionTree, module_tree}
-use Rattle.wasm_spec.specs.Typing.{Context, Takes, Typed, type_of, rule, branch, calling, call_rule, function_type}
+use Rattle.wasm_types.specs.Tree.{Code, Plain, module_tree}
+use Rattle.wasm_spec.specs.Typing.{Context, Takes, Typed, type_of, rule, branch, calling, call_rule}
+use Rattle.wasm_spec.specs.Functions.{Callee, callee_at, callee_type, function_type}
 use Rattle.wasm_spec.specs.Need.{highest, deepest, height}
 use Rattle.wasm_spec.specs.Store.{Store}
-use Rattle.wasm_spec.specs.Execution.{State, Signal, Next, Branch, Returned, Trapped, OutOfFuel, Stuck, Ended, Continuation, ended, and_then, plain, with_function, if_there, with_type, call, exec}
+use Rattle.wasm_spec.specs.Execution.{State, Signal, Next, Branch, Returned, Trapped, OutOfFuel, Stuck, Ended, Continuation, ended, and_then, plain, with_function, if_there, call, exec}
 use Rattle.wasm_spec.proofs.Equations.{exec-Plain, exec-Call}
 use Rattle.wasm_types.specs.Sequences.{code_at}
 use Rattle.machine_steps.specs.declared.machine.Machine.{Machine}
@@ -24,26 +25,26 @@ use Rattle.wasm_machine.specs.TypedConfiguration.{operand_count, IsTypedContext,
 use Rattle.wasm_spec.specs.Bulk.{is_bulk, code_uses_bulk, uses_bulk}
 use Rattle.wasm_spec.proofs.NarrowModules.{neither}
 use Rattle.machine_steps.specs.PlainSteps.{EndsAs, with_state}
-use Rattle.wasm_machine.specs.Simulation.{HasFetched, HasLabelOperands, SimulatesCall, SimulatesPlain, IsPreserved, SimulatesExit, ToLabel, ByReturn, body_of, paid}
+use Rattle.wasm_machine.specs.Simulation.{HasFetched, HasLabelOperands, SimulatesCalling, SimulatesPlain, IsPreserved, SimulatesExit, ToLabel, ByReturn, body_of, paid}
 use Rattle.wasm_machine.proofs.RemainingLemmas.{after_sequence-Trapped}
 use Rattle.machine_steps.proofs.StackLayoutLemmas.{room_kept}
 
 -- ---- calls
 
--- the function that is called
-record Callee (m : Module) (o : Option FunctionTree) (t : FuncType) : Type 0 where
-  function : FunctionTree
-  is : o ≡ Some function
-  typed : slice_get m.types function.type_index ≡ Some t
+-- what is called
+record Called (m : Module) (o : Option Callee) (t : FuncType) : Type 0 where
+  callee : Callee
+  is : o ≡ Some callee
+  typed : callee_type (module_tree m) callee ≡ Some t
 
-callee_of : (m : Module) (o : Option FunctionTree) (t : FuncType) → option_and_then (λ (f : FunctionTree). slice_get m.types f.type_index) o ≡ Some t → Callee m o t
-callee_of m None t e = absurd (cc)
-callee_of m (Some f) t e = record { function = f; is = refl; typed = e }
+called_of : (m : Module) (o : Option Callee) (t : FuncType) → option_and_then (callee_type (module_tree m)) o ≡ Some t → Called m o t
+called_of m None t e = absurd (cc)
+called_of m (Some c) t e = record { callee = c; is = refl; typed = e }
 
-pub calls_it : (m : Module) (x : ℕ) (f : FunctionTree) (t : FuncType) (next : FunctionTree → FuncType → Continuation) (s : State) (fuel : ℕ)
-    → slice_get (module_tree m).functions x ≡ Some f → slice_get m.types f.type_index ≡ Some t → with_function (module_tree m) x next s fuel ≡ next f t s fuel
-calls_it m x f t next s fuel there typed =
-    ap (λ (o : Option FunctionTree). if_there o (λ g. with_type (module_tree m) g.type_index (next g)) s fuel) there ∙ ap (λ (o : Option FuncType). if_there o (next f) s fuel) typed
+pub calls_it : (m : Module) (x : ℕ) (c : Callee) (t : FuncType) (next : Callee → FuncType → Continuation) (s : State) (fuel : ℕ)
+    → callee_at (module_tree m) x ≡ Some c → callee_type (module_tree m) c ≡ Some t → with_function (module_tree m) x next s fuel ≡ next c t s fuel
+calls_it m x c t next s fuel there typed =
+    ap (λ (o : Option Callee). if_there o (λ d. if_there (callee_type (module_tree m) d) (next d)) s fuel) there ∙ ap (λ (o : Option FuncType). if_there o (next c) s fuel) typed
 
 -- a rule of a call takes the arguments and gives the results
 record CallTyped (o : Option FuncType) (ts middle : List ValType) : Type 0 where
@@ -65,15 +66,15 @@ call_typed (Some t) ts middle (below, takes, gives) = record {
   counted = omega (arith, ap length takes, ap length gives, length-append (reverse t.params) below, length-append t.results below);
 }
 
-module _ (m : Module) (limits : RunLimits) (frame : ℕ) where
-  pub call_calls : (machine : Machine) (store : Store) (here x : ℕ) (r : ℕ → Ended) → HasFetched m limits frame machine store here (op.Call x) r → SimulatesCall m limits frame machine store x (paid r)
+module _ (m : Module) (limits : Terms) (frame : ℕ) where
+  pub call_calls : (machine : Machine) (store : Store) (here x : ℕ) (r : ℕ → Ended) → HasFetched m limits frame machine store here (op.Call x) r → SimulatesCalling m limits frame machine store x (paid r)
   call_calls machine store here x r b =
       let k = b.configuration in
       let C : Context = context m frame k.function k.blocks in
       let rest : Code = code_at (body_of m k) k.sequence k.place in
       let (middle, takes, typed) = b.typed.typed in
       let c = call_typed (function_type (module_tree m) x) (map type_of k.operands) middle takes in
-      let f = callee_of m (slice_get (module_tree m).functions x) c.type c.is in
+      let f = called_of m (callee_at (module_tree m) x) c.type c.is in
       let fits = b.typed.fits in
       let same : highest (operand_count k.blocks) C rest (length (c.type.results ++ c.below)) ≡ highest (operand_count k.blocks) C rest (height (call_rule C x) (length (map type_of k.operands))) =
       ap (λ (z : ℕ). highest (operand_count k.blocks) C rest z) (ap length (sym c.gives) ∙ sym c.counted) in
@@ -85,7 +86,7 @@ module _ (m : Module) (limits : RunLimits) (frame : ℕ) where
         stored = b.stored;
         room = b.room;
         type = c.type;
-        function = f.function;
+        callee = f.callee;
         there = f.is;
         typed = f.typed;
         below = c.below;
@@ -94,7 +95,7 @@ module _ (m : Module) (limits : RunLimits) (frame : ℕ) where
         goes = λ fuel.
             ap (after_sequence m limits k)
             (sym (exec-Call (module_tree m) limits d x rest (state k store) fuel
-            ∙ calls_it m x f.function c.type (call (module_tree m) limits d (exec (module_tree m) limits (d + 1)) (exec (module_tree m) limits d rest)) (state k store) fuel f.is f.typed))
+            ∙ calls_it m x f.callee c.type (call (module_tree m) limits d (exec (module_tree m) limits (d + 1)) (exec (module_tree m) limits d rest)) (state k store) fuel f.is f.typed))
             ∙ b.goes (suc fuel);
       }
 

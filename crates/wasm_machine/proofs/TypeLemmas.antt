@@ -1,5 +1,5 @@
 -- What typing says of plain instructions.
-use Rattle.wasm_types.specs.declared.limits.RunLimits.{RunLimits}
+use Rattle.wasm_spec.specs.Execution.{Terms}
 use Rattle.std.proofs.Common.{◌≡◌, ℕ, List, [], ◌∷◌, length, map, Some, Result, Ok, Err, refl, sym, ap, ◌∙◌}
 use Rattle.wasm_types.specs.declared.types.ValType.{ValType}
 use Rattle.wasm_types.specs.declared.outcome.Val.{Val}
@@ -35,7 +35,7 @@ two_typed w (y ∷ x ∷ rest) below e =
     let (a, first) = has_number w x (cc) in
     (record { x = x; y = y; rest = rest; are = refl; a = a; b = b; first = first; second = second }, cc)
 
-module _ (m : Module) (limits : RunLimits) (C : Context) where
+module _ (m : Module) (limits : Terms) (C : Context) where
   pub value_preserved : (w : Width) (i : Instr) (ts below middle : List ValType) (vs : List Val) (s : State) (e : Result ℕ TrapKind) → middle ≡ integer_type w ∷ below → map type_of vs ≡ below
       → height (rule C i) (length ts) ≡ length middle → map type_of s.locals ≡ C.locals → IsTypedStore m s.store
       → IsPreserved m C i ts middle (or_trap e s (λ n. with_operands (value w n ∷ vs) s))

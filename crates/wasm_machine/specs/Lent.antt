@@ -1,10 +1,13 @@
 -- The parts that are lent to a run of a module, as its store. Of the globals the first are the module's.
-use Rattle.std.specs.Prelude.{ℕ, List, Option, length, take, drop}
+use Rattle.std.specs.Prelude.{◌≤◌, ℕ, List, Option, length, take, drop}
 use Rattle.wasm_types.specs.declared.outcome.Val.{Val}
 use Rattle.wasm_types.specs.declared.module.Module.{Module}
 use Rattle.wasm_spec.specs.Store.{Store}
 use Rattle.linear_memory.specs.declared.memory.Memory.{Memory}
+use Rattle.linear_memory.specs.Marks.{MarksChanges}
+use Rattle.wasm_types.specs.Tree.{module_tree}
 use Rattle.machine_steps.specs.Lent.{store_of}
+use Rattle.wasm_spec.specs.Bulk.{HasFewMarks}
 
 -- the module's own globals
 abbrev pub own : Module → List Val → List Val
@@ -14,5 +17,11 @@ own m globals = take (length m.globals) globals
 abbrev pub others : Module → List Val → List Val
 others m globals = drop (length m.globals) globals
 
-abbrev pub lent_store : Module → Memory → List (Option ℕ) → List Val → Store
-lent_store m memory table globals = store_of memory table (own m globals)
+abbrev pub lent_store : Module → Memory → List (Option ℕ) → List Val → List ℕ → Store
+lent_store m memory table globals answer = store_of memory table (own m globals) answer
+
+-- what changes is marked, and at most so many blocks more are, where the module has few marks
+pub record MarksWithin (m : Module) (old new : Memory) (most : ℕ) : Type 0 where
+  pub added : ℕ
+  pub changes : MarksChanges old new added
+  pub few : HasFewMarks (module_tree m) → added ≤ most

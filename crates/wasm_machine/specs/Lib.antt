@@ -1,5 +1,4 @@
 pub mod Remaining
-pub mod MostMarks
 pub mod TypedConfiguration
 pub mod Simulation
 pub mod Lent

@@ -1,33 +1,38 @@
 -- What is still to do from a configuration on.
-use Rattle.wasm_types.specs.declared.limits.RunLimits.{RunLimits}
-use Rattle.std.specs.Prelude.{ℕ, ◌+◌, List, [], ◌∷◌, length, get_or}
+use Rattle.wasm_spec.specs.Execution.{Terms}
+use Rattle.std.specs.Prelude.{ℕ, ◌+◌, List, [], ◌∷◌, Option, length, get_or, option_and_then, slice_get}
 use Rattle.wasm_types.specs.declared.types.ValType.{ValType}
 use Rattle.wasm_types.specs.declared.outcome.Val.{Val}
 use Rattle.wasm_types.specs.declared.module.Function.{Function}
 use Rattle.wasm_types.specs.declared.module.Module.{Module}
-use Rattle.wasm_types.specs.Tree.{module_tree}
-use Rattle.wasm_spec.specs.Typing.{function_type, results_or_none}
+use Rattle.wasm_types.specs.declared.types.FuncType.{FuncType}
+use Rattle.wasm_types.specs.Tree.{ModuleTree, module_tree}
+use Rattle.wasm_spec.specs.Typing.{results_or_none}
 use Rattle.wasm_spec.specs.Store.{Store}
 use Rattle.wasm_spec.specs.Execution.{State, Ended, Continuation, leave, return, exec}
 use Rattle.wasm_spec.specs.Result.{finish}
 use Rattle.wasm_types.specs.Sequences.{code_at}
 use Rattle.machine_steps.specs.Configuration.{OpenBlock, Activation, Configuration, state}
 
--- a function that isn't there has no code
+-- Functions are named by their numbers among the module's own, since imports have no code. One that isn't there has none.
 abbrev pub absent : Function
 absent = record { type_index = 0; locals = []; body = record { sequences = [] } }
 
 abbrev pub function_of : Module → ℕ → Function
 function_of m x = get_or m.functions x absent
 
+-- the type of one of the module's own functions, by its number among these
+abbrev pub body_type : ModuleTree → ℕ → Option FuncType
+body_type m x = option_and_then (λ f. slice_get m.types f.type_index) (slice_get m.functions x)
+
 abbrev pub results : Module → ℕ → List ValType
-results m x = results_or_none (function_type (module_tree m) x)
+results m x = results_or_none (body_type (module_tree m) x)
 
 -- of a caller's state only its locals count once the call is made
 abbrev pub resting : List Val → State
-resting locals = record { locals = locals; operands = []; store = record { memory = []; table = []; globals = [] } }
+resting locals = record { locals = locals; operands = []; store = record { memory = []; table = []; globals = []; answer = [] } }
 
-module _ (m : Module) (limits : RunLimits) where
+module _ (m : Module) (limits : Terms) where
   -- goes on at a place of a function
   abbrev pub resume_at : (depth x q place : ℕ) → Continuation
   resume_at depth x q place = exec (module_tree m) limits depth (code_at (function_of m x).body q place)

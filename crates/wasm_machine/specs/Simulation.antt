@@ -1,5 +1,4 @@
 -- What a machine's steps come to.
-use Rattle.wasm_types.specs.declared.limits.RunLimits.{RunLimits}
 use Rattle.std.specs.Prelude.{◌≡◌, ℕ, zero, suc, ◌+◌, ◌-◌, ◌<◌, List, [], ◌∷◌, ◌++◌, Bool, true, false, length, map, take, drop, reverse, Option, Some, None, slice_get}
 use Rattle.wasm_types.specs.declared.types.ValType.{ValType}
 use Rattle.wasm_types.specs.declared.outcome.TrapKind.{TrapKind}
@@ -14,7 +13,8 @@ use Rattle.wasm_spec.specs.Typing.{Context, type_of, rule}
 use Rattle.wasm_spec.specs.Need.{height}
 use Rattle.wasm_spec.specs.Store.{Store}
 use Rattle.wasm_spec.specs.Result.{CallResult, result_of}
-use Rattle.wasm_spec.specs.Execution.{State, Signal, Next, Branch, Returned, Trapped, OutOfFuel, Stuck, Ended, ended, exec, invoke, zero_of}
+use Rattle.wasm_spec.specs.Functions.{Callee, callee_at, callee_type}
+use Rattle.wasm_spec.specs.Execution.{Terms, call, State, Signal, Next, Branch, Returned, Trapped, OutOfFuel, Stuck, Ended, ended, exec, invoke, zero_of}
 use Rattle.wasm_types.specs.Sequences.{code_at, earlier, ops_of}
 use Rattle.machine_steps.specs.declared.machine.Machine.{Machine}
 use Rattle.wasm_machine.specs.declared.running.Step.{Step}
@@ -29,7 +29,7 @@ use Rattle.machine_steps.specs.StackLayout.{Represents, HasRoom}
 use Rattle.wasm_machine.specs.TypedConfiguration.{IsTypedCode, IsRunnable, IsTypedAt, IsTypedConfiguration, IsTypedContext, IsTypedStore, context, ends_of}
 
 -- From here a run goes on so that with any fuel it comes to what r gives for that fuel.
-pub record Simulates (m : Module) (limits : RunLimits) (frame : ℕ) (machine : Machine) (store : Store) (r : ℕ → Ended) : Type 0 where
+pub record Simulates (m : Module) (limits : Terms) (frame : ℕ) (machine : Machine) (store : Store) (r : ℕ → Ended) : Type 0 where
   pub configuration : Configuration
   pub represents : Represents configuration machine
   pub typed : IsTypedConfiguration m frame limits.depth configuration
@@ -62,7 +62,7 @@ HasExitOperands m frame (ToLabel l) k = HasLabelOperands (context m frame k.func
 HasExitOperands m frame ByReturn k = (below : List ValType) × (map type_of k.operands ≡ results m k.function ++ below)
 
 -- the same, where the current sequence is left this way
-pub record SimulatesExit (way : Exit) (m : Module) (limits : RunLimits) (frame : ℕ) (machine : Machine) (store : Store) (r : ℕ → Ended) : Type 0 where
+pub record SimulatesExit (way : Exit) (m : Module) (limits : Terms) (frame : ℕ) (machine : Machine) (store : Store) (r : ℕ → Ended) : Type 0 where
   pub configuration : Configuration
   pub represents : Represents configuration machine
   pub around : IsTypedContext m frame limits.depth configuration
@@ -76,7 +76,7 @@ pub record IsOver (m : Module) (machine : Machine) (store : Store) (r : ℕ → 
   pub stored : IsTypedStore m store
   pub goes : (fuel : ℕ) → r fuel ≡ ended (Next (record { locals = []; operands = reverse machine.values.items; store = store })) fuel
 
-abbrev pub SimulatesStep : Step → Module → RunLimits → ℕ → Machine → Store → (ℕ → Ended) → Type 0
+abbrev pub SimulatesStep : Step → Module → Terms → ℕ → Machine → Store → (ℕ → Ended) → Type 0
 SimulatesStep step.Continues m limits frame machine store r = Simulates m limits frame machine store r
 SimulatesStep step.Finishes m limits frame machine store r = IsOver m machine store r
 SimulatesStep (step.Traps t) m limits frame machine store r = (fuel : ℕ) → r fuel ≡ ended (Trapped t store) fuel
@@ -89,13 +89,13 @@ abbrev pub op_at : Module → Machine → Option Op
 op_at m machine = slice_get (ops_of (function_of m machine.at.function).body machine.at.sequence) machine.at.place
 
 -- the run goes on, or is over
-abbrev pub SimulatesUnlessOver : Bool → Module → RunLimits → ℕ → Machine → Store → (ℕ → Ended) → Type 0
+abbrev pub SimulatesUnlessOver : Bool → Module → Terms → ℕ → Machine → Store → (ℕ → Ended) → Type 0
 SimulatesUnlessOver true m limits frame machine store r = IsOver m machine store r
 SimulatesUnlessOver false m limits frame machine store r = Simulates m limits frame machine store r
 
 -- some run leaves the current sequence this way
 pub record CanExit (way : Exit) (m : Module) (machine : Machine) : Type 0 where
-  pub limits : RunLimits
+  pub limits : Terms
   pub frame : ℕ
   pub store : Store
   pub to : ℕ → Ended
@@ -115,7 +115,7 @@ abbrev pub doing : Module → Op → Configuration → Code
 doing m o k = code_of (earlier (body_of m k) k.sequence) (o ∷ drop k.place (ops_of (body_of m k) k.sequence))
 
 -- The machine stands behind an instruction that is still to be done, at the place `here`.
-pub record HasFetched (m : Module) (limits : RunLimits) (frame : ℕ) (machine : Machine) (store : Store) (here : ℕ) (o : Op) (r : ℕ → Ended) : Type 0 where
+pub record HasFetched (m : Module) (limits : Terms) (frame : ℕ) (machine : Machine) (store : Store) (here : ℕ) (o : Op) (r : ℕ → Ended) : Type 0 where
   pub configuration : Configuration
   pub represents : Represents configuration machine
   pub is : code_at (body_of m configuration) configuration.sequence here ≡ doing m o configuration
@@ -129,14 +129,14 @@ pub record HasFetched (m : Module) (limits : RunLimits) (frame : ℕ) (machine :
 
 -- some run goes on from here
 pub record CanContinue (m : Module) (machine : Machine) : Type 0 where
-  pub limits : RunLimits
+  pub limits : Terms
   pub frame : ℕ
   pub store : Store
   pub to : ℕ → Ended
   pub simulates : Simulates m limits frame machine store to
 
 -- at an instruction, or over
-abbrev pub Fetches : Option Op → Module → RunLimits → ℕ → Machine → Store → (ℕ → Ended) → Type 0
+abbrev pub Fetches : Option Op → Module → Terms → ℕ → Machine → Store → (ℕ → Ended) → Type 0
 Fetches None m limits frame machine store r = IsOver m machine store r
 Fetches (Some o) m limits frame machine store r = Simulates m limits frame machine store r × (op_at m machine ≡ Some o)
 
@@ -151,7 +151,7 @@ left_of (halt.Trapped t left) = left
 left_of halt.OutOfFuel = 0
 
 -- What a run from here on comes to. Where the fuel is used up it stands at an instruction, from which it may go on.
-abbrev pub HaltsAs : Halt → Module → RunLimits → ℕ → Machine → Store → ℕ → (ℕ → Ended) → Type 0
+abbrev pub HaltsAs : Halt → Module → Terms → ℕ → Machine → Store → ℕ → (ℕ → Ended) → Type 0
 HaltsAs (halt.Done left) m limits frame machine store fuel r = IsOver m machine store (after (fuel - left) r)
 HaltsAs (halt.Trapped t left) m limits frame machine store fuel r = (g : ℕ) → r ((fuel - left) + g) ≡ ended (Trapped t store) g
 HaltsAs halt.OutOfFuel m limits frame machine store fuel r = Simulates m limits frame machine store (after fuel r) × (r fuel ≡ ended (OutOfFuel store) 0)
@@ -180,8 +180,34 @@ in_function m k x n = record {
   activations = record { function = k.function; sequence = k.sequence; after = k.place; locals = k.locals; below = drop n k.operands; blocks = k.blocks } ∷ k.activations;
 }
 
--- The machine stands behind a call, of which the function and its arguments are known to fit.
-pub record SimulatesCall (m : Module) (limits : RunLimits) (frame : ℕ) (machine : Machine) (store : Store) (x : ℕ) (r : ℕ → Ended) : Type 0 where
+-- The machine stands behind a call, of which the callee and its arguments are known to fit.
+pub record SimulatesCalling (m : Module) (limits : Terms) (frame : ℕ) (machine : Machine) (store : Store) (x : ℕ) (r : ℕ → Ended) : Type 0 where
+  pub configuration : Configuration
+  pub represents : Represents configuration machine
+  pub callee : Callee
+  pub type : FuncType
+  pub there : callee_at (module_tree m) x ≡ Some callee
+  pub typed : callee_type (module_tree m) callee ≡ Some type
+  pub below : List ValType
+  pub arguments : map type_of configuration.operands ≡ reverse type.params ++ below
+  pub resumes : IsTypedAt m frame configuration.function configuration.blocks (type.results ++ below) configuration.sequence configuration.place
+  pub around : IsTypedContext m frame limits.depth configuration
+  pub stored : IsTypedStore m store
+  pub room : HasRoom limits.depth frame machine
+  pub goes : (fuel : ℕ) → after_sequence m limits configuration (call (module_tree m) limits (length configuration.activations + 1)
+      (exec (module_tree m) limits (length configuration.activations + 1 + 1))
+      (resume_at m limits (length configuration.activations + 1) configuration.function configuration.sequence configuration.place) callee type (state configuration store) fuel) ≡ r fuel
+
+-- some run makes this call
+pub record CanCallNumber (m : Module) (limits : Terms) (machine : Machine) (x : ℕ) : Type 0 where
+  pub frame : ℕ
+  pub store : Store
+  pub to : ℕ → Ended
+  pub runnable : IsRunnable m frame
+  pub calling : SimulatesCalling m limits frame machine store x to
+
+-- The machine stands behind a call of an own function, by its number among these, which and whose arguments are known to fit.
+pub record SimulatesCall (m : Module) (limits : Terms) (frame : ℕ) (machine : Machine) (store : Store) (x : ℕ) (r : ℕ → Ended) : Type 0 where
   pub configuration : Configuration
   pub represents : Represents configuration machine
   pub type : FuncType
@@ -198,8 +224,8 @@ pub record SimulatesCall (m : Module) (limits : RunLimits) (frame : ℕ) (machin
       (exec (module_tree m) limits (length configuration.activations + 1 + 1) function.body)
       (resume_at m limits (length configuration.activations + 1) configuration.function configuration.sequence configuration.place) (state configuration store) fuel) ≡ r fuel
 
--- some run makes this call
-pub record CanCall (m : Module) (limits : RunLimits) (machine : Machine) (x : ℕ) : Type 0 where
+-- some run makes this call of an own function
+pub record CanCall (m : Module) (limits : Terms) (machine : Machine) (x : ℕ) : Type 0 where
   pub frame : ℕ
   pub store : Store
   pub to : ℕ → Ended
@@ -207,7 +233,7 @@ pub record CanCall (m : Module) (limits : RunLimits) (machine : Machine) (x : �
   pub calling : SimulatesCall m limits frame machine store x to
 
 -- some run calls an element of this table
-pub record CanCallElement (m : Module) (limits : RunLimits) (table : List (Option ℕ)) (machine : Machine) (x : ℕ) : Type 0 where
+pub record CanCallElement (m : Module) (limits : Terms) (table : List (Option ℕ)) (machine : Machine) (x : ℕ) : Type 0 where
   pub frame : ℕ
   pub store : Store
   pub here : ℕ
@@ -234,7 +260,7 @@ IsPreserved m C i ts middle (OutOfFuel store) = ⊥
 IsPreserved m C i ts middle Stuck = ⊥
 
 -- what the machine says after a plain instruction
-abbrev pub SimulatesPlain : Option TrapKind → Module → RunLimits → ℕ → Machine → Store → (ℕ → Ended) → Type 0
+abbrev pub SimulatesPlain : Option TrapKind → Module → Terms → ℕ → Machine → Store → (ℕ → Ended) → Type 0
 SimulatesPlain None m limits frame machine store r = Simulates m limits frame machine store r
 SimulatesPlain (Some t) m limits frame machine store r = (fuel : ℕ) → r fuel ≡ ended (Trapped t store) fuel
 
@@ -248,7 +274,7 @@ step_unless_trapped (Some t) = step.Traps t
 
 -- some run does this instruction next
 pub record CanExecuteNext (m : Module) (o : Op) (machine : Machine) : Type 0 where
-  pub limits : RunLimits
+  pub limits : Terms
   pub frame : ℕ
   pub store : Store
   pub here : ℕ

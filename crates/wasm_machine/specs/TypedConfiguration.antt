@@ -3,14 +3,15 @@ use Rattle.std.specs.Prelude.{◌≡◌, ℕ, ◌+◌, ◌<◌, ◌≤◌, List,
 use Rattle.wasm_types.specs.declared.types.ValType.{ValType}
 use Rattle.wasm_types.specs.declared.module.Module.{Module}
 use Rattle.wasm_types.specs.Tree.{Code, FunctionTree, function_tree, module_tree}
-use Rattle.wasm_spec.specs.Typing.{Context, Typed, type_of, function_type, params_or_none}
+use Rattle.wasm_spec.specs.Typing.{Context, Typed, type_of, params_or_none}
 use Rattle.wasm_spec.specs.Need.{highest, deepest, need}
 use Rattle.wasm_spec.specs.Store.{Store}
+use Rattle.wasm_types.specs.declared.profile.Profile.TheVariants.{Three}
 use Rattle.wasm_spec.specs.Validity.{IsSupported, IsValid}
 use Rattle.wasm_types.specs.Sequences.{code_at}
 use Rattle.wasm_validate.specs.Locals.{HaveNoEmptyRun}
 use Rattle.machine_steps.specs.Configuration.{OpenBlock, Activation, Configuration}
-use Rattle.wasm_machine.specs.Remaining.{function_of, results}
+use Rattle.wasm_machine.specs.Remaining.{function_of, body_type, results}
 use Rattle.wasm_spec.specs.Bulk.{code_uses_bulk, uses_bulk}
 
 -- the number of operands under these blocks
@@ -20,14 +21,14 @@ operand_count (o ∷ os) = operand_count os + length o.below
 
 -- a valid module, whose functions fit a frame of this size and have no runs of no locals, over which a call would walk
 pub record IsRunnable (m : Module) (frame : ℕ) : Type 0 where
-  pub supported : IsSupported (module_tree m)
+  pub supported : IsSupported Three (module_tree m)
   pub valid : IsValid (module_tree m)
   pub needs : (x : ℕ) (f : FunctionTree) → slice_get (module_tree m).functions x ≡ Some f → need (module_tree m) f ≤ frame
   pub locals : HaveNoEmptyRun m
 
 module _ (m : Module) (frame : ℕ) where
   abbrev pub local_types : ℕ → List ValType
-  local_types x = params_or_none (function_type (module_tree m) x) ++ (function_tree (function_of m x)).locals
+  local_types x = params_or_none (body_type (module_tree m) x) ++ (function_tree (function_of m x)).locals
 
   -- the context of code inside these blocks of a function
   abbrev pub context : ℕ → List OpenBlock → Context
@@ -82,4 +83,4 @@ module _ (m : Module) (frame : ℕ) where
 -- globals of their types, and a table of functions that are there
 pub record IsTypedStore (m : Module) (store : Store) : Type 0 where
   pub globals : map type_of store.globals ≡ map (λ g. g.global_type.value) (module_tree m).globals
-  pub table : (i x : ℕ) → slice_get store.table i ≡ Some (Some x) → x < length m.functions
+  pub table : (i x : ℕ) → slice_get store.table i ≡ Some (Some x) → x < length m.imports + length m.functions

@@ -1,22 +1,28 @@
 //! Calls, from outside and of one function by another.
-ghost use Rattle.std.specs.Prelude.{◌≡◌, ℕ, ◌+◌, ◌-◌, ◌<◌, ◌≤◌, ◌++◌, All, length, map, replicate, slice_get, vec_len, vec_capacity};
+ghost use Rattle.std.specs.Prelude.{◌≡◌, ℕ, ◌^◌, List, Option, ◌+◌, ◌-◌, ◌<◌, ◌≤◌, ◌++◌, All, length, map, replicate, slice_get, vec_len, vec_capacity};
 ghost use Rattle.std.specs.List.{flat_map};
 ghost use Rattle.wasm_types.specs.declared.limits.RunLimits.{RunLimits as Limits};
+ghost use Rattle.wasm_types.specs.declared.outcome.Val.{Val as AVal};
+ghost use Rattle.linear_memory.specs.Bytes.{IsMemory};
+ghost use Rattle.machine_steps.specs.Lent.{store_of};
+ghost use Rattle.wasm_machine.specs.Lent.{MarksWithin};
 ghost use Rattle.wasm_types.specs.Tree.{function_tree, locals_of, module_tree};
-ghost use Rattle.wasm_spec.specs.Execution.{Ended, zero_of};
+ghost use Rattle.wasm_spec.specs.Execution.{Ended, Terms, terms, zero_of};
 ghost use Rattle.wasm_spec.specs.Store.{Store};
 ghost use Rattle.wasm_spec.specs.Result.{run_function};
 ghost use Rattle.wasm_validate.specs.Locals.{HasLocals, HasNoEmptyRun};
-ghost use Rattle.wasm_machine.specs.Calls.{IsCall};
+ghost use Rattle.wasm_machine.specs.Calls.{IsOwnCall};
 ghost use Rattle.machine_steps.specs.Configuration.{Configuration};
 ghost use Rattle.wasm_machine.specs.Remaining.{function_of};
 ghost use Rattle.machine_steps.specs.StackLayout.{HasRoom, KeepsRoom, Represents};
 ghost use Rattle.wasm_machine.specs.TypedConfiguration.{IsRunnable, IsTypedStore};
 ghost use Rattle.wasm_types.specs.declared.instr.Op.TheVariants as op;
-ghost use Rattle.wasm_machine.specs.Simulation.{HasFetched, CanCall, CanCallElement, Simulates, SimulatesCall, SimulatesStep, in_function, paid};
+ghost use Rattle.wasm_machine.specs.Simulation.{HasFetched, CanCall, CanCallNumber, CanCallElement, Simulates, SimulatesCall, SimulatesCalling, SimulatesStep, in_function, paid};
 
-use crate::lookup::{has_type, local_runs, param_count, start_of};
-use crate::running::Step;
+use crate::lookup::{has_type, host_of, local_runs, param_count, start_of};
+use crate::running::{Step, unless_trapped};
+use call_payload::AnswerBuf;
+use linear_memory::Memory;
 use machine_steps::{Machine, Position, push};
 use wasm_types::{LocalRun, Module, RunLimits, TrapKind, Val, ValType};
 
@@ -85,11 +91,11 @@ fn enter_function(machine: &mut Machine, m: &Module, x: usize, count: usize)
     };
 }
 
-// Calls a function, if one more call may be open.
-pub(crate) fn invoke(machine: &mut Machine, m: &Module, limits: RunLimits, x: usize) -> Step
-    requires { CanCall m.now limits machine.old x }
-    ensures steps { (frame : ℕ) (store : Store) (r : ℕ → Ended) → IsRunnable m.now frame → SimulatesCall m.now limits frame machine.old store x r
-        → SimulatesStep result m.now limits frame machine.new store r }
+// Calls one of the module's own functions, if one more call may be open.
+fn invoke(machine: &mut Machine, m: &Module, limits: RunLimits, x: usize) -> Step
+    requires { (request : List ℕ) × CanCall m.now (terms limits request) machine.old x }
+    ensures steps { (request : List ℕ) (frame : ℕ) (store : Store) (r : ℕ → Ended) → IsRunnable m.now frame → SimulatesCall m.now (terms limits request) frame machine.old store x r
+        → SimulatesStep result m.now (terms limits request) frame machine.new store r }
     ensures room { KeepsRoom machine.old machine.new }
 {
     if machine.frames.len() + 1 >= limits.depth as usize {
@@ -99,27 +105,89 @@ pub(crate) fn invoke(machine: &mut Machine, m: &Module, limits: RunLimits, x: us
     Step::Continues
 }
 
-// Calls the function that an element of the table is, if it has the type that is named.
-pub(crate) fn invoke_indirect(
+// Calls an import, for which the host has what it does in place of a body.
+fn call_import(
+    machine: &mut Machine,
+    m: &Module,
+    request: &[u8],
+    memory: &mut Memory,
+    answer: &mut AnswerBuf,
+    x: usize,
+) -> Step
+    requires import { x < length m.now.imports }
+    requires can { (limits : Limits) × CanCallNumber m.now (terms limits request.now) machine.old x }
+    requires memory { (most : ℕ) × IsMemory most memory.old }
+    requires short { length request.now < 2 ^ 32 }
+    ensures steps { (limits : Limits) (frame : ℕ) (table : List (Option ℕ)) (globals : List AVal) (r : ℕ → Ended) → IsRunnable m.now frame
+        → SimulatesCalling m.now (terms limits request.now) frame machine.old (store_of memory.old table globals answer.old) x r
+        → SimulatesStep result m.now (terms limits request.now) frame machine.new (store_of memory.new table globals answer.new) r }
+    ensures room { KeepsRoom machine.old machine.new }
+    ensures memory { (most : ℕ) → IsMemory most memory.old → IsMemory most memory.new }
+    ensures marks { MarksWithin m.now memory.old memory.new 0 }
+{
+    match host_of(m, x) {
+        Some(function) => unless_trapped(machine.host(function, request, memory, answer)),
+        None => unreachable!(),
+    }
+}
+
+// Calls a function by its number: the imports have the first ones.
+pub(crate) fn call(
     machine: &mut Machine,
     m: &Module,
     limits: RunLimits,
-    table: &[Option<u32>],
+    request: &[u8],
+    memory: &mut Memory,
+    answer: &mut AnswerBuf,
     x: u32,
 ) -> Step
-    requires { CanCallElement m.now limits table.now machine.old x }
-    ensures steps { (frame : ℕ) (store : Store) (here : ℕ) (r : ℕ → Ended) → IsRunnable m.now frame → store.table ≡ table.now
-        → HasFetched m.now limits frame machine.old store here (op.CallIndirect x) r
-        → SimulatesStep result m.now limits frame machine.new store (paid r) }
+    requires can { CanCallNumber m.now (terms limits request.now) machine.old x }
+    requires memory { (most : ℕ) × IsMemory most memory.old }
+    requires short { length request.now < 2 ^ 32 }
+    ensures steps { (frame : ℕ) (table : List (Option ℕ)) (globals : List AVal) (r : ℕ → Ended) → IsRunnable m.now frame
+        → SimulatesCalling m.now (terms limits request.now) frame machine.old (store_of memory.old table globals answer.old) x r
+        → SimulatesStep result m.now (terms limits request.now) frame machine.new (store_of memory.new table globals answer.new) r }
     ensures room { KeepsRoom machine.old machine.new }
+    ensures memory { (most : ℕ) → IsMemory most memory.old → IsMemory most memory.new }
+    ensures marks { MarksWithin m.now memory.old memory.new 0 }
+{
+    let x = x as usize;
+    let imported = m.imports.len();
+    if x < imported {
+        call_import(machine, m, request, memory, answer, x)
+    } else {
+        invoke(machine, m, limits, x - imported)
+    }
+}
+
+// Calls the function that an element of the table is, if it has the type that is named.
+pub(crate) fn call_indirect(
+    machine: &mut Machine,
+    m: &Module,
+    limits: RunLimits,
+    request: &[u8],
+    memory: &mut Memory,
+    table: &[Option<u32>],
+    answer: &mut AnswerBuf,
+    x: u32,
+) -> Step
+    requires can { CanCallElement m.now (terms limits request.now) table.now machine.old x }
+    requires memory { (most : ℕ) × IsMemory most memory.old }
+    requires short { length request.now < 2 ^ 32 }
+    ensures steps { (frame : ℕ) (globals : List AVal) (here : ℕ) (r : ℕ → Ended) → IsRunnable m.now frame
+        → HasFetched m.now (terms limits request.now) frame machine.old (store_of memory.old table.now globals answer.old) here (op.CallIndirect x) r
+        → SimulatesStep result m.now (terms limits request.now) frame machine.new (store_of memory.new table.now globals answer.new) (paid r) }
+    ensures room { KeepsRoom machine.old machine.new }
+    ensures memory { (most : ℕ) → IsMemory most memory.old → IsMemory most memory.new }
+    ensures marks { MarksWithin m.now memory.old memory.new 0 }
 {
     let i = machine.pop32();
     match element_at(table, i) {
         None => Step::Traps(TrapKind::Element),
         Some(None) => Step::Traps(TrapKind::Uninit),
         Some(Some(y)) => {
-            if has_type(m, y as usize, x as usize) {
-                invoke(machine, m, limits, y as usize)
+            if has_type(m, y, x as usize) {
+                call(machine, m, limits, request, memory, answer, y)
             } else {
                 Step::Traps(TrapKind::Signature)
             }
@@ -127,13 +195,13 @@ pub(crate) fn invoke_indirect(
     }
 }
 
-// Stands at the beginning of a function that is called with these arguments from outside.
+// Stands at the beginning of one of the module's own functions, which is called with these arguments from outside.
 pub(crate) fn begin(machine: &mut Machine, m: &Module, x: usize, args: &[Val])
     requires room { length args.now + length (function_tree (function_of m.now x)).locals ≤ vec_capacity machine.old.values }
     requires turns { HasNoEmptyRun (function_of m.now x) }
-    ensures simulates { (limits : Limits) (frame : ℕ) (store : Store) → IsRunnable m.now frame → IsCall m.now x args.now → 0 < limits.depth
+    ensures simulates { (limits : Terms) (frame : ℕ) (store : Store) → IsRunnable m.now frame → IsOwnCall m.now x args.now → 0 < limits.depth
         → IsTypedStore m.now store → HasRoom limits.depth frame machine.old
-        → Simulates m.now limits frame machine.new store (run_function (module_tree m.now) limits x args.now store) }
+        → Simulates m.now limits frame machine.new store (run_function (module_tree m.now) limits (length m.now.imports + x) args.now store) }
     ensures room { KeepsRoom machine.old machine.new }
 {
     machine.values.clear();

@@ -2,7 +2,7 @@
 ghost use Rattle.std.specs.Prelude.{ℕ, ◌<◌, IsFalse, IsTrue};
 ghost use Rattle.wasm_types.specs.declared.instr.Instr.TheVariants as instr;
 ghost use Rattle.wasm_types.specs.declared.instr.Op.TheVariants as op;
-ghost use Rattle.wasm_types.specs.declared.limits.RunLimits.{RunLimits as Limits};
+ghost use Rattle.wasm_spec.specs.Execution.{Terms};
 ghost use Rattle.wasm_spec.specs.Execution.{Ended};
 ghost use Rattle.wasm_spec.specs.Store.{Store};
 ghost use Rattle.machine_steps.specs.StackLayout.{KeepsRoom};
@@ -16,7 +16,7 @@ use wasm_types::{Instr, Module};
 // Ends the current function: its results are left for the caller. Says whether the run is over.
 pub(crate) fn return_from_function(machine: &mut Machine, m: &Module) -> bool
     requires { CanExit ByReturn m.now machine.old }
-    ensures steps { (limits : Limits) (frame : ℕ) (store : Store) (r : ℕ → Ended)
+    ensures steps { (limits : Terms) (frame : ℕ) (store : Store) (r : ℕ → Ended)
         → SimulatesExit ByReturn m.now limits frame machine.old store r → SimulatesUnlessOver result m.now limits frame machine.new store r }
     ensures room { KeepsRoom machine.old machine.new }
     ensures falls { IsFalse result → depth_of machine.new < depth_of machine.old }
@@ -36,7 +36,7 @@ pub(crate) fn return_from_function(machine: &mut Machine, m: &Module) -> bool
 // Goes on at the label l, counted from the innermost; the outermost is the function's own. Says whether the run is over.
 pub(crate) fn branch(machine: &mut Machine, m: &Module, l: usize) -> bool
     requires { CanExit (ToLabel l) m.now machine.old }
-    ensures steps { (limits : Limits) (frame : ℕ) (store : Store) (r : ℕ → Ended)
+    ensures steps { (limits : Terms) (frame : ℕ) (store : Store) (r : ℕ → Ended)
         → SimulatesExit (ToLabel l) m.now limits frame machine.old store r → SimulatesUnlessOver result m.now limits frame machine.new store r }
     ensures room { KeepsRoom machine.old machine.new }
 {
@@ -57,7 +57,7 @@ pub(crate) fn branch(machine: &mut Machine, m: &Module, l: usize) -> bool
 // The end of a sequence: of an open block, or of the function. Says whether the run is over.
 pub(crate) fn end_sequence(machine: &mut Machine, m: &Module) -> bool
     requires { CanExit AtEnd m.now machine.old }
-    ensures steps { (limits : Limits) (frame : ℕ) (store : Store) (r : ℕ → Ended)
+    ensures steps { (limits : Terms) (frame : ℕ) (store : Store) (r : ℕ → Ended)
         → SimulatesExit AtEnd m.now limits frame machine.old store r → SimulatesUnlessOver result m.now limits frame machine.new store r }
     ensures room { KeepsRoom machine.old machine.new }
     ensures falls { IsFalse result → depth_of machine.new < depth_of machine.old }
@@ -78,7 +78,7 @@ pub(crate) fn end_sequence(machine: &mut Machine, m: &Module) -> bool
 // A branch to the label l where the topmost operand is not 0. Says whether the run is over.
 pub(crate) fn branch_if(machine: &mut Machine, m: &Module, l: usize) -> bool
     requires { CanExecuteNext m.now (op.Plain (instr.BrIf l)) machine.old }
-    ensures steps { (limits : Limits) (frame : ℕ) (store : Store) (here : ℕ) (r : ℕ → Ended)
+    ensures steps { (limits : Terms) (frame : ℕ) (store : Store) (here : ℕ) (r : ℕ → Ended)
         → HasFetched m.now limits frame machine.old store here (op.Plain (instr.BrIf l)) r → SimulatesUnlessOver result m.now limits frame machine.new store (paid r) }
     ensures room { KeepsRoom machine.old machine.new }
 {
@@ -89,7 +89,7 @@ pub(crate) fn branch_if(machine: &mut Machine, m: &Module, l: usize) -> bool
 // A branch to the label that the topmost operand chooses of these, or else to the last one. Says whether the run is over.
 pub(crate) fn branch_by_table(machine: &mut Machine, m: &Module, labels: &[u32], last: u32) -> bool
     requires { CanExecuteNext m.now (op.Plain (instr.BrTable labels.now last)) machine.old }
-    ensures steps { (limits : Limits) (frame : ℕ) (store : Store) (here : ℕ) (r : ℕ → Ended)
+    ensures steps { (limits : Terms) (frame : ℕ) (store : Store) (here : ℕ) (r : ℕ → Ended)
         → HasFetched m.now limits frame machine.old store here (op.Plain (instr.BrTable labels.now last)) r → SimulatesUnlessOver result m.now limits frame machine.new store (paid r) }
     ensures room { KeepsRoom machine.old machine.new }
 {
@@ -101,7 +101,7 @@ pub(crate) fn branch_by_table(machine: &mut Machine, m: &Module, labels: &[u32],
 pub(crate) fn jump(machine: &mut Machine, m: &Module, instr: &Instr) -> bool
     requires kind { IsTrue (jumps instr.now) }
     requires can { CanExecuteNext m.now (op.Plain instr.now) machine.old }
-    ensures steps { (limits : Limits) (frame : ℕ) (store : Store) (here : ℕ) (r : ℕ → Ended)
+    ensures steps { (limits : Terms) (frame : ℕ) (store : Store) (here : ℕ) (r : ℕ → Ended)
         → HasFetched m.now limits frame machine.old store here (op.Plain instr.now) r → SimulatesUnlessOver result m.now limits frame machine.new store (paid r) }
     ensures room { KeepsRoom machine.old machine.new }
 {

@@ -1,24 +1,31 @@
 //! A function's run from its beginning to its end.
-ghost use Rattle.std.specs.Prelude.{◌≡◌, ℕ, ◌+◌, ◌-◌, ◌*◌, ◌<◌, ◌≤◌, false, Option, Some, length, reverse, slice_get};
+ghost use Rattle.std.specs.Prelude.{◌≡◌, ℕ, ◌+◌, ◌-◌, ◌*◌, ◌<◌, ◌≤◌, ◌^◌, List, Option, Some, IsSome, length, map, option_and_then, reverse, slice_get};
+ghost use Rattle.wasm_types.specs.declared.outcome.Val.{Val as AVal};
+ghost use Rattle.wasm_types.specs.declared.limits.RunLimits.{RunLimits as Limits};
+ghost use Rattle.wasm_types.specs.declared.instr.Width.TheVariants.{W32};
+ghost use Rattle.wasm_spec.specs.Functions.{host_type};
+ghost use Rattle.wasm_spec.specs.Typing.{type_of};
+ghost use Rattle.wasm_spec.specs.Execution.{host_call, number, terms};
 ghost use Rattle.wasm_types.specs.Tree.{module_tree};
-ghost use Rattle.wasm_spec.specs.Bulk.{uses_bulk};
+ghost use Rattle.wasm_spec.specs.Bulk.{HasFewMarks};
 ghost use Rattle.wasm_spec.specs.Instances.{room_for};
 ghost use Rattle.wasm_spec.specs.Result.{CallResult, function_result};
 ghost use Rattle.linear_memory.specs.Bytes.{IsMemory};
 ghost use Rattle.linear_memory.specs.Marks.{HasSameRoom, KeepsUnmarked, MarksChanges, count_marks};
 ghost use Rattle.machine_steps.specs.Lent.{store_of};
 ghost use Rattle.machine_steps.specs.StackLayout.{HasRoom, KeepsRoom};
-ghost use Rattle.wasm_machine.specs.MostMarks.{most_marks};
-ghost use Rattle.wasm_machine.specs.Calls.{FitsFrame, IsCall, IsDone};
-ghost use Rattle.wasm_machine.specs.Lent.{lent_store, others};
+ghost use Rattle.wasm_machine.specs.Calls.{FitsFrame, GivesOutside, IsCall, IsOwnCall, IsDone, outside};
+ghost use Rattle.wasm_machine.specs.Lent.{MarksWithin, lent_store, others};
 ghost use Rattle.wasm_machine.specs.TypedConfiguration.{IsRunnable, IsTypedStore};
 
 use crate::calls::begin;
+use crate::lookup::host_of;
 use crate::running::{Halt, advance};
 use crate::stacks::Stacks;
+use call_payload::AnswerBuf;
 use linear_memory::Memory;
-use machine_steps::Machine;
-use wasm_types::{Module, Outcome, RunLimits, Val};
+use machine_steps::{Machine, append_memory, copy_request};
+use wasm_types::{HostFunction, Module, Outcome, RunLimits, TrapKind, Val};
 use wasm_validate::Valid;
 
 /// How a run ended, and the fuel that it left.
@@ -38,38 +45,123 @@ fn top(values: &[Val]) -> Option<Val>
     }
 }
 
-// The same over a machine and the module's own globals.
+// The i32 that is an argument.
+fn argument(args: &[Val], place: usize) -> u32
+    requires { IsSome (option_and_then (λ v. number W32 v) (slice_get args.now place)) }
+    ensures { option_and_then (λ v. number W32 v) (slice_get args.now place) ≡ Some result }
+{
+    match args.get(place) {
+        Some(Val::I32(n)) => *n,
+        _ => unreachable!(),
+    }
+}
+
+// What a function of the host gives that is called from outside, if it does not trap.
+fn host_from_outside(
+    function: HostFunction,
+    args: &[Val],
+    request: &[u8],
+    memory: &mut Memory,
+    answer: &mut AnswerBuf,
+) -> Option<u32>
+    requires arguments { map type_of args.now ≡ (host_type function).params }
+    requires memory { (most : ℕ) × IsMemory most memory.old }
+    requires short { length request.now < 2 ^ 32 }
+    ensures ends { (table : List (Option ℕ)) (globals : List AVal)
+        → GivesOutside (host_call request.now function (outside args.now (store_of memory.old table globals answer.old))) result (store_of memory.new table globals answer.new) }
+    ensures memory { (most : ℕ) → IsMemory most memory.old → IsMemory most memory.new }
+    ensures marks { (added : ℕ) × MarksChanges memory.old memory.new added }
+{
+    match function {
+        HostFunction::Len => Some(request.len() as u32),
+        HostFunction::Read => copy_request(
+            memory,
+            request,
+            argument(args, 0),
+            argument(args, 1),
+            argument(args, 2),
+        ),
+        HostFunction::Write => {
+            append_memory(memory, answer, argument(args, 0), argument(args, 1))
+        }
+    }
+}
+
+// The same of an import, which costs nothing.
+fn run_import(
+    m: &Module,
+    x: usize,
+    args: &[Val],
+    fuel: u64,
+    request: &[u8],
+    memory: &mut Memory,
+    answer: &mut AnswerBuf,
+) -> RunEnd
+    requires runs { (frame : ℕ) × IsRunnable m.now frame }
+    requires import { x < length m.now.imports }
+    requires call { IsCall m.now x args.now }
+    requires memory { (most : ℕ) × IsMemory most memory.old }
+    requires short { length request.now < 2 ^ 32 }
+    ensures result { (limits : Limits) (table : List (Option ℕ)) (globals : List AVal) (turns : ℕ)
+        → function_result (module_tree m.now) (terms limits request.now) x args.now (store_of memory.old table globals answer.old) turns
+        ≡ Some (record { outcome = result.outcome; store = store_of memory.new table globals answer.new; fuel = turns }) }
+    ensures left { result.left ≡ fuel }
+    ensures memory { (most : ℕ) → IsMemory most memory.old → IsMemory most memory.new }
+    ensures marks { (added : ℕ) × MarksChanges memory.old memory.new added }
+{
+    let function = match host_of(m, x) {
+        Some(function) => function,
+        None => unreachable!(),
+    };
+    match host_from_outside(function, args, request, memory, answer) {
+        Some(n) => RunEnd {
+            outcome: Outcome::Done(Some(Val::I32(n))),
+            left: fuel,
+        },
+        None => RunEnd {
+            outcome: Outcome::Trap(TrapKind::Memory),
+            left: fuel,
+        },
+    }
+}
+
+// The same of one of the module's own functions, by its number among these, over a machine and the module's own globals.
 fn run_machine(
     m: &Module,
-    function: u32,
+    x: usize,
     args: &[Val],
     fuel: u64,
     limits: RunLimits,
+    request: &[u8],
     memory: &mut Memory,
     table: &[Option<u32>],
     globals: &mut [Val],
+    answer: &mut AnswerBuf,
     machine: &mut Machine,
 ) -> RunEnd
     requires runs { (frame : ℕ) × IsRunnable m.now frame × HasRoom limits.depth frame machine.old }
-    requires call { IsCall m.now function args.now }
+    requires call { IsOwnCall m.now x args.now }
     requires depth { 0 < limits.depth }
     requires memory { IsMemory (room_for m.now.memories limits.pages) memory.old }
-    requires store { IsTypedStore m.now (store_of memory.old table.now globals.old) }
-    ensures result { function_result (module_tree m.now) limits function args.now (store_of memory.old table.now globals.old) fuel
-        ≡ Some (record { outcome = result.outcome; store = store_of memory.new table.now globals.new; fuel = result.left }) }
+    requires store { IsTypedStore m.now (store_of memory.old table.now globals.old answer.old) }
+    requires short { length request.now < 2 ^ 32 }
+    ensures result { function_result (module_tree m.now) (terms limits request.now) (length m.now.imports + x) args.now (store_of memory.old table.now globals.old answer.old) fuel
+        ≡ Some (record { outcome = result.outcome; store = store_of memory.new table.now globals.new answer.new; fuel = result.left }) }
     ensures left { result.left ≤ fuel }
-    ensures store { IsDone result.outcome → IsTypedStore m.now (store_of memory.new table.now globals.new) }
+    ensures store { IsDone result.outcome → IsTypedStore m.now (store_of memory.new table.now globals.new answer.new) }
     ensures marked { (turns : ℕ) (r : CallResult) → turns ≤ fuel
-        → function_result (module_tree m.now) limits function args.now (store_of memory.old table.now globals.old) turns ≡ Some r
+        → function_result (module_tree m.now) (terms limits request.now) (length m.now.imports + x) args.now (store_of memory.old table.now globals.old answer.old) turns ≡ Some r
         → KeepsUnmarked memory.old.bytes.items r.store.memory memory.old.marks.items memory.new.marks.items }
     ensures unspent { result.left ≡ fuel → memory.new.marks.items ≡ memory.old.marks.items }
-    ensures marks { MarksChanges memory.old memory.new (most_marks (module_tree m.now) (length memory.old.marks.items) * (fuel - result.left)) }
+    ensures marks { MarksWithin m.now memory.old memory.new (2 * (fuel - result.left)) }
     ensures memory { IsMemory (room_for m.now.memories limits.pages) memory.new }
     ensures globals { length globals.new ≡ length globals.old }
     ensures room { KeepsRoom machine.old machine.new }
 {
-    begin(machine, m, function as usize, args);
-    match advance(machine, m, limits, memory, table, globals, fuel) {
+    begin(machine, m, x, args);
+    match advance(
+        machine, m, limits, request, memory, table, globals, answer, fuel,
+    ) {
         Halt::Done(left) => RunEnd {
             outcome: Outcome::Done(top(&machine.values)),
             left,
@@ -88,9 +180,10 @@ fn run_machine(
 /// Runs a function of a valid module from its beginning to its end, on a memory, a table and globals that are lent to it.
 /// Of the globals the first are the module's, and the others stay as they are. It takes no memory.
 ///
-/// Each instruction costs one unit of fuel. A module without a memory runs on one of size 0. Outcome, fuel left and what is
-/// left in the lent parts are those of the definition `function_result`. A byte that differs from the beginning after any
-/// number of instructions lies in a block that is marked at the end.
+/// Each instruction costs one unit of fuel. An import is one of the host's functions: it reads the request and appends to the
+/// answer, and costs nothing itself, also where it is the function that is run. A module without a memory runs on one of size
+/// 0. Outcome, fuel left and what is left in the lent parts are those of the definition `function_result`. A byte that differs
+/// from the beginning after any number of instructions lies in a block that is marked at the end.
 ///
 /// Source: Core Specification 1.0, section 4.5.5 (invocation).
 pub fn run(
@@ -103,24 +196,27 @@ pub fn run(
     table: &[Option<u32>],
     globals: &mut [Val],
     stacks: &mut Stacks,
+    request: &[u8],
+    answer: &mut AnswerBuf,
 ) -> RunEnd
     requires call { IsCall valid.now function args.now }
     requires depth { 0 < limits.depth }
     requires memory { IsMemory (room_for valid.now.memories limits.pages) memory.old }
-    requires store { IsTypedStore valid.now (lent_store valid.now memory.old table.now globals.old) }
+    requires store { IsTypedStore valid.now (lent_store valid.now memory.old table.now globals.old answer.old) }
+    requires request { length request.now ≤ 65536 }
     requires frames { limits.depth ≤ stacks.old.room.depth }
     requires frame { FitsFrame valid.now stacks.old.room.frame }
-    ensures result { function_result (module_tree valid.now) limits function args.now (lent_store valid.now memory.old table.now globals.old) fuel
-        ≡ Some (record { outcome = result.outcome; store = lent_store valid.now memory.new table.now globals.new; fuel = result.left }) }
+    ensures result { function_result (module_tree valid.now) (terms limits request.now) function args.now (lent_store valid.now memory.old table.now globals.old answer.old) fuel
+        ≡ Some (record { outcome = result.outcome; store = lent_store valid.now memory.new table.now globals.new answer.new; fuel = result.left }) }
     ensures left { result.left ≤ fuel }
     ensures memory { IsMemory (room_for valid.now.memories limits.pages) memory.new }
-    ensures store { IsDone result.outcome → IsTypedStore valid.now (lent_store valid.now memory.new table.now globals.new) }
+    ensures store { IsDone result.outcome → IsTypedStore valid.now (lent_store valid.now memory.new table.now globals.new answer.new) }
 
     ensures marked { (turns : ℕ) (r : CallResult) → turns ≤ fuel
-        → function_result (module_tree valid.now) limits function args.now (lent_store valid.now memory.old table.now globals.old) turns ≡ Some r
+        → function_result (module_tree valid.now) (terms limits request.now) function args.now (lent_store valid.now memory.old table.now globals.old answer.old) turns ≡ Some r
         → KeepsUnmarked memory.old.bytes.items r.store.memory memory.old.marks.items memory.new.marks.items }
-    ensures unspent { result.left ≡ fuel → memory.new.marks.items ≡ memory.old.marks.items }
-    ensures counted { uses_bulk (module_tree valid.now) ≡ false → count_marks memory.new ≤ count_marks memory.old + 2 * (fuel - result.left) }
+    ensures unspent { length valid.now.imports ≤ function → result.left ≡ fuel → memory.new.marks.items ≡ memory.old.marks.items }
+    ensures counted { HasFewMarks (module_tree valid.now) → count_marks memory.new ≤ count_marks memory.old + 2 * (fuel - result.left) }
 
     ensures room { HasSameRoom memory.old memory.new }
     ensures globals { length globals.new ≡ length globals.old }
@@ -128,16 +224,23 @@ pub fn run(
     ensures stacks { stacks.new.room ≡ stacks.old.room }
 {
     let m = valid.module();
+    let x = function as usize;
+    let imported = m.imports.len();
+    if x < imported {
+        return run_import(m, x, args, fuel, request, memory, answer);
+    }
     let count = m.globals.len();
     run_machine(
         m,
-        function,
+        x - imported,
         args,
         fuel,
         limits,
+        request,
         memory,
         table,
         &mut globals[..count],
+        answer,
         &mut stacks.machine,
     )
 }

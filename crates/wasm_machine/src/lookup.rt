@@ -1,15 +1,18 @@
 //! What a module has at a place.
 ghost use Rattle.wasm_types.specs.SameTypes.{same_type};
-ghost use Rattle.std.specs.Prelude.{◌≡◌, ◌+◌, ◌<◌, ◌^◌, IfSome, Some, length, option_copied, slice_get, unwrap_or};
+ghost use Rattle.std.specs.Prelude.{◌≡◌, ◌+◌, ◌<◌, ◌^◌, IfSome, Some, length, option_and_then, option_copied, slice_get, unwrap_or};
 ghost use Rattle.wasm_types.specs.declared.types.FuncType.{FuncType};
 ghost use Rattle.wasm_spec.specs.Execution as execution;
-ghost use Rattle.wasm_spec.specs.Typing.{function_type, params_or_none, result_types};
+ghost use Rattle.wasm_spec.specs.Functions.{function_type, host_function as named_function};
+ghost use Rattle.wasm_spec.specs.Typing.{params_or_none, result_types};
 ghost use Rattle.wasm_types.specs.Tree.{module_tree};
 ghost use Rattle.wasm_machine.specs.Simulation.{start_of as start};
 ghost use Rattle.wasm_types.specs.Sequences.{code_at, named_in, ops_of};
-ghost use Rattle.wasm_machine.specs.Remaining.{function_of, results};
+ghost use Rattle.wasm_machine.specs.Remaining.{body_type, function_of, results};
 
-use wasm_types::{LocalRun, Module, Op, ValType, named, op_at, same_function_types};
+use wasm_checker::function_type;
+use wasm_types::{HostFunction, LocalRun, Module, Op, ValType, named, op_at, same_function_types};
+use wasm_validate::host_function;
 
 // How many results a function gives.
 pub(crate) fn result_count(m: &Module, function: usize) -> usize
@@ -57,7 +60,7 @@ pub(crate) fn named_by(m: &Module, function: usize, sequence: usize, inner: usiz
 
 // How many parameters a function takes.
 pub(crate) fn param_count(m: &Module, function: usize) -> usize
-    ensures { result ≡ length (params_or_none (function_type (module_tree m.now) function)) }
+    ensures { result ≡ length (params_or_none (body_type (module_tree m.now) function)) }
 {
     match m.functions.as_slice().get(function) {
         Some(f) => match m.types.as_slice().get(f.type_index as usize) {
@@ -99,18 +102,25 @@ pub(crate) fn label_at(labels: &[u32], i: u32, last: u32) -> u32
 }
 
 // Whether a function has the type that is named.
-pub(crate) fn has_type(m: &Module, function: usize, type_index: usize) -> bool
+pub(crate) fn has_type(m: &Module, function: u32, type_index: usize) -> bool
     ensures { (t u : FuncType) → slice_get m.now.types type_index ≡ Some t → function_type (module_tree m.now) function ≡ Some u → result ≡ same_type t u }
 {
-    match m.functions.as_slice().get(function) {
-        Some(f) => match (
-            m.types.as_slice().get(type_index),
-            m.types.as_slice().get(f.type_index as usize),
-        ) {
-            (Some(t), Some(u)) => same_function_types(t, u),
-            _ => false,
-        },
-        None => false,
+    match (
+        m.types.as_slice().get(type_index),
+        function_type(m, function),
+    ) {
+        (Some(t), Some(u)) => same_function_types(t, u),
+        _ => false,
+    }
+}
+
+// The function of the host that an import is.
+pub(crate) fn host_of(m: &Module, x: usize) -> Option<HostFunction>
+    ensures { result ≡ option_and_then named_function (slice_get m.now.imports x) }
+{
+    match m.imports.as_slice().get(x) {
+        Some(import) => host_function(import),
+        None => None,
     }
 }
 

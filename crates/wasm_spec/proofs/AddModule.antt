@@ -223,6 +223,7 @@ one_pair R x i j d lt le = absurd (omega arith)
 pub add_valid : IsValid add
 add_valid = record {
   function_types = All-cons (λ (t : FuncType). length t.results ≤ 1) add_type [] (omega arith) (All-nil (λ (t : FuncType). length t.results ≤ 1));
+  imports = All-nil _;
   functions = All-cons (IsTypedFunction add) add_function [] add_typed (All-nil (IsTypedFunction add));
   one_table = omega arith;
   table_types = All-nil _;
@@ -236,8 +237,8 @@ add_valid = record {
   names_differ = one_pair (λ (a b : Export). a.name ≢ b.name) add_export;
 }
 
-pub add_supported : IsSupported add
-add_supported = record { no_import = refl; no_float = refl }
+pub add_supported : IsSupported One add
+add_supported = record { imports = refl; no_float = refl }
 
 abbrev pub add_limits : LoadLimits
 add_limits = record { pages = 1; elements = 0; frame = 8 }

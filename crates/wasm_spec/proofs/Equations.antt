@@ -7,11 +7,10 @@ use Rattle.wasm_types.specs.declared.instr.Instr.{Instr}
 use Rattle.wasm_types.specs.declared.outcome.TrapKind.TheVariants as trap
 use Rattle.wasm_types.specs.SameTypes.{same_type}
 use Rattle.wasm_types.specs.Tree.{Code, End, Plain, Block, Loop, If, Call, CallIndirect, ModuleTree}
-use Rattle.wasm_types.specs.declared.limits.RunLimits.{RunLimits}
-use Rattle.wasm_spec.specs.Execution.{State, Next, Trapped, OutOfFuel, Ended, ended, Continuation, plain, and_then, leave, arity, pop_index, choose, inside, invoke, arm, with_function, call, typed_call, element_call, exec_within, exec}
-use Rattle.wasm_spec.proofs.FuelLaws.{Spends, Agree, within-spends, within-exec, and_then-same, leave-same, invoke-same, with_function-same, if_there-same, with_element-same, pop_index-same, choose-same, choose-spends, unless-same}
+use Rattle.wasm_spec.specs.Execution.{Terms, State, Next, Trapped, OutOfFuel, Ended, ended, Continuation, plain, and_then, leave, arity, pop_index, choose, inside, arm, with_function, call, typed_call, element_call, exec_within, exec}
+use Rattle.wasm_spec.proofs.FuelLaws.{Spends, Agree, within-spends, within-exec, and_then-same, leave-same, call-same, within_body, with_function-same, if_there-same, with_element-same, pop_index-same, choose-same, choose-spends, unless-same}
 
-module _ (m : ModuleTree) (limits : RunLimits) where
+module _ (m : ModuleTree) (limits : Terms) where
   -- below k, any index from k on goes on as `exec` does
   agree : (n k : ℕ) (c : Code) (depth : ℕ) → k < n + 1 → Agree k (exec_within m limits n c depth) (exec m limits depth c)
   agree n k c depth le s fuel lt = within-exec m limits n c depth s fuel (omega arith)
@@ -91,9 +90,9 @@ module _ (m : ModuleTree) (limits : RunLimits) where
   unfolding exec
   exec-Call depth x rest s fuel =
       let n : ℕ = suc fuel in
-      with_function-same m x n _ (call m limits depth (exec m limits (depth + 1)) (exec m limits depth rest)) (λ f t.
-      invoke-same limits depth f t n (exec_within m limits n f.body (depth + 1)) (exec m limits (depth + 1) f.body) (exec_within m limits (suc n) rest depth) (exec m limits depth rest)
-      (within-spends m limits n f.body (depth + 1)) (agree n n f.body (depth + 1) (omega arith)) (agree (suc n) n rest depth (omega arith))) s fuel (omega arith)
+      with_function-same m x n _ (call m limits depth (exec m limits (depth + 1)) (exec m limits depth rest)) (λ c t.
+      call-same m limits depth n (within_body m limits n depth) (exec m limits (depth + 1)) (exec_within m limits (suc n) rest depth) (exec m limits depth rest) c t
+      (λ code. within-spends m limits n code (depth + 1)) (λ code. agree n n code (depth + 1) (omega arith)) (agree (suc n) n rest depth (omega arith))) s fuel (omega arith)
 
   pub exec-CallIndirect : (depth x : ℕ) (rest : Code) (s : State) (fuel : ℕ)
       → exec m limits depth (CallIndirect x rest) s (suc fuel) ≡ pop_index s.operands (element_call m limits depth (exec m limits (depth + 1)) (exec m limits depth rest) x) s fuel
@@ -101,10 +100,10 @@ module _ (m : ModuleTree) (limits : RunLimits) where
   exec-CallIndirect depth x rest s fuel =
       let n : ℕ = suc fuel in
       pop_index-same s.operands n _ (element_call m limits depth (exec m limits (depth + 1)) (exec m limits depth rest) x) (λ i s. with_element-same (slice_get s.store.table i) n _ _ (λ y.
-      if_there-same (slice_get m.types x) n _ _ (λ u. with_function-same m y n _ (typed_call m limits depth (exec m limits (depth + 1)) (exec m limits depth rest) u) (λ f t s.
-      let run : Continuation = exec_within m limits n f.body (depth + 1) in
-      let run' : Continuation = exec m limits (depth + 1) f.body in
+      if_there-same (slice_get m.types x) n _ _ (λ u. with_function-same m y n _ (typed_call m limits depth (exec m limits (depth + 1)) (exec m limits depth rest) u) (λ c t s.
+      let run : Code → Continuation = within_body m limits n depth in
+      let run' : Code → Continuation = exec m limits (depth + 1) in
       let go : Continuation = exec_within m limits (suc n) rest depth in
       let go' : Continuation = exec m limits depth rest in
-      unless-same (not (same_type u t)) (Trapped trap.Signature s.store) n (invoke limits depth f t run go) (invoke limits depth f t run' go')
-      (invoke-same limits depth f t n run run' go go' (within-spends m limits n f.body (depth + 1)) (agree n n f.body (depth + 1) (omega arith)) (agree (suc n) n rest depth (omega arith))) s))) s) s fuel (omega arith)
+      unless-same (not (same_type u t)) (Trapped trap.Signature s.store) n (call m limits depth run go c t) (call m limits depth run' go' c t)
+      (call-same m limits depth n run run' go go' c t (λ code. within-spends m limits n code (depth + 1)) (λ code. agree n n code (depth + 1) (omega arith)) (agree (suc n) n rest depth (omega arith))) s))) s) s fuel (omega arith)

@@ -9,8 +9,8 @@ use Rattle.wasm_types.specs.declared.outcome.TrapKind.TheVariants as trap
 use Rattle.wasm_types.specs.SameTypes.{same_type}
 use Rattle.wasm_types.specs.Tree.{Code, End, Plain, Block, Loop, If, Call, CallIndirect, FunctionTree, ModuleTree}
 use Rattle.wasm_spec.specs.Store.{Store}
-use Rattle.wasm_types.specs.declared.limits.RunLimits.{RunLimits}
-use Rattle.wasm_spec.specs.Execution.{element_call, typed_call, call, State, Signal, Next, Branch, Returned, Trapped, OutOfFuel, Stuck, Ended, Continuation, plain, pay, and_then, unless, keep, leave_by, leave, arity, pop_index, choose, inside, arm, return_by, return, entered, callee, invoke, with_type, if_there, with_function, with_element, exec_within, exec}
+use Rattle.wasm_spec.specs.Functions.{Callee, Imported, Own, callee_at, callee_type}
+use Rattle.wasm_spec.specs.Execution.{Terms, element_call, import_call, typed_call, call, State, Signal, Next, Branch, Returned, Trapped, OutOfFuel, Stuck, Ended, Continuation, plain, pay, and_then, unless, keep, leave_by, leave, arity, pop_index, choose, inside, arm, return_by, return, entered, callee, invoke, with_type, if_there, with_function, with_element, exec_within, exec}
 
 -- ---- fuel only falls
 
@@ -63,7 +63,7 @@ callee-spends f t run next hr h s fuel =
     let inner : Ended = run (entered f t s) fuel in
     return-spends (length t.results) s (drop (length t.params) s.operands) inner.signal fuel inner.fuel next h (hr (entered f t s) fuel)
 
-pub invoke-spends : (limits : RunLimits) (depth : ℕ) (f : FunctionTree) (t : FuncType) (run next : Continuation)
+pub invoke-spends : (limits : Terms) (depth : ℕ) (f : FunctionTree) (t : FuncType) (run next : Continuation)
     → Spends run → Spends next → Spends (invoke limits depth f t run next)
 invoke-spends limits depth f t run next hr h s fuel =
     let within : Continuation = unless (nat_le limits.depth depth) (Trapped trap.Exhausted s.store) (callee f t run next) in
@@ -74,10 +74,15 @@ if_there-spends : {A : Type 0} (o : Option A) (next : A → Continuation) → ((
 if_there-spends None next h s fuel = omega arith
 if_there-spends (Some x) next h s fuel = h x s fuel
 
-pub with_function-spends : (m : ModuleTree) (x : ℕ) (next : FunctionTree → FuncType → Continuation)
-    → ((f : FunctionTree) (t : FuncType) → Spends (next f t)) → Spends (with_function m x next)
+pub with_function-spends : (m : ModuleTree) (x : ℕ) (next : Callee → FuncType → Continuation)
+    → ((c : Callee) (t : FuncType) → Spends (next c t)) → Spends (with_function m x next)
 with_function-spends m x next h =
-    if_there-spends (slice_get m.functions x) (λ f. with_type m f.type_index (next f)) (λ f. if_there-spends (slice_get m.types f.type_index) (next f) (h f))
+    if_there-spends (callee_at m x) (λ c. if_there (callee_type m c) (next c)) (λ c. if_there-spends (callee_type m c) (next c) (h c))
+
+pub call-spends : (m : ModuleTree) (limits : Terms) (depth : ℕ) (run : Code → Continuation) (rest : Continuation) (c : Callee) (t : FuncType)
+    → ((code : Code) → Spends (run code)) → Spends rest → Spends (call m limits depth run rest c t)
+call-spends m limits depth run rest (Own f) t hr h s fuel = invoke-spends limits depth f t (run f.body) rest (hr f.body) h s fuel
+call-spends m limits depth run rest (Imported i) t hr h s fuel = and_then-spends (import_call limits.request i s) rest h fuel
 
 pop_index-spends : (vs : List Val) (next : ℕ → Continuation) → ((n : ℕ) → Spends (next n)) → Spends (pop_index vs next)
 pop_index-spends [] next h s fuel = omega arith
@@ -93,7 +98,7 @@ pub choose-spends : (n : ℕ) (first second : Continuation) → Spends first →
 choose-spends zero first second h k s fuel = k s fuel
 choose-spends (suc n) first second h k s fuel = h s fuel
 
-module _ (m : ModuleTree) (limits : RunLimits) where
+module _ (m : ModuleTree) (limits : Terms) where
   -- what a block, an `if` and the calls go on with at the index n
   abbrev within_block : ℕ → ℕ → Option ValType → Code → Code → Continuation
   within_block n depth t body rest s fuel =
@@ -103,13 +108,13 @@ module _ (m : ModuleTree) (limits : RunLimits) where
   within_arm n depth t first second rest =
       arm t (exec_within m limits n first depth) (exec_within m limits n second depth) (exec_within m limits n rest depth)
 
-  abbrev within_body : ℕ → ℕ → Code → Continuation
+  abbrev pub within_body : ℕ → ℕ → Code → Continuation
   within_body n depth c = exec_within m limits n c (depth + 1)
 
-  abbrev within_call : ℕ → ℕ → Code → FunctionTree → FuncType → Continuation
+  abbrev pub within_call : ℕ → ℕ → Code → Callee → FuncType → Continuation
   within_call n depth rest = call m limits depth (within_body n depth) (exec_within m limits (suc n) rest depth)
 
-  abbrev within_typed_call : ℕ → ℕ → Code → FuncType → FunctionTree → FuncType → Continuation
+  abbrev within_typed_call : ℕ → ℕ → Code → FuncType → Callee → FuncType → Continuation
   within_typed_call n depth rest = typed_call m limits depth (within_body n depth) (exec_within m limits (suc n) rest depth)
 
   abbrev within_element : ℕ → ℕ → ℕ → Code → ℕ → Continuation
@@ -143,19 +148,19 @@ module _ (m : ModuleTree) (limits : RunLimits) where
   within-spends zero (Call x rest) depth s fuel = omega arith
   within-spends (suc n) (Call x rest) depth s fuel =
       pay-spends s.store fuel (with_function m x (within_call n depth rest) s)
-      (with_function-spends m x (within_call n depth rest) (λ f t.
-      invoke-spends limits depth f t (exec_within m limits n f.body (depth + 1)) (exec_within m limits (suc n) rest depth)
-      (within-spends n f.body (depth + 1)) (within-spends (suc n) rest depth)) s)
+      (with_function-spends m x (within_call n depth rest) (λ c t.
+      call-spends m limits depth (within_body n depth) (exec_within m limits (suc n) rest depth) c t
+      (λ code. within-spends n code (depth + 1)) (within-spends (suc n) rest depth)) s)
   within-spends zero (CallIndirect x rest) depth s fuel = omega arith
   within-spends (suc n) (CallIndirect x rest) depth s fuel =
       pay-spends s.store fuel (pop_index s.operands (within_element_call n depth x rest) s)
       (pop_index-spends s.operands (within_element_call n depth x rest) (λ i s.
       with_element-spends (slice_get s.store.table i) (within_element n depth x rest) (λ y.
       if_there-spends (slice_get m.types x) (λ u. with_function m y (within_typed_call n depth rest u)) (λ u.
-      with_function-spends m y (within_typed_call n depth rest u) (λ f t s.
-      unless-spends (not (same_type u t)) (Trapped trap.Signature s.store) (within_call n depth rest f t)
-      (invoke-spends limits depth f t (exec_within m limits n f.body (depth + 1)) (exec_within m limits (suc n) rest depth)
-      (within-spends n f.body (depth + 1)) (within-spends (suc n) rest depth)) s))) s) s)
+      with_function-spends m y (within_typed_call n depth rest u) (λ c t s.
+      unless-spends (not (same_type u t)) (Trapped trap.Signature s.store) (within_call n depth rest c t)
+      (call-spends m limits depth (within_body n depth) (exec_within m limits (suc n) rest depth) c t
+      (λ code. within-spends n code (depth + 1)) (within-spends (suc n) rest depth)) s))) s) s)
 
   pub exec-spends : (depth : ℕ) (c : Code) → Spends (exec m limits depth c)
   unfolding exec
@@ -216,7 +221,7 @@ callee-same f t k run run' next next' spends hr h s fuel lt =
     return-same n s below inner.signal inner.fuel k next next' (omega (arith, spends (entered f t s) fuel)) h
     ∙ ap (λ (r : Ended). return n s below r next') (hr (entered f t s) fuel lt)
 
-pub invoke-same : (limits : RunLimits) (depth : ℕ) (f : FunctionTree) (t : FuncType) (k : ℕ) (run run' next next' : Continuation)
+pub invoke-same : (limits : Terms) (depth : ℕ) (f : FunctionTree) (t : FuncType) (k : ℕ) (run run' next next' : Continuation)
     → Spends run → Agree k run run' → Agree k next next' → Agree k (invoke limits depth f t run next) (invoke limits depth f t run' next')
 invoke-same limits depth f t k run run' next next' spends hr h s fuel lt =
     let deep : Bool = nat_le limits.depth depth in
@@ -229,11 +234,19 @@ pub if_there-same : {A : Type 0} (o : Option A) (k : ℕ) (next next' : A → Co
 if_there-same None k next next' h s fuel lt = refl
 if_there-same (Some x) k next next' h s fuel lt = h x s fuel lt
 
-pub with_function-same : (m : ModuleTree) (x k : ℕ) (next next' : FunctionTree → FuncType → Continuation)
-    → ((f : FunctionTree) (t : FuncType) → Agree k (next f t) (next' f t)) → Agree k (with_function m x next) (with_function m x next')
+pub with_function-same : (m : ModuleTree) (x k : ℕ) (next next' : Callee → FuncType → Continuation)
+    → ((c : Callee) (t : FuncType) → Agree k (next c t) (next' c t)) → Agree k (with_function m x next) (with_function m x next')
 with_function-same m x k next next' h =
-    if_there-same (slice_get m.functions x) k (λ f. with_type m f.type_index (next f)) (λ f. with_type m f.type_index (next' f))
-    (λ f. if_there-same (slice_get m.types f.type_index) k (next f) (next' f) (h f))
+    if_there-same (callee_at m x) k (λ c. if_there (callee_type m c) (next c)) (λ c. if_there (callee_type m c) (next' c))
+    (λ c. if_there-same (callee_type m c) k (next c) (next' c) (h c))
+
+pub call-same : (m : ModuleTree) (limits : Terms) (depth k : ℕ) (run run' : Code → Continuation) (rest rest' : Continuation) (c : Callee) (t : FuncType)
+    → ((code : Code) → Spends (run code)) → ((code : Code) → Agree k (run code) (run' code)) → Agree k rest rest'
+    → Agree k (call m limits depth run rest c t) (call m limits depth run' rest' c t)
+call-same m limits depth k run run' rest rest' (Own f) t spends hr h s fuel lt =
+    invoke-same limits depth f t k (run f.body) (run' f.body) rest rest' (spends f.body) (hr f.body) h s fuel lt
+call-same m limits depth k run run' rest rest' (Imported i) t spends hr h s fuel lt =
+    and_then-same (import_call limits.request i s) fuel k rest rest' lt h
 
 pub pop_index-same : (vs : List Val) (k : ℕ) (next next' : ℕ → Continuation) → ((n : ℕ) → Agree k (next n) (next' n)) → Agree k (pop_index vs next) (pop_index vs next')
 pop_index-same [] k next next' h s fuel lt = refl
@@ -249,7 +262,7 @@ pub choose-same : (n k : ℕ) (a a' b b' : Continuation) → Agree k a a' → Ag
 choose-same zero k a a' b b' h h' s fuel lt = h' s fuel lt
 choose-same (suc n) k a a' b b' h h' s fuel lt = h s fuel lt
 
-module _ (m : ModuleTree) (limits : RunLimits) where
+module _ (m : ModuleTree) (limits : Terms) where
   pub within-enough : (n n' : ℕ) (c : Code) (depth : ℕ) (s : State) (fuel : ℕ) → fuel < n → fuel < n'
       → exec_within m limits n c depth s fuel ≡ exec_within m limits n' c depth s fuel
   within-enough n n' End depth s fuel lt lt' = refl
@@ -294,9 +307,9 @@ module _ (m : ModuleTree) (limits : RunLimits) where
   within-enough (suc n) zero (Call x rest) depth s fuel lt lt' = absurd (omega arith)
   within-enough (suc n) (suc n') (Call x rest) depth s fuel lt lt' =
       let h : Agree fuel (exec_within m limits (suc n) rest depth) (exec_within m limits (suc n') rest depth) = λ u j l. within-enough (suc n) (suc n') rest depth u j (omega arith) (omega arith) in
-      pay-same s.store fuel _ _ (λ g l. with_function-same m x fuel _ _ (λ f t.
-      invoke-same limits depth f t fuel (exec_within m limits n f.body (depth + 1)) (exec_within m limits n' f.body (depth + 1)) (exec_within m limits (suc n) rest depth) (exec_within m limits (suc n') rest depth)
-      (within-spends m limits n f.body (depth + 1)) (λ u j l. within-enough n n' f.body (depth + 1) u j (omega arith) (omega arith)) h) s g l)
+      pay-same s.store fuel _ _ (λ g l. with_function-same m x fuel _ _ (λ c t.
+      call-same m limits depth fuel (within_body m limits n depth) (within_body m limits n' depth) (exec_within m limits (suc n) rest depth) (exec_within m limits (suc n') rest depth) c t
+      (λ code. within-spends m limits n code (depth + 1)) (λ code u j l. within-enough n n' code (depth + 1) u j (omega arith) (omega arith)) h) s g l)
   within-enough zero n' (CallIndirect x rest) depth s fuel lt lt' = absurd (omega arith)
   within-enough (suc n) zero (CallIndirect x rest) depth s fuel lt lt' = absurd (omega arith)
   within-enough (suc n) (suc n') (CallIndirect x rest) depth s fuel lt lt' =
@@ -304,11 +317,11 @@ module _ (m : ModuleTree) (limits : RunLimits) where
       let go' : Continuation = exec_within m limits (suc n') rest depth in
       let h : Agree fuel go go' = λ u j l. within-enough (suc n) (suc n') rest depth u j (omega arith) (omega arith) in
       pay-same s.store fuel _ _ (λ g l. pop_index-same s.operands fuel _ _ (λ i s. with_element-same (slice_get s.store.table i) fuel _ _ (λ y.
-      if_there-same (slice_get m.types x) fuel _ _ (λ u. with_function-same m y fuel _ _ (λ f t s.
-      let run : Continuation = exec_within m limits n f.body (depth + 1) in
-      let run' : Continuation = exec_within m limits n' f.body (depth + 1) in
-      unless-same (not (same_type u t)) (Trapped trap.Signature s.store) fuel (invoke limits depth f t run go) (invoke limits depth f t run' go')
-      (invoke-same limits depth f t fuel run run' go go' (within-spends m limits n f.body (depth + 1)) (λ u j l. within-enough n n' f.body (depth + 1) u j (omega arith) (omega arith)) h) s))) s) s g l)
+      if_there-same (slice_get m.types x) fuel _ _ (λ u. with_function-same m y fuel _ _ (λ c t s.
+      let run : Code → Continuation = within_body m limits n depth in
+      let run' : Code → Continuation = within_body m limits n' depth in
+      unless-same (not (same_type u t)) (Trapped trap.Signature s.store) fuel (call m limits depth run go c t) (call m limits depth run' go' c t)
+      (call-same m limits depth fuel run run' go go' c t (λ code. within-spends m limits n code (depth + 1)) (λ code u j l. within-enough n n' code (depth + 1) u j (omega arith) (omega arith)) h) s))) s) s g l)
 
   -- so the index of `exec` is of no account
   pub within-exec : (n : ℕ) (c : Code) (depth : ℕ) (s : State) (fuel : ℕ) → fuel < n → exec_within m limits n c depth s fuel ≡ exec m limits depth c s fuel

@@ -12,4 +12,6 @@ pub mod ResultLaws
 pub mod MoreFuel
 pub mod NeedLaws
 pub mod StoreSizes
+pub mod FunctionNumbers
+pub mod Supported
 pub mod AddModule

@@ -9,13 +9,12 @@ use Rattle.wasm_types.specs.declared.outcome.Outcome.TheVariants as outcome
 use Rattle.wasm_types.specs.declared.outcome.TrapKind.TheVariants as trap
 use Rattle.wasm_types.specs.Tree.{Code, End, Plain, Block, Loop, If, Call, CallIndirect, FunctionTree, ModuleTree}
 use Rattle.wasm_types.specs.SameTypes.{same_type}
-use Rattle.wasm_spec.specs.Typing.{function_at}
+use Rattle.wasm_spec.specs.Functions.{Callee, Imported, Own, callee_at, callee_type}
 use Rattle.wasm_spec.specs.Store.{Store}
-use Rattle.wasm_types.specs.declared.limits.RunLimits.{RunLimits}
-use Rattle.wasm_spec.specs.Execution.{State, Signal, Next, Branch, Returned, Trapped, OutOfFuel, Stuck, Ended, ended, Continuation, plain, pay, and_then, unless, keep, leave_by, leave, arity, pop_index, choose, inside, return_by, return, entered, callee, invoke, if_there, with_type, with_function, with_element, exec_within, exec}
+use Rattle.wasm_spec.specs.Execution.{Terms, call, import_call, State, Signal, Next, Branch, Returned, Trapped, OutOfFuel, Stuck, Ended, ended, Continuation, plain, pay, and_then, unless, keep, leave_by, leave, arity, pop_index, choose, inside, return_by, return, entered, callee, invoke, if_there, with_function, with_element, exec_within, exec}
 use Rattle.wasm_spec.specs.Result.{CallResult, finish, run_function, result_by, result_of, function_result, if_done_by, if_done, after_start, result_from}
 use Rattle.wasm_spec.specs.MoreFuel.{is_fuel, is_fuel_end, with_more}
-use Rattle.wasm_spec.proofs.FuelLaws.{Spends, within-spends, within-exec, choose-spends, exec-spends}
+use Rattle.wasm_spec.proofs.FuelLaws.{Spends, within_body, within_call, within-spends, within-exec, choose-spends, exec-spends}
 
 abbrev pub is_out : Signal → Bool
 is_out (OutOfFuel store) = true
@@ -101,7 +100,7 @@ module _ (d : ℕ) where
       ap (λ (e : Ended). return n s below e next) (hr (entered f t s) fuel lt (return-in n s below inner.signal inner.fuel next out))
       ∙ return-more k n s below inner.signal inner.fuel next h (omega (arith, spends (entered f t s) fuel)) out
 
-  invoke-more : (k : ℕ) (limits : RunLimits) (depth : ℕ) (f : FunctionTree) (t : FuncType) (run next : Continuation) → Spends run → Grows k run → Grows k next → Grows k (invoke limits depth f t run next)
+  invoke-more : (k : ℕ) (limits : Terms) (depth : ℕ) (f : FunctionTree) (t : FuncType) (run next : Continuation) → Spends run → Grows k run → Grows k next → Grows k (invoke limits depth f t run next)
   invoke-more k limits depth f t run next spends hr h s fuel lt out =
       let deep : Bool = nat_le limits.depth depth in
       let exhausted : Signal = Trapped trap.Exhausted s.store in
@@ -112,9 +111,14 @@ module _ (d : ℕ) where
   if_there-more k None next h s fuel lt out = refl
   if_there-more k (Some x) next h s fuel lt out = h x s fuel lt out
 
-  with_function-more : (k : ℕ) (m : ModuleTree) (x : ℕ) (next : FunctionTree → FuncType → Continuation) → ((f : FunctionTree) (t : FuncType) → Grows k (next f t)) → Grows k (with_function m x next)
+  with_function-more : (k : ℕ) (m : ModuleTree) (x : ℕ) (next : Callee → FuncType → Continuation) → ((c : Callee) (t : FuncType) → Grows k (next c t)) → Grows k (with_function m x next)
   with_function-more k m x next h =
-      if_there-more k (function_at m x) (λ f. with_type m f.type_index (next f)) (λ f. if_there-more k (slice_get m.types f.type_index) (next f) (h f))
+      if_there-more k (callee_at m x) (λ c. if_there (callee_type m c) (next c)) (λ c. if_there-more k (callee_type m c) (next c) (h c))
+
+  call-more : (k : ℕ) (m : ModuleTree) (limits : Terms) (depth : ℕ) (run : Code → Continuation) (rest : Continuation) (c : Callee) (t : FuncType)
+      → ((code : Code) → Spends (run code)) → ((code : Code) → Grows k (run code)) → Grows k rest → Grows k (call m limits depth run rest c t)
+  call-more k m limits depth run rest (Own f) t spends hr h s fuel lt out = invoke-more k limits depth f t (run f.body) rest (spends f.body) (hr f.body) h s fuel lt out
+  call-more k m limits depth run rest (Imported i) t spends hr h s fuel lt out = and_then-more k (import_call limits.request i s) fuel rest h lt out
 
   pop_index-more : (k : ℕ) (vs : List Val) (next : ℕ → Continuation) → ((n : ℕ) → Grows k (next n)) → Grows k (pop_index vs next)
   pop_index-more k [] next h s fuel lt out = refl
@@ -130,7 +134,7 @@ module _ (d : ℕ) where
   choose-more k zero first second h h' s fuel lt out = h' s fuel lt out
   choose-more k (suc n) first second h h' s fuel lt out = h s fuel lt out
 
-  module _ (m : ModuleTree) (limits : RunLimits) where
+  module _ (m : ModuleTree) (limits : Terms) where
     within-more : (n : ℕ) (code : Code) (depth k : ℕ) → k ≤ n → Grows k (exec_within m limits n code depth)
     within-more n End depth k le s fuel lt out = refl
     within-more n (Plain i rest) depth k le s fuel lt out =
@@ -155,17 +159,16 @@ module _ (d : ℕ) where
         (omega (arith, within-spends m limits (suc n) body depth (inside s) g)) (within-more (suc n) body depth k le (inside s) g (omega arith)) out) out
     within-more zero (Call x rest) depth k le s fuel lt out = absurd (omega arith)
     within-more (suc n) (Call x rest) depth k le s fuel lt out =
-        pay-more s.store fuel _ (λ g e out. let j : ℕ = suc (g + d) in with_function-more j m x _ (λ f t.
-        invoke-more j limits depth f t (exec_within m limits n f.body (depth + 1)) (exec_within m limits (suc n) rest depth)
-        (within-spends m limits n f.body (depth + 1)) (within-more n f.body (depth + 1) j (omega arith)) (λ u f l. within-more (suc n) rest depth k le u f (omega arith))) s g (omega arith) out) out
+        pay-more s.store fuel _ (λ g e out. let j : ℕ = suc (g + d) in with_function-more j m x _ (λ c t.
+        call-more j m limits depth (within_body m limits n depth) (exec_within m limits (suc n) rest depth) c t
+        (λ code. within-spends m limits n code (depth + 1)) (λ code. within-more n code (depth + 1) j (omega arith)) (λ u f l. within-more (suc n) rest depth k le u f (omega arith))) s g (omega arith) out) out
     within-more zero (CallIndirect x rest) depth k le s fuel lt out = absurd (omega arith)
     within-more (suc n) (CallIndirect x rest) depth k le s fuel lt out =
         pay-more s.store fuel _ (λ g e out. let j : ℕ = suc (g + d) in pop_index-more j s.operands _ (λ i s. with_element-more j (slice_get s.store.table i) _ (λ y.
-        if_there-more j (slice_get m.types x) _ (λ u. with_function-more j m y _ (λ f t s.
-        let call : Continuation = invoke limits depth f t (exec_within m limits n f.body (depth + 1)) (exec_within m limits (suc n) rest depth) in
-        unless-more j (not (same_type u t)) (Trapped trap.Signature s.store) call
-        (invoke-more j limits depth f t (exec_within m limits n f.body (depth + 1)) (exec_within m limits (suc n) rest depth)
-        (within-spends m limits n f.body (depth + 1)) (within-more n f.body (depth + 1) j (omega arith)) (λ u f l. within-more (suc n) rest depth k le u f (omega arith))) s))) s) s g (omega arith) out) out
+        if_there-more j (slice_get m.types x) _ (λ u. with_function-more j m y _ (λ c t s.
+        unless-more j (not (same_type u t)) (Trapped trap.Signature s.store) (within_call m limits n depth rest c t)
+        (call-more j m limits depth (within_body m limits n depth) (exec_within m limits (suc n) rest depth) c t
+        (λ code. within-spends m limits n code (depth + 1)) (λ code. within-more n code (depth + 1) j (omega arith)) (λ u f l. within-more (suc n) rest depth k le u f (omega arith))) s))) s) s g (omega arith) out) out
 
     pub exec-more : (depth : ℕ) (code : Code) (s : State) (fuel : ℕ) → is_out (exec m limits depth code s fuel).signal ≡ false → exec m limits depth code s (fuel + d) ≡ more d (exec m limits depth code s fuel)
     exec-more depth code s fuel out =
@@ -196,9 +199,9 @@ module _ (d : ℕ) where
   finish-more : (k : ℕ) → Grows d k finish
   finish-more k s fuel lt out = refl
 
-  module _ (m : ModuleTree) (limits : RunLimits) where
-    body-more : (f : FunctionTree) (k : ℕ) → Grows d k (exec m limits 1 f.body)
-    body-more f k s fuel lt out = exec-more d m limits 1 f.body s fuel out
+  module _ (m : ModuleTree) (limits : Terms) where
+    body-more : (code : Code) (k : ℕ) → Grows d k (exec m limits 1 code)
+    body-more code k s fuel lt out = exec-more d m limits 1 code s fuel out
 
     pub function-more : (x : ℕ) (arguments : List Val) (store : Store) (fuel : ℕ) → is_fuel_end (function_result m limits x arguments store fuel) ≡ false
         → function_result m limits x arguments store (fuel + d) ≡ with_more d (function_result m limits x arguments store fuel)
@@ -206,8 +209,8 @@ module _ (d : ℕ) where
         let s : State = record { locals = []; operands = reverse arguments; store = store } in
         let r : Ended = run_function m limits x arguments store fuel in
         let k : ℕ = suc (fuel + d) in
-        ap result_of (with_function-more d k m x (λ f t. invoke limits 0 f t (exec m limits 1 f.body) finish)
-        (λ f t. invoke-more d k limits 0 f t (exec m limits 1 f.body) finish (exec-spends m limits 1 f.body) (body-more f k) (finish-more k)) s fuel (omega arith) (out-is r.signal r.fuel e))
+        ap result_of (with_function-more d k m x (call m limits 0 (exec m limits 1) finish)
+        (λ c t. call-more d k m limits 0 (exec m limits 1) finish c t (exec-spends m limits 1) (λ code. body-more code k) (finish-more k)) s fuel (omega arith) (out-is r.signal r.fuel e))
         ∙ by-more r.signal r.fuel
 
     two-more : (x : ℕ) (arguments : List Val) (o : Outcome) (first : CallResult) → is_fuel_end (if_done_by o first (function_result m limits x arguments)) ≡ false → is_fuel first.outcome ≡ is_fuel o

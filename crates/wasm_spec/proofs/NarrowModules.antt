@@ -10,7 +10,8 @@ use Rattle.wasm_types.specs.Tree.{Code, End, Plain, Block, Loop, If, Call, CallI
 use Rattle.wasm_spec.specs.Numbers.{TakesEach}
 use Rattle.wasm_spec.specs.InstrGrammar.{Shape, Alone, WithIndex, WithLabels, WithAddress, WithZero, WithI32, WithI64, WithBytes, Prefixed, NotPlain, Closer, ByEnd, ByElse, TakesShape, TakesCode, opcodes, shape}
 use Rattle.wasm_spec.specs.Grammar.{Section, Spells, SpellsVec, TakesSizedBody, body_of, section}
-use Rattle.wasm_spec.specs.Bulk.{is_bulk, code_uses_bulk, uses_bulk}
+use Rattle.wasm_spec.specs.Validity.{IsSupported}
+use Rattle.wasm_spec.specs.Bulk.{HasFewMarks, is_bulk, code_uses_bulk, uses_bulk}
 
 -- a shape of instructions that neither copy nor fill
 abbrev IsNarrow : Shape → Type 0
@@ -553,6 +554,10 @@ functions_narrow (f ∷ functions) (Some s) h = bodies_narrow (f ∷ functions) 
 
 pub spelled_narrow : (bytes : List ℕ) (m : ModuleTree) → Spells One bytes m → uses_bulk m ≡ false
 spelled_narrow bytes m spells = functions_narrow m.functions (section 10 spells.sections) spells.fields.bodies
+
+-- so its instructions mark at most two blocks each
+pub few_marks_of : (bytes : List ℕ) (m : ModuleTree) → Spells One bytes m → IsSupported One m → HasFewMarks m
+few_marks_of bytes m spells supported = record { imports = supported.imports; bulk = spelled_narrow bytes m spells }
 
 -- ---- what a module that copies and fills nothing has
 

@@ -11,13 +11,16 @@ use Rattle.wasm_types.specs.declared.outcome.Outcome.{Outcome}
 use Rattle.wasm_types.specs.declared.outcome.Outcome.TheVariants as outcome
 use Rattle.wasm_types.specs.Tree.{Code, End, Plain, Block, Loop, If, Call, CallIndirect, FunctionTree, ModuleTree}
 use Rattle.wasm_spec.specs.Store.{Store, Extent, page_size, minimum_of, memory_size, table_size, element_extent, data_extent, first_misfit, write_data, write_elements, fresh_store, offset_of}
-use Rattle.wasm_types.specs.declared.limits.RunLimits.{RunLimits}
-use Rattle.wasm_spec.specs.Execution.{State, Signal, Next, Branch, Returned, Trapped, OutOfFuel, Stuck, pages_of, most_pages, invoke, entered, exec}
+use Rattle.wasm_types.specs.declared.module.Import.{Import}
+use Rattle.wasm_types.specs.declared.host.HostFunction.{HostFunction}
+use Rattle.wasm_types.specs.declared.host.HostFunction.TheVariants as host
+use Rattle.wasm_spec.specs.Functions.{Callee, Imported, Own, callee_at, host_function}
+use Rattle.wasm_spec.specs.Execution.{Terms, host_call, import_call, call, State, Signal, Next, Branch, Returned, Trapped, OutOfFuel, Stuck, pages_of, most_pages, entered, exec}
 use Rattle.wasm_spec.specs.Result.{CallResult, finish, run_function, result_by, function_result, if_done_by, if_done, after_start, result_from}
 use Rattle.wasm_spec.specs.Instances.{IsInstance, room_for}
-use Rattle.wasm_spec.proofs.FuelLaws.{with_function-spends, invoke-spends, exec-spends}
+use Rattle.wasm_spec.proofs.FuelLaws.{with_function-spends, call-spends, exec-spends}
 use Rattle.wasm_spec.proofs.StoreSizes.{length-written, whole_pages}
-use Rattle.wasm_spec.proofs.StoreLaws.{KeptIn, Keeps, IsKeptByChanges, invoke-keeps_at, with_function-keeps_at, exec-keeps}
+use Rattle.wasm_spec.proofs.StoreLaws.{KeptIn, Keeps, IsKeptByChanges, given-keeps, and_then-keeps, import-keeps, invoke-keeps_at, with_function-keeps_at, exec-keeps}
 
 -- ---- results
 
@@ -51,20 +54,28 @@ result-has P (Branch l s) fuel r p e = absurd (cc)
 result-has P (Returned s) fuel r p e = absurd (cc)
 result-has P Stuck fuel r p e = absurd (cc)
 
-module _ (m : ModuleTree) (limits : RunLimits) where
-  -- what one function keeps, where its body does
+module _ (m : ModuleTree) (limits : Terms) where
+  -- the state in which a function is called from outside
+  abbrev outside : List Val → Store → State
+  outside arguments store = record { locals = []; operands = reverse arguments; store = store }
+
+  -- what one function keeps, where its body does, or the import
   function-has : (P : Store → Type 0) (x : ℕ) (arguments : List Val) (store : Store) (fuel : ℕ) (r : CallResult) → P store
       → ((f : FunctionTree) (t : FuncType) (s : State) → s.store ≡ store → KeptIn P (exec m limits 1 f.body (entered f t s) fuel).signal)
+      → ((i : Import) → callee_at m x ≡ Some (Imported i) → KeptIn P (import_call limits.request i (outside arguments store)))
       → function_result m limits x arguments store fuel ≡ Some r → P r.store
-  function-has P x arguments store fuel r p h e =
-      let s : State = record { locals = []; operands = reverse arguments; store = store } in
+  function-has P x arguments store fuel r p h hi e =
+      let s : State = outside arguments store in
       result-has P (run_function m limits x arguments store fuel).signal (run_function m limits x arguments store fuel).fuel r
-      (with_function-keeps_at P m x (λ f t. invoke limits 0 f t (exec m limits 1 f.body) finish) s fuel
-      (λ f t. invoke-keeps_at P limits 0 f t (exec m limits 1 f.body) finish s fuel p (h f t s refl) (finish-keeps P))) e
+      (with_function-keeps_at P m x (call m limits 0 (exec m limits 1) finish) s fuel kept) e where
+        kept : (c : Callee) (t : FuncType) → callee_at m x ≡ Some c → KeptIn P (call m limits 0 (exec m limits 1) finish c t (outside arguments store) fuel).signal
+        kept (Own f) t there = invoke-keeps_at P limits 0 f t (exec m limits 1 f.body) finish (outside arguments store) fuel p (h f t (outside arguments store) refl) (finish-keeps P)
+        kept (Imported i) t there = and_then-keeps P (import_call limits.request i (outside arguments store)) finish (finish-keeps P) fuel (hi i there)
 
   pub function-keeps : (P : Store → Type 0) → IsKeptByChanges (most_pages m.memories limits.pages) P
       → (x : ℕ) (arguments : List Val) (store : Store) (fuel : ℕ) (r : CallResult) → P store → function_result m limits x arguments store fuel ≡ Some r → P r.store
-  function-keeps P c x arguments store fuel r p e = function-has P x arguments store fuel r p (λ f t s same. exec-keeps P m limits c 1 f.body (entered f t s) fuel (subst P (sym same) p)) e
+  function-keeps P c x arguments store fuel r p e = function-has P x arguments store fuel r p (λ f t s same. exec-keeps P m limits c 1 f.body (entered f t s) fuel (subst P (sym same) p))
+      (λ i _. import-keeps P m limits c i (outside arguments store) p) e
 
   -- what a call keeps, where each of its two runs does
   two-keep : (P : Store → Type 0) (next : Store → ℕ → Option CallResult) → ((s : Store) (g : ℕ) (r : CallResult) → P s → next s g ≡ Some r → P r.store)
@@ -102,16 +113,35 @@ module _ (m : ModuleTree) (limits : RunLimits) where
   code-at_zero depth (Call x rest) s = refl
   code-at_zero depth (CallIndirect x rest) s = refl
 
-  function-at_zero : (x : ℕ) (arguments : List Val) (store : Store) (r : CallResult) → function_result m limits x arguments store 0 ≡ Some r → r.store ≡ store
-  function-at_zero x arguments store r e =
-      function-has (λ t. t ≡ store) x arguments store 0 r refl (λ f t s same. subst (λ (u : Store). KeptIn (λ t. t ≡ u) (exec m limits 1 f.body (entered f t s) 0).signal) same (code-at_zero 1 f.body (entered f t s))) e
+  -- where the function is imported, if its effect leaves the store
+  at_zero : (x : ℕ) (arguments : List Val) (store : Store) (r : CallResult)
+      → ((i : Import) → callee_at m x ≡ Some (Imported i) → KeptIn (λ t. t ≡ store) (import_call limits.request i (outside arguments store)))
+      → function_result m limits x arguments store 0 ≡ Some r → r.store ≡ store
+  at_zero x arguments store r hi e =
+      function-has (λ t. t ≡ store) x arguments store 0 r refl (λ f t s same. subst (λ (u : Store). KeptIn (λ t. t ≡ u) (exec m limits 1 f.body (entered f t s) 0).signal) same (code-at_zero 1 f.body (entered f t s))) hi e
+
+  own-no_import : (x : ℕ) (f : FunctionTree) (i : Import) → callee_at m x ≡ Some (Own f) → callee_at m x ≡ Some (Imported i) → ⊥
+  own-no_import x f i own there = cc (own, there)
+
+  pub function-at_zero : (x : ℕ) (f : FunctionTree) (arguments : List Val) (store : Store) (r : CallResult) → callee_at m x ≡ Some (Own f)
+      → function_result m limits x arguments store 0 ≡ Some r → r.store ≡ store
+  function-at_zero x f arguments store r own e = at_zero x arguments store r (λ i there. absurd (own-no_import x f i own there)) e
+
+  -- no import that is given nothing changes the store
+  given-nothing : (h : HostFunction) (store : Store) → KeptIn (λ t. t ≡ store) (host_call limits.request h (outside [] store))
+  given-nothing host.Len store = refl
+  given-nothing host.Read store = tt
+  given-nothing host.Write store = tt
+
+  start-function-at_zero : (x : ℕ) (store : Store) (r : CallResult) → function_result m limits x [] store 0 ≡ Some r → r.store ≡ store
+  start-function-at_zero x store r e = at_zero x [] store r (λ i _. given-keeps (λ t. t ≡ store) (host_function i) _ (λ h. given-nothing h store)) e
 
   pub function-spends : (x : ℕ) (arguments : List Val) (store : Store) (fuel : ℕ) (r : CallResult) → function_result m limits x arguments store fuel ≡ Some r → r.fuel ≤ fuel
   function-spends x arguments store fuel r e =
       let s : State = record { locals = []; operands = reverse arguments; store = store } in
       let spent : (run_function m limits x arguments store fuel).fuel ≤ fuel =
-      with_function-spends m x (λ f t. invoke limits 0 f t (exec m limits 1 f.body) finish)
-      (λ f t. invoke-spends limits 0 f t (exec m limits 1 f.body) finish (exec-spends m limits 1 f.body) (λ s g. omega arith)) s fuel in
+      with_function-spends m x (call m limits 0 (exec m limits 1) finish)
+      (λ c t. call-spends m limits 0 (exec m limits 1) finish c t (exec-spends m limits 1) (λ s g. omega arith)) s fuel in
       let same = same_fuel (run_function m limits x arguments store fuel).signal (run_function m limits x arguments store fuel).fuel r e in omega arith
 
   two-spend : (next : Store → ℕ → Option CallResult) → ((s : Store) (g : ℕ) (r : CallResult) → next s g ≡ Some r → r.fuel ≤ g)
@@ -146,16 +176,17 @@ module _ (m : ModuleTree) (limits : RunLimits) where
   done-at_zero next store h None r k e = absurd (cc)
   done-at_zero next store h (Some first) r k e = let f = k first refl in two-at_zero next store h first.outcome first r f.0 f.1 e
 
-  start-at_zero : (start : Option ℕ) (x : ℕ) (arguments : List Val) (store : Store) (r : CallResult)
+  start-at_zero : (start : Option ℕ) (x : ℕ) (f : FunctionTree) (arguments : List Val) (store : Store) (r : CallResult) → callee_at m x ≡ Some (Own f)
       → after_start m limits start (function_result m limits x arguments) store 0 ≡ Some r → r.store ≡ store
-  start-at_zero None x arguments store r e = function-at_zero x arguments store r e
-  start-at_zero (Some y) x arguments store r e =
-      done-at_zero (function_result m limits x arguments) store (λ s r p e. function-at_zero x arguments s r e ∙ p) (function_result m limits y [] store 0) r
-      (λ first e. (function-at_zero y [] store first e, let le = function-spends y [] store 0 first e in omega arith)) e
+  start-at_zero None x f arguments store r own e = function-at_zero x f arguments store r own e
+  start-at_zero (Some y) x f arguments store r own e =
+      done-at_zero (function_result m limits x arguments) store (λ s r p e. function-at_zero x f arguments s r own e ∙ p) (function_result m limits y [] store 0) r
+      (λ first e. (start-function-at_zero y store first e, let le = function-spends y [] store 0 first e in omega arith)) e
 
-  -- without fuel a call leaves the store as it is
-  pub result-at_zero : (x : ℕ) (arguments : List Val) (store : Store) (r : CallResult) → result_from m limits x arguments store 0 ≡ Some r → r.store ≡ store
-  result-at_zero x arguments store r e = start-at_zero m.start x arguments store r e
+  -- without fuel a call of an own function leaves the store as it is
+  pub result-at_zero : (x : ℕ) (f : FunctionTree) (arguments : List Val) (store : Store) (r : CallResult) → callee_at m x ≡ Some (Own f)
+      → result_from m limits x arguments store 0 ≡ Some r → r.store ≡ store
+  result-at_zero x f arguments store r own e = start-at_zero m.start x f arguments store r own e
 
 -- ---- one instance
 
@@ -170,16 +201,18 @@ least_in_room : (ms : List Limits) (pages : ℕ) → minimum_of ms ≤ pages →
 least_in_room [] pages h = omega arith
 least_in_room (l ∷ ms) pages h = h
 
-pub instance-kept : (m : ModuleTree) (limits : RunLimits) (table : List (Option ℕ)) → IsKeptByChanges (most_pages m.memories limits.pages) (IsInstance m limits.pages table)
+pub instance-kept : (m : ModuleTree) (limits : Terms) (table : List (Option ℕ)) → IsKeptByChanges (most_pages m.memories limits.pages) (IsInstance m limits.pages table)
 instance-kept m limits table = record {
-  global = λ store x v i. record { table_is = i.table_is; globals_are = length-set store.globals x v ∙ i.globals_are; size = i.size; whole = i.whole; within = i.within };
-  bytes = λ store at bytes h i. record { table_is = i.table_is; globals_are = i.globals_are; size = i.size; whole = length-written store.memory at bytes h ∙ i.whole; within = i.within };
+  global = λ store x v i. record { table_is = i.table_is; globals_are = length-set store.globals x v ∙ i.globals_are; size = i.size; whole = i.whole; within = i.within; answered = i.answered };
+  bytes = λ store at bytes h i. record { table_is = i.table_is; globals_are = i.globals_are; size = i.size; whole = length-written store.memory at bytes h ∙ i.whole; within = i.within; answered = i.answered };
+  answer = λ store bytes h i. record { table_is = i.table_is; globals_are = i.globals_are; size = i.size; whole = i.whole; within = i.within; answered = h };
   pages = λ store n h i. let old : pages_of store ≡ i.size = ap (λ (k : ℕ). k / page_size) i.whole ∙ whole_pages i.size in record {
     table_is = i.table_is;
     globals_are = i.globals_are;
     size = i.size + n;
     whole = length-append store.memory (replicate (n * page_size) 0) ∙ sum_is (length store.memory) (length (replicate (n * page_size) 0)) i.size n i.whole (length-replicate (n * page_size) 0);
     within = most-in_room m.memories limits.pages (i.size + n) (omega arith);
+    answered = i.answered;
   };
 }
 
@@ -217,4 +250,4 @@ module _ (m : ModuleTree) (fits : first_misfit m ≡ None) where
       (find-left (λ e. nat_lt e.size e.end) (map (element_extent m) (enumerate_from 0 m.element_segments)) (map (data_extent m) (enumerate_from 0 m.data_segments)) fits)
 
   pub fresh-instance : (pages : ℕ) → minimum_of m.memories ≤ pages → IsInstance m pages (fresh_store m).table (fresh_store m)
-  fresh-instance pages le = record { table_is = refl; globals_are = length-map m.globals _; size = minimum_of m.memories; whole = length-fresh_memory; within = least_in_room m.memories pages le }
+  fresh-instance pages le = record { table_is = refl; globals_are = length-map m.globals _; size = minimum_of m.memories; whole = length-fresh_memory; within = least_in_room m.memories pages le; answered = omega arith }

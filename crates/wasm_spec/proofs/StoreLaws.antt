@@ -1,5 +1,5 @@
 -- What every instruction keeps of a store, a run keeps.
-use Rattle.std.proofs.Common.{◌≡◌, ℕ, zero, suc, ◌+◌, ◌*◌, ◌≤◌, List, [], ◌∷◌, ◌++◌, length, take, drop, Option, Some, None, Bool, true, false, refl, ap, arith}
+use Rattle.std.proofs.Common.{◌≡◌, ℕ, zero, suc, ◌+◌, ◌*◌, ◌≤◌, List, [], ◌∷◌, ◌++◌, length, take, drop, length-append, Option, Some, None, Bool, true, false, refl, ap, arith}
 use Rattle.std.specs.Prelude.{Result, Ok, Err, nat_lt, nat_le, slice_get, slice_set, not, ◌&&◌, replicate, if◌then◌else◌, ◌^◌, ◌-◌}
 use Rattle.std.specs.Int as int
 use Rattle.std.specs.Int.{byte_len, to_le_bytes, bytes_low_first}
@@ -15,11 +15,13 @@ use Rattle.wasm_types.specs.declared.instr.Instr.{Instr}
 use Rattle.wasm_types.specs.declared.instr.Instr.TheVariants as instr
 use Rattle.wasm_types.specs.Tree.{Code, End, Plain, Block, Loop, If, Call, CallIndirect, FunctionTree, ModuleTree}
 use Rattle.wasm_types.specs.SameTypes.{same_type}
-use Rattle.wasm_spec.specs.Typing.{function_at}
+use Rattle.wasm_types.specs.declared.module.Import.{Import}
+use Rattle.wasm_types.specs.declared.host.HostFunction.{HostFunction}
+use Rattle.wasm_types.specs.declared.host.HostFunction.TheVariants as host
+use Rattle.wasm_spec.specs.Functions.{Callee, Imported, Own, callee_at, callee_type, host_function}
 use Rattle.wasm_spec.specs.Operators.{bit_width, int_width, pack_width, pack_bits, binary, wrap}
 use Rattle.wasm_spec.specs.Store.{Store, page_size, written}
-use Rattle.wasm_types.specs.declared.limits.RunLimits.{RunLimits}
-use Rattle.wasm_spec.specs.Execution.{State, Signal, Next, Branch, Returned, Trapped, OutOfFuel, Stuck, Ended, Continuation, number, given, with_operands, pop, pop_two, pop_three, if_zero, or_trap, memory_set, store_number, pages_of, most_pages, grow, write_where, lies_within, copy_bytes, fill_bytes, pop_numbers, plain, pay, and_then, unless, keep, leave_by, arity, pop_index, choose, inside, return_by, entered, callee, invoke, if_there, with_type, with_function, with_element, exec_within, exec}
+use Rattle.wasm_spec.specs.Execution.{Terms, most_answer, lies_within, part, answer_set, read_request, write_answer, pop_pair, pop_numbers, host_call, import_call, call, State, Signal, Next, Branch, Returned, Trapped, OutOfFuel, Stuck, Ended, Continuation, number, given, with_operands, pop, pop_two, pop_three, if_zero, or_trap, memory_set, store_number, pages_of, most_pages, grow, write_where, copy_bytes, fill_bytes, plain, pay, and_then, unless, keep, leave_by, arity, pop_index, choose, inside, return_by, entered, callee, invoke, if_there, with_function, with_element, exec_within, exec}
 
 -- the store in which a sequence ends has this property
 abbrev pub KeptIn : (Store → Type 0) → Signal → Type 0
@@ -34,10 +36,11 @@ KeptIn P Stuck = Unit {0}
 abbrev pub Keeps : (Store → Type 0) → Continuation → Type 0
 Keeps P next = (s : State) (fuel : ℕ) → P s.store → KeptIn P (next s fuel).signal
 
--- the ways in which an instruction changes a store keep the property
+-- the ways in which an instruction or an import changes a store keep the property
 pub record IsKeptByChanges (most : ℕ) (P : Store → Type 0) : Type 0 where
   pub global : (store : Store) (x : ℕ) (v : Val) → P store → P (record store { globals = slice_set store.globals x v })
   pub bytes : (store : Store) (at : ℕ) (bytes : List ℕ) → at + length bytes ≤ length store.memory → P store → P (memory_set (written store.memory at bytes) store)
+  pub answer : (store : Store) (bytes : List ℕ) → length bytes ≤ most_answer → P store → P (answer_set bytes store)
   pub pages : (store : Store) (n : ℕ) → pages_of store + n ≤ most → P store → P (memory_set (store.memory ++ replicate (n * page_size) 0) store)
 
 length-bytes : (i k n : ℕ) → length (bytes_low_first i k n) ≡ k
@@ -47,7 +50,7 @@ length-bytes i (suc k) n = ap suc (length-bytes (suc i) k n)
 module _ (P : Store → Type 0) where
   -- ---- plain instructions
 
-  given-keeps : {A : Type 0} (o : Option A) (next : A → Signal) → ((x : A) → KeptIn P (next x)) → KeptIn P (given o next)
+  pub given-keeps : {A : Type 0} (o : Option A) (next : A → Signal) → ((x : A) → KeptIn P (next x)) → KeptIn P (given o next)
   given-keeps None next h = tt
   given-keeps (Some x) next h = h x
 
@@ -84,7 +87,7 @@ module _ (P : Store → Type 0) where
   pay-keeps store zero next p h = p
   pay-keeps store (suc fuel) next p h = h fuel
 
-  and_then-keeps : (signal : Signal) (next : Continuation) → Keeps P next → (fuel : ℕ) → KeptIn P signal → KeptIn P (and_then signal fuel next).signal
+  pub and_then-keeps : (signal : Signal) (next : Continuation) → Keeps P next → (fuel : ℕ) → KeptIn P signal → KeptIn P (and_then signal fuel next).signal
   and_then-keeps (Next s) next h fuel p = h s fuel p
   and_then-keeps (Branch l s) next h fuel p = p
   and_then-keeps (Returned s) next h fuel p = p
@@ -121,7 +124,7 @@ module _ (P : Store → Type 0) where
   return-keeps n caller below Stuck fuel next h p = tt
 
   -- a call, where its body's run keeps the property
-  pub invoke-keeps_at : (limits : RunLimits) (depth : ℕ) (f : FunctionTree) (t : FuncType) (run next : Continuation) (s : State) (fuel : ℕ)
+  pub invoke-keeps_at : (limits : Terms) (depth : ℕ) (f : FunctionTree) (t : FuncType) (run next : Continuation) (s : State) (fuel : ℕ)
       → P s.store → KeptIn P (run (entered f t s) fuel).signal → Keeps P next → KeptIn P (invoke limits depth f t run next s fuel).signal
   invoke-keeps_at limits depth f t run next s fuel p hr h =
       let calls : Continuation = callee f t run next in
@@ -131,7 +134,7 @@ module _ (P : Store → Type 0) where
       (unless-keeps deep (Trapped trap.Exhausted s.store) calls s fuel p
       (return-keeps (length t.results) s (drop (length t.params) s.operands) inner.signal inner.fuel next h hr))
 
-  invoke-keeps : (limits : RunLimits) (depth : ℕ) (f : FunctionTree) (t : FuncType) (run next : Continuation)
+  invoke-keeps : (limits : Terms) (depth : ℕ) (f : FunctionTree) (t : FuncType) (run next : Continuation)
       → Keeps P run → Keeps P next → Keeps P (invoke limits depth f t run next)
   invoke-keeps limits depth f t run next hr h s fuel p = invoke-keeps_at limits depth f t run next s fuel p (hr (entered f t s) fuel p) h
 
@@ -139,22 +142,22 @@ module _ (P : Store → Type 0) where
   if_there-keeps None next h s fuel p = tt
   if_there-keeps (Some x) next h s fuel p = h x s fuel p
 
-  pub with_function-keeps : (m : ModuleTree) (x : ℕ) (next : FunctionTree → FuncType → Continuation)
-      → ((f : FunctionTree) (t : FuncType) → Keeps P (next f t)) → Keeps P (with_function m x next)
+  pub with_function-keeps : (m : ModuleTree) (x : ℕ) (next : Callee → FuncType → Continuation)
+      → ((c : Callee) (t : FuncType) → Keeps P (next c t)) → Keeps P (with_function m x next)
   with_function-keeps m x next h =
-      if_there-keeps (function_at m x) (λ f. with_type m f.type_index (next f)) (λ f. if_there-keeps (slice_get m.types f.type_index) (next f) (h f))
+      if_there-keeps (callee_at m x) (λ c. if_there (callee_type m c) (next c)) (λ c. if_there-keeps (callee_type m c) (next c) (h c))
 
   -- the same of one state
   if_there-keeps_at : {A : Type 0} (o : Option A) (next : A → Continuation) (s : State) (fuel : ℕ)
-      → ((x : A) → KeptIn P (next x s fuel).signal) → KeptIn P (if_there o next s fuel).signal
+      → ((x : A) → o ≡ Some x → KeptIn P (next x s fuel).signal) → KeptIn P (if_there o next s fuel).signal
   if_there-keeps_at None next s fuel h = tt
-  if_there-keeps_at (Some x) next s fuel h = h x
+  if_there-keeps_at (Some x) next s fuel h = h x refl
 
-  pub with_function-keeps_at : (m : ModuleTree) (x : ℕ) (next : FunctionTree → FuncType → Continuation) (s : State) (fuel : ℕ)
-      → ((f : FunctionTree) (t : FuncType) → KeptIn P (next f t s fuel).signal) → KeptIn P (with_function m x next s fuel).signal
+  pub with_function-keeps_at : (m : ModuleTree) (x : ℕ) (next : Callee → FuncType → Continuation) (s : State) (fuel : ℕ)
+      → ((c : Callee) (t : FuncType) → callee_at m x ≡ Some c → KeptIn P (next c t s fuel).signal) → KeptIn P (with_function m x next s fuel).signal
   with_function-keeps_at m x next s fuel h =
-      if_there-keeps_at (function_at m x) (λ f. with_type m f.type_index (next f)) s fuel
-      (λ f. if_there-keeps_at (slice_get m.types f.type_index) (next f) s fuel (h f))
+      if_there-keeps_at (callee_at m x) (λ c. if_there (callee_type m c) (next c)) s fuel
+      (λ c there. if_there-keeps_at (callee_type m c) (next c) s fuel (λ t _. h c t there))
 
   pop_index-keeps : (vs : List Val) (next : ℕ → Continuation) → ((n : ℕ) → Keeps P (next n)) → Keeps P (pop_index vs next)
   pop_index-keeps [] next h s fuel p = tt
@@ -170,7 +173,7 @@ module _ (P : Store → Type 0) where
   choose-keeps zero first second h k s fuel p = k s fuel p
   choose-keeps (suc n) first second h k s fuel p = h s fuel p
 
-module _ (P : Store → Type 0) (m : ModuleTree) (limits : RunLimits) (c : IsKeptByChanges (most_pages m.memories limits.pages) P) where
+module _ (P : Store → Type 0) (m : ModuleTree) (limits : Terms) (c : IsKeptByChanges (most_pages m.memories limits.pages) P) where
   written-keeps : (width : int.Width) (n at : ℕ) (vs : List Val) (s : State) → P s.store → KeptIn P (store_number width n at vs s)
   written-keeps width n at vs s p =
       if-keeps P (nat_lt (length s.store.memory) (at + byte_len width)) (Trapped trap.Memory s.store) (Next (record s { operands = vs; store = memory_set (written s.store.memory at (to_le_bytes width n)) s.store })) p
@@ -234,6 +237,45 @@ module _ (P : Store → Type 0) (m : ModuleTree) (limits : RunLimits) (c : IsKep
   plain-keeps (instr.Extend sign) s p = pop-keeps P s.operands _ (λ x vs. given-keeps P (number W32 x) _ (λ a. p))
   plain-keeps instr.Float s p = tt
 
+  -- ---- imports
+
+  if-within : (b : Bool) (x y : Signal) → (b ≡ true → KeptIn P x) → KeptIn P y → KeptIn P (if b then x else y)
+  if-within true x y h k = h refl
+  if-within false x y h k = k
+
+  pair-keeps : (vs : List Val) (next : ℕ → ℕ → List Val → Signal) → ((a b : ℕ) (r : List Val) → KeptIn P (next a b r)) → KeptIn P (pop_pair vs next)
+  pair-keeps vs next h = pop_two-keeps P vs _ (λ x y r. given-keeps P (number W32 x) _ (λ a. given-keeps P (number W32 y) _ (λ b. h a b r)))
+
+  read-keeps : (to from n : ℕ) (vs : List Val) (s : State) → P s.store → KeptIn P (read_request limits.request to from n vs s)
+  read-keeps to from n vs s p = let bytes : List ℕ = part limits.request from n in
+      if-within (lies_within s.store to n) (Next (record s { operands = val.I32 (length bytes) ∷ vs; store = memory_set (written s.store.memory to bytes) s.store })) (Trapped trap.Memory s.store)
+      (λ e. let room = leb-true (to + n) (length s.store.memory) e in
+      let long = length-take n (drop from limits.request) in
+      c.bytes s.store to bytes (omega arith) p) p
+
+  write-keeps : (from n : ℕ) (vs : List Val) (s : State) → P s.store → KeptIn P (write_answer from n vs s)
+  write-keeps from n vs s p = let bytes : List ℕ = part s.store.memory from n in
+      let appended : Signal = Next (record s { operands = val.I32 (length s.store.answer + n) ∷ vs; store = answer_set (s.store.answer ++ bytes) s.store }) in
+      if-within (lies_within s.store from n) (if nat_lt most_answer (length s.store.answer + n) then with_operands (val.I32 (2 ^ 32 - 1) ∷ vs) s else appended) (Trapped trap.Memory s.store)
+      (λ _. if-keeps P (nat_lt most_answer (length s.store.answer + n)) (with_operands (val.I32 (2 ^ 32 - 1) ∷ vs) s) appended p
+      (λ e. let room = ltb-false most_answer (length s.store.answer + n) e in
+      let long = length-append s.store.answer bytes in
+      let short = length-take n (drop from s.store.memory) in
+      c.answer s.store (s.store.answer ++ bytes) (omega arith) p)) p
+
+  host-keeps : (h : HostFunction) (s : State) → P s.store → KeptIn P (host_call limits.request h s)
+  host-keeps host.Len s p = p
+  host-keeps host.Read s p = numbers-keep s.operands _ (λ to from n vs. read-keeps to from n vs s p)
+  host-keeps host.Write s p = pair-keeps s.operands _ (λ from n vs. write-keeps from n vs s p)
+
+  pub import-keeps : (i : Import) (s : State) → P s.store → KeptIn P (import_call limits.request i s)
+  import-keeps i s p = given-keeps P (host_function i) _ (λ h. host-keeps h s p)
+
+  call-keeps : (depth : ℕ) (run : Code → Continuation) (rest : Continuation) (callee : Callee) (t : FuncType)
+      → ((code : Code) → Keeps P (run code)) → Keeps P rest → Keeps P (call m limits depth run rest callee t)
+  call-keeps depth run rest (Own f) t hr h s fuel p = invoke-keeps P limits depth f t (run f.body) rest (hr f.body) h s fuel p
+  call-keeps depth run rest (Imported i) t hr h s fuel p = and_then-keeps P (import_call limits.request i s) rest h fuel (import-keeps i s p)
+
   pub within-keeps : (n : ℕ) (code : Code) (depth : ℕ) → Keeps P (exec_within m limits n code depth)
   within-keeps n End depth s fuel p = p
   within-keeps n (Plain i rest) depth s fuel p =
@@ -259,19 +301,19 @@ module _ (P : Store → Type 0) (m : ModuleTree) (limits : RunLimits) (c : IsKep
       (within-keeps (suc n) rest depth) (within-keeps n (Loop t body rest) depth) (within-keeps (suc n) body depth (inside s) g p))
   within-keeps zero (Call x rest) depth s fuel p = p
   within-keeps (suc n) (Call x rest) depth s fuel p =
-      pay-keeps P s.store fuel _ p (λ g. with_function-keeps P m x _ (λ f t.
-      invoke-keeps P limits depth f t (exec_within m limits n f.body (depth + 1)) (exec_within m limits (suc n) rest depth)
-      (within-keeps n f.body (depth + 1)) (within-keeps (suc n) rest depth)) s g p)
+      pay-keeps P s.store fuel _ p (λ g. with_function-keeps P m x _ (λ callee t.
+      call-keeps depth (λ code. exec_within m limits n code (depth + 1)) (exec_within m limits (suc n) rest depth) callee t
+      (λ code. within-keeps n code (depth + 1)) (within-keeps (suc n) rest depth)) s g p)
   within-keeps zero (CallIndirect x rest) depth s fuel p = p
   within-keeps (suc n) (CallIndirect x rest) depth s fuel p =
       pay-keeps P s.store fuel _ p (λ g. pop_index-keeps P s.operands _ (λ i s.
       with_element-keeps P (slice_get s.store.table i) _ (λ y.
       if_there-keeps P (slice_get m.types x) _ (λ u.
-      with_function-keeps P m y _ (λ f t s fuel p.
-      let call : Continuation = invoke limits depth f t (exec_within m limits n f.body (depth + 1)) (exec_within m limits (suc n) rest depth) in
-      unless-keeps P (not (same_type u t)) (Trapped trap.Signature s.store) call s fuel p
-      (invoke-keeps P limits depth f t (exec_within m limits n f.body (depth + 1)) (exec_within m limits (suc n) rest depth)
-      (within-keeps n f.body (depth + 1)) (within-keeps (suc n) rest depth) s fuel p)))) s) s g p)
+      with_function-keeps P m y _ (λ callee t s fuel p.
+      let run : Code → Continuation = λ code. exec_within m limits n code (depth + 1) in
+      unless-keeps P (not (same_type u t)) (Trapped trap.Signature s.store) (call m limits depth run (exec_within m limits (suc n) rest depth) callee t) s fuel p
+      (call-keeps depth run (exec_within m limits (suc n) rest depth) callee t
+      (λ code. within-keeps n code (depth + 1)) (within-keeps (suc n) rest depth) s fuel p)))) s) s g p)
 
   pub exec-keeps : (depth : ℕ) (code : Code) → Keeps P (exec m limits depth code)
   unfolding exec

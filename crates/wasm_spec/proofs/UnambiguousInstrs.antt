@@ -9,7 +9,7 @@ use Rattle.wasm_types.specs.declared.instr.Instr.{Instr}
 use Rattle.wasm_types.specs.declared.instr.Instr.TheVariants as instr
 use Rattle.wasm_types.specs.declared.instr.MemArg.{MemArg}
 use Rattle.wasm_types.specs.declared.profile.Profile.{Profile}
-use Rattle.wasm_types.specs.declared.profile.Profile.TheVariants.{One, Two}
+use Rattle.wasm_types.specs.declared.profile.Profile.TheVariants.{One, Two, Three}
 use Rattle.wasm_types.specs.Tree.{Code, End, Plain, Block, Loop, If, Call, CallIndirect}
 use Rattle.wasm_spec.specs.Numbers.{TakesUnsigned, IsUnambiguous}
 use Rattle.wasm_spec.specs.TypeGrammar.{TakesBlockType}
@@ -101,6 +101,8 @@ closes One ByEnd rest = refl
 closes One ByElse rest = refl
 closes Two ByEnd rest = refl
 closes Two ByElse rest = refl
+closes Three ByEnd rest = refl
+closes Three ByElse rest = refl
 
 -- what opens a block or makes a call is not plain
 pub led : (profile : Profile) (b : ℕ) (bytes : List ℕ) → lead_of_shape (shape profile b) b ≡ b → lead profile (b ∷ bytes) ≡ b
@@ -111,6 +113,7 @@ pub opens : (profile : Profile) → (lead_of_shape (shape profile 0x02) 0x02 ≡
 unfolding lead_of_shape shape
 opens One = (refl, refl, refl, refl, refl)
 opens Two = (refl, refl, refl, refl, refl)
+opens Three = (refl, refl, refl, refl, refl)
 
 leads : (profile : Profile) (k : Closer) (c : Code) (bytes rest : List ℕ) → TakesCode profile k c bytes rest → lead profile bytes ≡ code_lead k c
 unfolding lead

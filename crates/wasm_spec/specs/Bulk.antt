@@ -1,5 +1,5 @@
--- Modules that copy or fill parts of their memory. Profile 1 has none.
-use Rattle.std.specs.Prelude.{Bool, true, false, ◌||◌}
+-- Modules that copy or fill parts of their memory, of which profile 1 has none, and modules whose instructions mark few blocks.
+use Rattle.std.specs.Prelude.{◌≡◌, [], Bool, true, false, ◌||◌}
 use Rattle.std.specs.List.{list_any}
 use Rattle.wasm_types.specs.declared.instr.Instr.{Instr}
 use Rattle.wasm_types.specs.declared.instr.Instr.TheVariants as instr
@@ -22,3 +22,9 @@ code_uses_bulk (CallIndirect x rest) = code_uses_bulk rest
 
 abbrev pub uses_bulk : ModuleTree → Bool
 uses_bulk m = list_any (λ f. code_uses_bulk f.body) m.functions
+
+-- a module whose instructions mark at most two blocks each: it copies and fills nothing, and no function of the host writes
+-- to its memory
+pub record HasFewMarks (m : ModuleTree) : Type 0 where
+  pub imports : m.imports ≡ []
+  pub bulk : uses_bulk m ≡ false

@@ -8,6 +8,9 @@
 -- what lay below comes back when it is left. A run is `Stuck` where it asks for an operand, a local, a global, a function
 -- or a type that isn't there, or that has another type. No run of a valid module is.
 use Rattle.wasm_types.specs.declared.limits.RunLimits.{RunLimits}
+use Rattle.wasm_types.specs.declared.host.HostFunction.{HostFunction}
+use Rattle.wasm_types.specs.declared.host.HostFunction.TheVariants as host
+use Rattle.wasm_types.specs.declared.module.Import.{Import}
 use Rattle.std.specs.Prelude.{ℕ, zero, suc, ◌+◌, ◌-◌, ◌*◌, ◌/◌, ◌^◌, List, [], ◌∷◌, ◌++◌, Bool, true, false, Result, Ok, Err, Option, Some, None, nat_lt, nat_le, not, ◌&&◌, if◌then◌else◌, slice_get, slice_set, length, take, drop, reverse, map, replicate, min, unwrap_or}
 use Rattle.std.specs.Int as int
 use Rattle.std.specs.Int.{byte_len, to_le_bytes}
@@ -27,9 +30,19 @@ use Rattle.wasm_types.specs.declared.instr.Instr.{Instr}
 use Rattle.wasm_types.specs.declared.instr.Instr.TheVariants as instr
 use Rattle.wasm_types.specs.Tree.{Code, End, Plain, Block, Loop, If, Call, CallIndirect, FunctionTree, ModuleTree}
 use Rattle.wasm_types.specs.SameTypes.{same_type}
-use Rattle.wasm_spec.specs.Typing.{function_at}
+use Rattle.wasm_spec.specs.Functions.{host_function, Callee, Imported, Own, callee_at, callee_type}
 use Rattle.wasm_spec.specs.Operators.{bit_width, int_width, pack_width, pack_bits, unary, binary, compare, eqz, extend_s, wrap}
 use Rattle.wasm_spec.specs.Store.{Store, page_size, written, loaded}
+
+-- What a run is given beside its arguments: the pages that its memory may have, how many calls may be open, and the bytes of
+-- the request.
+pub record Terms : Type 0 where
+  pub pages : ℕ
+  pub depth : ℕ
+  pub request : List ℕ
+
+abbrev pub terms : RunLimits → List ℕ → Terms
+terms limits request = record { pages = limits.pages; depth = limits.depth; request = request }
 
 -- the current function's locals, the operands, and the store
 pub record State : Type 0 where
@@ -170,7 +183,7 @@ pop_numbers operands next =
 -- ---- plain instructions (sections 4.4.1 to 4.4.5)
 
 -- an instruction that holds no other and calls none
-abbrev pub plain : ModuleTree → RunLimits → Instr → State → Signal
+abbrev pub plain : ModuleTree → Terms → Instr → State → Signal
 plain m limits instr.Unreachable s = Trapped trap.Unreachable s.store
 plain m limits instr.Nop s = Next s
 plain m limits (instr.Br l) s = Branch l s
@@ -220,6 +233,49 @@ plain m limits instr.Wrap s = pop s.operands (λ x vs. given (number W64 x) (λ 
 plain m limits (instr.Extend sign) s =
     pop s.operands (λ x vs. given (number W32 x) (λ a. with_operands (val.I64 (extended 32 64 sign a) ∷ vs) s))
 plain m limits instr.Float s = Stuck
+
+-- ---- functions of the host
+
+-- how many bytes an answer may have
+abbrev pub most_answer : ℕ
+most_answer = 65536
+
+-- so many bytes of a list from a place on, or those of them that there are
+abbrev pub part : List ℕ → ℕ → ℕ → List ℕ
+part bytes from n = take n (drop from bytes)
+
+-- Bytes of the request to an address, and how many: n of them from a place on, or those that there are. The whole of the n
+-- bytes must lie in the memory.
+abbrev pub read_request : List ℕ → (to from n : ℕ) → List Val → State → Signal
+read_request request to from n vs s =
+    if lies_within s.store to n then
+    Next (record s { operands = val.I32 (length (part request from n)) ∷ vs; store = memory_set (written s.store.memory to (part request from n)) s.store })
+    else Trapped trap.Memory s.store
+
+abbrev pub answer_set : List ℕ → Store → Store
+answer_set bytes store = record store { answer = bytes }
+
+-- n bytes of memory onto the answer, and its length then; or -1 and nothing exactly where it would be too long
+abbrev pub write_answer : (from n : ℕ) → List Val → State → Signal
+write_answer from n vs s =
+    if lies_within s.store from n then
+    if nat_lt most_answer (length s.store.answer + n) then with_operands (val.I32 (2 ^ 32 - 1) ∷ vs) s
+    else Next (record s { operands = val.I32 (length s.store.answer + n) ∷ vs; store = answer_set (s.store.answer ++ part s.store.memory from n) s.store })
+    else Trapped trap.Memory s.store
+
+-- the topmost two operands as numbers of 32 bits
+abbrev pub pop_pair : List Val → (ℕ → ℕ → List Val → Signal) → Signal
+pop_pair operands next = pop_two operands (λ x y vs. given (number W32 x) (λ a. given (number W32 y) (λ b. next a b vs)))
+
+-- what a function of the host does with this request, in place of a body
+abbrev pub host_call : List ℕ → HostFunction → State → Signal
+host_call request host.Len s = with_operands (val.I32 (length request) ∷ s.operands) s
+host_call request host.Read s = pop_numbers s.operands (λ to from n vs. read_request request to from n vs s)
+host_call request host.Write s = pop_pair s.operands (λ from n vs. write_answer from n vs s)
+
+-- an import that is none of the host's functions is not run
+abbrev pub import_call : List ℕ → Import → State → Signal
+import_call request i s = given (host_function i) (λ h. host_call request h s)
 
 -- ---- going on
 
@@ -311,7 +367,7 @@ abbrev pub callee : FunctionTree → FuncType → Continuation → Continuation 
 callee f t run next s fuel = return (length t.results) s (drop (length t.params) s.operands) (run (entered f t s) fuel) next
 
 -- A call of a function of this type, whose body `run` executes, from so many calls that are open.
-abbrev pub invoke : RunLimits → ℕ → FunctionTree → FuncType → Continuation → Continuation → Continuation
+abbrev pub invoke : Terms → ℕ → FunctionTree → FuncType → Continuation → Continuation → Continuation
 invoke limits depth f t run next s =
     unless (nat_lt (length s.operands) (length t.params)) Stuck
     (unless (nat_le limits.depth depth) (Trapped trap.Exhausted s.store) (callee f t run next)) s
@@ -324,9 +380,9 @@ if_there (Some x) next s fuel = next x s fuel
 abbrev pub with_type : ModuleTree → ℕ → (FuncType → Continuation) → Continuation
 with_type m x next = if_there (slice_get m.types x) next
 
--- the function with an index, and its type
-abbrev pub with_function : ModuleTree → ℕ → (FunctionTree → FuncType → Continuation) → Continuation
-with_function m x next = if_there (function_at m x) (λ f. with_type m f.type_index (next f))
+-- the function with a number, and its type
+abbrev pub with_function : ModuleTree → ℕ → (Callee → FuncType → Continuation) → Continuation
+with_function m x next = if_there (callee_at m x) (λ c. if_there (callee_type m c) (next c))
 
 -- the function that an element of the table is, if there is such an element and it is not empty
 abbrev pub with_element : Option (Option ℕ) → (ℕ → Continuation) → Continuation
@@ -340,15 +396,17 @@ with_element (Some (Some x)) next s fuel = next x s fuel
 abbrev pub arm : Option ValType → Continuation → Continuation → Continuation → ℕ → Continuation
 arm t first second rest c s fuel = leave (arity t) s.operands (choose c first second (inside s) fuel) rest rest
 
-module _ (m : ModuleTree) (limits : RunLimits) where
+module _ (m : ModuleTree) (limits : Terms) where
   -- Calls, where so many calls are open, `run` executes a body and `rest` is what follows: of a function, of one that must
-  -- have the type that the instruction names, and of an element of the table.
+  -- have the type that the instruction names, and of an element of the table. A call of an import opens none, and costs
+  -- nothing itself.
   module _ (depth : ℕ) (run : Code → Continuation) (rest : Continuation) where
-    abbrev pub call : FunctionTree → FuncType → Continuation
-    call f t = invoke limits depth f t (run f.body) rest
+    abbrev pub call : Callee → FuncType → Continuation
+    call (Own f) t s fuel = invoke limits depth f t (run f.body) rest s fuel
+    call (Imported i) t s fuel = and_then (import_call limits.request i s) fuel rest
 
-    abbrev pub typed_call : FuncType → FunctionTree → FuncType → Continuation
-    typed_call u f t s = unless (not (same_type u t)) (Trapped trap.Signature s.store) (call f t) s
+    abbrev pub typed_call : FuncType → Callee → FuncType → Continuation
+    typed_call u c t s = unless (not (same_type u t)) (Trapped trap.Signature s.store) (call c t) s
 
     abbrev pub element_call : ℕ → ℕ → Continuation
     element_call x i s = with_element (slice_get s.store.table i) (λ y. with_type m x (λ u. with_function m y (typed_call u))) s

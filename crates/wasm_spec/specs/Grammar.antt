@@ -2,7 +2,7 @@
 -- profile 2 adds, version 2.0, section 5.5.16.
 use Rattle.std.specs.Prelude.{◌≡◌, ℕ, ◌<◌, ◌≤◌, ◌^◌, ◌⊎◌, ◌==◌, ◌*◌, if◌then◌else◌, List, [], ◌∷◌, length, map, flat_map, find, Option, Some, None}
 use Rattle.wasm_types.specs.declared.profile.Profile.{Profile}
-use Rattle.wasm_types.specs.declared.profile.Profile.TheVariants.{One, Two}
+use Rattle.wasm_types.specs.declared.profile.Profile.TheVariants.{One, Two, Three}
 use Rattle.wasm_types.specs.declared.types.ValType.{ValType}
 use Rattle.wasm_types.specs.declared.module.LocalRun.{LocalRun}
 use Rattle.wasm_types.specs.declared.module.Import.{Import}
@@ -117,6 +117,7 @@ pub record IsCustom (contents : List ℕ) : Type 0 where
 abbrev pub last_id : Profile → ℕ
 last_id One = 11
 last_id Two = 12
+last_id Three = 12
 
 abbrev pub place : ℕ → ℕ
 place id = if id == 12 then 19 else id * 2

@@ -1,4 +1,5 @@
 pub mod Operators
+pub mod Functions
 pub mod Typing
 pub mod Validity
 pub mod Need

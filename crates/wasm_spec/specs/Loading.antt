@@ -28,13 +28,13 @@ pub data Refusal : Type 0 where
   OverLimit : (demand : Demand) → Refusal
   Segment : (extent : Extent) → Refusal
 
--- pages, elements and globals, then each function's frame in order
+-- pages, elements and globals, then each own function's frame in order, by its number
 abbrev pub demands : LoadLimits → ModuleTree → List Demand
 demands limits m =
     record { which = Pages; value = minimum_of m.memories; limit = limits.pages }
     ∷ record { which = Elements; value = minimum_of m.tables; limit = limits.elements }
     ∷ record { which = Globals; value = length m.globals; limit = 1024 }
-    ∷ map (λ f. record { which = Frame f.0; value = need m f.1; limit = limits.frame }) (enumerate_from 0 m.functions)
+    ∷ map (λ f. record { which = Frame f.0; value = need m f.1; limit = limits.frame }) (enumerate_from (length m.imports) m.functions)
 
 abbrev pub first_over : LoadLimits → ModuleTree → Option Demand
 first_over limits m = find (λ d. nat_lt d.limit d.value) (demands limits m)
@@ -76,6 +76,6 @@ abbrev pub LoadsBy : (Runs : ModuleTree → Type 0) → Profile → List ℕ →
 LoadsBy Runs profile bytes limits (Err Malformed) = (m : ModuleTree) → Spells profile bytes m → ⊥
 LoadsBy Runs profile bytes limits answer = IsAnswered Runs limits profile bytes answer
 
--- where all modules are run that import nothing and use no floats
+-- where the modules are run which use no floats and import what the profile runs
 abbrev pub Loads : Profile → List ℕ → LoadLimits → Result ModuleTree Refusal → Type 0
-Loads profile bytes limits answer = LoadsBy IsSupported profile bytes limits answer
+Loads profile bytes limits answer = LoadsBy (IsSupported profile) profile bytes limits answer

@@ -6,8 +6,7 @@ use Rattle.wasm_types.specs.declared.outcome.Outcome.{Outcome}
 use Rattle.wasm_types.specs.declared.outcome.Outcome.TheVariants as outcome
 use Rattle.wasm_types.specs.Tree.{ModuleTree}
 use Rattle.wasm_spec.specs.Store.{Store, fresh_store}
-use Rattle.wasm_types.specs.declared.limits.RunLimits.{RunLimits}
-use Rattle.wasm_spec.specs.Execution.{State, Signal, Next, Branch, Returned, Trapped, OutOfFuel, Stuck, Ended, ended, exec, invoke, with_function}
+use Rattle.wasm_spec.specs.Execution.{Terms, State, Signal, Next, Branch, Returned, Trapped, OutOfFuel, Stuck, Ended, ended, exec, call, with_function}
 
 -- how a call ended, and what it left
 pub record CallResult : Type 0 where
@@ -15,13 +14,22 @@ pub record CallResult : Type 0 where
   pub store : Store
   pub fuel : ℕ
 
+-- The bytes that it answers: those that were appended, where it ended well, and else none.
+abbrev pub answer_by : Outcome → Store → List ℕ
+answer_by (outcome.Done v) store = store.answer
+answer_by _ store = []
+
+abbrev pub answer_of : CallResult → List ℕ
+answer_of r = answer_by r.outcome r.store
+
 abbrev pub finish : State → ℕ → Ended
 finish s fuel = ended (Next s) fuel
 
--- A function of the module with these arguments on the operands, called from outside: its body begins at depth 1.
-abbrev pub run_function : ModuleTree → RunLimits → ℕ → List Val → Store → ℕ → Ended
+-- A function of the module with these arguments on the operands, called from outside: its body begins at depth 1. One that
+-- is imported has its effect alone, and costs nothing.
+abbrev pub run_function : ModuleTree → Terms → ℕ → List Val → Store → ℕ → Ended
 run_function m limits x arguments store fuel =
-    with_function m x (λ f t. invoke limits 0 f t (exec m limits 1 f.body) finish)
+    with_function m x (call m limits 0 (exec m limits 1) finish)
     (record { locals = []; operands = reverse arguments; store = store }) fuel
 
 abbrev pub result_by : Signal → ℕ → Option CallResult
@@ -37,7 +45,7 @@ abbrev pub result_of : Ended → Option CallResult
 result_of e = result_by e.signal e.fuel
 
 -- What one function gives from these parts.
-abbrev pub function_result : ModuleTree → RunLimits → ℕ → List Val → Store → ℕ → Option CallResult
+abbrev pub function_result : ModuleTree → Terms → ℕ → List Val → Store → ℕ → Option CallResult
 function_result m limits x arguments store fuel = result_of (run_function m limits x arguments store fuel)
 
 abbrev pub if_done_by : Outcome → CallResult → (Store → ℕ → Option CallResult) → Option CallResult
@@ -50,14 +58,14 @@ abbrev pub if_done : Option CallResult → (Store → ℕ → Option CallResult)
 if_done None next = None
 if_done (Some r) next = if_done_by r.outcome r next
 
-abbrev pub after_start : ModuleTree → RunLimits → Option ℕ → (Store → ℕ → Option CallResult) → Store → ℕ → Option CallResult
+abbrev pub after_start : ModuleTree → Terms → Option ℕ → (Store → ℕ → Option CallResult) → Store → ℕ → Option CallResult
 after_start m limits None next store fuel = next store fuel
 after_start m limits (Some x) next store fuel = if_done (function_result m limits x [] store fuel) next
 
 -- What a call gives from this store: the start function first, if there is one, and then the function.
-abbrev pub result_from : ModuleTree → RunLimits → ℕ → List Val → Store → ℕ → Option CallResult
+abbrev pub result_from : ModuleTree → Terms → ℕ → List Val → Store → ℕ → Option CallResult
 result_from m limits x arguments store fuel = after_start m limits m.start (function_result m limits x arguments) store fuel
 
 -- What a call gives a fresh instance.
-abbrev pub call_result : ModuleTree → RunLimits → ℕ → List Val → ℕ → Option CallResult
+abbrev pub call_result : ModuleTree → Terms → ℕ → List Val → ℕ → Option CallResult
 call_result m limits x arguments fuel = result_from m limits x arguments (fresh_store m) fuel

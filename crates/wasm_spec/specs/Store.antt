@@ -10,12 +10,13 @@ use Rattle.wasm_types.specs.declared.types.Limits.{Limits}
 use Rattle.wasm_types.specs.Tree.{Code, ElementTree, DataTree, ModuleTree}
 use Rattle.wasm_spec.specs.Validity.{initial_value, offset_value}
 
--- The bytes of the one memory, the elements of the one table (a function's index or nothing) and the globals' values.
--- A module without a memory or a table has an empty one.
+-- The bytes of the one memory, the elements of the one table (a function's index or nothing), the globals' values, and the
+-- bytes of the answer. A module without a memory or a table has an empty one.
 pub record Store : Type 0 where
   pub memory : List ℕ
   pub table : List (Option ℕ)
   pub globals : List Val
+  pub answer : List ℕ
 
 -- how many bytes a page has (section 4.2.8)
 abbrev pub page_size : ℕ
@@ -86,10 +87,11 @@ abbrev pub write_data : ModuleTree → List ℕ → DataTree → List ℕ
 write_data m memory s = written memory (offset_of m s.offset) s.bytes
 
 -- What a new instance begins with, where no segment is a misfit: a table of empty elements and a memory of zeros, at their
--- minimum sizes, and then the segments, each in order.
+-- minimum sizes, and then the segments, each in order; and no answer yet.
 abbrev pub fresh_store : ModuleTree → Store
 fresh_store m = record {
   memory = fold (write_data m) (replicate (memory_size m) 0) m.data_segments;
   table = fold (write_elements m) (replicate (table_size m) None) m.element_segments;
   globals = initial_globals m;
+  answer = [];
 }

@@ -1,7 +1,7 @@
 -- The types of instructions: WebAssembly Core Specification 1.0, section 3.3.
 --
 -- Lists of operands have the top first, and are those of the innermost block alone.
-use Rattle.std.specs.Prelude.{◌≡◌, ℕ, ◌^◌, List, [], ◌∷◌, ◌++◌, Bool, false, Option, Some, None, slice_get, reverse, nat_le, if◌then◌else◌, option_and_then, option_map, IsSome}
+use Rattle.std.specs.Prelude.{◌≡◌, ℕ, ◌^◌, List, [], ◌∷◌, ◌++◌, Bool, false, Option, Some, None, slice_get, reverse, nat_le, if◌then◌else◌, option_map, IsSome}
 use Rattle.std.specs.List.{list_all}
 use Rattle.std.specs.Int.{byte_len}
 use Rattle.wasm_types.specs.declared.types.ValType.{ValType}
@@ -20,6 +20,7 @@ use Rattle.wasm_types.specs.declared.instr.Instr.TheVariants as instr
 use Rattle.wasm_types.specs.SameTypes.{all_same}
 use Rattle.wasm_types.specs.Tree.{Code, End, Plain, Block, Loop, If, Call, CallIndirect, FunctionTree, ModuleTree}
 use Rattle.wasm_spec.specs.Operators.{int_width, pack_width}
+use Rattle.wasm_spec.specs.Functions.{function_type}
 
 -- section 2.3.2: a block has one result or none
 abbrev pub result_types : Option ValType → List ValType
@@ -33,14 +34,6 @@ type_of (val.I64 n) = I64
 abbrev pub integer_type : Width → ValType
 integer_type W32 = I32
 integer_type W64 = I64
-
--- a function, in a module that imports nothing
-abbrev pub function_at : ModuleTree → ℕ → Option FunctionTree
-function_at m x = slice_get m.functions x
-
--- and its type
-abbrev pub function_type : ModuleTree → ℕ → Option FuncType
-function_type m x = option_and_then (λ f. slice_get m.types f.type_index) (function_at m x)
 
 abbrev pub global_type : ModuleTree → ℕ → Option GlobalType
 global_type m x = option_map (λ g. g.global_type) (slice_get m.globals x)

@@ -1,5 +1,5 @@
--- Valid modules: WebAssembly Core Specification 1.0, section 3.4, for modules that import nothing and use no floats.
-use Rattle.std.specs.Prelude.{◌≡◌, ◌≢◌, ℕ, ◌≤◌, List, [], Bool, true, false, ◌||◌, Option, Some, None, length, slice_get, IfSome, IsSome, All, AllPairs, option_and_then, option_map, if◌then◌else◌}
+-- Valid modules: WebAssembly Core Specification 1.0, section 3.4, for modules that import functions alone and use no floats.
+use Rattle.std.specs.Prelude.{◌≡◌, ◌≢◌, ℕ, ◌≤◌, List, [], Bool, true, false, ◌||◌, Option, Some, None, length, slice_get, IfSome, IsSome, IsTrue, All, AllPairs, option_and_then, option_map, if◌then◌else◌}
 use Rattle.std.specs.List.{list_any}
 use Rattle.wasm_types.specs.declared.types.ValType.{ValType}
 use Rattle.wasm_types.specs.declared.types.ValType.TheVariants.{I32, I64, F32, F64}
@@ -12,8 +12,15 @@ use Rattle.wasm_types.specs.declared.instr.Instr.TheVariants as instr
 use Rattle.wasm_types.specs.declared.module.Export.{Export}
 use Rattle.wasm_types.specs.declared.module.ExportDesc.{ExportDesc}
 use Rattle.wasm_types.specs.declared.module.ExportDesc.TheVariants as desc
+use Rattle.wasm_types.specs.declared.module.Import.{Import}
+use Rattle.wasm_types.specs.declared.module.ImportDesc.TheVariants as item
+use Rattle.wasm_types.specs.declared.host.HostFunction.{HostFunction}
+use Rattle.wasm_types.specs.declared.profile.Profile.{Profile}
+use Rattle.wasm_types.specs.declared.profile.Profile.TheVariants.{One, Two, Three}
+use Rattle.wasm_types.specs.SameTypes.{same_type}
 use Rattle.wasm_types.specs.Tree.{Code, End, Plain, Block, Loop, If, Call, CallIndirect, GlobalTree, ElementTree, DataTree, ModuleTree}
-use Rattle.wasm_spec.specs.Typing.{type_of, result_types, function_at, function_type, IsTypedFunction}
+use Rattle.wasm_spec.specs.Functions.{host_function, host_type, Imported, callee_at, callee_type, function_type}
+use Rattle.wasm_spec.specs.Typing.{type_of, result_types, IsTypedFunction}
 
 -- floats: a float type, or an instruction on floats, anywhere in the module (sections 2.3.1 and 2.4.1)
 abbrev pub is_float : ValType → Bool
@@ -46,12 +53,26 @@ uses_floats m =
     || list_any (λ s. code_uses_floats s.offset) m.element_segments
     || list_any (λ s. code_uses_floats s.offset) m.data_segments
 
--- what this host runs: modules that import nothing and use no floats
-pub record IsSupported (m : ModuleTree) : Type 0 where
-  pub no_import : m.imports ≡ []
+-- an import of a function of the host, whose type, where it is there, is that function's
+pub record IsHostImport (m : ModuleTree) (i : Import) : Type 0 where
+  pub function : HostFunction
+  pub named : host_function i ≡ Some function
+  pub type : ℕ
+  pub imports : i.desc ≡ item.Func type
+  pub same : IfSome (slice_get m.types type) (λ t. IsTrue (same_type t (host_type function)))
+
+-- which imports are run: in profile 3 those of the host's functions, and before it none
+abbrev pub AreRunImports : Profile → ModuleTree → Type 0
+AreRunImports One m = m.imports ≡ []
+AreRunImports Two m = m.imports ≡ []
+AreRunImports Three m = All (IsHostImport m) m.imports
+
+-- what this host runs: modules that use no floats and import what is run
+pub record IsSupported (profile : Profile) (m : ModuleTree) : Type 0 where
+  pub imports : AreRunImports profile m
   pub no_float : uses_floats m ≡ false
 
--- section 3.3.7.2: constant expressions. Those of one instruction are all that a module without imports may have.
+-- section 3.3.7.2: constant expressions. Those of one instruction are all that a module may have which imports no global.
 abbrev pub single_instruction : Code → Option Instr
 single_instruction (Plain i End) = Some i
 single_instruction _ = None
@@ -99,7 +120,7 @@ IsInitialised g = option_map type_of (initial_value g) ≡ Some g.global_type.va
 pub record IsElementSegment (m : ModuleTree) (s : ElementTree) : Type 0 where
   pub table : IsSome (slice_get m.tables s.table)
   pub offset : IsSome (offset_value m s.offset)
-  pub functions : All (λ x. IsSome (function_at m x)) s.functions
+  pub functions : All (λ x. IsSome (callee_at m x)) s.functions
 
 -- section 3.4.6
 pub record IsDataSegment (m : ModuleTree) (s : DataTree) : Type 0 where
@@ -115,7 +136,7 @@ pub record IsStart (m : ModuleTree) (x : ℕ) : Type 0 where
 
 -- section 3.4.8: what is exported is there
 abbrev pub IsDefined : ModuleTree → ExportDesc → Type 0
-IsDefined m (desc.Func x) = IsSome (function_at m x)
+IsDefined m (desc.Func x) = IsSome (callee_at m x)
 IsDefined m (desc.Table x) = IsSome (slice_get m.tables x)
 IsDefined m (desc.Memory x) = IsSome (slice_get m.memories x)
 IsDefined m (desc.Global x) = IsSome (slice_get m.globals x)
@@ -123,6 +144,7 @@ IsDefined m (desc.Global x) = IsSome (slice_get m.globals x)
 -- section 3.4.10
 pub record IsValid (m : ModuleTree) : Type 0 where
   pub function_types : All (λ t. length t.results ≤ 1) m.types
+  pub imports : All (λ i. IsSome (callee_type m (Imported i))) m.imports
   pub functions : All (IsTypedFunction m) m.functions
   pub one_table : length m.tables ≤ 1
   pub table_types : All AreOrdered m.tables

@@ -1,6 +1,6 @@
 //! Lists that contracts see as lists.
 
-ghost use Rattle.std.specs.Prelude.{◌≡◌, ◌↔◌, [], List, length, IsTrue};
+ghost use Rattle.std.specs.Prelude.{◌≡◌, ◌↔◌, ◌<◌, ◌^◌, [], List, length, IsTrue};
 
 use std::marker::Model;
 
@@ -43,6 +43,13 @@ impl<T> Items<T> {
         ensures { result ≡ length self.now }
     {
         self.items.len()
+    }
+
+    /// There are fewer than half as many as a `usize` counts: they lie in one block of memory. Takes no memory.
+    pub fn are_few(&self)
+        ensures { length self.now < 2 ^ 63 }
+    {
+        let _ = self.items.len();
     }
 
     pub fn is_empty(&self) -> bool

@@ -3,6 +3,7 @@
 //! Source: WebAssembly Core Specification 1.0, chapter 2 (structure) and section 4.2 (runtime structure).
 #![tactic(auto)]
 
+mod host;
 mod instr;
 mod items;
 mod limits;
@@ -12,6 +13,7 @@ mod profile;
 mod sequences;
 mod types;
 
+pub use host::HostFunction;
 pub use instr::{BinaryOp, CompareOp, Expr, Instr, MemArg, Op, PackSize, Sign, UnaryOp, Width};
 pub use items::Items;
 pub use limits::{LoadLimits, RunLimits};
@@ -22,4 +24,4 @@ pub use module::{
 pub use outcome::{NoMemory, Outcome, TrapKind, Val};
 pub use profile::Profile;
 pub use sequences::{named, op_at};
-pub use types::{FuncType, GlobalType, Limits, ValType, same_function_types};
+pub use types::{FuncType, GlobalType, Limits, ValType, same_function_types, same_types};

@@ -36,8 +36,8 @@ pub struct GlobalType {
     pub mutable: bool,
 }
 
-// Whether two lists of value types are the same.
-fn same_types(a: &[ValType], b: &[ValType]) -> bool
+/// Whether two lists of value types are the same.
+pub fn same_types(a: &[ValType], b: &[ValType]) -> bool
     ensures { result ≡ all_same a.now b.now }
 {
     a == b

@@ -1,5 +1,5 @@
 -- The locals of a function are those of its runs that have some.
-use Rattle.std.proofs.Common.{◌≡◌, ℕ, zero, suc, List, [], ◌∷◌, ◌++◌, true, map, filter, nat_lt, refl, ap, sym, ◌∙◌, replicate, arith}
+use Rattle.std.proofs.Common.{◌≡◌, ℕ, zero, suc, List, [], ◌∷◌, ◌++◌, true, filter, nat_lt, refl, ap, replicate, arith}
 use Rattle.std.specs.List.{flat_map}
 use Rattle.wasm_types.specs.declared.types.ValType.{ValType}
 use Rattle.wasm_types.specs.declared.module.LocalRun.{LocalRun}

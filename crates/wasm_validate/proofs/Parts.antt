@@ -27,6 +27,7 @@ each_of P f xs all k d lt = subst P (get_or-map f xs k d (f d) lt) (all k (f d) 
 pub parts_of : (m : Module) → IsValid (module_tree m) → HasValidParts m
 parts_of m v = record {
   function_types = v.function_types;
+  imports = v.imports;
   tables = (v.one_table, v.table_types);
   memories = (v.one_memory, v.memory_types);
   globals = each_of IsInitialised global_tree m.globals v.globals;
@@ -39,6 +40,7 @@ parts_of m v = record {
 pub valid_from : (m : Module) → HasValidParts m → All (IsTypedFunction (module_tree m)) (module_tree m).functions → AllPairs (λ a b. a.name ≡ b.name → ⊥) m.exports → IsValid (module_tree m)
 valid_from m p functions names = record {
   function_types = p.function_types;
+  imports = p.imports;
   functions = functions;
   one_table = p.tables.0;
   table_types = p.tables.1;

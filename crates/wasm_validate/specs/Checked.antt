@@ -1,7 +1,9 @@
 -- What checking a module finds.
-use Rattle.std.specs.Prelude.{◌≡◌, ℕ, ◌≤◌, List, All, IfSome, length, map}
+use Rattle.std.specs.Prelude.{◌≡◌, ℕ, ◌≤◌, List, All, IfSome, IsSome, length, map}
 use Rattle.wasm_types.specs.declared.module.Module.{Module}
 use Rattle.wasm_types.specs.Tree.{module_tree, global_tree, element_tree, data_tree}
+use Rattle.wasm_types.specs.declared.profile.Profile.TheVariants.{Three}
+use Rattle.wasm_spec.specs.Functions.{Imported, callee_type}
 use Rattle.wasm_spec.specs.Need.{need}
 use Rattle.wasm_validate.specs.ByName.{AreByName}
 use Rattle.wasm_validate.specs.Locals.{HaveNoEmptyRun}
@@ -10,6 +12,7 @@ use Rattle.wasm_spec.specs.Validity.{IsSupported, IsValid, AreOrdered, IsMemoryT
 -- valid, but for the functions' code and the names of the exports
 pub record HasValidParts (m : Module) : Type 0 where
   pub function_types : All (λ t. length t.results ≤ 1) m.types
+  pub imports : All (λ i. IsSome (callee_type (module_tree m) (Imported i))) m.imports
   pub tables : (length m.tables ≤ 1) × All AreOrdered m.tables
   pub memories : (length m.memories ≤ 1) × All IsMemoryType m.memories
   pub globals : All (λ g. IsInitialised (global_tree g)) m.globals
@@ -20,7 +23,7 @@ pub record HasValidParts (m : Module) : Type 0 where
 
 -- what is kept of a valid module
 pub record IsValidated (m : Module) (by_name needs : List ℕ) : Type 0 where
-  pub supported : IsSupported (module_tree m)
+  pub supported : IsSupported Three (module_tree m)
   pub valid : IsValid (module_tree m)
   pub locals : HaveNoEmptyRun m
   pub exports_are : AreByName m.exports by_name

@@ -1,5 +1,5 @@
 -- Runs of locals.
-use Rattle.std.specs.Prelude.{ℕ, ◌<◌, All}
+use Rattle.std.specs.Prelude.{◌<◌, All}
 use Rattle.wasm_types.specs.declared.module.LocalRun.{LocalRun}
 use Rattle.wasm_types.specs.declared.module.Function.{Function}
 use Rattle.wasm_types.specs.declared.module.Module.{Module}

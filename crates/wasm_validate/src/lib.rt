@@ -6,14 +6,12 @@
 mod constant;
 mod floats;
 mod functions;
+mod imports;
 mod locals;
 mod module;
 mod names;
-#[cfg(test)]
-mod rows;
-#[cfg(test)]
-mod tests;
 mod valid;
 
 pub use constant::{initial_value, offset_value};
+pub use imports::host_function;
 pub use valid::{Valid, ValidFault, validate};

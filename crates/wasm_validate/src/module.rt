@@ -1,14 +1,17 @@
 //! The conditions on a module's parts, one function each.
 
-ghost use Rattle.std.specs.Prelude.{◌≡◌, ◌≤◌, ◌↔◌, ℕ, List, All, IsTrue, IsSome, IfSome, slice_get, length};
+ghost use Rattle.std.specs.Prelude.{◌≡◌, ◌≤◌, ◌↔◌, ℕ, List, All, IsTrue, IsSome, IfSome, length};
 ghost use Rattle.wasm_types.specs.Tree.{module_tree, global_tree, element_tree, data_tree};
+ghost use Rattle.wasm_spec.specs.Functions.{Imported, callee_at, callee_type};
 ghost use Rattle.wasm_spec.specs.Validity as validity;
 ghost use Rattle.wasm_spec.specs.Validity.{AreOrdered, IsMemoryType, IsInitialised, IsElementSegment, IsDataSegment, IsStart, IsDefined};
 ghost use Rattle.wasm_validate.specs.Checked.{HasValidParts};
 
 use crate::constant::{initial_value, offset_value};
 use wasm_checker::{function_type, type_of};
-use wasm_types::{DataSegment, ElementSegment, ExportDesc, Global, Limits, Module};
+use wasm_types::{
+    DataSegment, ElementSegment, ExportDesc, Global, Import, ImportDesc, Limits, Module,
+};
 
 // Whether each function type has at most one result.
 fn have_one_result(m: &Module) -> bool
@@ -52,10 +55,28 @@ fn is_initialised(g: &Global) -> bool
     }
 }
 
+// Whether a function has this number; the imports have the first ones.
 fn has_function(m: &Module, x: u32) -> bool
-    ensures { IsTrue result ↔ IsSome (slice_get (module_tree m.now).functions x) }
+    ensures { IsTrue result ↔ IsSome (callee_at (module_tree m.now) x) }
 {
-    (x as usize) < m.functions.len()
+    let x = x as usize;
+    x < m.imports.len() || x - m.imports.len() < m.functions.len()
+}
+
+// Whether an imported function's type is there.
+fn has_type(m: &Module, import: &Import) -> bool
+    ensures { IsTrue result ↔ IsSome (callee_type (module_tree m.now) (Imported import.now)) }
+{
+    match import.desc {
+        ImportDesc::Func(t) => (t as usize) < m.types.len(),
+        _ => false,
+    }
+}
+
+fn have_types(m: &Module) -> bool
+    ensures { IsTrue result ↔ All (λ i. IsSome (callee_type (module_tree m.now) (Imported i))) m.now.imports }
+{
+    m.imports.as_slice().iter().all(|i| has_type(m, i))
 }
 
 fn is_element_segment(m: &Module, s: &ElementSegment) -> bool
@@ -151,6 +172,7 @@ pub(crate) fn has_valid_parts(m: &Module) -> bool
     ensures { IsTrue result ↔ HasValidParts m.now }
 {
     have_one_result(m)
+        && have_types(m)
         && have_tables(m)
         && have_memories(m)
         && are_initialised(m)

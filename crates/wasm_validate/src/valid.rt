@@ -2,6 +2,7 @@
 
 ghost use Rattle.std.specs.Prelude.{◌≡◌, ◌<◌, ◌↔◌, ℕ, List, length, slice_get, IfSome, IfNone, IfOk, OnOk, IsErrOf, IsTrue, map};
 ghost use Rattle.wasm_types.specs.Tree.{module_tree};
+ghost use Rattle.wasm_types.specs.declared.profile.Profile.TheVariants.{Three};
 ghost use Rattle.wasm_spec.specs.Need.{need};
 ghost use Rattle.wasm_spec.specs.Validity.{IsSupported, IsValid, Exports};
 ghost use Rattle.wasm_validate.specs.Checked.{IsValidated};
@@ -12,6 +13,7 @@ ghost use Rattle.wasm_validate.specs.declared.valid.ValidFault.TheVariants.{NoMe
 
 use crate::floats::uses_floats;
 use crate::functions::frame_needs;
+use crate::imports::are_run_imports;
 use crate::locals::without_empty_runs;
 use crate::module::has_valid_parts;
 use crate::names::{exported, exports_by_name};
@@ -19,13 +21,13 @@ use std::alloc::{AllocError, Global};
 use std::marker::Model;
 use thiserror::Error;
 use wasm_checker::CheckFault;
-use wasm_types::Module;
+use wasm_types::{Module, Profile};
 
 /// Why a module is refused.
 #[derive(Clone, Copy, Debug, PartialEq, Eq, Error)]
 pub enum ValidFault {
-    /// It uses floats or imports something.
-    #[error("a module with floats or imports is not supported")]
+    /// It uses floats, or imports what the profile does not run.
+    #[error("a module with floats or with imports that the profile does not run is not supported")]
     Unsupported,
     /// It is not valid. Source: Core Specification 1.0, section 3.4.
     #[error("the module is not valid")]
@@ -74,11 +76,11 @@ impl Model for Valid {
     ghost invariant = { λ v. IsValidated v.module v.by_name.items v.needs.items };
 }
 
-// Whether this host runs modules of this kind.
-fn is_supported(alloc: Global, m: &Module) -> Result<bool, AllocError>
-    ensures { IfOk result (λ b. IsTrue b ↔ IsSupported (module_tree m.now)) }
+// Whether this host runs modules of this kind in a profile.
+fn is_supported(alloc: Global, profile: Profile, m: &Module) -> Result<bool, AllocError>
+    ensures { IfOk result (λ b. IsTrue b ↔ IsSupported profile (module_tree m.now)) }
 {
-    Ok(m.imports.is_empty() && !uses_floats(alloc, m)?)
+    Ok(are_run_imports(profile, m) && !uses_floats(alloc, m)?)
 }
 
 // The numbers of a module's exports by name, and each function's frame need.
@@ -96,22 +98,23 @@ fn check_module(alloc: Global, m: &Module) -> Result<(Vec<u32>, Vec<u64>), Check
     Ok((by_name, needs))
 }
 
-/// The module, where this host runs it and it is valid, without the runs of no locals that its functions may have.
+/// The module, where this host runs it in the profile and it is valid, without the runs of no locals that its functions may have.
 ///
 /// Source: Core Specification 1.0, section 3.4.10.
 ///
 /// # Errors
 ///
-/// `Unsupported` exactly where the module uses floats or has an import, `Invalid` exactly where it has neither and is
-/// not valid. `NoMemory` in place of any answer.
-pub fn validate(alloc: Global, m: Module) -> Result<Valid, ValidFault>
+/// `Unsupported` exactly where the module uses floats or has an import that the profile does not run, `Invalid` exactly where
+/// it has neither and is not valid. `NoMemory` in place of any answer.
+#[tactic(auto, using(wasm_spec::proofs::Supported::widest))]
+pub fn validate(alloc: Global, profile: Profile, m: Module) -> Result<Valid, ValidFault>
     ensures tree { IfOk result (λ v. module_tree v ≡ module_tree m) }
-    ensures supported { OnOk result (IsSupported (module_tree m)) }
+    ensures supported { OnOk result (IsSupported profile (module_tree m)) }
     ensures valid { OnOk result (IsValid (module_tree m)) }
-    ensures unsupported { IsErrOf result ValidFault.Unsupported → ¬ (IsSupported (module_tree m)) }
-    ensures invalid { IsErrOf result ValidFault.Invalid → IsSupported (module_tree m) × ¬ (IsValid (module_tree m)) }
+    ensures unsupported { IsErrOf result ValidFault.Unsupported → ¬ (IsSupported profile (module_tree m)) }
+    ensures invalid { IsErrOf result ValidFault.Invalid → IsSupported profile (module_tree m) × ¬ (IsValid (module_tree m)) }
 {
-    if !is_supported(alloc, &m)? {
+    if !is_supported(alloc, profile, &m)? {
         return Err(ValidFault::Unsupported);
     }
     let (by_name, needs) = check_module(alloc, &m)?;
@@ -126,14 +129,14 @@ impl Valid {
     /// The module.
     pub fn module(&self) -> &Module
         ensures same { result.now ≡ self.now }
-        ensures supported { IsSupported (module_tree self.now) }
+        ensures supported { IsSupported Three (module_tree self.now) }
         ensures valid { IsValid (module_tree self.now) }
         ensures locals { HaveNoEmptyRun self.now }
     {
         &self.module
     }
 
-    /// How many operands, locals and labels the frame of a function holds at most.
+    /// How many operands, locals and labels the frame of one of the module's own functions holds at most, by its number among these.
     pub fn frame_need(&self, function: u32) -> u64
         requires { function < length self.now.functions }
         ensures { IfSome (slice_get (module_tree self.now).functions function) (λ f. result ≡ need (module_tree self.now) f) }
@@ -141,7 +144,7 @@ impl Valid {
         self.needs[function as usize]
     }
 
-    /// Each function's frame need, in the order of the functions.
+    /// The frame need of each of the module's own functions, in their order.
     pub fn frame_needs(&self) -> &[u64]
         ensures { result.now ≡ map (need (module_tree self.now)) (module_tree self.now).functions }
     {

@@ -254,6 +254,126 @@ fn what_a_tenant_filled_is_never_seen(rt: HostRuntime) -> Result<(), Fail> {
     Ok(())
 }
 
+// Numbers of which the low eight bits are taken as signed.
+const EXTENSION: &str = "profile 2
+module ext 0061736d0100000001060160017f017f03020100070501016500000a070105002000c00b
+call ext e 2 i32:127
+call ext e 2 i32:128
+call ext e 2 i32:255
+call ext e 2 i32:256
+";
+
+const EXTENSION_IN_PROFILE_1: &str =
+    "module ext 0061736d0100000001060160017f017f03020100070501016500000a070105002000c00b
+call ext e 2 i32:127
+";
+
+// A memory of one page, filled from an address on.
+const FILLS: &str = "# another profile
+
+profile 2
+module fill 0061736d0100000001060160027f7f00030201000503010001070501016600000a0d010b00200041072001fc0b000b
+call fill f 4 i32:0 i32:65536
+call fill f 4 i32:65536 i32:0
+call fill f 4 i32:65536 i32:1
+call fill f 4 i32:65537 i32:0
+call fill f 4 i32:-1 i32:2
+call fill f 3 i32:0 i32:65536
+";
+
+// A count of data segments, of which there is none.
+const DATA_COUNTS: &str = "profile 2
+module none 0061736d010000000c0100
+module one 0061736d010000000c0101
+";
+
+const DATA_COUNT_IN_PROFILE_1: &str = "profile 1
+module none 0061736d010000000c0100
+";
+
+// A module that answers what it is sent.
+const ECHO: &str = "profile 3
+module e 0061736d010000000112036000017f60037f7f7f017f60027f7f017f02250304686f7374036c656e000004686f73740472656164000104686f73740577726974650002030201000503010001070501016500030a10010e004100410041001000100110020b
+send e e 6 616263
+send e e 5 616263
+send e e 6 -
+call e e 6
+send e len 0 616263
+";
+
+const ECHO_IN_PROFILE_2: &str = "profile 2
+module e 0061736d010000000112036000017f60037f7f7f017f60027f7f017f02250304686f7374036c656e000004686f73740472656164000104686f73740577726974650002030201000503010001070501016500030a10010e004100410041001000100110020b
+call e e 6
+";
+
+// Files in each profile, the status of a run on each, and what it writes.
+const PROFILES: [(&str, u8, &str); 11] = [
+    (
+        EXTENSION,
+        0,
+        "module ext ok\n1 ok i32:127\n2 ok i32:-128\n3 ok i32:-1\n4 ok i32:0\n",
+    ),
+    (
+        EXTENSION_IN_PROFILE_1,
+        0,
+        "module ext refused malformed\n1 refused module\n",
+    ),
+    (
+        FILLS,
+        0,
+        "module fill ok\n1 ok\n2 ok\n3 trap memory\n4 trap memory\n5 trap memory\n6 fuel\n",
+    ),
+    (
+        DATA_COUNTS,
+        0,
+        "module none ok\nmodule one refused malformed\n",
+    ),
+    (
+        DATA_COUNT_IN_PROFILE_1,
+        0,
+        "module none refused malformed\n",
+    ),
+    (
+        ECHO,
+        0,
+        "module e ok\n1 ok i32:3 out:616263\n2 fuel\n3 ok i32:0 out:-\n4 ok i32:0\n5 refused export\n",
+    ),
+    (
+        ECHO_IN_PROFILE_2,
+        0,
+        "module e refused unsupported\n1 refused module\n",
+    ),
+    (
+        "profile 2\nmodule e 0061736d01000000\nsend e e 6 -\n",
+        2,
+        "line 3: unknown directive\n",
+    ),
+    (
+        "profile 3\nmodule e 0061736d01000000\nsend e e 6 616 i32:x\n",
+        2,
+        "line 3: bad request\n",
+    ),
+    (
+        "module e 0061736d01000000\nprofile 2\n",
+        2,
+        "line 2: late profile\n",
+    ),
+    ("profile 9\n", 2, "line 1: bad profile\n"),
+];
+
+#[test]
+fn modules_are_read_in_the_profile_of_their_file(rt: HostRuntime) -> Result<(), Fail> {
+    let alloc = rt.alloc();
+    for (text, wanted, written) in PROFILES {
+        for line in ["poolhost run", "poolhost run --workers 4"] {
+            let (status, sink) = run(&rt, alloc, line, text, whole(alloc))?;
+            assert_eq!(rt; status, wanted, "{line} on {text}");
+            assert_eq!(rt; sink.bytes(), written.as_bytes(), "{line} on {text}");
+        }
+    }
+    Ok(())
+}
+
 // What clang 14 built for profile 2 from examples/editing.c, and its calls.
 const EDITING: &str =
     "module editing 0061736d0100000001100260047f7f7f7f017f60037f7f7f017f03030200010405017001010105030100010607017f0141d0280b071703066d656d6f72790200046279746500000373756d00010ad802024d01027f20004180888080006a220420026a200441002802c088808000220520006bfc0a0000200420012002fc0b004100200520026a3602c08880800020034180888080006a2d000041036ac00b870201037f4100210320004180888080006a220420026a200441002802c088808000220520006bfc0a0000200420012002fc0b004100200520026a22023602c08880800002402002450d0020024103712100024002402002417f6a41034f0d0041002102410021030c010b2002417c7121044100210241002103034020024183888080006a2c000041e3006c20024182888080006a2c000041e3006c20024181888080006a2c000041e3006c20024180888080006a2c000041e3006c20036a6a6a6ac121032004200241046a2202470d000b0b2000450d0020024180888080006a2102034020022c000041e3006c20036ac12103200241016a21022000417f6a22000d000b0b20030b0b4b01004180080b4465616368206f6e20616e20696e7374616e6365206f6620697473206f776e000000000000000000000000000000000000000000000000000000000000000000001e000000
@@ -295,6 +415,80 @@ fn a_module_of_a_c_compiler_runs_in_profile_2(rt: HostRuntime) -> Result<(), Fai
         check(&rt, alloc, line, text.as_str(), EDITED)?;
     }
     check(&rt, alloc, "poolhost run", EDITING, MALFORMED)
+}
+
+// What clang 14 built for profile 3 from examples/payloads.c, and its calls.
+const PAYLOADS: &str =
+    "module payloads 0061736d0100000001150460037f7f7f017f60027f7f017f6000017f60000002250304686f73740472656164000004686f7374057772697465000104686f7374036c656e000203030202030405017001010105030100010607017f014180300b071b03066d656d6f72790200046563686f0003077265766572736500040afa02025f01027f41002100024041808880800041004180081080808080002201450d0041002100024003404180888080002001108180808000417f4c0d01418088808000200120006a22004180081080808080002201450d020c000b0b00000b20000b970201087f1082808080002100024003402000450d01418088808000200020004180082000418008491b22016b220020011080808080001a024020014102490d00410021020240200141017622034101460d00200141fe878080006a2104200341fe07712105410021020340200441016a22032d00002106200320024180888080006a22072d00003a0000200720063a000020042d00002103200420024181888080006a22062d00003a0000200620033a00002004417e6a21042005200241026a2202470d000b0b2001410271450d0020012002417f736a4180888080006a22042d00002103200420024180888080006a22022d00003a0000200220033a00000b418088808000200110818080800041004e0d000b00000b0b
+call payloads echo 31
+call payloads reverse 122
+";
+
+const SENDS: &str = "send payloads echo 31 61206c696e65
+send payloads echo 30 61206c696e65
+send payloads reverse 122 61206C696E65
+send payloads reverse 122 -
+send payloads shout 1000 00
+";
+
+const ANSWERED: &str = "module payloads ok
+1 ok i32:0
+2 ok
+3 ok i32:6 out:61206c696e65
+4 fuel
+5 ok out:656e696c2061
+6 ok out:-
+7 refused export
+";
+
+const UNSUPPORTED: &str = "module payloads refused unsupported
+1 refused module
+2 refused module
+";
+
+// The answers are those that the same module gives node with these three functions.
+#[test]
+fn a_module_of_a_c_compiler_is_sent_bytes_in_profile_3(rt: HostRuntime) -> Result<(), Fail> {
+    let alloc = rt.alloc();
+    let text = format!(in alloc; "profile 3\n{PAYLOADS}{SENDS}")?;
+    for line in SHARED {
+        check(&rt, alloc, line, text.as_str(), ANSWERED)?;
+    }
+    let text = format!(in alloc; "profile 2\n{PAYLOADS}")?;
+    check(&rt, alloc, "poolhost run", text.as_str(), UNSUPPORTED)
+}
+
+// Tenants that are sent requests of other lengths, up to the longest, each by a call of its own: none is answered another's bytes.
+#[test]
+fn no_answer_has_bytes_of_another(rt: HostRuntime) -> Result<(), Fail> {
+    let alloc = rt.alloc();
+    let mut text = format!(in alloc; "profile 3\n{PAYLOADS}")?;
+    let mut written = String::from_str(alloc, "module payloads ok\n1 ok i32:0\n2 ok\n")?;
+    let mut number = 2u32;
+    for (byte, count) in [
+        (1u8, 65536),
+        (2, 1),
+        (3, 0),
+        (4, 3000),
+        (5, 65536),
+        (6, 1024),
+        (7, 2),
+    ] {
+        let digits = format!(in alloc; "{byte:02x}")?.repeat(alloc, count)?;
+        let word = if count == 0 { "-" } else { digits.as_str() };
+        for export in ["echo", "reverse"] {
+            number = number.wrapping_add(1);
+            write!(text, "send payloads {export} 4000000 {word}\n")?;
+            match export {
+                "echo" => write!(written, "{number} ok i32:{count} out:{word}\n")?,
+                _ => write!(written, "{number} ok out:{word}\n")?,
+            }
+        }
+    }
+    for line in SHARED {
+        check(&rt, alloc, line, text.as_str(), written.as_str())?;
+    }
+    Ok(())
 }
 
 // A function whose frame needs five places.

@@ -43,10 +43,10 @@ opens = record {
   cold_is Table = (refl, refl)
 
 abbrev request : Request
-request = record { named = named; function = 0; arguments = I32 2 ∷ I32 3 ∷ []; fuel = 100 }
+request = record { named = named; function = 0; arguments = I32 2 ∷ I32 3 ∷ []; sent = []; fuel = 100 }
 
 abbrev events : List WorldEvent
-events = Step Ticket (Claim 0 0) ∷ Step Ticket (Out 0 0) ∷ Begin 0 request ∷ Turn 0 [] ∷ Turn 0 [] ∷ Turn 0 [] ∷ End 0 ∷ []
+events = Step Ticket (Claim 0 0) ∷ Step Ticket (Out 0 0) ∷ Begin 0 request ∷ Turn 0 [] ∷ Turn 0 [] ∷ Turn 0 [] ∷ End 0 [] ∷ []
 
 is_module : IsModule world named
 is_module = record { on_shelf = refl; profile = One; bytes = add_bytes; loads = add_loads }
@@ -85,7 +85,7 @@ all_happen = (
           (_, refl, record { fuel = omega arith; unfinished = refl }, λ h. absurd (true≢false (sym h))),
           (
             (_, refl, record { fuel = omega arith; unfinished = refl }, λ h. absurd (true≢false (sym h))),
-            ((_, refl, λ can. done _ can.unfinished), tt),
+            ((_, refl, (λ can. done _ can.unfinished), λ h. absurd (true≢false (sym h))), tt),
           ),
         ),
       ),
@@ -94,6 +94,6 @@ all_happen = (
 )
 
 -- and it is answered that the sum is 5
-answered : answer world (record { request = request; begun = fresh_store add; turns = 3 }) ≡ Some (outcome.Done (Some (I32 5)))
+answered : answer world (record { request = request; begun = fresh_store add; turns = 3 }) ≡ Some (outcome.Done (Some (I32 5)), [])
 unfolding exec
 answered = refl

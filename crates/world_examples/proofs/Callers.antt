@@ -8,7 +8,7 @@ use Rattle.wasm_spec.specs.Execution.{exec}
 use Rattle.pool_core.specs.declared.events.Event.TheVariants.{Stamp}
 use Rattle.pool_core.specs.RefusalRules.{refusal_of}
 use Rattle.pool_worlds.specs.Contents.{Named, Ticket, Memory, Table, Marks}
-use Rattle.pool_worlds.specs.PoolMachine.{InstanceLimits, World, Step, Begin, load_limits, run_limits, slot_of, same_kind, answer, after, MayHappen, IsModule, IsOpening}
+use Rattle.pool_worlds.specs.PoolMachine.{InstanceLimits, World, Step, Begin, load_limits, slot_of, terms_of, same_kind, answer, after, MayHappen, IsModule, IsOpening}
 use Rattle.world_examples.proofs.FreshCalls.{set_module}
 use Rattle.world_examples.proofs.ShortCalls.{numbered, world, world_of, request_of, taken, running, running_alone, used, call_is_there}
 
@@ -46,14 +46,14 @@ four = record { pages = 1; elements = 2; frame = 3; depth = 4 }
 limits_of_loading : load_limits four ≡ record { pages = 1; elements = 2; frame = 3 }
 limits_of_loading = refl
 
-limits_of_runs : run_limits four ≡ record { pages = 1; depth = 4 }
+limits_of_runs : terms_of four (8 ∷ 9 ∷ []) ≡ record { pages = 1; depth = 4; request = 8 ∷ 9 ∷ [] }
 limits_of_runs = refl
 
-answer_on_all_its_fuel : answer world (running 0 2 0) ≡ Some (outcome.Done None)
+answer_on_all_its_fuel : answer world (running 0 2 0) ≡ Some (outcome.Done None, [])
 unfolding exec
 answer_on_all_its_fuel = refl
 
-answer_on_less_fuel : answer world (running 0 1 0) ≡ Some outcome.Fuel
+answer_on_less_fuel : answer world (running 0 1 0) ≡ Some (outcome.Fuel, [])
 unfolding exec
 answer_on_less_fuel = refl
 

@@ -31,10 +31,10 @@ abbrev named : Named
 named = record { number = 0; tag = 0; tree = set_module }
 
 abbrev request : Request
-request = record { named = named; function = 0; arguments = []; fuel = 2 }
+request = record { named = named; function = 0; arguments = []; sent = []; fuel = 2 }
 
 abbrev call_with : ℕ → ℕ → Option FreshCall
-call_with global turns = Some (record { request = request; store = record { memory = []; table = []; globals = I32 global ∷ [] }; turns = turns })
+call_with global turns = Some (record { request = request; store = record { memory = []; table = []; globals = I32 global ∷ []; answer = [] }; turns = turns })
 
 abbrev after_events : List WorldEvent → ℕ → Option FreshCall
 after_events es i = fresh_after_all limits nothing_runs es i
@@ -55,22 +55,22 @@ unfolding exec
 two_turns = refl
 
 -- what others do, and what is done with slots, is of no account
-others_turns : after_events (Begin 3 request ∷ Turn 2 [] ∷ Begin 1 request ∷ Turn 1 [] ∷ End 1 ∷ []) 3 ≡ call_with 1 0
+others_turns : after_events (Begin 3 request ∷ Turn 2 [] ∷ Begin 1 request ∷ Turn 1 [] ∷ End 1 [] ∷ []) 3 ≡ call_with 1 0
 unfolding exec
 others_turns = refl
 
 slots_are_of_no_account : after_events (Begin 3 request ∷ Step Ticket (Load 3 0) ∷ Prepare Memory 3 named ∷ Restore Memory 3 ∷ []) 3 ≡ call_with 1 0
 slots_are_of_no_account = refl
 
-ended : after_events (Begin 3 request ∷ Turn 3 [] ∷ End 3 ∷ []) 3 ≡ None
+ended : after_events (Begin 3 request ∷ Turn 3 [] ∷ End 3 [] ∷ []) 3 ≡ None
 unfolding exec
 ended = refl
 
 -- the answer is that on all of its fuel
-answered : fresh_answer limits request ≡ Some (outcome.Done None)
+answered : fresh_answer limits request ≡ Some (outcome.Done None, [])
 unfolding exec
 answered = refl
 
-answered_on_less : fresh_answer limits (record request { fuel = 1 }) ≡ Some outcome.Fuel
+answered_on_less : fresh_answer limits (record request { fuel = 1 }) ≡ Some (outcome.Fuel, [])
 unfolding exec
 answered_on_less = refl

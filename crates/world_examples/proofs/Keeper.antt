@@ -1,6 +1,6 @@
 -- A small module with a memory and a table: its function `f` gives what stood at address 0, and writes 7 there.
 use Rattle.std.proofs.Common.{ℕ, ◌≤◌, inl, inr, List, [], ◌∷◌, ◌++◌, length, map, refl, arith, pos}
-use Rattle.std.specs.Prelude.{None, Ok, All, slice_get, IsSome}
+use Rattle.std.specs.Prelude.{None, Ok, All, IsSome}
 use Rattle.std.proofs.lemmas.List.Elements.{All-nil, All-cons}
 use Rattle.wasm_types.specs.declared.profile.Profile.TheVariants.{One}
 use Rattle.wasm_types.specs.declared.limits.LoadLimits.{LoadLimits}
@@ -19,6 +19,7 @@ use Rattle.wasm_spec.specs.Numbers.{TakesUnsigned, TakesEach, TakesVec}
 use Rattle.wasm_spec.specs.TypeGrammar.{TakesFuncType, TakesTableType, TakesMemoryType}
 use Rattle.wasm_spec.specs.InstrGrammar.{shape, TakesExpr}
 use Rattle.wasm_spec.specs.Grammar.{Section, TakesSection, IsOrderedAbove, TakesExport, TakesElement, TakesSizedBody, body_of, Spells}
+use Rattle.wasm_spec.specs.Functions.{callee_at}
 use Rattle.wasm_spec.specs.Typing.{IsTypedFunction}
 use Rattle.wasm_spec.specs.Validity.{IsValid, IsSupported, IsDefined, IsElementSegment, IsMemoryType, AreOrdered}
 use Rattle.wasm_spec.specs.Loading.{Loads}
@@ -319,11 +320,12 @@ one : {X : Type 0} (P : X → Type 0) (x : X) → P x → All P (x ∷ [])
 one P x p = All-cons P x [] p (All-nil P)
 
 element_segment : IsElementSegment keeper elements
-element_segment = record { table = refl; offset = refl; functions = one (λ x. IsSome (slice_get keeper.functions x)) 0 refl }
+element_segment = record { table = refl; offset = refl; functions = one (λ x. IsSome (callee_at keeper x)) 0 refl }
 
 valid : IsValid keeper
 valid = record {
   function_types = one (λ (t : FuncType). length t.results ≤ 1) f_type (omega arith);
+  imports = All-nil _;
   functions = one (IsTypedFunction keeper) function typed;
   one_table = omega arith;
   table_types = one AreOrdered one_or_more tt;
@@ -337,8 +339,8 @@ valid = record {
   names_differ = λ i j d lt le. absurd (omega arith);
 }
 
-supported : IsSupported keeper
-supported = record { no_import = refl; no_float = refl }
+supported : IsSupported One keeper
+supported = record { imports = refl; no_float = refl }
 
 abbrev pub keeper_limits : LoadLimits
 keeper_limits = record { pages = 1; elements = 1; frame = 8 }

@@ -9,3 +9,4 @@ mod Preparing
 mod FreshCalls
 mod ShortCalls
 mod Callers
+mod ImportCalls

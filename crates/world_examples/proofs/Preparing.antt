@@ -92,19 +92,19 @@ slots pages Ticket = I32 7 ∷ I32 8 ∷ I32 9 ∷ []
 slots pages Memory = record { bytes = replicate 65536 3 ++ 5 ∷ []; pages = pages; marks = []; holds = None }
 slots pages Table = record { entries = Some 3 ∷ []; holds = None }
 
-shown_to_its_size : shown with_globals (slots 1) ≡ record { memory = replicate 65536 3; table = Some 3 ∷ []; globals = I32 7 ∷ I32 8 ∷ [] }
+shown_to_its_size : shown with_globals (slots 1) ≡ record { memory = replicate 65536 3; table = Some 3 ∷ []; globals = I32 7 ∷ I32 8 ∷ []; answer = [] }
 shown_to_its_size = refl
 
-shown_without_pages : shown with_globals (slots 0) ≡ record { memory = []; table = Some 3 ∷ []; globals = I32 7 ∷ I32 8 ∷ [] }
+shown_without_pages : shown with_globals (slots 0) ≡ record { memory = []; table = Some 3 ∷ []; globals = I32 7 ∷ I32 8 ∷ []; answer = [] }
 shown_without_pages = refl
 
-shown_of_no_memory_and_no_table : shown add (slots 1) ≡ record { memory = []; table = []; globals = [] }
+shown_of_no_memory_and_no_table : shown add (slots 1) ≡ record { memory = []; table = []; globals = []; answer = [] }
 shown_of_no_memory_and_no_table = refl
 
 -- ---- a turn
 
 abbrev left : Store
-left = record { memory = replicate 131072 0; table = None ∷ []; globals = I32 4 ∷ [] }
+left = record { memory = replicate 131072 0; table = None ∷ []; globals = I32 4 ∷ []; answer = [] }
 
 turned_memory : turned 3 left (true ∷ []) Memory (left_by (numbered 4 6) []) ≡ record { bytes = filled 3 (replicate 131072 0); pages = 2; marks = true ∷ []; holds = Some (numbered 4 6) }
 turned_memory = refl

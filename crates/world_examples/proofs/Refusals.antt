@@ -12,7 +12,7 @@ use Rattle.wasm_types.specs.declared.types.FuncType.{FuncType}
 use Rattle.wasm_types.specs.declared.types.ValType.{ValType}
 use Rattle.wasm_spec.specs.Store.{fresh_store}
 use Rattle.pool_worlds.specs.Contents.{Named, Memory, Table}
-use Rattle.pool_worlds.specs.PoolMachine.{Running, Machine, Step, Prepare, Restore, Clear, Begin, Turn, End, after, CanTurn, MarksTurn, MayHappen}
+use Rattle.pool_worlds.specs.PoolMachine.{Running, Machine, Step, Prepare, Restore, Clear, Begin, Turn, End, after, CanTurn, MarksEnd, MarksTurn, MayHappen}
 use Rattle.pool_worlds.specs.Fitting.{ReleaseFits}
 use Rattle.world_examples.proofs.Keeper.{keeper}
 use Rattle.world_examples.proofs.Scenes.{first, world, request_of, cold, opened}
@@ -93,9 +93,15 @@ no_turn_after_the_last : MayHappen world ended (Turn 0 (true ∷ [])) → ⊥
 unfolding exec
 no_turn_after_the_last (r, calls, can, marks) = let c = subst (λ (x : Running). CanTurn world x) (sym (same_call calls)) can in done c.unfinished
 
-no_end_before_the_last : MayHappen world read (End 0) → ⊥
+no_end_before_the_last : MayHappen world read (End 0 []) → ⊥
 unfolding exec
-no_end_before_the_last (r, calls, stuck) = stuck (subst (λ (x : Running). CanTurn world x) (same_call calls) (record { fuel = omega arith; unfinished = refl }))
+no_end_before_the_last (r, calls, stuck, marks) = stuck (subst (λ (x : Running). CanTurn world x) (same_call calls) (record { fuel = omega arith; unfinished = refl }))
+
+-- an end takes no mark away
+no_end_without_its_marks : MayHappen world ended (End 0 []) → ⊥
+unfolding exec
+no_end_without_its_marks (r, calls, stuck, marks) =
+    let m = subst (λ (x : Running). MarksEnd world ended 0 x []) (sym (same_call calls)) marks in true≢false ((m refl).kept 0 refl)
 
 no_turn_without_fuel : CanTurn world (record { request = record (request_of first 5) { fuel = 4 }; begun = fresh_store keeper; turns = 4 }) → ⊥
 no_turn_without_fuel can = let lt = can.fuel in omega (arith, lt)

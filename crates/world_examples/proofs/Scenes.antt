@@ -33,7 +33,7 @@ is_module n = record { on_shelf = refl; profile = One; bytes = keeper_bytes; loa
 
 -- its function `f` is called on this fuel, of which it needs five
 abbrev pub request_of : Named → ℕ → Request
-request_of m fuel = record { named = m; function = 0; arguments = []; fuel = fuel }
+request_of m fuel = record { named = m; function = 0; arguments = []; sent = []; fuel = fuel }
 
 pub callable : (n fuel : ℕ) → IsCallable (request_of (module_at n) fuel)
 callable n fuel = record {
@@ -91,7 +91,7 @@ steps_happen p (Restore k s ∷ es) h = absurd (true≢false (sym h))
 steps_happen p (Clear k s x ∷ es) h = absurd (true≢false (sym h))
 steps_happen p (Begin i q ∷ es) h = absurd (true≢false (sym h))
 steps_happen p (Turn i marks ∷ es) h = absurd (true≢false (sym h))
-steps_happen p (End i ∷ es) h = absurd (true≢false (sym h))
+steps_happen p (End i marks ∷ es) h = absurd (true≢false (sym h))
 
 -- ---- releases
 

@@ -27,7 +27,7 @@ world = record { limits = limits; shelf = numbered; seats = λ k i. i; apart = �
 
 -- the call on this fuel, of which it needs two
 abbrev pub request_of : ℕ → ℕ → Request
-request_of n fuel = record { named = numbered n; function = 0; arguments = []; fuel = fuel }
+request_of n fuel = record { named = numbered n; function = 0; arguments = []; sent = []; fuel = fuel }
 
 abbrev pub no_table : TableContents
 no_table = record { entries = []; holds = None }
@@ -54,7 +54,7 @@ abbrev pub begun : Machine
 begun = after_all world taken begins
 
 abbrev pub running : ℕ → ℕ → ℕ → Running
-running n fuel turns = record { request = request_of n fuel; begun = record { memory = []; table = []; globals = I32 1 ∷ [] }; turns = turns }
+running n fuel turns = record { request = request_of n fuel; begun = record { memory = []; table = []; globals = I32 1 ∷ []; answer = [] }; turns = turns }
 
 -- ---- what each event changes
 
@@ -87,10 +87,14 @@ one_turn_does_not : (after world begun (Turn 0 [])).contents Ticket 0 ≡ I32 1 
 unfolding exec
 one_turn_does_not = refl
 
-an_end : (after world turned_twice (End 0)).calls 0 ≡ None
+an_end : (after world turned_twice (End 0 [])).calls 0 ≡ None
 an_end = refl
 
-the_others_call_goes_on : (after world turned_twice (End 0)).calls 1 ≡ Some (running 1 1 0)
+and_keeps_its_global : (after world turned_twice (End 0 [])).contents Ticket 0 ≡ I32 5 ∷ []
+unfolding exec
+and_keeps_its_global = refl
+
+the_others_call_goes_on : (after world turned_twice (End 0 [])).calls 1 ≡ Some (running 1 1 0)
 the_others_call_goes_on = refl
 
 -- a machine in whose table 0 another module's element stands, and in whose memory 0 a byte of the first
@@ -118,19 +122,19 @@ cleared_table = refl
 -- ---- answers
 
 abbrev all_events : List WorldEvent
-all_events = takes ++ begins ++ Turn 0 [] ∷ Turn 1 [] ∷ Turn 0 [] ∷ End 0 ∷ End 1 ∷ Begin 0 (request_of 0 1) ∷ Turn 0 [] ∷ End 0 ∷ []
+all_events = takes ++ begins ++ Turn 0 [] ∷ Turn 1 [] ∷ Turn 0 [] ∷ End 0 [] ∷ End 1 [] ∷ Begin 0 (request_of 0 1) ∷ Turn 0 [] ∷ End 0 [] ∷ []
 
 -- each is answered its own calls, in their order
-first_answers : answers world opened all_events 0 ≡ (request_of 0 2, Some (outcome.Done None)) ∷ (request_of 0 1, Some outcome.Fuel) ∷ []
+first_answers : answers world opened all_events 0 ≡ (request_of 0 2, Some (outcome.Done None, [])) ∷ (request_of 0 1, Some (outcome.Fuel, [])) ∷ []
 unfolding exec
 first_answers = refl
 
-second_answers : answers world opened all_events 1 ≡ (request_of 1 1, Some outcome.Fuel) ∷ []
+second_answers : answers world opened all_events 1 ≡ (request_of 1 1, Some (outcome.Fuel, [])) ∷ []
 unfolding exec
 second_answers = refl
 
 same_request : IsSameRequest (request_of 0 2) (request_of 1 2)
-same_request = record { tree = refl; function = refl; arguments = refl; fuel = refl }
+same_request = record { tree = refl; function = refl; arguments = refl; sent = refl; fuel = refl }
 
 two : ◌≡◌ {A = ℕ} 2 1 → ⊥
 two e = omega arith
@@ -144,11 +148,14 @@ other_function_is_another_request s = two s.function
 other_arguments_are_another_request : IsSameRequest (record (request_of 0 2) { arguments = I32 1 ∷ [] }) (request_of 0 2) → ⊥
 other_arguments_are_another_request s = let e = s.arguments in cc (e)
 
+other_bytes_are_another_request : IsSameRequest (record (request_of 0 2) { sent = 1 ∷ [] }) (request_of 0 2) → ⊥
+other_bytes_are_another_request s = let e = s.sent in cc (e)
+
 -- ---- histories
 
 -- the steps of a kind, also those that only read, and none of the others
 abbrev mixed : List WorldEvent
-mixed = Step Ticket (Load 0 0) ∷ Step Memory (Stamp 1) ∷ Prepare Ticket 0 (numbered 0) ∷ Step Ticket (Claim 0 0) ∷ Begin 0 (request_of 0 2) ∷ Turn 0 [] ∷ End 0 ∷ Step Ticket (WarmLoad 0) ∷ []
+mixed = Step Ticket (Load 0 0) ∷ Step Memory (Stamp 1) ∷ Prepare Ticket 0 (numbered 0) ∷ Step Ticket (Claim 0 0) ∷ Begin 0 (request_of 0 2) ∷ Turn 0 [] ∷ End 0 [] ∷ Step Ticket (WarmLoad 0) ∷ []
 
 history_of_tickets : steps_of Ticket mixed ≡ Load 0 0 ∷ Claim 0 0 ∷ WarmLoad 0 ∷ []
 history_of_tickets = refl
@@ -178,16 +185,16 @@ no_turn_without_fuel can = let lt = can.fuel in omega (arith, lt)
 abbrev pub running_alone : Running → Machine
 running_alone r = record opened { calls = λ i. Some r }
 
-end_with_fuel_left : MayHappen world (running_alone (running 0 9 2)) (End 0)
+end_with_fuel_left : MayHappen world (running_alone (running 0 9 2)) (End 0 [])
 unfolding exec
-end_with_fuel_left = (running 0 9 2, refl, λ can. finished can.unfinished)
+end_with_fuel_left = (running 0 9 2, refl, (λ can. finished can.unfinished), λ h. absurd (true≢false (sym h)))
 
 same_call : {r c : Running} → ◌≡◌ {A = Option Running} (Some r) (Some c) → r ≡ c
 same_call e = cc
 
-no_end_before_the_last_turn : MayHappen world (running_alone (running 0 2 1)) (End 0) → ⊥
+no_end_before_the_last_turn : MayHappen world (running_alone (running 0 2 1)) (End 0 []) → ⊥
 unfolding exec
-no_end_before_the_last_turn (r, calls, stuck) = stuck (subst (λ (x : Running). CanTurn world x) (same_call calls) last_turn)
+no_end_before_the_last_turn (r, calls, stuck, marks) = stuck (subst (λ (x : Running). CanTurn world x) (same_call calls) last_turn)
 
 -- the same module with a memory of no pages, in which a byte of 1 is changed to 0
 abbrev with_memory : Running

@@ -109,7 +109,7 @@ reads_happen = (
 )
 
 abbrev writes : List WorldEvent
-writes = Turn 0 (true ∷ []) ∷ Turn 1 (true ∷ []) ∷ End 0 ∷ End 1 ∷ []
+writes = Turn 0 (true ∷ []) ∷ Turn 1 (true ∷ []) ∷ End 0 (true ∷ []) ∷ End 1 (true ∷ []) ∷ []
 
 abbrev pub written : Machine
 written = after_all world read writes
@@ -123,7 +123,7 @@ writes_happen = (
   (_, refl, record { fuel = omega arith; unfinished = refl }, λ h. record { changed = beyond_four 7 0 0 0 0 0 0 0 zeros; kept = λ i m. refl }),
   (
     (_, refl, record { fuel = omega arith; unfinished = refl }, λ h. record { changed = beyond_four 7 0 0 0 0 0 0 0 zeros; kept = λ i m. refl }),
-    ((_, refl, λ can. done _ can.unfinished), ((_, refl, λ can. done _ can.unfinished), tt)),
+    ((_, refl, (λ can. done _ can.unfinished), λ h. nothing_changes), ((_, refl, (λ can. done _ can.unfinished), λ h. nothing_changes), tt)),
   ),
 )
 
@@ -317,7 +317,7 @@ abbrev clean : List Bool
 clean = false ∷ []
 
 abbrev ends_again : List WorldEvent
-ends_again = Turn 0 clean ∷ Turn 0 clean ∷ Turn 0 clean ∷ Turn 0 clean ∷ Turn 0 (true ∷ []) ∷ End 0 ∷ []
+ends_again = Turn 0 clean ∷ Turn 0 clean ∷ Turn 0 clean ∷ Turn 0 clean ∷ Turn 0 (true ∷ []) ∷ End 0 (true ∷ []) ∷ []
 
 ends_again_happen : AllMayHappen world called_again ends_again
 unfolding exec
@@ -331,7 +331,7 @@ ends_again_happen = (
         (_, refl, record { fuel = omega arith; unfinished = refl }, λ h. nothing_changes),
         (
           (_, refl, record { fuel = omega arith; unfinished = refl }, λ h. record { changed = beyond_four 7 0 0 0 0 0 0 0 zeros; kept = λ i m. none_marked i }),
-          ((_, refl, λ can. done _ can.unfinished), tt),
+          ((_, refl, (λ can. done _ can.unfinished), λ h. nothing_changes), tt),
         ),
       ),
     ),
@@ -361,8 +361,8 @@ story_plays =
     and_then (plays_on taken_again calls_again calls_again_happen refl) (
     plays_on called_again ends_again ends_again_happen refl)))))))))))))
 
-abbrev zero_was_there : Option Outcome
-zero_was_there = Some (outcome.Done (Some (I32 0)))
+abbrev zero_was_there : Option (Outcome × List ℕ)
+zero_was_there = Some (outcome.Done (Some (I32 0)), [])
 
 -- the first caller called twice: on the fuel that a call needs, and on more
 first_answers : answers world opened story 0 ≡ (request_of first 5, zero_was_there) ∷ (request_of first 9, zero_was_there) ∷ []
@@ -375,4 +375,4 @@ second_answers = refl
 
 -- these are requests for equal modules, whose numbers and tags differ
 same_request : IsSameRequest (request_of first 5) (request_of second 5)
-same_request = record { tree = refl; function = refl; arguments = refl; fuel = refl }
+same_request = record { tree = refl; function = refl; arguments = refl; sent = refl; fuel = refl }

@@ -5,8 +5,8 @@ use Rattle.call_workers.proofs.working.work.Goals as goal
 pub loop-preserved : goal.loop-preserved
 loop-preserved g c =
     let counted = c.if-number-eq0.false in
-    let working = goes_on _ _ _ _ _ _ _ _ c.loop.invariant.working _ _ (c.in-Some-next.number, c.in-Some-next.item) _ (omega arith) c.in-Some-next.ensures.given c.make-worked.ensures.made in record {
-      pass = c.make-worked.ensures.own;
+    let working = goes_on _ _ _ _ _ _ _ _ c.loop.invariant.working _ _ (c.in-Some-next.number, c.in-Some-next.item) _ (omega arith) c.in-Some-next.ensures.given c.in_ok-worked-in-Some-next.ensures.made in record {
+      pass = c.make.ensures.own;
       own = c.next-in-loop.ensures.own;
       working = rw (c.push_reserved.ensures.items, c.reserve.ensures.items) working;
     }

@@ -1,20 +1,41 @@
-use Rattle.std.proofs.Common.{◌≡◌, ◌+◌, drop, length, arith, length-drop}
-use Rattle.std.proofs.lemmas.List.{drop_all}
-use Rattle.std.proofs.lemmas.Option.{slice_get-get_or}
-use Rattle.host_report.proofs.BoardLemmas.{collected_begin, collected_end, collected_next, is_open, next_worked}
+use Rattle.std.proofs.Common.{◌≡◌, ◌+◌, ◌∷◌, [], ◌++◌, ◌∙◌, Some, length, sym, ap, arith, append_assoc, length-append, rules}
+use Rattle.std.specs.Prelude.{slice_get}
+use Rattle.std.specs.Vec.Iter.{into_iter_items}
+use Rattle.std.proofs.lemmas.List.{nil_from_length}
+use Rattle.host_report.proofs.BoardLemmas.{collected_begin, collected_end, collected_next, got_behind, is_open}
 use Rattle.host_report.proofs.collecting.collect_all.Goals as goal
 
 pub loop-one-init : goal.loop-one-init
-loop-one-init c = collected_begin _ _ c.requires.calls c.requires.none
+loop-one-init c =
+    let gives = c.into_iter-one-iterator.ensures.into_iter_gives in record {
+      in_turn = gives.0;
+      len = search rules;
+      collected = rw gives.0 (collected_begin _ _ c.requires.calls c.requires.none);
+    }
 
 pub collect_worked-requires : goal.collect_worked-requires
-collect_worked-requires c = is_open _ _ _ _ _ _ (next_worked _ _ _ c.loop-one-test.true) c.loop-one.invariant
+collect_worked-requires c = is_open _ _ _ _ _ _ c.in-Some.ensures.steps.0 c.loop-one.invariant.collected
 
 pub loop-one-preserved : goal.loop-one-preserved
 loop-one-preserved c =
-    let this : c.loop-one.one-index + length (drop c.loop-one.one-index c.args.worked.now) ≡ length c.args.worked.now =
-    let test = c.loop-one-test.true in omega (arith, length-drop c.loop-one.one-index c.args.worked.now) in
-    collected_next _ _ _ _ _ _ (next_worked _ _ _ c.loop-one-test.true) c.loop-one.invariant _ _ this (slice_get-get_or _ _ _ c.loop-one-test.true) c.collect_worked.ensures
+    let at = c.loop-one in
+    let one = c.in-Some.one in
+    let steps : into_iter_items at.one-iterator ≡ one ∷ into_iter_items c.next.new.self = c.in-Some.ensures.steps.0 in
+    let in_turn : at.yielded ++ one ∷ into_iter_items c.next.new.self ≡ c.args.worked.items = rw (← steps) at.invariant.in_turn in
+    let this : length at.yielded + length (into_iter_items at.one-iterator) ≡ length c.args.worked.items = sym (length-append at.yielded (into_iter_items at.one-iterator)) ∙ ap length at.invariant.in_turn in
+    let there : slice_get c.args.worked.items (length at.yielded) ≡ Some one = rw (← in_turn) (got_behind at.yielded _ one) in record {
+      in_turn = append_assoc at.yielded (one ∷ []) _ ∙ in_turn;
+      len = let was = at.invariant.len in let gone = c.in-Some.ensures.steps.1 in let short = ap length steps in omega arith;
+      collected = collected_next _ _ _ _ _ _ steps at.invariant.collected _ _ this there c.collect_worked.ensures;
+    }
+
+pub returns-clause-many : goal.returns-clause-many
+returns-clause-many c = c.loop-one.invariant.collected.many
+
+pub returns-clause-lines : goal.returns-clause-lines
+returns-clause-lines c = c.loop-one.invariant.collected.lines
 
 pub returns-clause-all : goal.returns-clause-all
-returns-clause-all c = collected_end _ _ _ _ (drop_all c.loop-one.one-index c.args.worked.now c.loop-one-test.false) c.loop-one.invariant
+returns-clause-all c =
+    let none = c.in-None.ensures.steps in
+    collected_end _ _ _ _ (nil_from_length _ (sym c.loop-one.invariant.len ∙ none.0)) c.loop-one.invariant.collected

@@ -6,4 +6,4 @@ use Rattle.host_report.proofs.reporting.lines.Given as goal
 
 abbrev pub invariant-loop-directive : goal.invariant-loop-directive
 invariant-loop-directive g l =
-    LinesLeft (limits_in l.fn.requests.profile g.N.Naming.config) l.fn.requests.directives (drop l.directive-index l.fn.requests.directives) l.entries (lines_on l.board) l.counts l.lines.items
+    LinesLeft (limits_in l.fn.requests.profile g.N.Naming.config) l.fn.requests.directives (drop l.directive-index l.fn.requests.directives) l.entries (lines_on l.initial.board) l.board l.counts l.lines.items

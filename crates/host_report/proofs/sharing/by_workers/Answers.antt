@@ -60,13 +60,13 @@ pub collect_all-requires-clause-calls : goal.collect_all-requires-clause-calls
 collect_all-requires-clause-calls g c =
     let board = ap length c.in_ok-board.ensures ∙ (length-replicate _ _ ∙ rw c.directives-directives.ensures.all at c.count_calls.ensures) in
     let placed = placed_below c.args.requests.now.directives 0 (length (modules_of c.args.requests.now.directives)) c.directives-directives.ensures.lawful.placed (omega arith) in
-    rw (c.deref.ensures.value, board) (of_calls c.args.requests.now.profile g.N.Naming.config c.args.requests.now.directives _ _ _ c.in_ok-entries.ensures.entries placed c.in_ok-entries.ensures.answers)
+    rw board (of_calls c.args.requests.now.profile g.N.Naming.config c.args.requests.now.directives _ _ _ c.in_ok-entries.ensures.entries placed c.in_ok-entries.ensures.answers)
 
 pub returns-clause-board : goal.returns-clause-board
 returns-clause-board g c =
     let board = ap length c.in_ok-board.ensures ∙ (length-replicate _ _ ∙ rw c.directives-directives.ensures.all at c.count_calls.ensures) in
     let placed = placed_below c.args.requests.now.directives 0 (length (modules_of c.args.requests.now.directives)) c.directives-directives.ensures.lawful.placed (omega arith) in
-    let lines = rw c.deref.ensures.value at c.collect_all.ensures.lines in record {
+    let lines = c.collect_all.ensures.lines in record {
       many = c.collect_all.ensures.many ∙ board;
       right = λ at line got.
           lines_of_calls c.args.requests.now.profile g.N.Naming.config c.args.requests.now.directives _ _ _ c.in_ok-entries.ensures.entries placed c.in_ok-entries.ensures.answers at line (lines at line got);

@@ -1,24 +1,8 @@
-use Rattle.std.proofs.Common.{refl, arith}
-use Rattle.instr_decode.proofs.AddedOpcodes.{extension-is, prefix-is, same-common}
+use Rattle.instr_decode.proofs.AddedOpcodes.{same-third}
 use Rattle.instr_decode.proofs.instr.read_instr.Goals as goal
-use Rattle.instr_decode.proofs.instr.read_instr.Goals.{in_default-via-then-opcode-lt192, in_default-via-else-opcode-lt192+else-opcode-lt197}
 
-pub returns-in-252-clause-read : goal.returns-in-252-clause-read
-returns-in-252-clause-read c = rw (prefix-is c.args.profile c.args.opcode c.in-Two.is c.in-252.is) c.prefixed.ensures.read
+pub returns-in-Three-clause-read : goal.returns-in-Three-clause-read
+returns-in-Three-clause-read c = rw (same-third c.args.profile c.args.opcode c.in-Three.is) c.read_later-in-Three.ensures.read
 
-pub returns-in-192-to-196-clause-read : goal.returns-in-192-to-196-clause-read
-returns-in-192-to-196-clause-read c =
-    let e = extension-is c.args.profile c.args.opcode c.in-Two.is (omega arith) (omega arith) in
-    rw (c.ok_or.ensures.value, c.extension.ensures, e.row, e.shape_is) (record { whole = refl; forth = omega arith; within = c.requires; spelled = (refl, refl) })
-
-pub returns-in_default-clause-read : goal.returns-in_default-clause-read
-returns-in_default-clause-read c = elim c.in_default.branch [
-  | in_default-via-then-opcode-lt192 w ↦ rw (same-common c.args.profile c.args.opcode c.in-Two.is (λ a b. omega arith) (λ e. omega arith)) c.read_common-in_default.ensures.read
-  | in_default-via-else-opcode-lt192+else-opcode-lt197 w ↦ rw (same-common c.args.profile c.args.opcode c.in-Two.is (λ a b. omega arith) (λ e. omega arith)) c.read_common-in_default.ensures.read
-]
-
-pub returns-in_default-clause-wanted : goal.returns-in_default-clause-wanted
-returns-in_default-clause-wanted c = elim c.in_default.branch [
-  | in_default-via-then-opcode-lt192 w ↦ rw (same-common c.args.profile c.args.opcode c.in-Two.is (λ a b. omega arith) (λ e. omega arith)) c.read_common-in_default.ensures.wanted
-  | in_default-via-else-opcode-lt192+else-opcode-lt197 w ↦ rw (same-common c.args.profile c.args.opcode c.in-Two.is (λ a b. omega arith) (λ e. omega arith)) c.read_common-in_default.ensures.wanted
-]
+pub returns-in-Three-clause-wanted : goal.returns-in-Three-clause-wanted
+returns-in-Three-clause-wanted c = rw (same-third c.args.profile c.args.opcode c.in-Three.is) c.read_later-in-Three.ensures.wanted

@@ -15,7 +15,7 @@ pub restore_marked-requires-clause-outside : goal.restore_marked-requires-clause
 restore_marked-requires-clause-outside g c =
     let is = c.valid.ensures.loaded in
     rw (c.deref_mut.ensures.value, c.deref_mut-2.ensures.value)
-    (image_kept (load_limits g.N.Naming.config) c.args.own.now.tree c.image-image.result.now (loaded-within _ is.bytes _ _ is.loads) c.image-image.ensures c.args.memory.now.bytes.items c.args.memory.now.marks.items c.requires.outside)
+    (image_kept (load_limits g.N.Naming.config) c.args.own.now.tree c.image-image.result.now (loaded-within is.profile is.bytes _ _ is.loads) c.image-image.ensures c.args.memory.now.bytes.items c.args.memory.now.marks.items c.requires.outside)
 
 pub returns-clause-fresh : goal.returns-clause-fresh
 returns-clause-fresh g c =
@@ -31,7 +31,7 @@ returns-clause-fresh g c =
       holds = refl;
       size = c.least_pages-pages.ensures ∙ ap (λ (t : ModuleTree). minimum_of t.memories) c.valid.ensures.tree;
       bytes = take_at bytes (drop (length bytes) c.args.memory.now.bytes.items) c.args.memory.now.bytes.len all
-          ∙ image_written (load_limits config) m.tree c.image-image.result.now (loaded-within _ is.bytes _ _ is.loads) c.image-image.ensures bytes room c.restore_marked.ensures.bytes;
+          ∙ image_written (load_limits config) m.tree c.image-image.result.now (loaded-within is.profile is.bytes _ _ is.loads) c.image-image.ensures bytes room c.restore_marked.ensures.bytes;
       clean = λ k. ap (λ (l : List Bool). slice_index_or l k false) (take_at marks (drop (length marks) c.args.memory.now.marks.items) c.args.memory.now.marks.len blocks) ∙ c.restore_marked.ensures.marks k;
     }
 
@@ -53,4 +53,4 @@ returns-clause-kept g c =
     (record {
       bytes = ap length (take_at bytes (drop (length bytes) c.args.memory.now.bytes.items) c.args.memory.now.bytes.len all) ∙ c.restore_marked.ensures.room.0 ∙ ap length c.deref_mut.ensures.value;
       marks = ap length (take_at marks (drop (length marks) c.args.memory.now.marks.items) c.args.memory.now.marks.len blocks) ∙ c.restore_marked.ensures.room.1 ∙ ap length c.deref_mut-2.ensures.value;
-    }) (loaded-within _ is.bytes _ _ is.loads).pages
+    }) (loaded-within is.profile is.bytes _ _ is.loads).pages

@@ -31,7 +31,7 @@ returns-clause-fresh g c =
       holds = refl;
       size = c.least_pages-pages.ensures ∙ ap (λ (t : ModuleTree). minimum_of t.memories) c.valid.ensures.tree;
       bytes = take_at bytes (drop (length bytes) c.args.memory.now.bytes.items) c.args.memory.now.bytes.len all
-          ∙ image_written (load_limits config) m.tree c.image-image.result.now (loaded-within _ is.bytes _ _ is.loads) c.image-image.ensures bytes room c.write_all.ensures.bytes;
+          ∙ image_written (load_limits config) m.tree c.image-image.result.now (loaded-within is.profile is.bytes _ _ is.loads) c.image-image.ensures bytes room c.write_all.ensures.bytes;
       clean = λ k. ap (λ (l : List Bool). slice_index_or l k false) (take_at marks (drop (length marks) c.args.memory.now.marks.items) c.args.memory.now.marks.len blocks) ∙ c.write_all.ensures.marks k;
     }
 
@@ -51,7 +51,7 @@ returns-clause-written g c =
     let blocks : length marks ≡ c.args.memory.now.marks.len = omega arith in
     let m = c.args.module.now in
     let config = g.N.Naming.config in
-    let loaded = loaded-within _ is.bytes _ _ is.loads in
+    let loaded = loaded-within is.profile is.bytes _ _ is.loads in
     let long_bytes = ap length (take_at bytes (drop (length bytes) c.args.memory.now.bytes.items) c.args.memory.now.bytes.len all) in
     let long_marks = ap length (take_at marks (drop (length marks) c.args.memory.now.marks.items) c.args.memory.now.marks.len blocks) ∙ c.write_all.ensures.room.1 ∙ ap length c.deref_mut-2.ensures.value in
     record {

@@ -13,7 +13,7 @@ returns-in_err-image-clause-refused c =
     let same = sym c.in_ok-valid.ensures.tree in
     rw (p.1, p.2) (IsRefusal-image c.args.profile c.args.bytes.now (load_limits c.args.config.now) (module_tree c.in_ok-valid.valid) c.in_err-image.field-0.0
     (subst (Spells c.args.profile c.args.bytes.now) same c.in_ok-module.ensures.read)
-    (subst IsSupported same c.in_ok-valid.ensures.supported)
+    (subst (IsSupported c.args.profile) same c.in_ok-valid.ensures.supported)
     (subst IsValid same c.in_ok-valid.ensures.valid)
     c.in_ok-check.ensures.ok
     c.in_err-image.ensures.misfit)

@@ -1,4 +1,4 @@
-use Rattle.wasm_types.specs.declared.limits.RunLimits.{RunLimits}
+use Rattle.wasm_spec.specs.Execution.{Terms}
 use Rattle.std.proofs.Common.{◌≡◌, ◌∙◌, ℕ, List, ap, sym, subst}
 use Rattle.wasm_types.specs.declared.instr.Instr.{Instr}
 use Rattle.wasm_types.specs.declared.instr.Instr.TheVariants as instr
@@ -11,7 +11,7 @@ use Rattle.wasm_machine.specs.Simulation.{HasFetched, paid}
 use Rattle.wasm_machine.proofs.StepLemmas.{br_leaves, return_leaves}
 use Rattle.wasm_machine.proofs.control.jump.Goals as goal
 
-as_instr : (m : Module) (limits : RunLimits) (frame : ℕ) (machine : Machine) (store : Store) (here : ℕ) (i j : Instr) (r : ℕ → Ended) → i ≡ j → HasFetched m limits frame machine store here (op.Plain i) r → HasFetched m limits frame machine store here (op.Plain j) r
+as_instr : (m : Module) (limits : Terms) (frame : ℕ) (machine : Machine) (store : Store) (here : ℕ) (i j : Instr) (r : ℕ → Ended) → i ≡ j → HasFetched m limits frame machine store here (op.Plain i) r → HasFetched m limits frame machine store here (op.Plain j) r
 as_instr m limits frame machine store here i j r e b = subst (λ (x : Instr). HasFetched m limits frame machine store here (op.Plain x) r) e b
 
 pub branch-machine-requires : goal.branch-machine-requires

@@ -9,21 +9,22 @@ use Rattle.wasm_machine.specs.Simulation.{body_of}
 use Rattle.wasm_types.specs.Sequences.{code_at, named_in}
 use Rattle.wasm_machine.proofs.StepLemmas.{call_calls}
 use Rattle.wasm_machine.proofs.RoomLemmas.{begun, fetched, block_label, loop_label, named_at, opened_after}
+use Rattle.wasm_spec.specs.Execution.{terms}
 use Rattle.wasm_machine.proofs.running.execute.Goals as goal
 
 pub enter_block-requires : goal.enter_block-requires
 enter_block-requires c =
     let (frame, r, run, simulates) = c.requires.runs in
-    let store = store_of c.args.memory.now c.args.table.now c.args.globals.now in
-    let limits = c.args.limits in
+    let store = store_of c.args.memory.now c.args.table.now c.args.globals.now c.args.answer.now in
+    let limits = terms c.args.limits c.args.request.now in
     let b = begun c.args.m.now limits frame c.args.machine.now store c.args.op.now (op.Block c.in-Block.t c.in-Block.q) r simulates c.requires.there c.in-Block.is in
     omega (arith, block_label c.args.m.now limits frame (fetched c.args.machine.now) store c.args.machine.now.at.place c.in-Block.q c.in-Block.t r b)
 
 pub enter_block-requires-in-Loop : goal.enter_block-requires-in-Loop
 enter_block-requires-in-Loop c =
     let (frame, r, run, simulates) = c.requires.runs in
-    let store = store_of c.args.memory.now c.args.table.now c.args.globals.now in
-    let limits = c.args.limits in
+    let store = store_of c.args.memory.now c.args.table.now c.args.globals.now c.args.answer.now in
+    let limits = terms c.args.limits c.args.request.now in
     let b = begun c.args.m.now limits frame c.args.machine.now store c.args.op.now (op.Loop c.in-Loop.field-0 c.in-Loop.q) r simulates c.requires.there c.in-Loop.is in
     omega (arith, loop_label c.args.m.now limits frame (fetched c.args.machine.now) store c.args.machine.now.at.place c.in-Loop.q c.in-Loop.field-0 r b)
 
@@ -31,8 +32,8 @@ pub returns-in-Block-clause-steps : goal.returns-in-Block-clause-steps
 returns-in-Block-clause-steps c frame r run simulates =
     let m = c.args.m.now in
     let old = c.args.machine.now in
-    let store = store_of c.args.memory.now c.args.table.now c.args.globals.now in
-    let limits = c.args.limits in
+    let store = store_of c.args.memory.now c.args.table.now c.args.globals.now c.args.answer.now in
+    let limits = terms c.args.limits c.args.request.now in
     let t = c.in-Block.t in
     let b = begun m limits frame old store c.args.op.now (op.Block t c.in-Block.q) r simulates c.requires.there c.in-Block.is in
     block_goes m limits frame (fetched old) c.enter_block.new.self store old.at.place c.named_by-inner.result c.in-Block.q t r b
@@ -44,8 +45,8 @@ pub returns-in-Loop-clause-steps : goal.returns-in-Loop-clause-steps
 returns-in-Loop-clause-steps c frame r run simulates =
     let m = c.args.m.now in
     let old = c.args.machine.now in
-    let store = store_of c.args.memory.now c.args.table.now c.args.globals.now in
-    let limits = c.args.limits in
+    let store = store_of c.args.memory.now c.args.table.now c.args.globals.now c.args.answer.now in
+    let limits = terms c.args.limits c.args.request.now in
     let t = c.in-Loop.field-0 in
     let b = begun m limits frame old store c.args.op.now (op.Loop t c.in-Loop.q) r simulates c.requires.there c.in-Loop.is in
     loop_goes m limits frame (fetched old) c.enter_block-in-Loop.new.self store old.at.place c.named_by-inner-in-Loop.result c.in-Loop.q t r b
@@ -53,47 +54,47 @@ returns-in-Loop-clause-steps c frame r run simulates =
     (λ k sh. c.enter_block-in-Loop.ensures.represents k [] (result_types t) sh refl)
     c.enter_block-in-Loop.ensures.room
 
-pub invoke-requires : goal.invoke-requires
-invoke-requires c =
+pub call-requires-clause-can : goal.call-requires-clause-can
+call-requires-clause-can c =
     let (frame, r, run, simulates) = c.requires.runs in
-    let store = store_of c.args.memory.now c.args.table.now c.args.globals.now in
-    let limits = c.args.limits in
+    let store = store_of c.args.memory.now c.args.table.now c.args.globals.now c.args.answer.now in
+    let limits = terms c.args.limits c.args.request.now in
     let b = begun c.args.m.now limits frame c.args.machine.now store c.args.op.now (op.Call c.in-Call.x) r simulates c.requires.there c.in-Call.is in
     record { frame = frame; store = store; to = _; runnable = run; calling = call_calls c.args.m.now limits frame (fetched c.args.machine.now) store c.args.machine.now.at.place c.in-Call.x r b }
 
 pub returns-in-Call-clause-steps : goal.returns-in-Call-clause-steps
 returns-in-Call-clause-steps c frame r run simulates =
-    let store = store_of c.args.memory.now c.args.table.now c.args.globals.now in
-    let limits = c.args.limits in
+    let store = store_of c.args.memory.now c.args.table.now c.args.globals.now c.args.answer.now in
+    let limits = terms c.args.limits c.args.request.now in
     let b = begun c.args.m.now limits frame c.args.machine.now store c.args.op.now (op.Call c.in-Call.x) r simulates c.requires.there c.in-Call.is in
-    c.invoke.ensures.steps frame store _ run (call_calls c.args.m.now limits frame (fetched c.args.machine.now) store c.args.machine.now.at.place c.in-Call.x r b)
+    c.call.ensures.steps frame c.args.table.now c.args.globals.now _ run (call_calls c.args.m.now limits frame (fetched c.args.machine.now) store c.args.machine.now.at.place c.in-Call.x r b)
 
 pub execute_plain-requires-clause-runs : goal.execute_plain-requires-clause-runs
 execute_plain-requires-clause-runs c =
     let (frame, r, run, simulates) = c.requires.runs in
-    let store = store_of c.args.memory.now c.args.table.now c.args.globals.now in
-    let limits = c.args.limits in
-    (frame, r, run, begun c.args.m.now limits frame c.args.machine.now store c.args.op.now (op.Plain c.in-Plain.instr) r simulates c.requires.there c.in-Plain.is)
+    let store = store_of c.args.memory.now c.args.table.now c.args.globals.now c.args.answer.now in
+    let limits = terms c.args.limits c.args.request.now in
+    (frame, c.args.answer.now, r, run, begun c.args.m.now limits frame c.args.machine.now store c.args.op.now (op.Plain c.in-Plain.instr) r simulates c.requires.there c.in-Plain.is)
 
 pub returns-in-Plain-clause-steps : goal.returns-in-Plain-clause-steps
 returns-in-Plain-clause-steps c frame r run simulates =
-    let store = store_of c.args.memory.now c.args.table.now c.args.globals.now in
-    let limits = c.args.limits in
-    c.execute_plain.ensures.steps frame r run (begun c.args.m.now limits frame c.args.machine.now store c.args.op.now (op.Plain c.in-Plain.instr) r simulates c.requires.there c.in-Plain.is)
+    let store = store_of c.args.memory.now c.args.table.now c.args.globals.now c.args.answer.now in
+    let limits = terms c.args.limits c.args.request.now in
+    c.execute_plain.ensures.steps frame c.args.answer.now r run (begun c.args.m.now limits frame c.args.machine.now store c.args.op.now (op.Plain c.in-Plain.instr) r simulates c.requires.there c.in-Plain.is)
 
 pub pop32-c-requires : goal.pop32-c-requires
 pop32-c-requires c =
     let (frame, r, run, simulates) = c.requires.runs in
-    let store = store_of c.args.memory.now c.args.table.now c.args.globals.now in
-    let limits = c.args.limits in
+    let store = store_of c.args.memory.now c.args.table.now c.args.globals.now c.args.answer.now in
+    let limits = terms c.args.limits c.args.request.now in
     let b = begun c.args.m.now limits frame c.args.machine.now store c.args.op.now (op.If c.in-If.t c.in-If.first c.in-If.second) r simulates c.requires.there c.in-If.is in
     if_number c.args.m.now limits frame (fetched c.args.machine.now) store c.args.machine.now.at.place c.in-If.first c.in-If.second c.in-If.t r b
 
 pub enter_block-requires-in-If : goal.enter_block-requires-in-If
 enter_block-requires-in-If c =
     let (frame, r, run, simulates) = c.requires.runs in
-    let store = store_of c.args.memory.now c.args.table.now c.args.globals.now in
-    let limits = c.args.limits in
+    let store = store_of c.args.memory.now c.args.table.now c.args.globals.now c.args.answer.now in
+    let limits = terms c.args.limits c.args.request.now in
     let b = begun c.args.m.now limits frame c.args.machine.now store c.args.op.now (op.If c.in-If.t c.in-If.first c.in-If.second) r simulates c.requires.there c.in-If.is in
     omega (arith, if_label c.args.m.now limits frame (fetched c.args.machine.now) c.pop32-c.new.self store c.args.machine.now.at.place c.in-If.first c.in-If.second c.pop32-c.result c.in-If.t r b c.pop32-c.ensures.represents c.pop32-c.ensures.room)
 
@@ -101,8 +102,8 @@ pub returns-in-If-clause-steps : goal.returns-in-If-clause-steps
 returns-in-If-clause-steps c frame r run simulates =
     let m = c.args.m.now in
     let old = c.args.machine.now in
-    let store = store_of c.args.memory.now c.args.table.now c.args.globals.now in
-    let limits = c.args.limits in
+    let store = store_of c.args.memory.now c.args.table.now c.args.globals.now c.args.answer.now in
+    let limits = terms c.args.limits c.args.request.now in
     let t = c.in-If.t in
     let first : ℕ = c.in-If.first in
     let second : ℕ = c.in-If.second in
@@ -120,11 +121,11 @@ returns-in-If-clause-steps c frame r run simulates =
     (λ k sh. c.enter_block-in-If.ensures.represents k (result_types t) (result_types t) sh c.value_count-in-If.ensures)
     keeps
 
-pub invoke_indirect-requires : goal.invoke_indirect-requires
-invoke_indirect-requires c =
+pub call_indirect-requires-clause-can : goal.call_indirect-requires-clause-can
+call_indirect-requires-clause-can c =
     let (frame, r, run, simulates) = c.requires.runs in
-    let store = store_of c.args.memory.now c.args.table.now c.args.globals.now in
-    let limits = c.args.limits in
+    let store = store_of c.args.memory.now c.args.table.now c.args.globals.now c.args.answer.now in
+    let limits = terms c.args.limits c.args.request.now in
     record {
       frame = frame;
       store = store;
@@ -137,7 +138,7 @@ invoke_indirect-requires c =
 
 pub returns-in-CallIndirect-clause-steps : goal.returns-in-CallIndirect-clause-steps
 returns-in-CallIndirect-clause-steps c frame r run simulates =
-    let store = store_of c.args.memory.now c.args.table.now c.args.globals.now in
-    let limits = c.args.limits in
-    c.invoke_indirect.ensures.steps frame store c.args.machine.now.at.place r run refl
+    let store = store_of c.args.memory.now c.args.table.now c.args.globals.now c.args.answer.now in
+    let limits = terms c.args.limits c.args.request.now in
+    c.call_indirect.ensures.steps frame c.args.globals.now c.args.machine.now.at.place r run
     (begun c.args.m.now limits frame c.args.machine.now store c.args.op.now (op.CallIndirect c.in-CallIndirect.x) r simulates c.requires.there c.in-CallIndirect.is)

@@ -1,4 +1,4 @@
-use Rattle.wasm_types.specs.declared.limits.RunLimits.{RunLimits}
+use Rattle.wasm_spec.specs.Execution.{Terms}
 use Rattle.std.proofs.Common.{ℕ}
 use Rattle.wasm_spec.specs.Execution.{Ended}
 use Rattle.wasm_spec.specs.Store.{Store}
@@ -8,7 +8,7 @@ use Rattle.wasm_machine.proofs.running.fetch.Given as goal
 
 abbrev pub invariant-loop-op : goal.invariant-loop-op
 invariant-loop-op l = record {
-  simulates : (limits : RunLimits) (frame : ℕ) (store : Store) (r : ℕ → Ended) → Simulates l.m limits frame l.fn.machine store r → Simulates l.m limits frame l.machine store r;
+  simulates : (limits : Terms) (frame : ℕ) (store : Store) (r : ℕ → Ended) → Simulates l.m limits frame l.fn.machine store r → Simulates l.m limits frame l.machine store r;
   room : KeepsRoom l.fn.machine l.machine;
 }
 

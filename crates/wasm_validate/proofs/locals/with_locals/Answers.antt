@@ -1,4 +1,4 @@
-use Rattle.std.proofs.Common.{rules, ◌≡◌, List, filter, nat_lt, ap, ◌∙◌}
+use Rattle.std.proofs.Common.{rules, List, nat_lt, ap, ◌∙◌}
 use Rattle.std.specs.List.{flat_map}
 use Rattle.std.proofs.lemmas.Fn.{filter_same, All-from_retain}
 use Rattle.wasm_types.specs.declared.module.LocalRun.{LocalRun}

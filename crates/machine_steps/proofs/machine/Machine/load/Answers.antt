@@ -18,9 +18,9 @@ pop32-base-requires c =
     record { configuration = h.configuration; represents = h.represents; top = t.n; rest = t.rest; are = t.are }
 
 pub returns-in-Some-clause-does : goal.returns-in-Some-clause-does
-returns-in-Some-clause-does c m limits table globals k sh fine =
+returns-in-Some-clause-does c m limits table globals answer k sh fine =
     let i = c.args.instr.now in
-    let store : Store = store_of c.args.memory.now table globals in
+    let store : Store = store_of c.args.memory.now table globals answer in
     let t = load_of m limits i k store c.requires.kind fine in
     let p = c.pop32-base.ensures.represents k t.n t.rest sh t.are in
     let at : c.pop32-base.result + c.args.offset ≡ t.n + offset_of i = ap (λ (b : ℕ). b + c.args.offset) p.0 ∙ ap (λ (o : ℕ). t.n + o) c.requires.offset in
@@ -32,9 +32,9 @@ returns-in-Some-clause-does c m limits table globals k sh fine =
     (c.push.ensures.represents (record k { operands = t.rest }) p.1) (given (t.n + offset_of i)) refl)
 
 pub returns-in-None-clause-does : goal.returns-in-None-clause-does
-returns-in-None-clause-does c m limits table globals k sh fine =
+returns-in-None-clause-does c m limits table globals answer k sh fine =
     let i = c.args.instr.now in
-    let store : Store = store_of c.args.memory.now table globals in
+    let store : Store = store_of c.args.memory.now table globals answer in
     let t = load_of m limits i k store c.requires.kind fine in
     let p = c.pop32-base.ensures.represents k t.n t.rest sh t.are in
     let at : c.pop32-base.result + c.args.offset ≡ t.n + offset_of i = ap (λ (b : ℕ). b + c.args.offset) p.0 ∙ ap (λ (o : ℕ). t.n + o) c.requires.offset in

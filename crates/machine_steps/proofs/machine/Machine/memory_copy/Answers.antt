@@ -15,8 +15,8 @@ use Rattle.machine_steps.proofs.KindLemmas.{after_as}
 use Rattle.machine_steps.proofs.BulkLemmas.{copy_of, copy_means, marks_within, written_after}
 use Rattle.machine_steps.proofs.machine.Machine.memory_copy.Goals as goal
 
-abbrev stored : List ℕ → List (Option ℕ) → List Val → Store
-stored memory table globals = record { memory = memory; table = table; globals = globals }
+abbrev stored : List ℕ → List (Option ℕ) → List Val → List ℕ → Store
+stored memory table globals answer = record { memory = memory; table = table; globals = globals; answer = answer }
 
 pub pop32-count-requires : goal.pop32-count-requires
 pop32-count-requires c =
@@ -40,9 +40,9 @@ pop32-to-requires c =
     record { configuration = record h.configuration { operands = val.I32 t.first ∷ t.rest }; represents = q.1; top = t.first; rest = t.rest; are = refl }
 
 pub returns-clause-does : goal.returns-clause-does
-returns-clause-does c m limits table globals k sh fine =
-    let store : Store = store_of c.args.memory.now table globals in
-    let after : Store = store_of c.copy.new.self table globals in
+returns-clause-does c m limits table globals answer k sh fine =
+    let store : Store = store_of c.args.memory.now table globals answer in
+    let after : Store = store_of c.copy.new.self table globals answer in
     let t = copy_of m limits k store fine in
     let p = c.pop32-count.ensures.represents k t.third (val.I32 t.second ∷ val.I32 t.first ∷ t.rest) sh t.are in
     let q = c.pop32-from.ensures.represents (record k { operands = val.I32 t.second ∷ val.I32 t.first ∷ t.rest }) t.second (val.I32 t.first ∷ t.rest) p.1 refl in
@@ -60,10 +60,10 @@ returns-clause-does c m limits table globals k sh fine =
     ∙ ap (λ (a : ℕ). if fits then written store.memory a (take c.pop32-count.result (drop c.pop32-from.result store.memory)) else store.memory) r.0
     ∙ ap (λ (b : ℕ). if fits then written store.memory t.first (take c.pop32-count.result (drop b store.memory)) else store.memory) q.0
     ∙ ap (λ (n : ℕ). if fits then written store.memory t.first (take n (drop t.second store.memory)) else store.memory) p.0 in
-    let answer : c.unless_within.result ≡ trap_unless fits = c.unless_within.ensures ∙ ap trap_unless test in
+    let trap : c.unless_within.result ≡ trap_unless fits = c.unless_within.ensures ∙ ap trap_unless test in
     after_as m limits instr.MemoryCopy k store after _ _ c.pop32-to.new.self (copy_means m limits k store t)
-    (subst (λ (o : Option TrapKind). EndsAs (write_where fits t.first piece t.rest (state k store)) k o c.pop32-to.new.self after) (sym answer)
-    (written_after fits k t.rest c.pop32-to.new.self store after t.first piece (ap (λ (l : List ℕ). stored l table globals) (sym is)) r.1))
+    (subst (λ (o : Option TrapKind). EndsAs (write_where fits t.first piece t.rest (state k store)) k o c.pop32-to.new.self after) (sym trap)
+    (written_after fits k t.rest c.pop32-to.new.self store after t.first piece (ap (λ (l : List ℕ). stored l table globals answer) (sym is)) r.1))
 
 pub returns-clause-marks : goal.returns-clause-marks
 returns-clause-marks c = marks_within c.args.memory.now c.copy.new.self (touched c.pop32-to.result c.pop32-count.result) c.copy.ensures.marks

@@ -14,8 +14,8 @@ use Rattle.machine_steps.proofs.KindLemmas.{after_as, has_top}
 use Rattle.machine_steps.proofs.AccessLemmas.{store_of_pair, store_means, store_after, store_traps}
 use Rattle.machine_steps.proofs.machine.Machine.store.Goals as goal
 
-abbrev stored : List ℕ → List (Option ℕ) → List Val → Store
-stored memory table globals = record { memory = memory; table = table; globals = globals }
+abbrev stored : List ℕ → List (Option ℕ) → List Val → List ℕ → Store
+stored memory table globals answer = record { memory = memory; table = table; globals = globals; answer = answer }
 
 pub pop-value-requires : goal.pop-value-requires
 pop-value-requires c =
@@ -37,10 +37,10 @@ store_value-requires-clause-number c =
     is_number (takes_width c.args.instr.now) c.pop-value.result t.top t.n (c.pop-value.ensures.represents h.configuration t.top (val.I32 t.base ∷ t.rest) h.represents t.are).0 t.is
 
 pub returns-then-store_value-clause-does : goal.returns-then-store_value-clause-does
-returns-then-store_value-clause-does c m limits table globals k sh fine =
+returns-then-store_value-clause-does c m limits table globals answer k sh fine =
     let i = c.args.instr.now in
-    let store : Store = store_of c.args.memory.now table globals in
-    let after : Store = store_of c.store_value.new.memory table globals in
+    let store : Store = store_of c.args.memory.now table globals answer in
+    let after : Store = store_of c.store_value.new.memory table globals answer in
     let t = store_of_pair m limits i k store c.requires.kind fine in
     let p = c.pop-value.ensures.represents k t.top (val.I32 t.base ∷ t.rest) sh t.are in
     let q = c.pop32-base.ensures.represents (record k { operands = val.I32 t.base ∷ t.rest }) t.base t.rest p.1 refl in
@@ -52,13 +52,13 @@ returns-then-store_value-clause-does c m limits table globals k sh fine =
     c.if-store_value.ensures.after t.n (subst (λ (x : Val). number (takes_width i) x ≡ Some t.n) (sym p.0) t.is) ∙ ap (λ (a : ℕ). written store.memory a bytes) at in
     after_as m limits i k store after _ None c.pop32-base.new.self (store_means m limits i k store c.requires.kind t)
     (store_after (nat_lt (length store.memory) (t.base + offset_of i + byte_len (access_width i))) k t.rest c.pop32-base.new.self store after (written store.memory (t.base + offset_of i) bytes) test
-    (ap (λ (l : List ℕ). stored l table globals) (sym is)) q.1)
+    (ap (λ (l : List ℕ). stored l table globals answer) (sym is)) q.1)
 
 pub returns-else-store_value-clause-does : goal.returns-else-store_value-clause-does
-returns-else-store_value-clause-does c m limits table globals k sh fine =
+returns-else-store_value-clause-does c m limits table globals answer k sh fine =
     let i = c.args.instr.now in
-    let store : Store = store_of c.args.memory.now table globals in
-    let after : Store = store_of c.store_value.new.memory table globals in
+    let store : Store = store_of c.args.memory.now table globals answer in
+    let after : Store = store_of c.store_value.new.memory table globals answer in
     let t = store_of_pair m limits i k store c.requires.kind fine in
     let p = c.pop-value.ensures.represents k t.top (val.I32 t.base ∷ t.rest) sh t.are in
     let q = c.pop32-base.ensures.represents (record k { operands = val.I32 t.base ∷ t.rest }) t.base t.rest p.1 refl in
@@ -69,4 +69,4 @@ returns-else-store_value-clause-does c m limits table globals k sh fine =
     let same : shown c.store_value.new.memory ≡ store.memory = c.if-store_value.ensures.after t.n (subst (λ (x : Val). number (takes_width i) x ≡ Some t.n) (sym p.0) t.is) in
     after_as m limits i k store after _ (Some trap.Memory) c.pop32-base.new.self (store_means m limits i k store c.requires.kind t)
     (store_traps (nat_lt (length store.memory) (t.base + offset_of i + byte_len (access_width i))) k t.rest c.pop32-base.new.self store after (written store.memory (t.base + offset_of i) bytes) test
-    (ap (λ (l : List ℕ). stored l table globals) (sym same)))
+    (ap (λ (l : List ℕ). stored l table globals answer) (sym same)))

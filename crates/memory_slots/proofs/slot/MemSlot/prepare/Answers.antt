@@ -5,9 +5,9 @@ use Rattle.memory_slots.proofs.slot.MemSlot.prepare.Goals as goal
 pub returns-clause-shown : goal.returns-clause-shown
 returns-clause-shown g c =
     let is = c.valid-valid.ensures.loaded in
-    fresh_shown g.N.Naming.config c.args.module.now c.prepare_uncounted.new.self (loaded-within _ is.bytes _ _ is.loads) c.prepare_uncounted.ensures.fresh
+    fresh_shown g.N.Naming.config c.args.module.now c.prepare_uncounted.new.self (loaded-within is.profile is.bytes _ _ is.loads) c.prepare_uncounted.ensures.fresh
 
 pub returns-clause-ready : goal.returns-clause-ready
 returns-clause-ready g c =
     let is = c.valid-valid.ensures.loaded in
-    fresh_ready g.N.Naming.config c.args.module.now c.prepare_uncounted.new.self (loaded-within _ is.bytes _ _ is.loads) c.prepare_uncounted.ensures.fresh
+    fresh_ready g.N.Naming.config c.args.module.now c.prepare_uncounted.new.self (loaded-within is.profile is.bytes _ _ is.loads) c.prepare_uncounted.ensures.fresh

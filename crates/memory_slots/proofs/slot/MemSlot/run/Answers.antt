@@ -1,6 +1,7 @@
 use Rattle.std.proofs.Common.{ℕ, ◌∙◌, refl, sym, subst, length, arith}
 use Rattle.wasm_types.specs.Tree.{module_tree}
 use Rattle.wasm_spec.specs.Instances.{room_for}
+use Rattle.wasm_spec.specs.Execution.{terms}
 use Rattle.wasm_spec.specs.Result.{function_result}
 use Rattle.wasm_machine.specs.Lent.{lent_store}
 use Rattle.pool_worlds.specs.Contents.{MemoryContents}
@@ -43,9 +44,9 @@ returns-clause-leaves g c owner =
     let table = c.args.table.now in
     let globals = c.args.globals.now in
     let most : ℕ = room_for m.memories c.args.limits.pages in
-    let store = lent_store m new table c.run.new.globals in
-    let there = globals_there m (store_in m c.args.self.now table globals) globals refl c.requires.store in
-    let P : MemoryContents → Type 0 = λ x. Leaves config.pages (module_tree m) (function_result (module_tree m) c.args.limits c.args.function c.args.args.now (store_in m x table globals)) c.args.fuel
+    let store = lent_store m new table c.run.new.globals c.run.new.answer in
+    let there = globals_there m (store_in m c.args.self.now table globals c.args.answer.now) globals refl c.requires.store in
+    let P : MemoryContents → Type 0 = λ x. Leaves config.pages (module_tree m) (function_result (module_tree m) (terms c.args.limits c.args.request.now) c.args.function c.args.args.now (store_in m x table globals c.args.answer.now)) c.args.fuel
     (parts x owner table globals) (parts (contents_of new holds) owner table c.run.new.globals) new.marks.items (record { outcome = c.run.result.outcome; store = store; fuel = c.run.result.left }) in
     subst P c.self.view_is (record {
       gives = c.run.ensures.result;
@@ -53,5 +54,4 @@ returns-clause-leaves g c owner =
           (memory_left config most old new holds c.self.invariant.kept c.run.ensures.memory c.run.ensures.room store refl) refl
           (globals_left (length m.globals) globals c.run.new.globals there c.run.ensures.globals c.run.ensures.others);
       marked = λ needed turns r le is. marks_are config.pages old.bytes.items r.store.memory old.marks.items new.marks.items (c.run.ensures.marked turns r le is);
-      still = λ needed e. c.run.ensures.unspent e;
     })

@@ -4,7 +4,6 @@ use Rattle.std.specs.Prelude.{Option, Some, None}
 use Rattle.wasm_types.specs.Tree.{ModuleTree}
 use Rattle.wasm_spec.specs.Store.{first_misfit, fresh_store, table_size}
 use Rattle.wasm_spec.proofs.ResultLaws.{length-fresh_table}
-use Rattle.pool_limits.specs.Limits.{load_limits}
 use Rattle.pool_worlds.specs.Contents.{Named}
 use Rattle.loaded_modules.proofs.WithinLemmas.{loaded-within}
 use Rattle.table_slots.proofs.TableLemmas.{write_kept}
@@ -13,19 +12,19 @@ use Rattle.table_slots.proofs.slot.TableSlot.write.Goals as goal
 pub write_table-self-inside-requires-clause-fit : goal.write_table-self-inside-requires-clause-fit
 write_table-self-inside-requires-clause-fit g c =
     let is = c.valid-valid.ensures.loaded in
-    subst (λ (m : ModuleTree). first_misfit m ≡ None) (sym c.valid-valid.ensures.tree) (loaded-within _ is.bytes _ _ is.loads).segments
+    subst (λ (m : ModuleTree). first_misfit m ≡ None) (sym c.valid-valid.ensures.tree) (loaded-within is.profile is.bytes _ _ is.loads).segments
 
 pub write_table-self-inside-requires-clause-room : goal.write_table-self-inside-requires-clause-room
 write_table-self-inside-requires-clause-room g c =
     let is = c.valid-valid.ensures.loaded in
-    let fits : table_size c.args.module.now.tree ≤ length c.deref_mut.result.now = omega (arith, (loaded-within _ is.bytes _ _ is.loads).elements, c.self.invariant.room, ap length c.deref_mut.ensures.value) in
+    let fits : table_size c.args.module.now.tree ≤ length c.deref_mut.result.now = omega (arith, (loaded-within is.profile is.bytes _ _ is.loads).elements, c.self.invariant.room, ap length c.deref_mut.ensures.value) in
     subst (λ (m : ModuleTree). table_size m ≤ length c.deref_mut.result.now) (sym c.valid-valid.ensures.tree) fits
 
 pub invariant_of-self : goal.invariant_of-self
 invariant_of-self g c =
     let is = c.valid-valid.ensures.loaded in
     let m : ModuleTree = c.args.module.now.tree in
-    let within = loaded-within _ is.bytes _ _ is.loads in
+    let within = loaded-within is.profile is.bytes _ _ is.loads in
     let items : List (Option ℕ) = c.self.inside.entries.items in
     let new : List (Option ℕ) = c.write_table-self-inside.new.entries in
     let count : ℕ = c.write_table-self-inside.result in

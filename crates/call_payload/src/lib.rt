@@ -1,0 +1,10 @@
+//! What a call is sent beside its arguments, and what it answers beside its result: bytes.
+#![tactic(auto)]
+
+mod answer;
+mod request;
+#[cfg(test)]
+mod tests;
+
+pub use answer::{AnswerBuf, MOST_ANSWER, TooLong};
+pub use request::{MOST_REQUEST, Payload, read_part};

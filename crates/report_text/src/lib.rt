@@ -1,0 +1,12 @@
+//! The report's lines: how loadings and calls went, as text and as a summary.
+#![tactic(auto)]
+
+pub mod laws;
+mod report;
+mod summary;
+
+pub use report::{CallLine, ModuleLine, ReportLine, report_text, write_call, write_module};
+pub use summary::write_summary;
+
+#[cfg(test)]
+mod tests;

@@ -1,6 +1,0 @@
-use Rattle.std.proofs.Common.{◌≡◌, take}
-use Rattle.request_text.specs.Lines.{report_text}
-use Rattle.request_text.proofs.report.report_text.Given as goal
-
-abbrev pub invariant-loop-line : goal.invariant-loop-line
-invariant-loop-line l = l.text.items ≡ report_text (take l.line-index l.lines)

@@ -1,0 +1,75 @@
+//! What a line asks of a module.
+ghost use Rattle.std.specs.Prelude.{◌≡◌, ◌≤◌, IfOk, length};
+ghost use Rattle.request_text.specs.Invocations.{sent_by, shown_of};
+
+use call_payload::{MOST_REQUEST, Payload};
+use std::alloc::Global;
+use wasm_types::{Items, NoMemory, Val};
+
+/// A call of an export, on this fuel, in instructions, with these arguments.
+#[derive(Drop)]
+pub struct Invocation {
+    pub export: Items<u8>,
+    pub fuel: u32,
+    /// The bytes that a `send` line sends. A `call` line sends none, and its answer shows none.
+    pub request: Option<Payload>,
+    pub args: Items<Val>,
+}
+
+// A copy of a request, if there is one.
+fn copied(alloc: Global, request: &Option<Payload>) -> Result<Option<Payload>, NoMemory>
+    ensures { IfOk result (λ copy. copy ≡ request.now) }
+{
+    match request {
+        Some(request) => Ok(Some(request.copy(alloc)?)),
+        None => Ok(None),
+    }
+}
+
+impl Invocation {
+    /// The bytes that the call is sent. Takes no memory.
+    pub fn sent(&self) -> &[u8]
+        ensures bytes { result.now ≡ sent_by self.now }
+        ensures most { length (sent_by self.now) ≤ MOST_REQUEST }
+    {
+        match &self.request {
+            Some(request) => request.bytes(),
+            None => &[],
+        }
+    }
+
+    /// What the line shows of the bytes that the call answered: a copy where it was sent a request, and else nothing.
+    ///
+    /// # Errors
+    ///
+    /// `NoMemory` where memory is refused.
+    pub fn shown(&self, alloc: Global, bytes: &[u8]) -> Result<Option<Items<u8>>, NoMemory>
+        ensures { IfOk result (λ shown. shown ≡ shown_of self.now bytes.now) }
+    {
+        match self.request {
+            Some(_) => {
+                let copy = bytes.to_vec(alloc).map_err(|_| NoMemory)?;
+                Ok(Some(Items::new(copy)))
+            }
+            None => Ok(None),
+        }
+    }
+
+    /// A copy of what is asked.
+    ///
+    /// # Errors
+    ///
+    /// `NoMemory` where memory is refused.
+    pub fn copy(&self, alloc: Global) -> Result<Invocation, NoMemory>
+        ensures { IfOk result (λ copy. copy ≡ self.now) }
+    {
+        let export = self.export.as_slice().to_vec(alloc).map_err(|_| NoMemory)?;
+        let args = self.args.as_slice().to_vec(alloc).map_err(|_| NoMemory)?;
+        Ok(Invocation {
+            export: Items::new(export),
+            fuel: self.fuel,
+            request: copied(alloc, &self.request)?,
+            args: Items::new(args),
+        })
+    }
+}
