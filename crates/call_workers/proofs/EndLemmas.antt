@@ -1,5 +1,5 @@
 -- A queue from which each worker was given its 0 has nothing left.
-use Rattle.std.proofs.Common.{◌≡◌, ℕ, zero, suc, ◌+◌, ◌<◌, ◌≤◌, ◌==◌, false, if◌then◌else◌, List, [], ◌∷◌, ◌++◌, replicate, Option, None, refl, sym, ap, ◌∙◌, subst, arith}
+use Rattle.std.proofs.Common.{◌≡◌, ℕ, zero, suc, ◌+◌, ◌<◌, ◌≤◌, ◌==◌, false, true, if◌then◌else◌, List, [], ◌∷◌, ◌++◌, replicate, Option, None, refl, sym, ap, ◌∙◌, subst, arith}
 use Rattle.std.specs.List.{All}
 use Rattle.std.proofs.lemmas.Bool.Decides.{nat_tests}
 use Rattle.std.proofs.lemmas.List.Elements.{All-head, All-tail}
@@ -18,6 +18,12 @@ zeros-append xs ys = sum_by-append zero_of xs ys
 
 no_zero : (pair : Pair) → 0 < pair.0 → zero_of pair ≡ 0
 no_zero pair counted = let b : (pair.0 == 0) ≡ false = grind (arith, nat_tests) in rw b refl
+
+pub no_zeros_in : (pair : Pair) → 0 < pair.0 → zeros (pair ∷ []) ≡ 0
+no_zeros_in pair counted = let none = no_zero pair counted in omega (arith, sum_by-cons zero_of pair [])
+
+pub one_zero_in : (pair : Pair) → pair.0 ≡ 0 → zeros (pair ∷ []) ≡ 1
+one_zero_in pair zeroed = let b : (pair.0 == 0) ≡ true = grind (arith, nat_tests) in rw b refl
 
 no_zeros : (pairs : List Pair) → All (λ (pair : Pair). 0 < pair.0) pairs → zeros pairs ≡ 0
 no_zeros [] counted = refl

@@ -1,9 +1,9 @@
 -- Entries, one after the other.
-use Rattle.std.proofs.Common.{◌≡◌, ◌∙◌, ℕ, ◌-◌, ◌<◌, ◌==◌, true, false, not, List, [], ◌∷◌, ◌++◌, Option, Some, Ok, Err, refl, ap, subst, arith, append-nil}
+use Rattle.std.proofs.Common.{◌≡◌, ◌∙◌, ℕ, ◌-◌, ◌<◌, ◌==◌, Bool, true, false, not, List, [], ◌∷◌, ◌++◌, Option, Some, Ok, Err, refl, ap, subst, arith, append-nil}
 use Rattle.std.specs.Prelude.{Result, IfOk, slice_get}
 use Rattle.std.specs.List.{All, AllZip}
 use Rattle.std.proofs.lemmas.Bool.Decides.{nat_tests}
-use Rattle.std.proofs.lemmas.List.Elements.{All-head, All-tail, filter-append}
+use Rattle.std.proofs.lemmas.List.Elements.{All-cons, All-head, All-nil, All-tail, filter-append}
 use Rattle.pool_limits.specs.declared.numbers.Numbers.{Numbers}
 use Rattle.pool_worlds.specs.Contents.{Named}
 use Rattle.pool_host.specs.declared.host.Host.{Host}
@@ -20,14 +20,22 @@ all_zip_append R (x ∷ xs) xs' (y ∷ ys) ys' h g = (h.0, all_zip_append R xs x
 
 -- ---- the pairs of calls
 
-called_one : (pair : Pair) → 0 < pair.0 → called (pair ∷ []) ≡ pair ∷ []
+pub called_one : (pair : Pair) → 0 < pair.0 → called (pair ∷ []) ≡ pair ∷ []
 called_one pair counted = let b : (pair.0 == 0) ≡ false = grind (arith, nat_tests) in rw b refl
 
-called_zero : (pair : Pair) → pair.0 ≡ 0 → called (pair ∷ []) ≡ []
+pub called_zero : (pair : Pair) → pair.0 ≡ 0 → called (pair ∷ []) ≡ []
 called_zero pair none = let b : (pair.0 == 0) ≡ true = grind (arith, nat_tests) in rw b refl
 
 pub called-append : (xs ys : List Pair) → called (xs ++ ys) ≡ called xs ++ called ys
 called-append xs ys = filter-append (λ (pair : Pair). not (pair.0 == 0)) xs ys
+
+counted_more : (pair : Pair) (pairs : List Pair) (zeroed : Bool) → (pair.0 == 0) ≡ zeroed → All (λ (x : Pair). 0 < x.0) (called pairs) → All (λ (x : Pair). 0 < x.0) (called (pair ∷ pairs))
+counted_more pair pairs true is h = rw is h
+counted_more pair pairs false is h = rw is (All-cons (λ (x : Pair). 0 < x.0) pair (called pairs) (grind (arith, nat_tests, is)) h)
+
+pub called_counted : (pairs : List Pair) → All (λ (pair : Pair). 0 < pair.0) (called pairs)
+called_counted [] = All-nil (λ (pair : Pair). 0 < pair.0)
+called_counted (pair ∷ pairs) = counted_more pair pairs (pair.0 == 0) refl (called_counted pairs)
 
 -- pairs of calls alone, and then a 0
 pub called_before_zero : (pairs : List Pair) (last : Option Named) → All (λ (pair : Pair). 0 < pair.0) pairs → called (pairs ++ (0, last) ∷ []) ≡ pairs
@@ -62,13 +70,17 @@ module _ (config : Numbers) (calls : List Due) where
     entries_made (p ∷ pairs) [] before after h = absurd h
     entries_made (p ∷ pairs) (w ∷ entries) before after (middle, first, rest) = (first.entry, entries_made pairs entries middle after rest)
 
+-- a call stands at the place before its number
+pub number_of_due : (calls : List Due) (number : ℕ) (due : Due) → AreNumbered calls → 0 < number → slice_get calls (number - 1) ≡ Some due → due.number ≡ number
+number_of_due calls number due numbered some there = let n = numbered (number - 1) due there in omega arith
+
 -- what a worker made of a call of this module, if memory lasted
 pub made_entry : {N E : Type 0} (config : Numbers) (host : Host N) (calls : List Due) (number : ℕ) (due : Due) (m : Named) (before after : Passes N) (r : Result Worked E)
     → AreNumbered calls → 0 < number → slice_get calls (number - 1) ≡ Some due → IfOk r (λ worked. worked.number ≡ due.number)
     → IfOk r (λ worked. IsAnswered config due.invocation (Some m) worked.answer worked.bytes) → IfOk r (λ worked. MadeCall config host (Some m) worked.answer before after)
     → IfOk r (λ worked. MadeEntry config host calls (number, Some m) worked before after)
 made_entry config host calls number due m before after (Ok worked) numbered some there is answered made =
-    let own : due.number ≡ number = let n = numbered (number - 1) due there in omega arith in record {
+    let own = number_of_due calls number due numbered some there in record {
       entry = record { number_is = is ∙ own; due = due; due_is = there; answered = answered };
       call = made;
     }

@@ -1,4 +1,7 @@
+pub mod Cancelling
 pub mod CrewLemmas
 pub mod EndLemmas
 pub mod EntryLemmas
 pub mod TakenLemmas
+pub mod SliceLemmas
+pub mod SliceEndLemmas

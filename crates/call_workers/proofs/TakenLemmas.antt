@@ -17,7 +17,7 @@ use Rattle.call_workers.proofs.EntryLemmas.{made_more}
 abbrev Given : Type 0
 Given = Account (Option Named)
 
-given_none : (a : Given) → a ≡ with_given a []
+pub given_none : (a : Given) → a ≡ with_given a []
 given_none a = ap (λ (pairs : List Pair). record a { given = pairs }) (sym (append-nil a.given))
 
 pub given_then : (a b c : Given) (pairs : List Pair) (pair : Pair) → b ≡ with_given a pairs → c ≡ with_given b (pair ∷ []) → c ≡ with_given a (pairs ++ pair ∷ [])

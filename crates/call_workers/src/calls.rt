@@ -33,7 +33,7 @@ pub struct Worked {
 }
 
 // The call of this number.
-fn due_at(calls: &[Due], number: u32) -> &Due
+pub(crate) fn due_at(calls: &[Due], number: u32) -> &Due
     requires numbered { AreNumbered calls.now }
     requires counted { 0 < number }
     requires enough { number ≤ length calls.now }
@@ -43,7 +43,7 @@ fn due_at(calls: &[Due], number: u32) -> &Due
 }
 
 // What a worker made of a call of this module.
-fn made<N: Naming, G: Gate>(
+pub(crate) fn made<N: Naming, G: Gate>(
     alloc: Global,
     host: &Host<N>,
     pass: &mut HostPass<N>,

@@ -14,7 +14,7 @@ use std::sync::Wait;
 use wasm_types::NoMemory;
 
 // Puts entries behind others.
-fn put_behind(entries: &mut Vec<Worked>, mut more: Vec<Worked>) -> Result<(), NoMemory>
+pub(crate) fn put_behind(entries: &mut Vec<Worked>, mut more: Vec<Worked>) -> Result<(), NoMemory>
     ensures { OnOk result (entries.new.items ≡ entries.old.items ++ more.items) }
 {
     entries.append(&mut more).map_err(|_| NoMemory)

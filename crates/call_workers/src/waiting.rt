@@ -41,6 +41,11 @@ impl Waits {
         }
     }
 
+    /// How many turns the next wait has.
+    pub fn turns(self) -> u64 {
+        self.next
+    }
+
     /// Waits once.
     pub fn wait(self) {
         for _ in 0..self.next {

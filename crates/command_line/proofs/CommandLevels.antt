@@ -51,7 +51,11 @@ summary_rule = filled (flag (codes "summary"))
 pub run_complete : (rest : List Text) → level_fault run_level [] nothing_held rest false [] ≡ [] → HasRun (rows_after run_level.rules [] rest)
 run_complete rest e =
     let value = reads_value run_level rest refl e summary_rule refl refl in
-    record { numbers = run_numbers rest e; summary = rw value.reads (flag_text value.text value.passes) }
+    record {
+      numbers = run_numbers rest e;
+      slice = option_number run_level rest refl e (codes "slice") 0 4294967295 (codes "0") refl;
+      summary = rw value.reads (flag_text value.text value.passes);
+    }
 
 -- the arguments of `make`, as they are built
 abbrev seed_rule : Rule

@@ -15,11 +15,11 @@ make words = codes "poolhost" ∷ codes "make" ∷ words
 abbrev defaults : Numbers
 defaults = record { workers = 1; instances = 4; memories = 4; tables = 4; warm = 2; batch = 4; pages = 32; elements = 1024; depth = 128; frame = 1024 }
 
-no_option : command_of (run []) ≡ Some (Run defaults false)
+no_option : command_of (run []) ≡ Some (Run defaults false 0)
 unfolding clap_on_literals command_of entered_by
 no_option = refl
 
-two_by_equals : command_of (run (codes "--elements=0" ∷ codes "--frame=4096" ∷ [])) ≡ Some (Run (record defaults { elements = 0; frame = 4096 }) false)
+two_by_equals : command_of (run (codes "--elements=0" ∷ codes "--frame=4096" ∷ [])) ≡ Some (Run (record defaults { elements = 0; frame = 4096 }) false 0)
 unfolding clap_on_literals command_of entered_by
 two_by_equals = refl
 
@@ -31,11 +31,11 @@ no_memory_to_share : command_of (run (codes "--workers" ∷ codes "2" ∷ codes 
 unfolding clap_on_literals command_of entered_by
 no_memory_to_share = refl
 
-two_memories_to_share : command_of (run (codes "--workers" ∷ codes "2" ∷ codes "--memories" ∷ codes "2" ∷ [])) ≡ Some (Run (record defaults { workers = 2; memories = 2 }) false)
+two_memories_to_share : command_of (run (codes "--workers" ∷ codes "2" ∷ codes "--memories" ∷ codes "2" ∷ [])) ≡ Some (Run (record defaults { workers = 2; memories = 2 }) false 0)
 unfolding clap_on_literals command_of entered_by
 two_memories_to_share = refl
 
-most_memories : command_of (run (codes "--memories" ∷ codes "1024" ∷ codes "--pages" ∷ codes "1" ∷ [])) ≡ Some (Run (record defaults { memories = 1024; pages = 1 }) false)
+most_memories : command_of (run (codes "--memories" ∷ codes "1024" ∷ codes "--pages" ∷ codes "1" ∷ [])) ≡ Some (Run (record defaults { memories = 1024; pages = 1 }) false 0)
 unfolding clap_on_literals command_of entered_by
 most_memories = refl
 
@@ -63,20 +63,28 @@ version : command_of (codes "poolhost" ∷ codes "--version" ∷ []) ≡ None
 unfolding clap_on_literals command_of entered_by
 version = refl
 
-summary : command_of (run (codes "--summary" ∷ codes "--depth" ∷ codes "1" ∷ [])) ≡ Some (Run (record defaults { depth = 1 }) true)
+summary : command_of (run (codes "--summary" ∷ codes "--depth" ∷ codes "1" ∷ [])) ≡ Some (Run (record defaults { depth = 1 }) true 0)
 unfolding clap_on_literals command_of entered_by
 summary = refl
+
+longest_slice : command_of (run (codes "--slice" ∷ codes "4294967295" ∷ codes "--workers" ∷ codes "2" ∷ [])) ≡ Some (Run (record defaults { workers = 2 }) false 4294967295)
+unfolding clap_on_literals command_of entered_by
+longest_slice = refl
+
+too_long_a_slice : command_of (run (codes "--slice" ∷ codes "4294967296" ∷ [])) ≡ None
+unfolding clap_on_literals command_of entered_by
+too_long_a_slice = refl
 
 summary_with_a_value : command_of (run (codes "--summary=true" ∷ [])) ≡ None
 unfolding clap_on_literals command_of entered_by
 summary_with_a_value = refl
 
-hyphens_at_the_end : command_of (run (codes "--" ∷ [])) ≡ Some (Run defaults false)
+hyphens_at_the_end : command_of (run (codes "--" ∷ [])) ≡ Some (Run defaults false 0)
 unfolding clap_on_literals command_of entered_by
 hyphens_at_the_end = refl
 
 -- a sign and leading zeros are taken
-signs_and_zeros : command_of (run (codes "--warm" ∷ codes "+3" ∷ codes "--batch" ∷ codes "007" ∷ [])) ≡ Some (Run (record defaults { warm = 3; batch = 7 }) false)
+signs_and_zeros : command_of (run (codes "--warm" ∷ codes "+3" ∷ codes "--batch" ∷ codes "007" ∷ [])) ≡ Some (Run (record defaults { warm = 3; batch = 7 }) false 0)
 unfolding clap_on_literals command_of entered_by
 signs_and_zeros = refl
 
@@ -85,7 +93,7 @@ minus : command_of (run (codes "--warm" ∷ codes "-0" ∷ [])) ≡ None
 unfolding clap_on_literals command_of entered_by
 minus = refl
 
-minus_by_equals : command_of (run (codes "--warm=-0" ∷ [])) ≡ Some (Run (record defaults { warm = 0 }) false)
+minus_by_equals : command_of (run (codes "--warm=-0" ∷ [])) ≡ Some (Run (record defaults { warm = 0 }) false 0)
 unfolding clap_on_literals command_of entered_by
 minus_by_equals = refl
 

@@ -26,6 +26,7 @@ run_options = number_option (codes "workers") 1 16 (codes "1")
     ∷ number_option (codes "elements") 0 65536 (codes "1024")
     ∷ number_option (codes "depth") 1 1000 (codes "128")
     ∷ number_option (codes "frame") 1 4096 (codes "1024")
+    ∷ number_option (codes "slice") 0 4294967295 (codes "0")
     ∷ []
 
 -- `--NAME`

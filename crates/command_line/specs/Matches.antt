@@ -44,7 +44,7 @@ abbrev pub IsFlag : Option Text → Type 0
 IsFlag None = ⊥
 IsFlag (Some text) = (text ≡ codes "true") ⊎ (text ≡ codes "false")
 
--- each option of `run` has a number of its range
+-- each option of a configuration has a number of its range
 pub record HasNumbers (rows : List Row) : Type 0 where
   pub workers : IsNumberIn 1 16 (one_of (codes "workers") rows)
   pub instances : IsNumberIn 1 1024 (one_of (codes "instances") rows)
@@ -57,9 +57,10 @@ pub record HasNumbers (rows : List Row) : Type 0 where
   pub depth : IsNumberIn 1 1000 (one_of (codes "depth") rows)
   pub frame : IsNumberIn 1 4096 (one_of (codes "frame") rows)
 
--- and its flag is set or not
+-- so has that of the slices, and the flag is set or not
 pub record HasRun (rows : List Row) : Type 0 where
   pub numbers : HasNumbers rows
+  pub slice : IsNumberIn 0 4294967295 (one_of (codes "slice") rows)
   pub summary : IsFlag (one_of (codes "summary") rows)
 
 -- each argument of `make` has a number of its range

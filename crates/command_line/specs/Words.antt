@@ -14,7 +14,7 @@ entered_by words = if length (fault_of poolhost_command words) == 0 then subcomm
 
 -- the run that its matches ask for
 abbrev pub run_in : List Row → Command
-run_in rows = Run (numbers_in rows) (is_set (codes "summary") rows)
+run_in rows = Run (numbers_in rows) (is_set (codes "summary") rows) (number_in (codes "slice") rows)
 
 -- what this subcommand, which is `make` or `run`, asks for by its matches
 abbrev pub command_in : Text × List Row → Command
@@ -24,7 +24,7 @@ command_in entered = if bytes_eq entered.0 (codes "make")
 
 -- the numbers of a run are those of a configuration: several workers have slots to share
 abbrev pub is_allowed : Command → Bool
-is_allowed (Run numbers summary) = is_none (bad_number numbers)
+is_allowed (Run numbers summary slice) = is_none (bad_number numbers)
 is_allowed (Make seed count) = true
 
 abbrev pub if_allowed : Command → Option Command

@@ -1,4 +1,4 @@
-//! The command line of `poolhost`: its words as a command, read by `clap`. It is `run`, with ten
+//! The command line of `poolhost`: its words as a command, read by `clap`. It is `run`, with eleven
 //! numbers and a flag, or `make`, with two numbers.
 //!
 //! Words are refused exactly where `clap` finds a fault in them, a call for help among them, or

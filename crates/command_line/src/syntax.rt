@@ -88,7 +88,8 @@ fn run_command<'a>(alloc: Global) -> Result<Command<'a>, AllocError>
     let elements = with_number(alloc, pages, "elements", 0, 65536, "1024")?;
     let depth = with_number(alloc, elements, "depth", 1, 1000, "128")?;
     let frame = with_number(alloc, depth, "frame", 1, 4096, "1024")?;
-    let summary = with_flag(alloc, frame, "summary")?;
+    let slice = with_number(alloc, frame, "slice", 0, u32::MAX, "0")?;
+    let summary = with_flag(alloc, slice, "summary")?;
     Ok(summary)
 }
 

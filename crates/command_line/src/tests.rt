@@ -8,6 +8,11 @@ const REFUSED: Result<Command, WordsFault> = Err(WordsFault::Refused);
 // A run with these numbers, in the order of the struct: workers, instances, memories, tables, warm, batch, pages,
 // elements, depth, frame.
 fn run(numbers: [u32; 10], summary: bool) -> Result<Command, WordsFault> {
+    in_slices(numbers, summary, 0)
+}
+
+// The same in slices of so many instructions.
+fn in_slices(numbers: [u32; 10], summary: bool, slice: u32) -> Result<Command, WordsFault> {
     let [
         workers,
         instances,
@@ -33,7 +38,11 @@ fn run(numbers: [u32; 10], summary: bool) -> Result<Command, WordsFault> {
         frame,
     });
     match config {
-        Ok(config) => Ok(Command::Run { config, summary }),
+        Ok(config) => Ok(Command::Run {
+            config,
+            summary,
+            slice,
+        }),
         Err(_) => REFUSED,
     }
 }
@@ -105,6 +114,17 @@ fn reads_or_refuses_each_command_line(rt: HostRuntime) -> Result<(), Fail> {
             "run --warm 0 --summary --batch 1",
             run([1, 4, 4, 4, 0, 1, 32, 1024, 128, 1024], true),
         ),
+        (
+            "run --slice 1 --workers 2 --summary",
+            in_slices([2, 4, 4, 4, 2, 4, 32, 1024, 128, 1024], true, 1),
+        ),
+        (
+            "run --slice=4294967295",
+            in_slices([1, 4, 4, 4, 2, 4, 32, 1024, 128, 1024], false, u32::MAX),
+        ),
+        ("run --slice 4294967296", REFUSED),
+        ("run --slice 1 --slice 1", REFUSED),
+        ("make 1 1 --slice 1", REFUSED),
         ("run --summary --summary", REFUSED),
         ("run --summary=true", REFUSED),
         ("make 0 1", make(0, 1)),

@@ -16,10 +16,18 @@ use thiserror::Error;
 /// What the words of a command line ask for.
 #[derive(Clone, Copy, Debug, PartialEq, Eq)]
 pub enum Command {
-    /// `run`: answer a request file under a configuration, by a report or by its summary.
-    Run { config: PoolConfig, summary: bool },
+    /// `run`: answer a request file under a configuration, by a report or by its summary. Several workers make calls in slices of so
+    /// many instructions, or whole where that is 0.
+    Run {
+        config: PoolConfig,
+        summary: bool,
+        slice: u32,
+    },
     /// `make`: write a request file of so many calls, from 1 to 100,000, that are drawn from a seed.
-    Make { seed: u64, count: u32 },
+    Make {
+        seed: u64,
+        count: u32,
+    },
 }
 
 /// Why words give no command.
@@ -87,6 +95,7 @@ fn run_at(run: &ArgMatches<'_>) -> Option<Command>
         Ok(config) => Some(Command::Run {
             config,
             summary: flag_at(run, "summary"),
+            slice: number_at(run, "slice"),
         }),
         Err(_) => None,
     }

@@ -24,6 +24,7 @@ use Rattle.call_workers.specs.declared.calls.Worked.{Worked}
 use Rattle.call_workers.specs.Crews.{AnswersAll}
 use Rattle.call_workers.specs.Entries as worked
 use Rattle.call_workers.specs.Entries.{IsAnswered, Pair, called}
+use Rattle.call_workers.proofs.EntryLemmas.{called_counted}
 use Rattle.host_report.specs.Collected.{AreOfCalls, IsBoard, IsLineOf, IsOfWorked, call_at, line_of}
 use Rattle.host_report.specs.Due.{dues_from}
 use Rattle.host_report.specs.Entries.{AreEntries, Entry, IsEntry}
@@ -120,14 +121,6 @@ all_zip config calls count (pair ∷ pairs) (w ∷ all) zip counted below =
     let b : pair.0 ≤ count = All-head (λ (x : Pair). x.0 ≤ count) pair pairs below in
     All-cons (λ (one : Worked). (0 < one.number) × (one.number ≤ count)) w all (omega arith, omega arith)
     (all_zip config calls count pairs all zip.1 (All-tail (λ (x : Pair). 0 < x.0) pair pairs counted) (All-tail (λ (x : Pair). x.0 ≤ count) pair pairs below))
-
-counted_more : (pair : Pair) (pairs : List Pair) (zeroed : Bool) → (pair.0 == 0) ≡ zeroed → All (λ (x : Pair). 0 < x.0) (called pairs) → All (λ (x : Pair). 0 < x.0) (called (pair ∷ pairs))
-counted_more pair pairs true is h = rw is h
-counted_more pair pairs false is h = rw is (All-cons (λ (x : Pair). 0 < x.0) pair (called pairs) (grind (arith, nat_tests, is)) h)
-
-called_counted : (pairs : List Pair) → All (λ (pair : Pair). 0 < pair.0) (called pairs)
-called_counted [] = All-nil (λ (pair : Pair). 0 < pair.0)
-called_counted (pair ∷ pairs) = counted_more pair pairs (pair.0 == 0) refl (called_counted pairs)
 
 abbrev times : ℕ → List Pair → ℕ
 times k pairs = count_by (λ (pair : Pair). pair.0 == k) pairs

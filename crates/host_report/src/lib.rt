@@ -10,5 +10,6 @@ mod putting;
 mod reporting;
 mod shares;
 mod sharing;
+mod slicing;
 
 pub use reporting::report;

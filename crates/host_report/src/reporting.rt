@@ -103,6 +103,7 @@ fn report_in<N: Naming + Send + Sync, R: Threads + Wait + Sync, G: Gate>(
     rt: &R,
     alloc: Global,
     opened: Opened,
+    slice: u32,
     requests: &Requests,
     gate: &G,
 ) -> Result<Vec<ReportLine>, NoMemory>
@@ -110,7 +111,7 @@ fn report_in<N: Naming + Send + Sync, R: Threads + Wait + Sync, G: Gate>(
     ensures { IfOk result (λ lines. AreLines (limits_in requests.now.profile N.config) (modules_of requests.now.directives) 1 requests.now.directives lines.items) }
 {
     let (store, desk) = opened.named::<N>();
-    let Collected { entries, mut board } = gather(rt, alloc, &store, desk, requests, gate)?;
+    let Collected { entries, mut board } = gather(rt, alloc, &store, desk, slice, requests, gate)?;
     let mut lane = open_lane(alloc, &store)?;
     make_left(
         alloc, &store, requests, &entries, &mut board, &mut lane, gate,
@@ -119,7 +120,8 @@ fn report_in<N: Naming + Send + Sync, R: Threads + Wait + Sync, G: Gate>(
     lines(alloc, requests, &entries, &mut board)
 }
 
-/// The report on what a request file asks for, under a configuration. `gate` is told of each call.
+/// The report on what a request file asks for, under a configuration. Several workers make calls in slices of so many instructions, or
+/// whole where that is 0. `gate` is told of each call.
 ///
 /// # Errors
 ///
@@ -128,11 +130,12 @@ pub fn report<R: Threads + Wait + Sync, G: Gate>(
     rt: &R,
     alloc: Global,
     config: PoolConfig,
+    slice: u32,
     requests: &Requests,
     gate: &G,
 ) -> Result<Vec<ReportLine>, NoMemory>
     ensures { IfOk result (λ lines. IsReport config requests.now lines.items) }
 {
     let opened = Opened::open(alloc, config)?;
-    report_in::<Brand, R, G>(rt, alloc, opened, requests, gate)
+    report_in::<Brand, R, G>(rt, alloc, opened, slice, requests, gate)
 }

@@ -1,11 +1,12 @@
 //! The two hosts of a run: the lane's, and the one that several workers share.
-ghost use Rattle.std.specs.Prelude.{◌≡◌, ◌≢◌, ◌^◌, ◌<◌, IfOk, length};
+ghost use Rattle.std.specs.Prelude.{◌≡◌, ◌≢◌, ◌^◌, ◌<◌, ◌≤◌, IfOk, length};
 ghost use Rattle.call_workers.specs.Crews.{IsNewCrew};
 ghost use Rattle.call_workers.specs.Entries.{AreNumbered};
+ghost use Rattle.call_workers.specs.SliceCrews.{IsNewSliceCrew};
 ghost use Rattle.pool_host.specs.Hosts.{HasShare, IsShare};
 ghost use Rattle.pool_limits.specs.Shares.{lane_share as lane_slots, shared_share as shared_slots};
 
-use call_workers::{Crew, Due, open_crew};
+use call_workers::{Crew, Due, SliceCrew, open_crew, open_slice_crew};
 use module_store::{ModuleStore, Naming};
 use pool_host::LaneHost;
 use pool_limits::Share;
@@ -64,4 +65,20 @@ pub(crate) fn open_workers<N: Naming>(
 {
     let workers = store.config().numbers().workers;
     open_crew(alloc, store, shared_share(store), calls, workers)
+}
+
+// The same, of workers that make calls in slices.
+pub(crate) fn open_slicers<N: Naming>(
+    alloc: Global,
+    store: &ModuleStore<N>,
+    calls: Vec<Due>,
+) -> Result<SliceCrew<N>, NoMemory>
+    requires several { N.config.workers ≢ 1 }
+    requires numbered { AreNumbered calls.items }
+    requires few { length calls.items < 2 ^ 32 }
+    ensures crew { IfOk result (IsNewSliceCrew N.config (shared_slots N.config) calls.items N.config.workers) }
+    ensures some { (0 < N.config.workers) × (N.config.workers ≤ 16) }
+{
+    let workers = store.config().numbers().workers;
+    open_slice_crew(alloc, store, shared_share(store), calls, workers)
 }

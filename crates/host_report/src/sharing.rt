@@ -1,5 +1,5 @@
 //! Workers make the calls on a host that they share, while the modules are registered.
-ghost use Rattle.std.specs.Prelude.{◌≡◌, ◌≢◌, ◌+◌, ◌<◌, ◌≤◌, [], All, IfOk, length};
+ghost use Rattle.std.specs.Prelude.{◌≡◌, ◌≢◌, ◌+◌, ◌^◌, ◌<◌, ◌≤◌, [], All, IfOk, length};
 ghost use Rattle.call_workers.specs.Crews.{AnswersAll, IsDone, IsNewWorker};
 ghost use Rattle.job_queue.specs.Passes.{IsJobPass, IsPutter, account_of, capacity_of, count_of, passes_of, put_by};
 ghost use Rattle.request_text.specs.Text.{AreRequests, call_count, is_call, modules_of};
@@ -13,8 +13,9 @@ use crate::collecting::collect_all;
 use crate::dues::dues;
 use crate::modules::{Entry, register_all};
 use crate::putting::{Put, put_all};
-use crate::shares::open_workers;
-use call_workers::{Crew, Done, Worked, finish, work_all};
+use crate::shares::{open_slicers, open_workers};
+use crate::slicing::sliced_on;
+use call_workers::{Crew, Done, Due, Worked, finish, work_all};
 use host_edge::Gate;
 use job_queue::Board;
 use module_store::{Desk, ModuleStore, Naming};
@@ -88,12 +89,41 @@ fn worked_on<N: Naming + Send + Sync, R: Threads + Wait + Sync, G: Gate>(
     Ok((entries, worked))
 }
 
+// What several workers made of all calls, in slices of so many instructions unless that is 0, and the entries of the modules.
+fn worked<N: Naming + Send + Sync, R: Threads + Wait + Sync, G: Gate>(
+    rt: &R,
+    alloc: Global,
+    store: &ModuleStore<N>,
+    desk: Desk<N>,
+    requests: &Requests,
+    calls: Vec<Due>,
+    slice: u32,
+    gate: &G,
+) -> Result<(Vec<Entry<N>>, Vec<Worked>), NoMemory>
+    requires several { N.config.workers ≢ 1 }
+    requires desk { desk ≡ 0 }
+    requires calls { calls.items ≡ dues_from 1 requests.now.directives }
+    requires count { length calls.items ≡ call_count requests.now.directives }
+    requires few { length calls.items < 2 ^ 32 }
+    ensures entries { IfOk result (λ r. AreEntries (limits_in requests.now.profile N.config) (modules_of requests.now.directives) r.0.items) }
+    ensures answers { IfOk result (λ r. AnswersAll N.config (dues_from 1 requests.now.directives) (pairs_put r.0.items requests.now.directives N.config.workers) r.1.items) }
+{
+    if slice == 0 {
+        let crew = open_workers(alloc, store, calls)?;
+        worked_on(rt, alloc, store, desk, requests, crew, gate)
+    } else {
+        let crew = open_slicers(alloc, store, calls)?;
+        sliced_on(rt, alloc, store, desk, requests, crew, slice, gate)
+    }
+}
+
 // Several workers make the calls. Those that they were answered Full have no line yet.
 fn by_workers<N: Naming + Send + Sync, R: Threads + Wait + Sync, G: Gate>(
     rt: &R,
     alloc: Global,
     store: &ModuleStore<N>,
     desk: Desk<N>,
+    slice: u32,
     requests: &Requests,
     gate: &G,
 ) -> Result<Collected<N>, NoMemory>
@@ -105,8 +135,7 @@ fn by_workers<N: Naming + Send + Sync, R: Threads + Wait + Sync, G: Gate>(
     let directives = requests.directives();
     let calls = dues(alloc, directives)?;
     let mut board = Board::open(alloc, count_calls(directives))?;
-    let crew = open_workers(alloc, store, calls)?;
-    let (entries, worked) = worked_on(rt, alloc, store, desk, requests, crew, gate)?;
+    let (entries, worked) = worked(rt, alloc, store, desk, requests, calls, slice, gate)?;
     collect_all(&mut board, worked);
     Ok(Collected { entries, board })
 }
@@ -153,6 +182,7 @@ pub(crate) fn gather<N: Naming + Send + Sync, R: Threads + Wait + Sync, G: Gate>
     alloc: Global,
     store: &ModuleStore<N>,
     desk: Desk<N>,
+    slice: u32,
     requests: &Requests,
     gate: &G,
 ) -> Result<Collected<N>, NoMemory>
@@ -163,6 +193,6 @@ pub(crate) fn gather<N: Naming + Send + Sync, R: Threads + Wait + Sync, G: Gate>
     if store.config().numbers().workers == 1 {
         by_none(rt, alloc, store, desk, requests)
     } else {
-        by_workers(rt, alloc, store, desk, requests, gate)
+        by_workers(rt, alloc, store, desk, slice, requests, gate)
     }
 }

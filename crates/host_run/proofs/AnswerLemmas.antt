@@ -33,7 +33,7 @@ module _ (one_report : ReportsOnce) where
 
   due_once : (given : Option Command) (words : List (List ℕ)) (bytes : List ℕ) (a b : Answer) → command_of words ≡ given → IsDue words bytes a → IsDue words bytes b → a ≡ b
   due_once None words bytes a b is h g = let first = rw is at h in let second = rw is at g in first ∙ sym second
-  due_once (Some (Run numbers summary)) words bytes a b is h g = answered_once numbers summary (requests_of bytes) bytes a b refl (rw is at h) (rw is at g)
+  due_once (Some (Run numbers summary slice)) words bytes a b is h g = answered_once numbers summary (requests_of bytes) bytes a b refl (rw is at h) (rw is at g)
   due_once (Some (Make seed count)) words bytes a b is h g = let first = rw is at h in let second = rw is at g in first ∙ sym second
 
   pub one_due : (words : List (List ℕ)) (bytes : List ℕ) (a b : Answer) → IsDue words bytes a → IsDue words bytes b → a ≡ b

@@ -23,10 +23,10 @@ all_read None after bytes read = tt
 all_read (Some all) after bytes read = λ few. let fewer = no_longer all bytes after read.taken in read.end (omega arith)
 
 -- the answer to a file that was read; `text` is its bytes as they were handed on
-pub owes_file : {S : Type 0} (left : S → Option (List ℕ)) (faults : S → ℕ) (numbers : Numbers) (summary : Bool) (before after : S) (bytes text : List ℕ) (due : Due)
+pub owes_file : {S : Type 0} (left : S → Option (List ℕ)) (faults : S → ℕ) (numbers : Numbers) (summary : Bool) (slice : ℕ) (before after : S) (bytes text : List ℕ) (due : Due)
     → ReadsInput (left before) (left after) bytes → faults after ≡ faults before → text ≡ bytes → IsFileAnswer numbers summary text (shown due)
-    → Owes left faults (Some (Run numbers summary)) before after (Ok due)
-owes_file left faults numbers summary before after bytes text due read quiet same is =
+    → Owes left faults (Some (Run numbers summary slice)) before after (Ok due)
+owes_file left faults numbers summary slice before after bytes text due read quiet same is =
     let answer : IsFileAnswer numbers summary bytes (shown due) = subst (λ (b : List ℕ). IsFileAnswer numbers summary b (shown due)) same is in
     record {
       due = due_of_all numbers summary (left before) (left after) bytes text (shown due) read same is;

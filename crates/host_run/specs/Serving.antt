@@ -56,9 +56,9 @@ IsFileAnswer numbers summary bytes answer = MatchResult (requests_of bytes)
 abbrev pub load_of : (seed count : ℕ) → Answer
 load_of seed count = record { status = 0; text = made_file seed count }
 
--- what is due for a command and all bytes of the source
+-- what is due for a command and all bytes of the source, whatever the slices of a run
 abbrev pub IsCommandAnswer : Command → List ℕ → Answer → Type 0
-IsCommandAnswer (Run numbers summary) bytes answer = IsFileAnswer numbers summary bytes answer
+IsCommandAnswer (Run numbers summary slice) bytes answer = IsFileAnswer numbers summary bytes answer
 IsCommandAnswer (Make seed count) bytes answer = answer ≡ load_of seed count
 
 -- what is due for a command, if there is one, and all bytes of the source
@@ -70,7 +70,7 @@ abbrev pub IsDue : List (List ℕ) → List ℕ → Answer → Type 0
 IsDue words bytes answer = IsOwed (command_of words) bytes answer
 
 abbrev pub is_run : Command → Bool
-is_run (Run numbers summary) = true
+is_run (Run numbers summary slice) = true
 is_run (Make seed count) = false
 
 -- a run is asked for: nothing else has the source read

@@ -17,7 +17,8 @@ use Rattle.host_run.specs.Serving.{lines_text}
 -- the words ask for a report under a configuration of these numbers, a request file of these bytes asks for this, and this
 -- is the report on it
 pub record HasReport (words : List (List ℕ)) (numbers : Numbers) (bytes : List ℕ) (requests : Asked) (lines : List ReportLine) : Type 0 where
-  pub command : command_of words ≡ Some (Run numbers false)
+  pub slice : ℕ
+  pub command : command_of words ≡ Some (Run numbers false slice)
   pub asked : requests_of bytes ≡ Ok requests
   pub report : IsReport numbers requests lines
 

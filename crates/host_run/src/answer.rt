@@ -40,12 +40,13 @@ fn reported<R: Threads + Wait + Sync, G: Gate>(
     alloc: Global,
     config: PoolConfig,
     summary: bool,
+    slice: u32,
     requests: &Requests,
     gate: &G,
 ) -> Result<Due, NoMemory>
     ensures { IfOk result (λ due. IsReported config summary requests.now (shown due)) }
 {
-    let lines = report(rt, alloc, config, requests, gate)?;
+    let lines = report(rt, alloc, config, slice, requests, gate)?;
     let text = lines_text(alloc, &lines, summary)?;
     Ok(Due {
         status: Status::Reported.code(),
@@ -59,6 +60,7 @@ pub(crate) fn answer<R: Threads + Wait + Sync, G: Gate>(
     alloc: Global,
     config: PoolConfig,
     summary: bool,
+    slice: u32,
     bytes: &[u8],
     gate: &G,
 ) -> Result<Due, NoMemory>
@@ -67,7 +69,7 @@ pub(crate) fn answer<R: Threads + Wait + Sync, G: Gate>(
     ensures too_long { MOST_BYTES < length bytes.now → IsOk result }
 {
     match parse(alloc, bytes) {
-        Ok(requests) => reported(rt, alloc, config, summary, &requests, gate),
+        Ok(requests) => reported(rt, alloc, config, summary, slice, &requests, gate),
         Err(fault) => refused_file(alloc, fault),
     }
 }

@@ -63,13 +63,14 @@ fn run_due<R: Threads + Wait + Sync, S: Source, G: Gate>(
     alloc: Global,
     config: PoolConfig,
     summary: bool,
+    slice: u32,
     source: &mut S,
     gate: &G,
 ) -> Result<Due, InputFault>
-    ensures { Owes S.left S.faults (Some (Run config summary)) source.old source.new result }
+    ensures { Owes S.left S.faults (Some (Run config summary slice)) source.old source.new result }
 {
     let bytes = read_input(alloc, source)?;
-    Ok(answer(rt, alloc, config, summary, &bytes, gate)?)
+    Ok(answer(rt, alloc, config, summary, slice, &bytes, gate)?)
 }
 
 // What is due for a load: its text, with status 0.
@@ -122,7 +123,11 @@ fn command_due<R: Threads + Wait + Sync, S: Source, G: Gate>(
     ensures { Owes S.left S.faults (Some command) source.old source.new result }
 {
     match command {
-        Command::Run { config, summary } => run_due(rt, alloc, config, summary, source, gate),
+        Command::Run {
+            config,
+            summary,
+            slice,
+        } => run_due(rt, alloc, config, summary, slice, source, gate),
         Command::Make { seed, count } => Ok(load_due(alloc, seed, count)?),
     }
 }

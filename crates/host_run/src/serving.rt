@@ -38,7 +38,7 @@ pub fn serve<S: Source, K: Sink, G: Gate>(
     ensures status { IsStatus result }
 
     // 0, after the report on all that the source had left, or its summary, or after a load
-    ensures report { (numbers : Numbers) (summary : Bool) → command_of (texts_of words.now) ≡ Some (Run numbers summary)
+    ensures report { (numbers : Numbers) (summary : Bool) (slice : ℕ) → command_of (texts_of words.now) ≡ Some (Run numbers summary slice)
         → result ≡ 0 → IfSome (S.left source.old) (λ bytes. IsOkAnd (requests_of bytes) (λ requests.
         (lines : List ReportLine) × IsReport numbers requests lines
         × Appends (K.written sink.old) (K.written sink.new) (lines_text summary lines))) }

@@ -598,6 +598,15 @@ fn several_workers_run_each_call_on_a_fresh_instance(rt: HostRuntime) -> Result<
     check_runs(&rt, rt.alloc(), &INSTANCES, FOUR_WORKERS)
 }
 
+// Each call is under way with others, an instruction at a time.
+const SLICES_OF_ONE: &[&str] = &["--workers", "2", "--slice", "1"];
+
+#[test]
+fn slices_change_no_line(rt: HostRuntime) -> Result<(), Fail> {
+    check_runs(&rt, rt.alloc(), &RUNS, SLICES_OF_ONE)?;
+    check_runs(&rt, rt.alloc(), &INSTANCES, SLICES_OF_ONE)
+}
+
 #[test]
 fn loads_and_summaries_are_written(rt: HostRuntime) -> Result<(), Fail> {
     check_runs(&rt, rt.alloc(), &LOADS, &[])

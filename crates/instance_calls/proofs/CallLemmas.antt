@@ -70,7 +70,7 @@ called v export x args valid may =
     let same : may.type ≡ h.type = cc in
     is_call v x args h (may.fit ∙ ap (λ (t : FuncType). t.params) same)
 
-kept_is : (o : Outcome) (s : Store) → kept_by o s.answer ≡ answer_by o s
+pub kept_is : (o : Outcome) (s : Store) → kept_by o s.answer ≡ answer_by o s
 kept_is (outcome.Done v) s = refl
 kept_is (outcome.Trap t) s = refl
 kept_is outcome.Fuel s = refl

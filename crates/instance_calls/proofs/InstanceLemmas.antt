@@ -19,7 +19,7 @@ use Rattle.slot_words.specs.declared.leases.Lease.{Lease}
 use Rattle.pool_limits.specs.declared.numbers.Numbers.{Numbers}
 use Rattle.pool_worlds.specs.Contents as contents
 use Rattle.pool_worlds.specs.Contents.{Contents, Kind, Memory, MemoryContents, Named, Table, TableContents, Ticket, needs, shown, shown_memory, shown_table, turned}
-use Rattle.pool_worlds.specs.Runs.{Leaves, RunsFunction}
+use Rattle.pool_worlds.specs.Runs.{Leaves, LeavesFrom, RunsFunction}
 use Rattle.memory_slots.specs.Lent.{parts, store_in}
 use Rattle.memory_slots.proofs.LentLemmas.{globals_left, globals_there}
 use Rattle.instance_calls.specs.Instances.{IsFreshMemory, IsFreshTable, bare_store}
@@ -54,11 +54,11 @@ module _ (m : Module) (globals : List Val) (memory : MemoryContents) (table : Op
   abbrev lent : (k : Kind) → Contents k
   lent = parts memory (table_in table).holds (table_in table).entries globals
 
-  with_memory : (answer : List ℕ) → needs Memory (module_tree m) ≡ true → answer_set answer (shown (module_tree m) lent) ≡ store_in m memory (table_in table).entries globals answer
+  pub with_memory : (answer : List ℕ) → needs Memory (module_tree m) ≡ true → answer_set answer (shown (module_tree m) lent) ≡ store_in m memory (table_in table).entries globals answer
   with_memory answer some =
       same_store _ _ _ _ _ _ _ (ap (λ (b : Bool). shown_memory b memory) some) (table_shown (needs Table (module_tree m)) table had) (own_is m globals)
 
-  without_memory : (answer : List ℕ) → needs Memory (module_tree m) ≡ false → answer_set answer (shown (module_tree m) lent) ≡ bare_store m (table_in table).entries globals answer
+  pub without_memory : (answer : List ℕ) → needs Memory (module_tree m) ≡ false → answer_set answer (shown (module_tree m) lent) ≡ bare_store m (table_in table).entries globals answer
   without_memory answer none =
       same_store _ _ _ _ _ _ _ (ap (λ (b : Bool). shown_memory b memory) none) (table_shown (needs Table (module_tree m)) table had) (own_is m globals)
 
@@ -142,6 +142,19 @@ module _ (pages : ℕ) (m : Module) (x : MemoryContents) (owner : Option Named) 
     gives = gives;
     left = parts_left (bare_store m table new says) refl (globals_left (length m.globals) old new (globals_there m (bare_store m table old said) old refl typed) long rest);
     marked = λ needed. absurd (unneeded needed);
+  }
+
+  -- so is a slice
+  pub leaves_bare_from : (result : ℕ → Option CallResult) (from to : ℕ) (r : CallResult) (said says : List ℕ)
+      → IsTypedStore m (bare_store m table old said) → length new ≡ length old → others m new ≡ others m old
+      → result to ≡ Some r → r.store ≡ bare_store m table new says
+      → LeavesFrom pages (module_tree m) result from to (parts x owner table old) (parts x owner table new) x.marks r
+  leaves_bare_from result from to r said says typed long rest gives is = record {
+    gives = gives;
+    left = subst (λ (s : Store). (k : Kind) → needs k (module_tree m) ≡ true → parts x owner table new k ≡ turned pages s x.marks k (parts x owner table old k)) (sym is)
+        (parts_left (bare_store m table new says) refl (globals_left (length m.globals) old new (globals_there m (bare_store m table old said) old refl typed) long rest));
+    marked = λ needed. absurd (unneeded needed);
+    still = λ needed. absurd (unneeded needed);
   }
 
 -- ---- a fresh instance

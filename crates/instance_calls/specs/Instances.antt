@@ -40,7 +40,7 @@ pub record MayRun (config : Numbers) (m : Module) (x : (k : Kind) → Contents k
 module _ {N : Type 0} where
   -- the contents of an instance's slots
   abbrev pub instance_contents : Instance N → (k : Kind) → Contents k
-  instance_contents x = parts (memory_in x.memory) (table_in x.table).holds (table_in x.table).entries x.ticket.value
+  instance_contents x = parts (memory_in x.memory) (table_in x.table).holds (table_in x.table).entries x.ticket.value.globals
 
   -- it has a slot of each kind that the module needs, and no other
   pub record HasParts (m : ModuleTree) (x : Instance N) : Type 0 where
@@ -49,7 +49,7 @@ module _ {N : Type 0} where
 
   -- it is one of the module as it begins
   pub record IsFreshInstance (config : Numbers) (m : ModuleTree) (x : Instance N) : Type 0 where
-    pub globals : take (length m.globals) x.ticket.value ≡ (fresh_store m).globals
+    pub globals : take (length m.globals) x.ticket.value.globals ≡ (fresh_store m).globals
     pub memory : IsFreshMemory config m x.memory
     pub table : IsFreshTable m x.table
 

@@ -1,4 +1,8 @@
 pub mod CallWords
 pub mod Instances
 pub mod Parts
+pub mod Paused
+pub mod PausedViews
+pub mod PausedInstances
+pub mod Resumed
 pub mod Runs

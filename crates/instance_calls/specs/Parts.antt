@@ -1,9 +1,9 @@
 -- The slots of an instance, and what lies in them.
-use Rattle.std.specs.Prelude.{ℕ, List, [], Option, Some, None}
-use Rattle.wasm_types.specs.declared.outcome.Val.{Val}
+use Rattle.std.specs.Prelude.{◌≡◌, ℕ, [], Option, Some, None}
 use Rattle.slot_words.specs.declared.leases.Lease.{Lease}
 use Rattle.slot_words.specs.Leases.{lease_number, lease_word}
 use Rattle.pool_worlds.specs.Contents.{Named, MemoryContents, TableContents}
+use Rattle.instance_slots.specs.Tickets.{TicketView}
 
 -- a slot that was taken: its number, the word that its claim read, and the module that its contents belong to
 pub record Slot : Type 0 where
@@ -12,7 +12,7 @@ pub record Slot : Type 0 where
   pub owner : Option Named
 
 -- the slots of an instance; of a kind that its module doesn't need there is none
-abbrev pub ticket_slot : Lease (List Val) → Slot
+abbrev pub ticket_slot : Lease TicketView → Slot
 ticket_slot l = record { number = lease_number l; word = lease_word l; owner = None }
 
 abbrev pub memory_slot : Option (Lease MemoryContents) → Option Slot
@@ -22,6 +22,11 @@ memory_slot (Some l) = Some (record { number = lease_number l; word = lease_word
 abbrev pub table_slot : Option (Lease TableContents) → Option Slot
 table_slot None = None
 table_slot (Some l) = Some (record { number = lease_number l; word = lease_word l; owner = l.value.holds })
+
+-- the slot's contents belong to the module
+abbrev pub BelongsTo : Named → Option Slot → Type 0
+BelongsTo m None = Unit {0}
+BelongsTo m (Some s) = s.owner ≡ Some m
 
 -- what lies in them; where there is none, nothing
 abbrev pub memory_in : Option (Lease MemoryContents) → MemoryContents

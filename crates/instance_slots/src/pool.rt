@@ -90,8 +90,8 @@ impl<N: Naming> TicketPool<N> {
         // the pass has the slot of the lease, whose first globals are the module's
         ensures number { IfOk result (λ l. lease_number l < slots_of (words_of self.now)) }
         ensures holds { IfOk result (λ l. Holds pass.new (lease_number l) false false false) }
-        ensures globals { IfOk result (λ l. take (length «module».now.tree.globals) l.value ≡ (fresh_store «module».now.tree).globals) }
-        ensures handed { IfOk result (λ l. IsHandedOut N.config.pages «module».now (lease_word l) l.value) }
+        ensures globals { IfOk result (λ l. take (length «module».now.tree.globals) l.value.globals ≡ (fresh_store «module».now.tree).globals) }
+        ensures handed { IfOk result (λ l. IsHandedOut N.config.pages «module».now (lease_word l) l.value.globals) }
         ensures trail { IfOk result (λ l. Grew (IsAnyTake (slots_of (words_of self.now)) (lease_number l) (lease_word l)) (trail pass.old) (trail pass.new)) }
 
         // it won nothing

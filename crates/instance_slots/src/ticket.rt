@@ -1,5 +1,5 @@
 //! Tickets.
-ghost use Rattle.std.specs.Prelude.{◌≡◌, ◌≤◌, ◌++◌, IfOk, length, drop, replicate, take};
+ghost use Rattle.std.specs.Prelude.{◌≡◌, ◌≤◌, ◌++◌, IfOk, length, drop, replicate, take, vec_capacity};
 ghost use Rattle.wasm_types.specs.declared.outcome.Val.TheVariants.{I32};
 ghost use Rattle.wasm_spec.specs.Store.{fresh_store};
 ghost use Rattle.pool_worlds.specs.Contents as contents;
@@ -15,11 +15,14 @@ use wasm_machine::{Memory, Stacks};
 use wasm_types::{NoMemory, Val};
 
 /// The leave for one instance: globals, of which a call's module has the first, stacks for the configured depth of the
-/// configured frames, and a memory without bytes for modules that have none. Contracts see its globals.
+/// configured frames, a place for the arguments of a call that is paused, and a memory without bytes for modules that have none.
+/// Contracts see its globals, those arguments and its stacks.
 #[derive(Drop)]
 pub struct Ticket<N: Naming> {
     /// As many values as a module may have globals.
     pub globals: Vec<Val>,
+    /// Room for as many values as a frame has entries, or for three, which are the most that an import takes.
+    pub args: Vec<Val>,
     pub stacks: Stacks,
     /// A memory of no bytes.
     pub memory: Memory,
@@ -27,15 +30,14 @@ pub struct Ticket<N: Naming> {
 }
 
 impl<N: Naming> Model for Ticket<N> {
-    ghost use Rattle.std.specs.Prelude.{List};
-    ghost use Rattle.wasm_types.specs.declared.outcome.Val.{Val};
-    ghost use Rattle.instance_slots.specs.Tickets.{IsTicket};
+    ghost use Rattle.std.specs.Prelude.{vec_capacity};
+    ghost use Rattle.instance_slots.specs.Tickets.{IsTicket, TicketView};
 
-    ghost Value = { List Val };
+    ghost Value = { TicketView };
 
-    ghost view = { λ t. t.globals.items };
+    ghost view = { λ t. record { globals = t.globals.items; args = t.args.items; stacks = t.stacks } };
 
-    ghost invariant = { λ t. IsTicket N.config t.globals.items t.stacks t.memory };
+    ghost invariant = { λ t. IsTicket N.config t.globals.items (vec_capacity t.args) t.stacks t.memory };
 }
 
 // As many values as a module may have globals.
@@ -44,6 +46,24 @@ fn zeros(alloc: Global) -> Result<Vec<Val>, NoMemory>
 {
     match vec![in alloc; Val::I32(0); MOST_GLOBALS as usize] {
         Ok(globals) => Ok(globals),
+        Err(_) => Err(NoMemory),
+    }
+}
+
+// How many arguments a call may have: those of an own function that fits such a frame, or of an import.
+fn most_args(frame: u32) -> u32
+    ensures own { frame ≤ result }
+    ensures imports { 3 ≤ result }
+{
+    if frame < 3 { 3 } else { frame }
+}
+
+// Room for so many arguments.
+fn place_for_args(alloc: Global, count: u32) -> Result<Vec<Val>, NoMemory>
+    ensures { IfOk result (λ args. count ≤ vec_capacity args) }
+{
+    match Vec::with_capacity(alloc, count as usize) {
+        Ok(args) => Ok(args),
         Err(_) => Err(NoMemory),
     }
 }
@@ -63,14 +83,16 @@ impl<N: Naming> Ticket<N> {
     ///
     /// `NoMemory` where memory is refused.
     pub fn open(alloc: Global, store: &ModuleStore<N>) -> Result<Ticket<N>, NoMemory>
-        ensures { IfOk result (λ ticket. ticket ≡ replicate MOST_GLOBALS (I32 0)) }
+        ensures { IfOk result (λ ticket. ticket.globals ≡ replicate MOST_GLOBALS (I32 0)) }
     {
         let numbers = store.config().numbers();
         let globals = zeros(alloc)?;
+        let args = place_for_args(alloc, most_args(numbers.frame))?;
         let stacks = Stacks::open(alloc, numbers.depth, numbers.frame)?;
         let memory = Memory::zeroed(alloc, 0)?;
         Ok(Ticket {
             globals,
+            args,
             stacks,
             memory,
             of: PhantomData,
@@ -79,8 +101,8 @@ impl<N: Naming> Ticket<N> {
 
     /// Writes the first values of the module's globals. Takes no memory.
     pub fn prepare(&mut self, store: &ModuleStore<N>, module: &ModuleRef<N>)
-        ensures prepared { self.new ≡ prepared N.config.pages «module».now contents.Ticket self.old }
-        ensures globals { take (length «module».now.tree.globals) self.new ≡ (fresh_store «module».now.tree).globals }
+        ensures prepared { self.new.globals ≡ prepared N.config.pages «module».now contents.Ticket self.old.globals }
+        ensures globals { take (length «module».now.tree.globals) self.new.globals ≡ (fresh_store «module».now.tree).globals }
     {
         // A module of the store has no more globals than are there.
         let _valid = store.valid(module);
@@ -96,7 +118,7 @@ impl<N: Naming> Pooled for Ticket<N> {
 
     ghost own_tag = { own_tag };
 
-    ghost fits = { λ s tag x. Matches N.config.pages contents.Ticket s tag x };
+    ghost fits = { λ s tag x. Matches N.config.pages contents.Ticket s tag x.globals };
 
     // It is cold whatever it holds, since a call writes all that it reads.
     fn clear(&mut self) {}

@@ -2,3 +2,5 @@ pub mod AccountLists
 pub mod BalanceMoves
 pub mod Partings
 pub mod Puttings
+pub mod RunMoves
+pub mod RunPartings

@@ -1,14 +1,21 @@
-//! The queue that hands numbered calls to workers, and the board that collects their lines.
+//! The queue that hands numbered calls to workers, the queue of what is at work, and the board that collects the calls' lines.
 #![tactic(auto)]
 
 mod accounts;
+mod admits;
 mod board;
 mod jobs;
 mod rules;
+mod run_queue;
+mod run_rules;
 
 pub use accounts::{Account, Terms};
+pub use admits::Admits;
 pub use board::{Board, Stray};
 pub use jobs::{JobPass, Jobs};
+pub use run_queue::{RunAccount, RunPass, RunQueue, RunTerms};
 
+#[cfg(test)]
+mod run_tests;
 #[cfg(test)]
 mod tests;

@@ -3,16 +3,17 @@ ghost use Rattle.std.specs.Prelude.{◌≡◌, ◌+◌, ◌-◌, ◌*◌, ◌<�
 ghost use Rattle.pool_core.specs.declared.words.State.TheVariants.{Awaiting};
 ghost use Rattle.wasm_types.specs.Tree.{module_tree};
 ghost use Rattle.wasm_spec.specs.Instances.{room_for};
-ghost use Rattle.wasm_spec.specs.Store.{fresh_store};
+ghost use Rattle.wasm_spec.specs.Store.{Store, fresh_store};
 ghost use Rattle.wasm_spec.specs.Execution.{terms};
-ghost use Rattle.wasm_spec.specs.Result.{function_result};
+ghost use Rattle.wasm_spec.specs.Result.{CallResult, function_result};
 ghost use Rattle.wasm_spec.specs.Bulk.{HasFewMarks};
 ghost use Rattle.wasm_machine.specs.Calls.{IsCall, FitsFrame, IsDone};
 ghost use Rattle.wasm_machine.specs.Lent.{others};
 ghost use Rattle.wasm_machine.specs.TypedConfiguration.{IsTypedStore};
 ghost use Rattle.pool_worlds.specs.Contents as contents;
 ghost use Rattle.pool_worlds.specs.Contents.{Named, belongs_to, prepared, restored, shown_memory, IsCold, IsFreshMemory, Matches};
-ghost use Rattle.pool_worlds.specs.Runs.{Leaves};
+ghost use Rattle.pool_worlds.specs.Runs.{Leaves, LeavesFrom};
+ghost use Rattle.paused_call.specs.Standing.{CanResume, HasTurned, Stands, upto, whole};
 ghost use Rattle.memory_slots.specs.Fits.{room, own_tag, fits-own_tag};
 ghost use Rattle.memory_slots.specs.Lent.{IsReady, dirty_blocks, parts, store_in};
 ghost use Rattle.memory_slots.specs.Written.{WritesAtMost};
@@ -23,6 +24,7 @@ use crate::steps::Steps;
 use call_payload::AnswerBuf;
 use linear_memory::Memory;
 use module_store::{ModuleRef, ModuleStore, Naming};
+use paused_call::{PausedCall, Turned};
 use slot_words::Pooled;
 use std::alloc::Global;
 use std::marker::{Brand, Model};
@@ -259,6 +261,55 @@ impl<N: Naming> MemSlot<N> {
             stacks,
             request,
             answer,
+        )
+    }
+
+    /// Makes at most so many turns of a call that is paused, on this memory, and on a table, globals, stacks, a request and an answer
+    /// that are lent, as [`PausedCall::resume`] does. It keeps the module that it belongs to. Takes no memory.
+    pub fn resume(
+        &mut self,
+        call: &mut PausedCall,
+        valid: &Valid,
+        args: &[Val],
+        slice: u64,
+        limits: RunLimits,
+        table: &[Option<u32>],
+        globals: &mut [Val],
+        stacks: &mut Stacks,
+        request: &[u8],
+        answer: &mut AnswerBuf,
+    ) -> Turned
+        requires stands { CanResume valid.now (terms limits request.now) args.now call.old stacks.old (store_in valid.now self.old table.now globals.old answer.old) }
+        requires pages { limits.pages ≤ N.config.pages }
+        requires ready { IsReady (room_for valid.now.memories limits.pages) self.old }
+        requires request { length request.now ≤ 65536 }
+        requires frame { FitsFrame valid.now stacks.old.room.frame }
+        ensures turned { (begun : Store)
+            → Stands valid.now (terms limits request.now) begun args.now call.old stacks.old (store_in valid.now self.old table.now globals.old answer.old)
+            → HasTurned (whole valid.now (terms limits request.now) call.old args.now begun) call.old slice (store_in valid.now self.new table.now globals.new answer.new) result }
+        ensures stands { result ≡ Turned.Again → (begun : Store)
+            → Stands valid.now (terms limits request.now) begun args.now call.old stacks.old (store_in valid.now self.old table.now globals.old answer.old)
+            → Stands valid.now (terms limits request.now) begun args.now call.new stacks.new (store_in valid.now self.new table.now globals.new answer.new) }
+        ensures leaves { (begun : Store)
+            → Stands valid.now (terms limits request.now) begun args.now call.old stacks.old (store_in valid.now self.old table.now globals.old answer.old)
+            → (owner : Option Named) → (r : CallResult)
+            × LeavesFrom N.config.pages (module_tree valid.now) (whole valid.now (terms limits request.now) call.old args.now begun) call.old.turns (upto call.old slice)
+            (parts self.old owner table.now globals.old) (parts self.new owner table.now globals.new) self.new.marks r }
+        ensures ready { IsReady (room_for valid.now.memories limits.pages) self.new }
+        ensures holds { self.new.holds ≡ self.old.holds }
+        ensures counted { HasFewMarks (module_tree valid.now) → (begun : Store)
+            → Stands valid.now (terms limits request.now) begun args.now call.old stacks.old (store_in valid.now self.old table.now globals.old answer.old)
+            → (r : CallResult) → whole valid.now (terms limits request.now) call.old args.now begun (upto call.old slice) ≡ Some r
+            → dirty_blocks self.new ≤ dirty_blocks self.old + 2 * (upto call.old slice - call.old.turns - r.fuel) }
+        ensures same { (call.new.function ≡ call.old.function) × (call.new.fuel ≡ call.old.fuel) }
+        ensures turns { result ≡ Turned.Again → call.new.turns ≡ call.old.turns + slice }
+        ensures globals { length globals.new ≡ length globals.old }
+        ensures others { others valid.now globals.new ≡ others valid.now globals.old }
+        ensures stacks { stacks.new.room ≡ stacks.old.room }
+    {
+        let memory = &mut self.memory;
+        call.resume(
+            valid, args, slice, limits, memory, table, globals, stacks, request, answer,
         )
     }
 

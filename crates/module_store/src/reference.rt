@@ -16,7 +16,7 @@ pub(crate) struct Loaded {
     pub image: Image,
 }
 
-/// A module of the store. Contracts see its number, its tag and its tree.
+/// A module of the store. Contracts see its number, its tag, its tree and the code by which it is run.
 #[derive(Drop)]
 pub struct ModuleRef<N: Naming> {
     pub(crate) tag: u32,
@@ -36,7 +36,7 @@ impl<N: Naming> Model for ModuleRef<N> {
     ghost use Rattle.wasm_types.specs.Tree.{module_tree};
     ghost use Rattle.module_store.specs.Modules.{IsKept};
 
-    ghost view = { λ r. record { number = r.seen.index; tag = r.tag; tree = module_tree r.seen.value.value.valid } };
+    ghost view = { λ r. record { number = r.seen.index; tag = r.tag; tree = module_tree r.seen.value.value.valid; code = r.seen.value.value.valid } };
 
     ghost invariant = { λ r. Shows N.shelves r.seen × IsKept N.config r.tag r.seen.value.value };
 }

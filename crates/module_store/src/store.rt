@@ -134,6 +134,7 @@ impl<N: Naming> ModuleStore<N> {
 
     /// The valid module of a reference. Takes no memory.
     pub fn valid(&self, module: &ModuleRef<N>) -> &Valid
+        ensures code { result.now ≡ module.now.code }
         ensures tree { module_tree result.now ≡ module.now.tree }
         ensures loaded { IsLoaded N.config module.now.tree }
     {

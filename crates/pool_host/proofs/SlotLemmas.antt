@@ -13,11 +13,11 @@ use Rattle.memory_slots.specs.Pools as memories
 use Rattle.table_slots.specs.Pools as tables
 use Rattle.instance_calls.specs.declared.instance.Instance.{Instance}
 use Rattle.instance_calls.specs.Instances.{IsFreshInstance, KeepsSlots}
-use Rattle.instance_calls.specs.Parts.{Slot, memory_slot, table_slot}
+use Rattle.instance_calls.specs.Parts.{BelongsTo, Slot, memory_slot, table_slot}
 use Rattle.pool_host.specs.declared.answers.Answer.TheVariants.{Done}
 use Rattle.pool_host.specs.declared.host.Host.{Host}
 use Rattle.pool_host.specs.declared.passes.Passes.{Passes}
-use Rattle.pool_host.specs.Leases.{BelongsTo, Gave, HasSlot}
+use Rattle.pool_host.specs.Leases.{Gave, HasSlot}
 use Rattle.pool_host.specs.Taking.{GaveSlots, HaveSlots, TookSlots}
 use Rattle.pool_host.specs.Trails.{AddsTrails, IsFullMemoryTake, IsFullTableTake, IsFullTicketTake, IsMemoryGive, IsMemoryTake, IsTableGive, IsTableTake, IsTicketGive, IsTicketTake}
 use Rattle.pool_host.proofs.VisitLemmas.{memory_slot_some, served, table_slot_some, visited}

@@ -2,18 +2,12 @@
 use Rattle.std.specs.Prelude.{◌≡◌, ℕ, ◌<◌, false, Option, Some, None, List, []}
 use Rattle.slot_words.specs.declared.views.Operation.{Operation}
 use Rattle.slot_words.specs.Passes.{Holds, IsIdle, Pass}
-use Rattle.pool_worlds.specs.Contents.{Named}
 use Rattle.instance_calls.specs.Parts.{Slot}
 
 -- the pass has this slot of so many; without a slot it holds nothing
 abbrev pub HasSlot : {V : Type 0} → ℕ → Pass V → Option Slot → Type 0
 HasSlot slots pass None = IsIdle pass
 HasSlot slots pass (Some s) = Holds pass s.number false false false × (s.number < slots)
-
--- the slot's contents belong to the module
-abbrev pub BelongsTo : Named → Option Slot → Type 0
-BelongsTo m None = Unit {0}
-BelongsTo m (Some s) = s.owner ≡ Some m
 
 -- what the take of the slot adds, and what its give adds; without a slot nothing
 abbrev pub Took : (ℕ → ℕ → List Operation → Type 0) → Option Slot → List Operation → Type 0

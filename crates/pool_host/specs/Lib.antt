@@ -3,6 +3,8 @@ pub mod Closing
 pub mod Hosts
 pub mod Idle
 pub mod Leases
+pub mod Outs
+pub mod Pausing
 pub mod Preferring
 pub mod Taking
 pub mod Trails

@@ -16,10 +16,10 @@ use Rattle.table_slots.specs.Fits as table_fits
 use Rattle.table_slots.specs.Handed as table
 use Rattle.table_slots.specs.Pools as tables
 use Rattle.instance_calls.specs.declared.instance.Instance.{Instance}
-use Rattle.instance_calls.specs.Parts.{memory_slot, table_slot, ticket_slot}
+use Rattle.instance_calls.specs.Parts.{BelongsTo, memory_slot, table_slot, ticket_slot}
 use Rattle.pool_host.specs.declared.host.Host.{Host}
 use Rattle.pool_host.specs.declared.passes.Passes.{Passes}
-use Rattle.pool_host.specs.Leases.{BelongsTo, Gave, HasSlot, Took}
+use Rattle.pool_host.specs.Leases.{Gave, HasSlot, Took}
 use Rattle.pool_host.specs.Trails.{IsMemoryGive, IsMemoryTake, IsTableGive, IsTableTake, IsTicketGive, IsTicketTake}
 
 module _ {N : Type 0} where
@@ -33,7 +33,7 @@ module _ {N : Type 0} where
 
   -- what its slots hold is what their takes handed out
   pub record IsHandedInstance (config : Numbers) (m : Named) (x : Instance N) : Type 0 where
-    pub ticket : ticket.IsHandedOut config.pages m (lease_word x.ticket) x.ticket.value
+    pub ticket : ticket.IsHandedOut config.pages m (lease_word x.ticket) x.ticket.value.globals
     pub memory : IfSome x.memory (λ l. memory.IsHandedOut config.pages m (lease_word l) l.value)
     pub table : IfSome x.table (λ l. table.IsHandedOut config.pages m (lease_word l) l.value)
 

@@ -11,9 +11,9 @@ ghost use Rattle.memory_slots.specs.Fits as memory_fits;
 ghost use Rattle.memory_slots.specs.Pools as memories;
 ghost use Rattle.table_slots.specs.Fits as table_fits;
 ghost use Rattle.table_slots.specs.Pools as tables;
-ghost use Rattle.instance_calls.specs.Parts.{memory_slot, table_slot};
+ghost use Rattle.instance_calls.specs.Parts.{BelongsTo, memory_slot, table_slot};
 ghost use Rattle.pool_host.specs.Hosts.{ArePassesOf, AreSamePasses};
-ghost use Rattle.pool_host.specs.Leases.{BelongsTo, Gave, HasSlot};
+ghost use Rattle.pool_host.specs.Leases.{Gave, HasSlot};
 ghost use Rattle.pool_host.specs.Trails.{IsMemoryGive, IsTableGive, IsTicketGive};
 
 use crate::host::Host;

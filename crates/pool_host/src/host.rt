@@ -8,11 +8,12 @@ ghost use Rattle.pool_host.specs.Trails.{AddsTrails, HasCause};
 
 use crate::answers::Answer;
 use crate::dealing::deal;
+use crate::finding::find;
 use crate::passes::{HostPass, Passes};
 use crate::slots::{give_slots, take_slots};
 use call_payload::AnswerBuf;
 use host_edge::Gate;
-use instance_calls::{Refusal, find_function};
+use instance_calls::Refusal;
 use instance_slots::TicketPool;
 use memory_slots::MemoryPool;
 use module_store::{ModuleRef, ModuleStore, Naming};
@@ -22,7 +23,7 @@ use table_slots::TablePool;
 use wasm_types::{NoMemory, Val};
 
 /// The most passes of a host.
-pub const MOST_PASSES: u32 = 16;
+pub const MOST_PASSES: u32 = 32;
 
 /// Pools of tickets, memories and tables, on which callers make calls at the same time, each with a pass of its own.
 #[derive(Drop)]
@@ -88,8 +89,7 @@ impl<N: Naming> Host<N> {
         ensures trails { AddsTrails N.config self.now «module».now result passes.old passes.new }
         ensures full { IfFull result (HasCause N.config self.now «module».now passes.old passes.new) }
     {
-        said.clear();
-        let function = match find_function(store, module, export, args) {
+        let function = match find(store, module, export, args, said) {
             Ok(function) => function,
             Err(Refusal::NoExport) => return Answer::NoExport,
             Err(Refusal::BadArgs) => return Answer::BadArgs,

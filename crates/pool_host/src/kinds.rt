@@ -13,8 +13,8 @@ ghost use Rattle.table_slots.specs.Handed as table;
 ghost use Rattle.table_slots.specs.Pools as tables;
 ghost use Rattle.table_slots.specs.Pools.{IsTablePass};
 ghost use Rattle.instance_calls.specs.Instances.{IsFreshMemory, IsFreshTable};
-ghost use Rattle.instance_calls.specs.Parts.{memory_slot, table_slot};
-ghost use Rattle.pool_host.specs.Leases.{BelongsTo, HasSlot, Took};
+ghost use Rattle.instance_calls.specs.Parts.{BelongsTo, memory_slot, table_slot};
+ghost use Rattle.pool_host.specs.Leases.{HasSlot, Took};
 ghost use Rattle.pool_host.specs.Visits.{IsTurnedAway};
 
 use instance_calls::{needs_memory, needs_table};

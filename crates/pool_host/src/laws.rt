@@ -1,16 +1,22 @@
 //! Laws of the definitions, as contracts of functions that do nothing.
-ghost use Rattle.std.specs.Prelude.{◌≡◌, ℕ, List};
+ghost use Rattle.std.specs.Prelude.{◌≡◌, ℕ, List, []};
+ghost use Rattle.wasm_types.specs.declared.outcome.Outcome.{Outcome};
 ghost use Rattle.wasm_types.specs.declared.outcome.Val.{Val};
 ghost use Rattle.wasm_types.specs.Tree.{ModuleTree};
 ghost use Rattle.wasm_types.specs.declared.limits.RunLimits.{RunLimits};
 ghost use Rattle.wasm_spec.specs.Validity.{IsValid};
-ghost use Rattle.pool_worlds.specs.Worlds.{AlwaysShadow, TwoWorldsAgree, AnswersAgree, RunsAreTurns, PreparingTwiceIsOnce};
+ghost use Rattle.pool_worlds.specs.Worlds.{AlwaysShadow, TwoWorldsAgree, AnswersAgree, RunsAreTurns, SlicesAreTurns, PreparingTwiceIsOnce};
 ghost use Rattle.pool_worlds.specs.Fitting.{FreeSlotsFit, ClearedFitsCold, RestoredFitsWarm, UsedFitsAwaiting, TablesFitWarm};
-ghost use Rattle.pool_worlds.specs.Contents.{Matches, Memory, Table, Ticket};
+ghost use Rattle.pool_worlds.specs.Contents.{Matches, Memory, Named, Table};
+ghost use Rattle.pool_limits.specs.declared.numbers.Numbers.{Numbers};
 ghost use Rattle.slot_pools.specs.Causes.{LostToAnother};
 ghost use Rattle.instance_slots.specs.Fits as tickets;
 ghost use Rattle.memory_slots.specs.Fits as memories;
 ghost use Rattle.table_slots.specs.Fits as tables;
+ghost use Rattle.instance_calls.specs.CallWords.{EndsWith, MayCall, run_limits};
+ghost use Rattle.instance_calls.specs.PausedInstances.{comes_to};
+ghost use Rattle.instance_calls.specs.PausedViews.{PausedView};
+ghost use Rattle.instance_calls.specs.Resumed.{EndsAs, IsCallOf};
 ghost use Rattle.pool_host.specs.CallWords.{IsAnswer};
 ghost use Rattle.pool_host.specs.Preferring.{CallsPreferOwn, FullHasCause};
 ghost use Rattle.pool_host.specs.declared.lane.LaneAnswer.{LaneAnswer};
@@ -27,6 +33,14 @@ use table_slots::TableSlot;
 pub fn a_call_has_one_answer()
     ensures { (m : ModuleTree) (limits : RunLimits) (export : List ℕ) (args : List Val) (request : List ℕ) (fuel : ℕ) (a b : LaneAnswer) (x y : List ℕ)
         → IsValid m → IsAnswer m limits export args request fuel a x → IsAnswer m limits export args request fuel b y → (a ≡ b) × (x ≡ y) }
+{}
+
+/// A call that was paused, and is over after whatever slices, ended as a call of the export on a fresh instance ends, and answered the
+/// same bytes.
+pub fn slices_end_as_the_call()
+    ensures { (config : Numbers) (m : Named) (export : List ℕ) (function : ℕ) (args : List Val) (fuel : ℕ) (v : PausedView) (outcome : Outcome) (bytes : List ℕ)
+        → MayCall m.tree export function args → IsCallOf m function args fuel v → EndsAs (comes_to config v) v.call.fuel outcome bytes
+        → EndsWith m.tree (run_limits config) export args [] fuel outcome bytes }
 {}
 
 /// Whatever events came to pools since their opening, each running call has the store of a fresh instance after as many turns,
@@ -52,6 +66,14 @@ pub fn runs_are_turns()
     ensures { RunsAreTurns }
 {
     worlds::runs_are_turns();
+}
+
+/// What a slice of a paused call does to its slots, as [`PausedInstance::resume`](instance_calls::PausedInstance::resume) tells it, is
+/// turns of the call: as many as the slice has, where the call goes on, or those up to its end, and its end.
+pub fn slices_are_turns()
+    ensures { SlicesAreTurns }
+{
+    worlds::slices_are_turns();
 }
 
 /// To prepare what a take has prepared for the same module changes nothing, so a take may prepare before the call begins.
@@ -93,7 +115,7 @@ pub fn full_has_its_cause<N: Naming>()
 
 /// Where a call lost the claim of a slot, another pass held that slot.
 pub fn lost_claims_are_lost_to_another<N: Naming>()
-    ensures tickets { LostToAnother (λ s tag x. Matches N.config.pages Ticket s tag x) tickets.room }
+    ensures tickets { LostToAnother (tickets.fits N.config.pages) tickets.room }
     ensures memories { LostToAnother (λ s tag x. Matches N.config.pages Memory s tag x) memories.room }
     ensures tables { LostToAnother (λ s tag x. Matches N.config.pages Table s tag x) tables.room }
 {

@@ -4,12 +4,15 @@
 mod answers;
 mod closing;
 mod dealing;
+mod finding;
 mod giving;
 mod host;
 mod kinds;
 mod lane;
 pub mod laws;
 mod passes;
+mod paused;
+mod pausing;
 mod slots;
 
 pub use answers::{Answer, Kind};
@@ -17,6 +20,8 @@ pub use closing::PoolCounts;
 pub use host::{Host, MOST_PASSES};
 pub use lane::{LaneAnswer, LaneHost};
 pub use passes::HostPass;
+pub use paused::Paused;
+pub use pausing::{Begun, Turned};
 
 #[cfg(test)]
 mod tests;

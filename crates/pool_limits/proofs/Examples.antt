@@ -1,11 +1,16 @@
--- Worked numbers: the first that is out of its range, and who has which slots.
-use Rattle.std.proofs.Common.{◌≡◌, ℕ, arith, refl}
-use Rattle.std.specs.Prelude.{Option, Some, None}
+-- Worked numbers: the first that is out of its range, who has which slots, and what tenants may want.
+use Rattle.std.proofs.Common.{◌≡◌, ℕ, List, [], ◌∷◌, arith, refl}
+use Rattle.std.specs.Prelude.{Option, Some, None, map, replicate}
 use Rattle.pool_limits.specs.declared.numbers.Numbers.{Numbers}
 use Rattle.pool_limits.specs.declared.numbers.BadNumber.{BadNumber}
 use Rattle.pool_limits.specs.declared.numbers.Setting.{Setting}
 use Rattle.pool_limits.specs.declared.numbers.Setting.TheVariants.{Workers, Instances, Memories, Tables, Warm, Batch, Pages, Elements, Depth, Frame}
 use Rattle.pool_limits.specs.declared.share.Share.{Share}
+use Rattle.pool_limits.specs.declared.wants.Part.TheVariants as part
+use Rattle.pool_limits.specs.declared.wants.Part.TheVariants.{Instance, Memory, Table}
+use Rattle.pool_limits.specs.declared.wants.PlanFault.TheVariants.{TooManyTenants, BadShare, Over}
+use Rattle.pool_limits.specs.declared.wants.Want.{Want}
+use Rattle.pool_limits.specs.Plans.{amount, plan_fault, total, HasSlots, MayWant}
 use Rattle.pool_limits.specs.Ranges.{bad_number}
 use Rattle.pool_limits.specs.Shares.{AreAllSlots, lane_share, shared_share}
 
@@ -100,3 +105,99 @@ one_memory_left h = let left = h.memories in omega arith
 
 one_table_left : AreAllSlots several (share_of 1 1 1) (share_of 4 5 5) → ⊥
 one_table_left h = let left = h.tables in omega arith
+
+-- ---- what tenants want
+
+abbrev want : (instances memories tables warm : ℕ) → Want
+want instances memories tables warm = record { instances = instances; memories = memories; tables = tables; warm = warm }
+
+abbrev two_workers : Numbers
+two_workers = record usual { workers = 2 }
+
+-- four numbers that differ, so that each part is seen to be its own
+amounts : map (λ part. amount part (want 5 6 7 8)) (Instance ∷ Memory ∷ Table ∷ part.Warm ∷ []) ≡ 5 ∷ 6 ∷ 7 ∷ 8 ∷ []
+amounts = refl
+
+totals : map (λ part. total part (record several { warm = 8 })) (Instance ∷ Memory ∷ Table ∷ part.Warm ∷ []) ≡ 5 ∷ 6 ∷ 7 ∷ 8 ∷ []
+totals = refl
+
+-- of four slots of each kind two may be wanted, and of two warm slots both
+all_but_two_may_be_wanted : plan_fault two_workers (want 1 1 1 1 ∷ want 1 1 1 1 ∷ []) ≡ None
+all_but_two_may_be_wanted = refl
+
+nothing_is_wanted : plan_fault two_workers [] ≡ None
+nothing_is_wanted = refl
+
+one_wants_two_memories : plan_fault two_workers (want 1 2 1 1 ∷ []) ≡ None
+one_wants_two_memories = refl
+
+memories_over : plan_fault two_workers (want 1 2 1 1 ∷ want 1 1 1 0 ∷ []) ≡ Some (Over Memory 3 4)
+memories_over = refl
+
+no_memory : plan_fault two_workers (want 1 0 1 0 ∷ []) ≡ Some (BadShare 1 Memory)
+no_memory = refl
+
+-- each part at one past what may be wanted, with all later ones past it too
+instances_first : plan_fault two_workers (want 3 3 3 3 ∷ []) ≡ Some (Over Instance 3 4)
+instances_first = refl
+
+memories_next : plan_fault two_workers (want 2 3 3 3 ∷ []) ≡ Some (Over Memory 3 4)
+memories_next = refl
+
+tables_next : plan_fault two_workers (want 2 2 3 3 ∷ []) ≡ Some (Over Table 3 4)
+tables_next = refl
+
+warm_last : plan_fault two_workers (want 2 2 2 3 ∷ []) ≡ Some (Over part.Warm 3 2)
+warm_last = refl
+
+-- with one slot of each kind nothing is left beside the lane's
+one_slot_is_too_few : plan_fault least [] ≡ Some (Over Instance 0 1)
+one_slot_is_too_few = refl
+
+-- a share of none, whatever is wanted of other parts; a tenant may want no warm slot
+instances_before_memories : plan_fault two_workers (want 1 1 1 0 ∷ want 0 0 0 9 ∷ []) ≡ Some (BadShare 2 Instance)
+instances_before_memories = refl
+
+memories_before_tables : plan_fault two_workers (want 9 0 0 0 ∷ want 0 0 0 0 ∷ []) ≡ Some (BadShare 1 Memory)
+memories_before_tables = refl
+
+no_table : plan_fault two_workers (want 9 9 9 9 ∷ want 9 9 9 9 ∷ want 9 9 0 9 ∷ []) ≡ Some (BadShare 3 Table)
+no_table = refl
+
+-- the number of tenants before their shares
+fifteen_tenants : plan_fault greatest (replicate 15 (want 1 1 1 0)) ≡ None
+fifteen_tenants = refl
+
+sixteen_tenants : plan_fault greatest (replicate 16 (want 0 0 0 0)) ≡ Some (TooManyTenants 16)
+sixteen_tenants = refl
+
+fifteen_shares_of_none : plan_fault greatest (replicate 15 (want 0 0 0 0)) ≡ Some (BadShare 1 Instance)
+fifteen_shares_of_none = refl
+
+-- what is past one bound alone may not be wanted
+abbrev usual_shares : List Want
+usual_shares = want 2 2 2 2 ∷ []
+
+no_instance : HasSlots (want 0 1 1 1) → ⊥
+no_instance h = let one = h.instances in omega arith
+
+no_memories : HasSlots (want 1 0 1 1) → ⊥
+no_memories h = let one = h.memories in omega arith
+
+no_tables : HasSlots (want 1 1 0 1) → ⊥
+no_tables h = let one = h.tables in omega arith
+
+one_instance_is_left : MayWant (record two_workers { instances = 3 }) usual_shares → ⊥
+one_instance_is_left h = let left = h.instances in omega arith
+
+one_memory_is_left : MayWant (record two_workers { memories = 3 }) usual_shares → ⊥
+one_memory_is_left h = let left = h.memories in omega arith
+
+one_table_is_left : MayWant (record two_workers { tables = 3 }) usual_shares → ⊥
+one_table_is_left h = let left = h.tables in omega arith
+
+one_warm_slot_lacks : MayWant (record two_workers { warm = 1 }) usual_shares → ⊥
+one_warm_slot_lacks h = let lacks = h.warm in omega arith
+
+one_tenant_too_many : MayWant greatest (replicate 16 (want 1 1 1 0)) → ⊥
+one_tenant_too_many h = let few = h.few in omega arith

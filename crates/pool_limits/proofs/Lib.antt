@@ -1,4 +1,5 @@
 pub mod RangeLemmas
 pub mod LimitLemmas
 pub mod ShareLemmas
+pub mod WantLemmas
 mod Examples

@@ -9,11 +9,11 @@ use Rattle.pool_limits.specs.declared.numbers.Setting.TheVariants.{Workers, Inst
 use Rattle.pool_limits.specs.Ranges.{least_total, ranged, ranges, is_outside, bad_of, bad_number, AreInRange}
 
 -- no item passes
-abbrev NonePasses : {X : Type 0} → (X → Bool) → List X → Type 0
+abbrev pub NonePasses : {X : Type 0} → (X → Bool) → List X → Type 0
 NonePasses p [] = Unit {0}
 NonePasses p (x ∷ xs) = (p x ≡ false) × NonePasses p xs
 
-find-none : {X : Type 0} (p : X → Bool) (xs : List X) → find p xs ≡ None → NonePasses p xs
+pub find-none : {X : Type 0} (p : X → Bool) (xs : List X) → find p xs ≡ None → NonePasses p xs
 find-none p [] h = tt
 find-none {X} p (x ∷ xs) h =
     let split : (b : Bool) → p x ≡ b → ◌≡◌ {A = Option X} (cond b (Some x) (find p xs)) None → (p x ≡ false) × NonePasses p xs = elim [
@@ -21,7 +21,7 @@ find-none {X} p (x ∷ xs) h =
       | false ↦ λ is none. (is, find-none p xs none)
     ] in split (p x) refl h
 
-none-find : {X : Type 0} (p : X → Bool) (xs : List X) → NonePasses p xs → find p xs ≡ None
+pub none-find : {X : Type 0} (p : X → Bool) (xs : List X) → NonePasses p xs → find p xs ≡ None
 none-find p [] h = refl
 none-find p (x ∷ xs) h = cond-false _ _ _ h.0 ∙ none-find p xs h.1
 

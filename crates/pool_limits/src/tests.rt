@@ -4,6 +4,7 @@ use crate::config::PoolConfig;
 use crate::numbers::{BadNumber, Numbers, Setting};
 use crate::over::{Measure, Over};
 use crate::share::Share;
+use crate::wants::{Part, PlanFault, Want};
 use std::alloc::{AllocError, Global};
 use std::test::Fail;
 use wasm_types as wasm;
@@ -294,5 +295,53 @@ fn the_first_demand_past_its_limit_is_named(rt: HostRuntime) -> Result<(), Fail>
         let valid = valid(rt.alloc(), &asked)?;
         assert_eq!(rt; config.check(&valid), expected);
     }
+    Ok(())
+}
+
+fn want(instances: u32, memories: u32, tables: u32, warm: u32) -> Want {
+    Want {
+        instances,
+        memories,
+        tables,
+        warm,
+    }
+}
+
+#[test]
+fn the_first_fault_of_wants_is_named(rt: HostRuntime) -> Result<(), Fail> {
+    let config = PoolConfig::new(Numbers {
+        workers: 2,
+        ..USUAL
+    })?;
+    let bad = |tenant, kind| Err(PlanFault::BadShare { tenant, kind });
+    let over = |kind, sum, total| Err(PlanFault::Over { kind, sum, total });
+    let rows = [
+        (want(1, 1, 1, 1), want(1, 1, 1, 1), Ok(())),
+        (want(1, 2, 1, 1), want(1, 1, 1, 0), over(Part::Memory, 3, 4)),
+        (
+            want(2, 1, 1, 9),
+            want(1, 1, 1, 0),
+            over(Part::Instance, 3, 4),
+        ),
+        (want(1, 1, 1, 9), want(1, 1, 2, 0), over(Part::Table, 3, 4)),
+        (want(1, 1, 1, 2), want(1, 1, 1, 1), over(Part::Warm, 3, 2)),
+        (
+            want(u32::MAX, 1, 1, 0),
+            want(u32::MAX, 1, 1, 0),
+            over(Part::Instance, 8_589_934_590, 4),
+        ),
+        (want(9, 9, 9, 9), want(1, 1, 0, 0), bad(2, Part::Table)),
+        (want(1, 0, 0, 0), want(0, 1, 1, 0), bad(1, Part::Memory)),
+    ];
+    for (first, second, expected) in rows {
+        let wants = [first, second];
+        assert_eq!(rt; config.check_wants(&wants), expected, "{wants:?}");
+    }
+    let fifteen = [want(0, 0, 0, 0); 15];
+    let sixteen = [want(0, 0, 0, 0); 16];
+    let too_many = Err(PlanFault::TooManyTenants { count: 16 });
+    assert_eq!(rt; config.check_wants(&sixteen), too_many);
+    assert_eq!(rt; config.check_wants(&fifteen), bad(1, Part::Instance));
+    assert_eq!(rt; config.check_wants(&[]), Ok(()));
     Ok(())
 }

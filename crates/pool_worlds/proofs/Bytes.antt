@@ -1,7 +1,8 @@
 -- What the bytes of a memory are: filled with zeros, and written anew from an image.
-use Rattle.std.proofs.Common.{◌≡◌, ℕ, zero, suc, ◌+◌, ◌-◌, ◌*◌, ◌<◌, ◌≤◌, Bool, true, false, cond, List, [], ◌∷◌, length, refl, sym, ap, ◌∙◌, arith, length-append}
+use Rattle.std.proofs.Common.{◌≡◌, ℕ, zero, suc, ◌+◌, ◌-◌, ◌*◌, ◌<◌, ◌≤◌, Bool, true, false, cond, List, [], ◌∷◌, length, take, refl, sym, ap, ◌∙◌, arith, length-append, inl, inr}
 use Rattle.std.specs.Prelude.{replicate, slice_index}
-use Rattle.std.proofs.lemmas.List.{length-replicate, get_or-append_right, ext_get_or}
+use Rattle.std.proofs.lemmas.List.{length-replicate, length-take-le, get_or_append_left, get_or-append_right, get_or-take, ext_get_or}
+use Rattle.std.proofs.lemmas.Bool.{cases_lt}
 use Rattle.wasm_spec.specs.Store.{page_size}
 use Rattle.pool_worlds.specs.Contents.{filled, is_marked, rewritten_from, HasImageOutside}
 
@@ -15,6 +16,15 @@ zeros-at (suc n) (suc i) = zeros-at n i
 
 pub filled-past : (pages : ℕ) (bytes : List ℕ) (i : ℕ) → length bytes ≤ i → slice_index (filled pages bytes) i ≡ 0
 filled-past pages bytes i le = get_or-append_right bytes (replicate (pages * page_size - length bytes) 0) (length bytes) i 0 refl le ∙ zeros-at (pages * page_size - length bytes) (i - length bytes)
+
+-- bytes that begin with these, and past them are zero
+pub filled-is : (pages size : ℕ) (bytes memory : List ℕ) → length bytes ≡ pages * page_size → size ≤ length bytes → take size bytes ≡ memory → ((i : ℕ) → size ≤ i → slice_index bytes i ≡ 0) → bytes ≡ filled pages memory
+filled-is pages size bytes memory room le is past =
+    let long : length memory ≡ size = ap length (sym is) ∙ length-take-le size bytes le in
+    ext_get_or 0 bytes (filled pages memory) (room ∙ sym (length-filled pages memory (omega arith))) (λ i lt. elim (cases_lt i size) [
+      | inl below ↦ sym (get_or-take size bytes i 0 below) ∙ ap (λ (xs : List ℕ). slice_index xs i) is ∙ sym (get_or_append_left memory (replicate (pages * page_size - length memory) 0) 0 i (omega arith))
+      | inr above ↦ past i above ∙ sym (filled-past pages memory i (omega arith))
+    ])
 
 length-rewritten : (i : ℕ) (marks : List Bool) (image bytes : List ℕ) → length (rewritten_from i marks image bytes) ≡ length bytes
 length-rewritten i marks image [] = refl

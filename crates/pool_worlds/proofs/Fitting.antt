@@ -18,7 +18,7 @@ use Rattle.pool_core.proofs.Holders.{holds_held_word}
 use Rattle.pool_core.proofs.LawfulOpening.{opens_cold}
 use Rattle.pool_core.proofs.LawfulSteps.{no_rule_broken}
 use Rattle.pool_worlds.specs.Contents.{Named, Kind, Ticket, Memory, Table, Contents, owner, memory_image, table_image, prepared, restored_for, restored, replaced, needs, turned, IsClean, IsCold, HasImageOutside, Matches}
-use Rattle.pool_worlds.specs.PoolMachine.{World, Running, Machine, WorldEvent, Step, Prepare, Restore, Clear, Begin, Turn, End, held_by, slot_of, same_kind, is_slot_of_seat, is_slot_of_call, with_contents, with_core, store_after, last_store, after_turn, after_end, after, after_all, HasOut, IsModule, MayHappen, AllMayHappen, IsOpening}
+use Rattle.pool_worlds.specs.PoolMachine.{World, Running, Machine, WorldEvent, Step, Prepare, Restore, Clear, Begin, Turn, End, Cancel, held_by, slot_of, same_kind, is_slot_of_seat, is_slot_of_call, with_contents, with_core, store_after, last_store, after_turn, after_end, after, after_all, HasOut, IsModule, MayHappen, AllMayHappen, IsOpening}
 use Rattle.pool_worlds.specs.FreshMachine.{FreshMachine, fresh_after, nothing_runs}
 use Rattle.pool_worlds.specs.Fitting.{held_contents, ReleaseFits, AllReleasesFit, FitsWhileFree, FreeSlotsFit, ClearedFitsCold, RestoredFitsWarm, UsedFitsAwaiting, TablesFitWarm}
 use Rattle.pool_worlds.proofs.Parts.{IsOwned, IsKept, prepared-bytes, prepared-entries}
@@ -119,6 +119,7 @@ after-fits w p f (End i marks) g may released fitting = let r : Running = may.0 
     let tree : ModuleTree = r.request.named.tree in
     subst (λ (a : Option Running). Fitting w (after_end w p i marks a)) (sym may.1)
     (contents-fit w p (is_slot_of_call w p i tree) (turned w.limits.pages (last_store w r) marks) (call-held w p i tree g.lawful x.2.holds) fitting)
+after-fits w p f (Cancel i) g may released fitting = fitting
 
 opening-fits : (w : World) (p : Machine) → IsOpening w p → Fitting w p
 opening-fits w p o k n =

@@ -6,7 +6,7 @@ use Rattle.pool_core.specs.PoolCore.{PoolCore}
 use Rattle.pool_core.specs.EventEffects.{core_after}
 use Rattle.pool_core.specs.RefusalRules.{refusal_of}
 use Rattle.pool_worlds.specs.Contents.{Kind}
-use Rattle.pool_worlds.specs.PoolMachine.{World, Running, Machine, WorldEvent, Step, Prepare, Restore, Clear, Begin, Turn, End, same_kind, with_core, after_turn, after_end, after, after_all, AllMayHappen}
+use Rattle.pool_worlds.specs.PoolMachine.{World, Running, Machine, WorldEvent, Step, Prepare, Restore, Clear, Begin, Turn, End, Cancel, same_kind, with_core, after_turn, after_end, after, after_all, AllMayHappen}
 use Rattle.pool_worlds.specs.Histories.{steps_of, LeadTo, StepsAreHistories}
 use Rattle.pool_worlds.proofs.Steps.{same_kind-is}
 
@@ -42,6 +42,7 @@ steps-lead w p (Turn i marks ∷ es) may k = let q : Machine = after w p (Turn i
     subst (λ (c : PoolCore). LeadTo c (steps_of k es) ((after_all w q es).core k)) (turn-stays w p i marks k (p.calls i)) (steps-lead w q es may.1 k)
 steps-lead w p (End i marks ∷ es) may k = let q : Machine = after w p (End i marks) in
     subst (λ (c : PoolCore). LeadTo c (steps_of k es) ((after_all w q es).core k)) (end-stays w p i marks k (p.calls i)) (steps-lead w q es may.1 k)
+steps-lead w p (Cancel i ∷ es) may k = steps-lead w (after w p (Cancel i)) es may.1 k
 
 pub steps-are-histories : StepsAreHistories
 steps-are-histories w p es opening may k =

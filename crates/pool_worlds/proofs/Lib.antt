@@ -4,6 +4,8 @@ pub mod Seats
 pub mod Steps
 pub mod Shadows
 pub mod Turns
+pub mod Slices
 pub mod Images
 pub mod Fitting
 pub mod Histories
+pub mod Tenants

@@ -1,7 +1,7 @@
 -- What every slot keeps, and what preparing, clearing and a turn make of it.
 use Rattle.std.proofs.Common.{◌≡◌, ℕ, ◌-◌, ◌*◌, ◌/◌, ◌≤◌, Bool, true, false, cond, List, [], ◌∷◌, ◌++◌, length, take, drop, refl, sym, ap, ◌∙◌, subst, arith, true≢false}
 use Rattle.std.specs.Prelude.{Option, Some, None, ltb, map, replicate, slice_index}
-use Rattle.std.proofs.lemmas.List.{length-map, length-take-le, drop_at, take_at, nil_from_length}
+use Rattle.std.proofs.lemmas.List.{length-map, length-take-le, take-append-drop, drop_at, take_at, nil_from_length}
 use Rattle.std.proofs.lemmas.Bool.{ltb-false, eqb-true}
 use Rattle.wasm_types.specs.declared.outcome.Val.{Val}
 use Rattle.wasm_types.specs.declared.types.Limits.{Limits}
@@ -12,9 +12,10 @@ use Rattle.wasm_spec.specs.Instances.{IsInstance, room_for}
 use Rattle.wasm_spec.proofs.StoreSizes.{whole_pages, pages_within, minimum_within}
 use Rattle.wasm_spec.proofs.Loading.{no_refusal, first_keeps}
 use Rattle.wasm_spec.proofs.ResultLaws.{length-fresh_memory, length-fresh_table, fresh-instance}
-use Rattle.pool_worlds.specs.Contents.{Named, Kind, Ticket, Memory, Table, MemoryContents, TableContents, Contents, owner, belongs_to, memory_image, table_image, rewritten_from, prepared, restored_for, restored, replaced, needs, shown_memory, shown_table, shown, turned, Marks, IsCold, HasImageOutside}
+use Rattle.pool_worlds.specs.Contents.{Named, Kind, Ticket, Memory, Table, MemoryContents, TableContents, Contents, owner, belongs_to, filled, memory_image, table_image, rewritten_from, prepared, restored_for, restored, replaced, needs, shown_memory, shown_table, shown, turned, Marks, IsCold, HasImageOutside}
 use Rattle.pool_worlds.specs.PoolMachine.{World, IsModule, load_limits}
 use Rattle.pool_worlds.specs.Worlds.{IsZeroPast, in_slots}
+use Rattle.pool_worlds.proofs.Bytes.{filled-is}
 pub use Rattle.pool_worlds.proofs.Bytes.{length-filled, filled-past, rewritten-is}
 
 -- ---- modules that were loaded
@@ -220,6 +221,24 @@ pub size-shown : (w : World) (m : ModuleTree) (x : (k : Kind) → Contents k) (s
 size-shown w m x s need kept shows =
     let is : take ((x Memory).pages * page_size) (x Memory).bytes ≡ s.memory = ap (λ (b : Bool). shown_memory b (x Memory)) (sym need) ∙ ap (λ (t : Store). t.memory) shows in
     sym (size-is (x Memory).pages (x Memory).bytes s.memory (pages_within (x Memory).pages w.limits.pages (length (x Memory).bytes) kept.room kept.size) is)
+
+-- contents that show a store are those after a turn that left it and marked nothing
+pub turned-still : (w : World) (m : ModuleTree) (s : Store) (marks : List Bool) (x : (k : Kind) → Contents k) → shown m x ≡ in_slots s → ((k : Kind) → IsKept w k (x k)) → length s.globals ≡ length m.globals
+    → (needs Memory m ≡ true → IsZeroPast (x Memory)) → (needs Memory m ≡ true → marks ≡ (x Memory).marks) → (k : Kind) → needs k m ≡ true → turned w.limits.pages s marks k (x k) ≡ x k
+turned-still w m s marks x shows kept globals past still Ticket need =
+    let is : take (length m.globals) (x Ticket) ≡ s.globals = ap (λ (t : Store). t.globals) shows in
+    ap (λ (n : ℕ). s.globals ++ drop n (x Ticket)) globals ∙ ap (λ (g : List Val). g ++ drop (length m.globals) (x Ticket)) (sym is) ∙ take-append-drop (length m.globals) (x Ticket)
+turned-still w m s marks x shows kept globals past still Memory need =
+    let y : MemoryContents = x Memory in let k = kept Memory in
+    let is : take (y.pages * page_size) y.bytes ≡ s.memory = ap (λ (b : Bool). shown_memory b y) (sym need) ∙ ap (λ (t : Store). t.memory) shows in
+    let le : y.pages * page_size ≤ length y.bytes = let room = k.room in let size = k.size in pages_within y.pages w.limits.pages (length y.bytes) room size in
+    let bytes : y.bytes ≡ filled w.limits.pages s.memory = filled-is w.limits.pages (y.pages * page_size) y.bytes s.memory k.room le is (past need) in
+    let size = size-is y.pages y.bytes s.memory le is in
+    let same = still need in
+    λ i. record { bytes = sym bytes i; pages = size i; marks = same i; holds = y.holds }
+turned-still w m s marks x shows kept globals past still Table need =
+    let is : (x Table).entries ≡ s.table = ap (λ (b : Bool). shown_table b (x Table)) (sym need) ∙ ap (λ (t : Store). t.table) shows in
+    λ i. record { entries = sym is i; holds = (x Table).holds }
 
 -- of two turns the second says what is left
 pub turned-twice : (pages : ℕ) (s t : Store) (between marks : List Bool) (k : Kind) (x : Contents k) → length s.globals ≡ length t.globals → turned pages t marks k (turned pages s between k x) ≡ turned pages t marks k x

@@ -7,7 +7,7 @@ use Rattle.wasm_spec.specs.Result.{result_from}
 use Rattle.pool_core.specs.Lawful.{Lawful}
 use Rattle.pool_core.proofs.LawfulOpening.{lawful_opening}
 use Rattle.pool_worlds.specs.Contents.{shown, Memory, needs}
-use Rattle.pool_worlds.specs.PoolMachine.{World, InstanceLimits, Request, Running, Machine, WorldEvent, slots_of, answer, store_or, told, after, after_all, AllMayHappen, IsOpening, terms_of, Step, Prepare, Restore, Clear, Begin, Turn, End, slot_of}
+use Rattle.pool_worlds.specs.PoolMachine.{World, InstanceLimits, Request, Running, Machine, WorldEvent, slots_of, answer, store_or, told, after, after_all, AllMayHappen, IsOpening, terms_of, Step, Prepare, Restore, Clear, Begin, Turn, End, Cancel, slot_of}
 use Rattle.pool_worlds.specs.FreshMachine.{FreshCall, FreshMachine, fresh_store_after, fresh_answer, fresh_after, fresh_after_all, nothing_runs}
 use Rattle.pool_worlds.specs.Worlds.{in_slots, ShadowsCall, AlwaysShadow, IsSameRequest, Reached, Calls, TwoWorldsAgree, answered_by, answered, answers, AnswersAgree}
 use Rattle.pool_worlds.proofs.Parts.{cold-kept, size-shown}
@@ -20,11 +20,11 @@ opening-good w p o = record {
   calls = λ i. subst (λ (a : Option Running). GoodCall w p i a None) (sym (o.calls i)) tt;
 }
 
-all-good : (w : World) (p : Machine) (f : FreshMachine) (es : List WorldEvent) → Good w p f → AllMayHappen w p es → Good w (after_all w p es) (fresh_after_all w.limits f es)
+pub all-good : (w : World) (p : Machine) (f : FreshMachine) (es : List WorldEvent) → Good w p f → AllMayHappen w p es → Good w (after_all w p es) (fresh_after_all w.limits f es)
 all-good w p f [] g may = g
 all-good w p f (e ∷ es) g may = all-good w (after w p e) (fresh_after w.limits f e) es (after-good w p f e g may.0) may.1
 
-answer-is : (w : World) (r : Running) → r.begun ≡ fresh_store r.request.named.tree → answer w r ≡ fresh_answer w.limits r.request
+pub answer-is : (w : World) (r : Running) → r.begun ≡ fresh_store r.request.named.tree → answer w r ≡ fresh_answer w.limits r.request
 answer-is w r e = let q : Request = r.request in ap (λ (s : Store). told (result_from q.named.tree (terms_of w.limits q.sent) q.function q.arguments s q.fuel)) e
 
 sound-shadows : (w : World) (p : Machine) (i : ℕ) (a : Option Running) (b : Option FreshCall) → GoodCall w p i a b → ShadowsCall w p i a b
@@ -110,6 +110,7 @@ event-fresh w p f (Restore k s) i g = tt
 event-fresh w p f (Clear k s x) i g = tt
 event-fresh w p f (Begin j q) i g = tt
 event-fresh w p f (Turn j marks) i g = tt
+event-fresh w p f (Cancel j) i g = tt
 
 answers-fresh : (w : World) (p : Machine) (f : FreshMachine) (es : List WorldEvent) (i : ℕ) → Good w p f → AllMayHappen w p es → AllFresh w.limits (answers w p es i)
 unfolding AllFresh

@@ -16,7 +16,7 @@ use Rattle.pool_core.specs.Lawful.{Lawful}
 use Rattle.pool_core.proofs.Holders.{one_holder}
 use Rattle.pool_core.proofs.LawfulSteps.{lawful_after}
 use Rattle.pool_worlds.specs.Contents.{Named, Kind, Ticket, Memory, Table, Contents, prepared, restored, replaced, needs, shown, turned}
-use Rattle.pool_worlds.specs.PoolMachine.{World, Request, Running, Machine, WorldEvent, Step, Prepare, Restore, Clear, Begin, Turn, End, held_by, slot_of, slots_of, same_kind, is_slot_of_seat, is_slot_of_call, with_contents, with_core, with_call, store_or, store_after, begun, after_turn, after, IsFree, HasOut, IsModule, MarksTurn, MarksEnd, MayHappen, terms_of, last_store, after_end}
+use Rattle.pool_worlds.specs.PoolMachine.{World, Request, Running, Machine, WorldEvent, Step, Prepare, Restore, Clear, Begin, Turn, End, Cancel, held_by, slot_of, slots_of, same_kind, is_slot_of_seat, is_slot_of_call, with_contents, with_core, with_call, store_or, store_after, begun, after_turn, after, IsFree, HasOut, IsModule, MarksTurn, MarksEnd, MayHappen, terms_of, last_store, after_end}
 use Rattle.pool_worlds.specs.FreshMachine.{FreshCall, FreshMachine, fresh_store_on, fresh_store_after, fresh_turn, with_fresh_call, fresh_after}
 use Rattle.pool_worlds.specs.Worlds.{IsZeroPast, in_slots}
 use Rattle.pool_worlds.proofs.Parts.{IsKept, fits, shown-same, shows-store, shows-fresh, prepared-kept, prepared-past, restored-kept, replaced-kept, turned-kept, turned-past}
@@ -316,3 +316,8 @@ after-good w p f (Turn i marks) g may = let r : Running = may.0 in let x = found
     (turn-good w p f i marks r x.0 g x.2 may.3))
 after-good w p f (End i marks) g may = let r : Running = may.0 in let x = found w p i (p.calls i) (f i) r (g.calls i) may.1 in
     subst (λ (a : Option Running). Good w (after_end w p i marks a) (with_fresh_call f i None)) (sym may.1) (end-good w p f i marks r x.0 g x.2 may.3)
+after-good w p f (Cancel i) g may = record {
+  lawful = g.lawful;
+  kept = g.kept;
+  calls = calls-with w (with_call p i None) i None None p.calls f tt (λ j other. call-set w p i None j (p.calls j) (f j) (g.calls j));
+}

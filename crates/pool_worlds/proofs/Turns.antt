@@ -2,21 +2,22 @@
 use Rattle.wasm_spec.specs.Execution.{Terms}
 use Rattle.std.proofs.Common.{◌≡◌, ℕ, zero, suc, ◌+◌, ◌-◌, ◌<◌, ◌≤◌, Bool, true, false, cond, List, [], length, refl, sym, ap, ◌∙◌, subst, arith, true≢false, ◌⊎◌, inl, inr, eq-eqb}
 use Rattle.std.specs.Prelude.{Option, Some, None, is_some, replicate, slice_index}
+use Rattle.std.proofs.lemmas.Bool.{cases_lt}
 use Rattle.wasm_types.specs.declared.outcome.Outcome.{Outcome}
 use Rattle.wasm_types.specs.declared.outcome.Outcome.TheVariants as outcome
 use Rattle.wasm_types.specs.Tree.{ModuleTree}
 use Rattle.wasm_spec.specs.Store.{Store, fresh_store}
-use Rattle.wasm_spec.specs.Result.{CallResult, function_result, if_done_by, if_done, after_start}
+use Rattle.wasm_spec.specs.Result.{CallResult, answer_of, function_result, if_done_by, if_done, after_start}
 use Rattle.wasm_spec.specs.MoreFuel.{is_fuel, is_fuel_end, with_more}
 use Rattle.wasm_spec.specs.Instances.{IsInstance}
 use Rattle.wasm_spec.proofs.ResultLaws.{function-spends, function-keeps, instance-kept, fresh-instance}
 use Rattle.wasm_spec.proofs.MoreFuel.{result-more, function-more}
 use Rattle.wasm_types.specs.declared.outcome.Val.{Val}
 use Rattle.pool_worlds.specs.Contents.{Kind, Memory, MemoryContents, Contents, needs, filled, turned, Marks, is_marked}
-use Rattle.pool_worlds.specs.PoolMachine.{World, Request, Running, Machine, Turn, End, slots_of, result, store_or, store_after, last_store, after_end, told, IsFuelEnd, CanTurn, after_turn, after, after_all, AllMayHappen, MayHappen, terms_of}
+use Rattle.pool_worlds.specs.PoolMachine.{World, Request, Running, Machine, Turn, End, slots_of, result, answer, store_or, store_after, last_store, after_end, told, IsFuelEnd, CanTurn, after_turn, after, after_all, AllMayHappen, MayHappen, terms_of}
 use Rattle.pool_worlds.specs.FreshMachine.{FreshCall, FreshMachine}
 use Rattle.pool_worlds.specs.Runs.{Leaves, RunsFunction, GoesOn, StartsAndGoesOn, HostRunsBy, AreItsTurns}
-use Rattle.pool_worlds.specs.Worlds.{RunsAreTurns, PreparingTwiceIsOnce}
+use Rattle.pool_worlds.specs.Worlds.{Calls, RunsAreTurns, PreparingTwiceIsOnce}
 use Rattle.pool_worlds.proofs.Parts.{fits, turned-twice, prepared-twice}
 use Rattle.pool_worlds.proofs.Steps.{IsSound, Good, found, own-slots, next-is, instance-at}
 use Rattle.pool_worlds.proofs.Shadows.{good-at}
@@ -31,7 +32,7 @@ fuel_or other (Some r) = r.fuel
 
 -- ---- how many turns
 
-out_of_fuel : (o : Option CallResult) → is_fuel_end o ≡ true → IsFuelEnd o
+pub out_of_fuel : (o : Option CallResult) → is_fuel_end o ≡ true → IsFuelEnd o
 out_of_fuel None h = absurd (true≢false (sym h))
 out_of_fuel (Some r) h = ap (λ (o : Outcome). Some o) (fuel_is r.outcome h) where
   fuel_is : (o : Outcome) → is_fuel o ≡ true → o ≡ outcome.Fuel
@@ -43,7 +44,7 @@ fuel_of : Option Outcome → Bool
 fuel_of None = false
 fuel_of (Some o) = is_fuel o
 
-is_end : (o : Option CallResult) → IsFuelEnd o → is_fuel_end o ≡ true
+pub is_end : (o : Option CallResult) → IsFuelEnd o → is_fuel_end o ≡ true
 unfolding fuel_of
 is_end None h = absurd (cc)
 is_end (Some r) h = ap fuel_of h
@@ -57,13 +58,13 @@ some_end None h = h
 some_end (Some r) h = refl
 
 -- it ends for want of fuel at each number below count, and there it does not, or count is the bound
-record Lasts (w : World) (r : Running) (bound : ℕ) : Type 0 where
+pub record Lasts (w : World) (r : Running) (bound : ℕ) : Type 0 where
   pub count : ℕ
   pub within : count ≤ bound
   pub before : (j : ℕ) → j < count → is_fuel_end (result w r j) ≡ true
   pub ends : (count ≡ bound) ⊎ (is_fuel_end (result w r count) ≡ false)
 
-lasts : (w : World) (r : Running) (bound : ℕ) → Lasts w r bound
+pub lasts : (w : World) (r : Running) (bound : ℕ) → Lasts w r bound
 lasts w r zero = record { count = 0; within = omega arith; before = λ j lt. absurd (omega arith); ends = inl refl }
 lasts w r (suc bound) = let l = lasts w r bound in
     let longer : (b : Bool) → is_fuel_end (result w r bound) ≡ b → l.count ≡ bound → Lasts w r (suc bound) = elim [
@@ -84,51 +85,96 @@ lasts w r (suc bound) = let l = lasts w r bound in
       split : (j n : ℕ) → j < suc n → (j < n) ⊎ (j ≡ n)
       split j n lt = grind arith
 
--- so it comes to the same there as on all its fuel
-at_all : (w : World) (r : Running) (l : Lasts w r r.request.fuel) → (l.count ≡ r.request.fuel) ⊎ (result w r r.request.fuel ≡ with_more (r.request.fuel - l.count) (result w r l.count))
-at_all w r l = let q : Request = r.request in elim l.ends [
-  | inl is ↦ inl is
-  | inr e ↦ inr (let le = l.within in let sum : q.fuel ≡ l.count + (q.fuel - l.count) = omega arith in
-      ap (result w r) sum ∙ result-more (q.fuel - l.count) q.named.tree (terms_of w.limits q.sent) q.function q.arguments r.begun l.count e)
-]
+-- the call after so many turns
+abbrev pub at_turn : Running → ℕ → Running
+at_turn r t = record r { turns = t }
 
 with_more-some : (d : ℕ) (o : Option CallResult) → is_some (with_more d o) ≡ true → is_some o ≡ true
 with_more-some d None h = h
 with_more-some d (Some r) h = refl
 
-module _ (w : World) (r : Running) (given : is_some (result w r r.request.fuel) ≡ true) where
-  all-given : (l : Lasts w r r.request.fuel) (j : ℕ) → j ≤ l.count → is_some (result w r j) ≡ true
-  all-given l j le = elim (split j l.count le) [
+with_more-end : (d : ℕ) (o : Option CallResult) → is_fuel_end (with_more d o) ≡ is_fuel_end o
+with_more-end d None = refl
+with_more-end d (Some r) = refl
+
+-- turns up to this one, of which the last may be its end
+module _ (w : World) (r : Running) (to : ℕ) (within : to ≤ r.request.fuel) (given : is_some (result w r to) ≡ true) (l : Lasts w r to) where
+  -- it comes to the same there as at the bound
+  at_bound : (l.count ≡ to) ⊎ (result w r to ≡ with_more (to - l.count) (result w r l.count))
+  at_bound = let q : Request = r.request in elim l.ends [
+    | inl is ↦ inl is
+    | inr e ↦ inr (let le = l.within in let sum : to ≡ l.count + (to - l.count) = omega arith in
+        ap (result w r) sum ∙ result-more (to - l.count) q.named.tree (terms_of w.limits q.sent) q.function q.arguments r.begun l.count e)
+  ]
+
+  all-given : (j : ℕ) → j ≤ l.count → is_some (result w r j) ≡ true
+  all-given j le = elim (split j l.count le) [
     | inl below ↦ some_end (result w r j) (l.before j below)
-    | inr same ↦ elim (at_all w r l) [
+    | inr same ↦ elim at_bound [
       | inl is ↦ ap (λ (n : ℕ). is_some (result w r n)) (same ∙ is) ∙ given
-      | inr e ↦ ap (λ (n : ℕ). is_some (result w r n)) same ∙ with_more-some (r.request.fuel - l.count) (result w r l.count) (ap (λ (o : Option CallResult). is_some o) (sym e) ∙ given)
+      | inr e ↦ ap (λ (n : ℕ). is_some (result w r n)) same ∙ with_more-some (to - l.count) (result w r l.count) (ap (λ (o : Option CallResult). is_some o) (sym e) ∙ given)
     ]
   ] where
     split : (j n : ℕ) → j ≤ n → (j < n) ⊎ (j ≡ n)
     split j n le = grind arith
 
--- the call after so many turns
-abbrev at_turn : Running → ℕ → Running
-at_turn r t = record r { turns = t }
+  can-turn : (t : ℕ) → t < l.count → CanTurn w (at_turn r t)
+  can-turn t lt = record {
+    fuel = let le = l.within in omega arith;
+    unfinished = out_of_fuel (result w r t) (l.before t lt);
+  }
 
-can-turn : (w : World) (r : Running) (l : Lasts w r r.request.fuel) (t : ℕ) → t < l.count → CanTurn w (at_turn r t)
-can-turn w r l t lt = record {
-  fuel = let le = l.within in omega arith;
-  unfinished = out_of_fuel (result w r t) (l.before t lt);
-}
+  -- where it can make none at the bound, it can make none at the last
+  cannot-turn : (CanTurn w (at_turn r to) → ⊥) → (t : ℕ) → t ≡ l.count → CanTurn w (at_turn r t) → ⊥
+  cannot-turn over t is can = elim l.ends [
+    | inl all ↦ over (subst (λ (n : ℕ). CanTurn w (at_turn r n)) (is ∙ all) can)
+    | inr e ↦ true≢false (sym (is_end (result w r t) can.unfinished) ∙ ap (λ (n : ℕ). is_fuel_end (result w r n)) is ∙ e)
+  ]
 
-cannot-turn : (w : World) (r : Running) (l : Lasts w r r.request.fuel) (t : ℕ) → t ≡ l.count → CanTurn w (at_turn r t) → ⊥
-cannot-turn w r l t is can = let lt = can.fuel in elim l.ends [
-  | inl all ↦ absurd (omega arith)
-  | inr e ↦ true≢false (sym (is_end (result w r t) can.unfinished) ∙ ap (λ (n : ℕ). is_fuel_end (result w r n)) is ∙ e)
-]
+  -- a call that waits at some turn waits at each before
+  pub waits-before : (t : ℕ) → is_fuel_end (result w r t) ≡ true → t ≤ to → t ≤ l.count
+  waits-before t e le = elim l.ends [
+    | inl is ↦ omega (arith, is)
+    | inr over ↦ elim (split t l.count) [
+      | inl early ↦ early
+      | inr late ↦ let q : Request = r.request in let sum : l.count + (t - l.count) ≡ t = omega arith in
+          absurd (true≢false (sym e ∙ ap (λ (n : ℕ). is_fuel_end (result w r n)) (sym sum)
+          ∙ ap is_fuel_end (result-more (t - l.count) q.named.tree (terms_of w.limits q.sent) q.function q.arguments r.begun l.count over) ∙ with_more-end (t - l.count) (result w r l.count) ∙ over))
+    ]
+  ] where
+    split : (j n : ℕ) → (j ≤ n) ⊎ (n < j)
+    split j n = grind arith
+
+-- A call that can make no turn more has come to its end.
+module _ (w : World) (c : Running) (to : ℕ) (within : to ≤ c.request.fuel) (over : CanTurn w (at_turn c to) → ⊥) where
+  at_all : is_fuel_end (result w c to) ≡ true → c.request.fuel ≡ to
+  at_all e = elim (cases_lt to c.request.fuel) [
+    | inl lt ↦ absurd (over (record { fuel = lt; unfinished = out_of_fuel (result w c to) e }))
+    | inr le ↦ omega arith
+  ]
+
+  pub over-as : {A : Type 0} (f : Option CallResult → A) → ((d : ℕ) (o : Option CallResult) → f (with_more d o) ≡ f o) → f (result w c c.request.fuel) ≡ f (result w c to)
+  over-as f more = let q : Request = c.request in
+      let split : (b : Bool) → is_fuel_end (result w c to) ≡ b → f (result w c q.fuel) ≡ f (result w c to) = elim [
+        | true ↦ λ e. ap (λ (n : ℕ). f (result w c n)) (at_all e)
+        | false ↦ λ e. let sum : q.fuel ≡ to + (q.fuel - to) = omega arith in
+            ap (λ (n : ℕ). f (result w c n)) sum
+            ∙ ap f (result-more (q.fuel - to) q.named.tree (terms_of w.limits q.sent) q.function q.arguments c.begun to e) ∙ more (q.fuel - to) (result w c to)
+      ] in split (is_fuel_end (result w c to)) refl
+
+with_more-store : (s : Store) (d : ℕ) (o : Option CallResult) → store_or s (with_more d o) ≡ store_or s o
+with_more-store s d None = refl
+with_more-store s d (Some r) = refl
+
+with_more-told : (d : ℕ) (o : Option CallResult) → told (with_more d o) ≡ told o
+with_more-told d None = refl
+with_more-told d (Some r) = refl
 
 -- ---- one turn after another
 
 module _ (w : World) (i : ℕ) (r : Running) (marks : List Bool) (base : (k : Kind) → Contents k) where
-  -- the machine after t turns, one or more
-  record At (p : Machine) (t : ℕ) : Type 0 where
+  -- the machine after t turns, of which one or more are from these contents
+  pub record At (p : Machine) (t : ℕ) : Type 0 where
     pub calls : p.calls i ≡ Some (at_turn r t)
     pub contents : (k : Kind) → needs k r.request.named.tree ≡ true → slots_of w p i k ≡ turned w.limits.pages (store_after w r t) marks k (base k)
 
@@ -143,27 +189,27 @@ module _ (w : World) (i : ℕ) (r : Running) (marks : List Bool) (base : (k : Ki
     contents = λ k need. own-slots w p i r.request.named.tree (turned w.limits.pages (store_after w r (t + 1)) marks) k need ∙ same k need;
   })
 
-record Turns (w : World) (p : Machine) (i : ℕ) (r : Running) (marks : List Bool) (base : (k : Kind) → Contents k) (n t : ℕ) : Type 0 where
+pub record Turns (w : World) (p : Machine) (i : ℕ) (r : Running) (marks : List Bool) (base : (k : Kind) → Contents k) (n t : ℕ) : Type 0 where
   pub happen : AllMayHappen w p (replicate n (Turn i marks))
   pub at : At w i r marks base (after_all w p (replicate n (Turn i marks))) t
 
-module _ (w : World) (i : ℕ) (r : Running) (marks : List Bool) (base : (k : Kind) → Contents k) (given : is_some (result w r r.request.fuel) ≡ true) (l : Lasts w r r.request.fuel)
+module _ (w : World) (i : ℕ) (r : Running) (marks : List Bool) (base : (k : Kind) → Contents k) (from to : ℕ) (within : to ≤ r.request.fuel) (given : is_some (result w r to) ≡ true) (l : Lasts w r to)
     (globals : (s t : ℕ) → length (store_after w r s).globals ≡ length (store_after w r t).globals)
-    (each : needs Memory r.request.named.tree ≡ true → (t : ℕ) (x : CallResult) → t ≤ r.request.fuel → result w r t ≡ Some x → Marks (base Memory).bytes (filled w.limits.pages x.store.memory) (base Memory).marks marks) where
-  marked : needs Memory r.request.named.tree ≡ true → (t : ℕ) → t ≤ l.count → Marks (base Memory).bytes (filled w.limits.pages (store_after w r t).memory) (base Memory).marks marks
-  marked need t le = let o = some_of (result w r t) (all-given w r given l t le) in let bound = l.within in
-      subst (λ (s : Store). Marks (base Memory).bytes (filled w.limits.pages s.memory) (base Memory).marks marks) (sym (ap (store_or r.begun) o.1)) (each need t o.0 (omega arith) o.1)
+    (each : needs Memory r.request.named.tree ≡ true → (t : ℕ) (x : CallResult) → from ≤ t → t ≤ to → result w r t ≡ Some x → Marks (base Memory).bytes (filled w.limits.pages x.store.memory) (base Memory).marks marks) where
+  marked : needs Memory r.request.named.tree ≡ true → (t : ℕ) → from ≤ t → t ≤ l.count → Marks (base Memory).bytes (filled w.limits.pages (store_after w r t).memory) (base Memory).marks marks
+  marked need t late le = let o = some_of (result w r t) (all-given w r to within given l t le) in let bound = l.within in
+      subst (λ (s : Store). Marks (base Memory).bytes (filled w.limits.pages s.memory) (base Memory).marks marks) (sym (ap (store_or r.begun) o.1)) (each need t o.0 late (omega arith) o.1)
 
-  one-turn : (p : Machine) (t : ℕ) → At w i r marks base p t → t < l.count → MayHappen w p (Turn i marks) × At w i r marks base (after w p (Turn i marks)) (t + 1)
-  one-turn p t at lt = (
+  one-turn : (p : Machine) (t : ℕ) → At w i r marks base p t → from ≤ t → t < l.count → MayHappen w p (Turn i marks) × At w i r marks base (after w p (Turn i marks)) (t + 1)
+  one-turn p t at late lt = (
     (
       at_turn r t,
       at.calls,
-      can-turn w r l t lt,
+      can-turn w r to within given l t lt,
       λ need. let le = l.within in
           let x : MemoryContents = slots_of w p i Memory in
           let is : x ≡ turned w.limits.pages (store_after w r t) marks Memory (base Memory) = at.contents Memory need in
-          let now = marked need t (omega arith) in let next = marked need (t + 1) (omega arith) in record {
+          let now = marked need t late (omega arith) in let next = marked need (t + 1) (omega arith) (omega arith) in record {
             changed = λ j h. next.changed j h ∙ sym (now.changed j h) ∙ ap (λ (y : MemoryContents). slice_index y.bytes j) (sym is);
             kept = λ j h. ap (λ (y : MemoryContents). is_marked y.marks j) is ∙ h;
           },
@@ -172,40 +218,52 @@ module _ (w : World) (i : ℕ) (r : Running) (marks : List Bool) (base : (k : Ki
         ∙ turned-twice w.limits.pages (store_after w r t) (store_after w r (t + 1)) marks marks k (base k) (globals t (t + 1))),
   )
 
-  more-turns : (n t : ℕ) (p : Machine) → At w i r marks base p t → t + n ≤ l.count → Turns w p i r marks base n (t + n)
-  more-turns zero t p at le = record { happen = tt; at = subst (At w i r marks base p) (omega arith) at }
-  more-turns (suc n) t p at le = let one = one-turn p t at (omega arith) in
-      let rest = more-turns n (t + 1) (after w p (Turn i marks)) one.1 (omega arith) in
+  more-turns : (n t : ℕ) (p : Machine) → At w i r marks base p t → from ≤ t → t + n ≤ l.count → Turns w p i r marks base n (t + n)
+  more-turns zero t p at late le = record { happen = tt; at = subst (At w i r marks base p) (omega arith) at }
+  more-turns (suc n) t p at late le = let one = one-turn p t at late (omega arith) in
+      let rest = more-turns n (t + 1) (after w p (Turn i marks)) one.1 (omega arith) (omega arith) in
       let sum : t + 1 + n ≡ t + suc n = omega arith in
       record { happen = (one.0, rest.happen); at = subst (At w i r marks base (after_all w p (replicate (suc n) (Turn i marks)))) sum rest.at }
 
-  -- the first turn is from the contents that the call began with
-  first-turn : (p : Machine) → p.calls i ≡ Some (at_turn r 0) → ((k : Kind) → slots_of w p i k ≡ base k) → 0 < l.count → MayHappen w p (Turn i marks) × At w i r marks base (after w p (Turn i marks)) 1
+  -- the first turn is from the contents that the host began with
+  first-turn : (p : Machine) → p.calls i ≡ Some (at_turn r from) → ((k : Kind) → slots_of w p i k ≡ base k) → from < l.count → MayHappen w p (Turn i marks) × At w i r marks base (after w p (Turn i marks)) (from + 1)
   first-turn p e begins lt = (
     (
-      at_turn r 0,
+      at_turn r from,
       e,
-      can-turn w r l 0 lt,
+      can-turn w r to within given l from lt,
       λ need. let le = l.within in
           let is : slots_of w p i Memory ≡ base Memory = begins Memory in
-          let first = marked need 1 (omega arith) in record {
+          let first = marked need (from + 1) (omega arith) (omega arith) in record {
             changed = λ j h. first.changed j h ∙ ap (λ (y : MemoryContents). slice_index y.bytes j) (sym is);
             kept = λ j h. ap (λ (y : MemoryContents). is_marked y.marks j) is ∙ first.kept j h;
           },
     ),
-    turned-at w i r marks base p 0 e (λ k need. ap (turned w.limits.pages (store_after w r 1) marks k) (begins k)),
+    turned-at w i r marks base p from e (λ k need. ap (turned w.limits.pages (store_after w r (from + 1)) marks k) (begins k)),
   )
 
--- ---- the whole run
+  -- one turn or more
+  pub some-turns : (n : ℕ) (p : Machine) → p.calls i ≡ Some (at_turn r from) → ((k : Kind) → slots_of w p i k ≡ base k) → from + suc n ≤ l.count → Turns w p i r marks base (suc n) (from + suc n)
+  some-turns n p e begins le =
+      let first = first-turn p e begins (omega arith) in
+      let rest = more-turns n (from + 1) (after w p (Turn i marks)) first.1 (omega arith) (omega arith) in
+      let sum : from + 1 + n ≡ from + suc n = omega arith in
+      record { happen = (first.0, rest.happen); at = subst (At w i r marks base (after_all w p (replicate (suc n) (Turn i marks)))) sum rest.at }
 
--- a reached machine's call that has just begun
-record Begun (w : World) (p : Machine) (i : ℕ) (r : Running) : Type 0 where
+-- ---- turns up to the end
+
+-- a reached machine's call that runs
+pub record Begun (w : World) (p : Machine) (i : ℕ) (r : Running) : Type 0 where
   pub f : FreshMachine
   pub good : Good w p f
   pub fresh : FreshCall
   pub sound : IsSound w p i r fresh
 
-globals-are : (w : World) (p : Machine) (i : ℕ) (r : Running) (c : FreshCall) → IsSound w p i r c → (t : ℕ) → length (store_after w r t).globals ≡ length r.request.named.tree.globals
+pub begun-at : (w : World) (p : Machine) (i : ℕ) (r : Running) → Calls w p i r → Begun w p i r
+begun-at w p i r calls = let g = good-at w p calls.reached in let x = found w p i (p.calls i) (g.0 i) r (g.1.calls i) calls.calls in
+    record { f = g.0; good = g.1; fresh = x.0; sound = x.2 }
+
+pub globals-are : (w : World) (p : Machine) (i : ℕ) (r : Running) (c : FreshCall) → IsSound w p i r c → (t : ℕ) → length (store_after w r t).globals ≡ length r.request.named.tree.globals
 globals-are w p i r c s t = ap (λ (x : Store). length x.globals) (next-is w r s.begun_is t) ∙ (instance-at w r.request s.is_module t).globals_are
 
 -- where the call ends after so many turns, its slots become those of the store that it ends with
@@ -213,46 +271,61 @@ end-slots : (w : World) (p : Machine) (i : ℕ) (r : Running) (marks : List Bool
     → slots_of w (after w p (End i marks)) i k ≡ turned w.limits.pages (last_store w r) marks k (slots_of w p i k)
 end-slots w p i r marks k e need = ap (λ (a : Option Running). slots_of w (after_end w p i marks a) i k) e ∙ own-slots w p i r.request.named.tree (turned w.limits.pages (last_store w r) marks) k need
 
-runs-are : (w : World) (p : Machine) (i : ℕ) (c : Running) (new : (k : Kind) → Contents k) (marks : List Bool) (r : CallResult) → Begun w p i c → p.calls i ≡ Some c → c.turns ≡ 0
-    → Leaves w.limits.pages c.request.named.tree (result w c) c.request.fuel (slots_of w p i) new marks r → (l : Lasts w c c.request.fuel) (n : ℕ) → n ≡ l.count → AreItsTurns w p i c new marks
-runs-are w p i c new marks r b e none run l zero is =
-    let stuck : CanTurn w c → ⊥ = cannot-turn w c l c.turns (none ∙ is) in
-    let last : last_store w c ≡ r.store = ap (store_or c.begun) run.gives in record {
-      count = 0;
-      happen = tt;
-      ends = (c, e, stuck, λ need. subst (λ (s : Store). Marks (slots_of w p i Memory).bytes (filled w.limits.pages s.memory) (slots_of w p i Memory).marks marks) (sym last) (run.marked need c.request.fuel r (omega arith) run.gives));
-      contents = λ k need. end-slots w p i c marks k e need ∙ ap (λ (s : Store). turned w.limits.pages s marks k (slots_of w p i k)) last ∙ sym (run.left k need);
-    }
-runs-are w p i c new marks r b e none run l (suc n) is = let s = b.sound in
-    let given : is_some (result w c c.request.fuel) ≡ true = ap is_some run.gives in
-    let last : last_store w c ≡ r.store = ap (store_or c.begun) run.gives in
-    let same : c ≡ at_turn c 0 = λ k. record { request = c.request; begun = c.begun; turns = none k } in
-    let globals : (a d : ℕ) → length (store_after w c a).globals ≡ length (store_after w c d).globals = λ a d. globals-are w p i c b.fresh s a ∙ sym (globals-are w p i c b.fresh s d) in
-    let first = first-turn w i c marks (slots_of w p i) given l globals run.marked p (e ∙ ap (λ (x : Running). Some x) same) (λ k. refl) (omega arith) in
-    let rest = more-turns w i c marks (slots_of w p i) given l globals run.marked n 1 (after w p (Turn i marks)) first.1 (omega arith) in
-    let q : Machine = after_all w p (replicate (suc n) (Turn i marks)) in
-    let before : Store = store_after w c (1 + n) in record {
-      count = suc n;
-      happen = (first.0, rest.happen);
-      ends = (
-        at_turn c (1 + n),
-        rest.at.calls,
-        cannot-turn w c l (1 + n) (omega arith),
-        λ need.
-            let base : MemoryContents = slots_of w p i Memory in
-            let there : slots_of w q i Memory ≡ turned w.limits.pages before marks Memory base = rest.at.contents Memory need in
-            let now = marked w i c marks (slots_of w p i) given l globals run.marked need (1 + n) (omega arith) in
-            let end : Marks base.bytes (filled w.limits.pages (last_store w c).memory) base.marks marks =
-            subst (λ (t : Store). Marks base.bytes (filled w.limits.pages t.memory) base.marks marks) (sym last) (run.marked need c.request.fuel r (omega arith) run.gives) in record {
-              changed = λ j h. end.changed j h ∙ sym (now.changed j h) ∙ ap (λ (y : MemoryContents). slice_index y.bytes j) (sym there);
-              kept = λ j h. ap (λ (y : MemoryContents). is_marked y.marks j) there ∙ h;
-            },
-      );
-      contents = λ k need. end-slots w q i (at_turn c (1 + n)) marks k rest.at.calls need
-          ∙ ap (turned w.limits.pages (last_store w c) marks k) (rest.at.contents k need)
-          ∙ turned-twice w.limits.pages before (last_store w c) marks marks k (slots_of w p i k) (globals (1 + n) c.request.fuel)
-          ∙ ap (λ (t : Store). turned w.limits.pages t marks k (slots_of w p i k)) last ∙ sym (run.left k need);
-    }
+-- what comes of a call from here to where it can make no turn more
+module _ (w : World) (p : Machine) (i : ℕ) (c : Running) (to : ℕ) (new : (k : Kind) → Contents k) (marks : List Bool) (r : CallResult) (b : Begun w p i c) (e : p.calls i ≡ Some c)
+    (within : to ≤ c.request.fuel) (over : CanTurn w (at_turn c to) → ⊥) (gives : result w c to ≡ Some r)
+    (left : (k : Kind) → needs k c.request.named.tree ≡ true → new k ≡ turned w.limits.pages r.store marks k (slots_of w p i k))
+    (each : needs Memory c.request.named.tree ≡ true → (t : ℕ) (x : CallResult) → c.turns ≤ t → t ≤ to → result w c t ≡ Some x → Marks (slots_of w p i Memory).bytes (filled w.limits.pages x.store.memory) (slots_of w p i Memory).marks marks) where
+  given : is_some (result w c to) ≡ true
+  given = ap is_some gives
+
+  last : last_store w c ≡ r.store
+  last = over-as w c to within over (store_or c.begun) (with_more-store c.begun) ∙ ap (store_or c.begun) gives
+
+  pub ends-with : answer w c ≡ Some (r.outcome, answer_of r)
+  ends-with = over-as w c to within over told with_more-told ∙ ap told gives
+
+  ends-by : (l : Lasts w c to) (n : ℕ) → c.turns + n ≡ l.count → AreItsTurns w p i c new marks
+  ends-by l zero is =
+      let le = l.within in
+      let stuck : CanTurn w c → ⊥ = cannot-turn w c to within given l over c.turns (omega (arith, is)) in record {
+        count = 0;
+        happen = tt;
+        ends = (c, e, stuck, λ need. subst (λ (s : Store). Marks (slots_of w p i Memory).bytes (filled w.limits.pages s.memory) (slots_of w p i Memory).marks marks) (sym last) (each need to r (omega (arith, is)) (omega arith) gives));
+        contents = λ k need. end-slots w p i c marks k e need ∙ ap (λ (s : Store). turned w.limits.pages s marks k (slots_of w p i k)) last ∙ sym (left k need);
+      }
+  ends-by l (suc n) is = let s = b.sound in
+      let le = l.within in
+      let globals : (a d : ℕ) → length (store_after w c a).globals ≡ length (store_after w c d).globals = λ a d. globals-are w p i c b.fresh s a ∙ sym (globals-are w p i c b.fresh s d) in
+      let t : ℕ = c.turns + suc n in
+      let made = some-turns w i c marks (slots_of w p i) c.turns to within given l globals each n p e (λ k. refl) (omega (arith, is)) in
+      let q : Machine = after_all w p (replicate (suc n) (Turn i marks)) in
+      let before : Store = store_after w c t in record {
+        count = suc n;
+        happen = made.happen;
+        ends = (
+          at_turn c t,
+          made.at.calls,
+          cannot-turn w c to within given l over t is,
+          λ need.
+              let base : MemoryContents = slots_of w p i Memory in
+              let there : slots_of w q i Memory ≡ turned w.limits.pages before marks Memory base = made.at.contents Memory need in
+              let now = marked w i c marks (slots_of w p i) c.turns to within given l globals each need t (omega arith) (omega (arith, is)) in
+              let end : Marks base.bytes (filled w.limits.pages (last_store w c).memory) base.marks marks =
+              subst (λ (x : Store). Marks base.bytes (filled w.limits.pages x.memory) base.marks marks) (sym last) (each need to r (omega (arith, is)) (omega arith) gives) in record {
+                changed = λ j h. end.changed j h ∙ sym (now.changed j h) ∙ ap (λ (y : MemoryContents). slice_index y.bytes j) (sym there);
+                kept = λ j h. ap (λ (y : MemoryContents). is_marked y.marks j) there ∙ h;
+              },
+        );
+        contents = λ k need. end-slots w q i (at_turn c t) marks k made.at.calls need
+            ∙ ap (turned w.limits.pages (last_store w c) marks k) (made.at.contents k need)
+            ∙ turned-twice w.limits.pages before (last_store w c) marks marks k (slots_of w p i k) (globals t c.request.fuel)
+            ∙ ap (λ (x : Store). turned w.limits.pages x marks k (slots_of w p i k)) last ∙ sym (left k need);
+      }
+
+  -- it is so many turns, of those that it has, and its end
+  pub ends-are : (l : Lasts w c to) → c.turns ≤ l.count → AreItsTurns w p i c new marks
+  ends-are l le = ends-by l (l.count - c.turns) (omega arith)
 
 -- ---- the start function's run and the export's
 
@@ -346,15 +419,20 @@ module _ (pages : ℕ) (m : ModuleTree) (limits : Terms) (x : ℕ) (arguments : 
   whole-is (Some y) run = whole-by y run run.first.outcome refl run.goes_on
 
 pub runs-are-turns : RunsAreTurns
-runs-are-turns w p i c new marks r calls none runs = let g = good-at w p calls.reached in let x = found w p i (p.calls i) (g.0 i) c (g.1.calls i) calls.calls in
-    let q : Request = c.request in let m : ModuleTree = q.named.tree in let s = x.2 in let f = fits w q.named s.is_module in
+runs-are-turns w p i c new marks r calls none runs = let b = begun-at w p i c calls in let s = b.sound in
+    let q : Request = c.request in let m : ModuleTree = q.named.tree in let f = fits w q.named s.is_module in
     let limits : Terms = terms_of w.limits q.sent in
     let wide : (s : Store) (g : ℕ) (y : ℕ) (args : List Val) (r : CallResult) → IsInstance m w.limits.pages (fresh_store m).table s → function_result m limits y args s g ≡ Some r → IsInstance m w.limits.pages (fresh_store m).table r.store =
     λ s g y args r is e. function-keeps m limits (IsInstance m w.limits.pages (fresh_store m).table) (instance-kept m limits (fresh_store m).table) y args s g r is e in
     let begins : IsInstance m w.limits.pages (fresh_store m).table c.begun = subst (IsInstance m w.limits.pages (fresh_store m).table) (sym s.begun_is) (fresh-instance m f.misfit w.limits.pages f.size) in
     let run = whole-is w.limits.pages m limits q.function q.arguments c.begun q.fuel (slots_of w p i) new marks r wide begins m.start runs in
-    let l = lasts w c q.fuel in
-    (runs-are w p i c new marks r (record { f = g.0; good = g.1; fresh = x.0; sound = s }) calls.calls none run l l.count refl, ap told run.gives)
+    let over : CanTurn w (at_turn c q.fuel) → ⊥ = λ can. let lt = can.fuel in absurd (omega arith) in
+    let each : needs Memory m ≡ true → (t : ℕ) (x : CallResult) → c.turns ≤ t → t ≤ q.fuel → result w c t ≡ Some x → Marks (slots_of w p i Memory).bytes (filled w.limits.pages x.store.memory) (slots_of w p i Memory).marks marks =
+    λ need t x late le e. run.marked need t x le e in
+    let all : q.fuel ≤ q.fuel = omega arith in (
+      ends-are w p i c q.fuel new marks r b calls.calls all over run.gives run.left each (lasts w c q.fuel) (omega (arith, none)),
+      ends-with w p i c q.fuel new marks r b calls.calls all over run.gives run.left each,
+    )
 
 pub preparing-twice : PreparingTwiceIsOnce
 preparing-twice w p m k n e is = prepared-twice w m is k (p.contents k n) ((good-at w p e).1.kept k n)

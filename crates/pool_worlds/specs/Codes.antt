@@ -14,6 +14,8 @@ use Rattle.wasm_types.specs.contracts.types.Limits as limits
 use Rattle.wasm_types.specs.contracts.types.GlobalType as global_type
 use Rattle.wasm_types.specs.contracts.module.Import as import_
 use Rattle.wasm_types.specs.contracts.module.Export as export_
+use Rattle.wasm_types.specs.contracts.module.Module as module_
+use Rattle.wasm_types.specs.declared.module.Module.{Module}
 use Rattle.wasm_types.specs.contracts.instr.Instr as instruction
 use Rattle.wasm_types.specs.Tree.{Code, End, Plain, Block, Loop, If, Call, CallIndirect, FunctionTree, GlobalTree, ElementTree, DataTree, ModuleTree}
 use Rattle.pool_worlds.specs.Contents.{Named, MemoryContents, TableContents}
@@ -149,8 +151,8 @@ coded_module =
 
 abbrev pub coded_named : Coded Named
 coded_named =
-    code_by (ℕ × (ℕ × ModuleTree)) (coded× coded_ℕ (coded× coded_ℕ coded_module))
-    (λ m. (m.number, (m.tag, m.tree))) (λ p. record { number = p.0; tag = p.1.0; tree = p.1.1 }) (λ _. refl)
+    code_by (ℕ × (ℕ × (ModuleTree × Module))) (coded× coded_ℕ (coded× coded_ℕ (coded× coded_module module_.the_row.coded)))
+    (λ m. (m.number, (m.tag, (m.tree, m.code)))) (λ p. record { number = p.0; tag = p.1.0; tree = p.1.1.0; code = p.1.1.1 }) (λ _. refl)
 
 -- ---- contents
 

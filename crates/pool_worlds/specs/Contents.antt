@@ -1,16 +1,18 @@
 -- What lies in a slot of each kind: how it is prepared and cleared, and when it may lie under a state word.
 use Rattle.std.specs.Prelude.{◌≡◌, ℕ, ◌+◌, ◌-◌, ◌*◌, ◌/◌, ◌==◌, Bool, true, false, List, [], ◌∷◌, ◌++◌, Option, Some, None, length, take, drop, map, replicate, slice_index, slice_index_or, nat_lt, if◌then◌else◌}
 use Rattle.wasm_types.specs.declared.outcome.Val.{Val}
+use Rattle.wasm_types.specs.declared.module.Module.{Module}
 use Rattle.wasm_types.specs.Tree.{ModuleTree}
 use Rattle.wasm_spec.specs.Store.{Store, fresh_store, minimum_of, page_size}
 use Rattle.pool_core.specs.declared.words.State.{State}
 use Rattle.pool_core.specs.declared.words.State.TheVariants.{Cold, Warm, Awaiting}
 
--- a loaded module, with the number under which it stands and its tag
+-- a loaded module, with the number under which it stands and its tag: its tree, and the numbered sequences by which it is run
 pub record Named : Type 0 where
   pub number : ℕ
   pub tag : ℕ
   pub tree : ModuleTree
+  pub code : Module
 
 -- an instance's ticket has its globals; beside it an instance has a memory and a table, or one of them, or neither
 pub data Kind : Type 0 where

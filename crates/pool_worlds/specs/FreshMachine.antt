@@ -3,7 +3,7 @@ use Rattle.std.specs.Prelude.{ℕ, ◌+◌, ◌==◌, if◌then◌else◌, List,
 use Rattle.wasm_types.specs.declared.outcome.Outcome.{Outcome}
 use Rattle.wasm_spec.specs.Store.{Store, fresh_store}
 use Rattle.wasm_spec.specs.Result.{CallResult, call_result}
-use Rattle.pool_worlds.specs.PoolMachine.{InstanceLimits, terms_of, Request, WorldEvent, Begin, Turn, End, store_or, told}
+use Rattle.pool_worlds.specs.PoolMachine.{InstanceLimits, terms_of, Request, WorldEvent, Begin, Turn, End, Cancel, store_or, told}
 
 pub record FreshCall : Type 0 where
   pub request : Request
@@ -42,6 +42,7 @@ abbrev pub fresh_after : InstanceLimits → FreshMachine → WorldEvent → Fres
 fresh_after l f (Begin i q) = with_fresh_call f i (Some (record { request = q; store = fresh_store q.named.tree; turns = 0 }))
 fresh_after l f (Turn i marks) = with_fresh_call f i (fresh_turn l (f i))
 fresh_after l f (End i marks) = with_fresh_call f i None
+fresh_after l f (Cancel i) = with_fresh_call f i None
 fresh_after l f e = f
 
 abbrev pub fresh_after_all : InstanceLimits → FreshMachine → List WorldEvent → FreshMachine

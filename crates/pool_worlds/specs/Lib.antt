@@ -6,3 +6,4 @@ pub mod Runs
 pub mod Worlds
 pub mod Fitting
 pub mod Histories
+pub mod Tenants

@@ -69,10 +69,12 @@ pub data WorldEvent : Type 0 where
   Prepare : (k : Kind) (s : ℕ) (m : Named) → WorldEvent
   Restore : (k : Kind) (s : ℕ) → WorldEvent
   Clear : (k : Kind) (s : ℕ) (x : Contents k) → WorldEvent
-  -- by the caller i: a call begins; it makes a turn, which leaves these marks; it ends, which leaves these marks too, and is answered
+  -- by the caller i: a call begins; it makes a turn, which leaves these marks; it ends, which leaves these marks too, and is
+  -- answered; it is given up, without an answer
   Begin : (i : ℕ) (request : Request) → WorldEvent
   Turn : (i : ℕ) (marks : List Bool) → WorldEvent
   End : (i : ℕ) (marks : List Bool) → WorldEvent
+  Cancel : (i : ℕ) → WorldEvent
 
 -- ---- slots
 
@@ -175,6 +177,7 @@ after w p (Clear k s x) = with_contents p (is_slot_of_seat p k s) (replaced k x)
 after w p (Begin i q) = begun w p i q
 after w p (Turn i marks) = after_turn w p i marks (p.calls i)
 after w p (End i marks) = after_end w p i marks (p.calls i)
+after w p (Cancel i) = with_call p i None
 
 -- ---- when an event may come
 
@@ -227,6 +230,7 @@ MayHappen w p (Clear k s x) = HasOut p k s × IsFree w p k s × IsCold w.limits.
 MayHappen w p (Begin i q) = (p.calls i ≡ None) × ((k : Kind) → needs k q.named.tree ≡ true → HasOut p k (w.seats k i)) × IsModule w q.named × IsCallable q
 MayHappen w p (Turn i marks) = MayTurn w p i marks
 MayHappen w p (End i marks) = (r : Running) × (p.calls i ≡ Some r) × ¬ (CanTurn w r) × MarksEnd w p i r marks
+MayHappen w p (Cancel i) = (r : Running) × (p.calls i ≡ Some r)
 
 -- ---- lists of events
 

@@ -1,14 +1,15 @@
 -- What a host does for one call, by the machine's contract, and the turns that it comes to.
 use Rattle.wasm_spec.specs.Execution.{Terms}
-use Rattle.std.specs.Prelude.{◌≡◌, ℕ, ◌≤◌, Bool, true, List, [], Option, Some, None, replicate}
+use Rattle.std.specs.Prelude.{◌≡◌, ℕ, ◌+◌, ◌≤◌, Bool, true, List, [], Option, Some, None, replicate}
 use Rattle.wasm_types.specs.declared.outcome.Val.{Val}
 use Rattle.wasm_types.specs.declared.outcome.Outcome.{Outcome}
 use Rattle.wasm_types.specs.declared.outcome.Outcome.TheVariants as outcome
 use Rattle.wasm_types.specs.Tree.{ModuleTree}
+use Rattle.wasm_spec.specs.MoreFuel.{is_fuel}
 use Rattle.wasm_spec.specs.Store.{Store}
 use Rattle.wasm_spec.specs.Result.{CallResult, function_result}
 use Rattle.pool_worlds.specs.Contents.{Kind, Memory, Contents, needs, filled, turned, Marks}
-use Rattle.pool_worlds.specs.PoolMachine.{World, Running, Machine, Turn, End, slots_of, terms_of, after, after_all, AllMayHappen, MayHappen}
+use Rattle.pool_worlds.specs.PoolMachine.{World, Running, Machine, Turn, End, slots_of, terms_of, result, after, after_all, AllMayHappen, MayHappen}
 
 -- What comes of a run that gives `result` on each fuel, where it is made on this fuel from these contents.
 pub record Leaves (pages : ℕ) (m : ModuleTree) (result : ℕ → Option CallResult) (fuel : ℕ) (old new : (k : Kind) → Contents k) (marks : List Bool) (r : CallResult) : Type 0 where
@@ -51,3 +52,28 @@ pub record AreItsTurns (w : World) (p : Machine) (i : ℕ) (r : Running) (new : 
   pub happen : AllMayHappen w p (replicate count (Turn i marks))
   pub ends : MayHappen w (after_all w p (replicate count (Turn i marks))) (End i marks)
   pub contents : (k : Kind) → needs k r.request.named.tree ≡ true → slots_of w (after w (after_all w p (replicate count (Turn i marks))) (End i marks)) i k ≡ new k
+
+-- ---- slices
+
+-- What comes of turns of a run that gives `result` on each fuel, from this number of them to that, where they are made on these
+-- contents.
+pub record LeavesFrom (pages : ℕ) (m : ModuleTree) (result : ℕ → Option CallResult) (from to : ℕ) (old new : (k : Kind) → Contents k) (marks : List Bool) (r : CallResult) : Type 0 where
+  pub gives : result to ≡ Some r
+  -- as of a run
+  pub left : (k : Kind) → needs k m ≡ true → new k ≡ turned pages r.store marks k (old k)
+  pub marked : needs Memory m ≡ true → (turns : ℕ) (x : CallResult) → from ≤ turns → turns ≤ to → result turns ≡ Some x
+      → Marks (old Memory).bytes (filled pages x.store.memory) (old Memory).marks marks
+  -- without a turn a run that goes on marks nothing
+  pub still : needs Memory m ≡ true → is_fuel r.outcome ≡ true → to ≡ from → marks ≡ (old Memory).marks
+
+-- what a host does for a slice of a call that runs: its turns from those that it has made to so many
+abbrev pub HostResumes : World → Running → (to : ℕ) → (old new : (k : Kind) → Contents k) → List Bool → CallResult → Type 0
+HostResumes w c to old new marks r = LeavesFrom w.limits.pages c.request.named.tree (result w c) c.turns to old new marks r
+
+-- turns of the call up to so many, each of which may happen, leave the slots with these contents
+pub record AreTurnsTo (w : World) (p : Machine) (i : ℕ) (r : Running) (to : ℕ) (new : (k : Kind) → Contents k) (marks : List Bool) : Type 0 where
+  pub count : ℕ
+  pub reach : r.turns + count ≡ to
+  pub happen : AllMayHappen w p (replicate count (Turn i marks))
+  pub calls : (after_all w p (replicate count (Turn i marks))).calls i ≡ Some (record r { turns = to })
+  pub contents : (k : Kind) → needs k r.request.named.tree ≡ true → slots_of w (after_all w p (replicate count (Turn i marks))) i k ≡ new k

@@ -1,11 +1,11 @@
 -- What callers can see of a pool: the same as of fresh instances, so the same in any two worlds.
-use Rattle.std.specs.Prelude.{◌≡◌, ℕ, ◌*◌, ◌≤◌, Bool, true, List, Option, Some, None, slice_index, ◌++◌, ◌==◌, if◌then◌else◌, slice_get, [], ◌∷◌}
+use Rattle.std.specs.Prelude.{◌≡◌, ℕ, ◌*◌, ◌≤◌, ◌⊎◌, Bool, true, List, Option, Some, None, slice_index, ◌++◌, ◌==◌, if◌then◌else◌, slice_get, [], ◌∷◌}
 use Rattle.wasm_types.specs.declared.outcome.Outcome.{Outcome}
 use Rattle.wasm_spec.specs.Store.{Store, page_size}
 use Rattle.wasm_spec.specs.Result.{CallResult, answer_of}
 use Rattle.pool_worlds.specs.Contents.{Named, Kind, Memory, MemoryContents, Contents, prepared, needs, shown}
-use Rattle.pool_worlds.specs.PoolMachine.{World, Request, Running, Machine, WorldEvent, slots_of, answer, after_all, AllMayHappen, IsOpening, IsModule, End, after}
-use Rattle.pool_worlds.specs.Runs.{HostRuns, AreItsTurns}
+use Rattle.pool_worlds.specs.PoolMachine.{World, Request, Running, Machine, WorldEvent, slots_of, answer, after_all, AllMayHappen, IsOpening, IsModule, End, after, result, IsFuelEnd, CanTurn}
+use Rattle.pool_worlds.specs.Runs.{HostRuns, AreItsTurns, HostResumes, AreTurnsTo}
 use Rattle.pool_worlds.specs.FreshMachine.{FreshCall, FreshMachine, fresh_answer, fresh_after_all, nothing_runs}
 
 -- the bytes past the size are zero
@@ -94,6 +94,20 @@ AnswersAgree = (w v : World) (p q : Machine) (es ds : List WorldEvent) (i j n m 
 abbrev pub RunsAreTurns : Type 0
 RunsAreTurns = (w : World) (p : Machine) (i : ℕ) (c : Running) (new : (k : Kind) → Contents k) (marks : List Bool) (r : CallResult) → Calls w p i c → c.turns ≡ 0
     → HostRuns w c (slots_of w p i) new marks r → AreItsTurns w p i c new marks × (answer w c ≡ Some (r.outcome, answer_of r))
+
+-- a call that has made no turn, or waits for its next
+abbrev pub IsPaused : World → Running → Type 0
+IsPaused w c = (c.turns ≡ 0) ⊎ IsFuelEnd (result w c c.turns)
+
+-- Turns of a call up to so many, after which it goes on; or turns up to its end, and its end, with its answer.
+pub record AreTurnsOf (w : World) (p : Machine) (i : ℕ) (c : Running) (to : ℕ) (new : (k : Kind) → Contents k) (marks : List Bool) (r : CallResult) : Type 0 where
+  pub goes_on : CanTurn w (record c { turns = to }) → AreTurnsTo w p i c to new marks
+  pub ends : ¬ (CanTurn w (record c { turns = to })) → AreItsTurns w p i c new marks × (answer w c ≡ Some (r.outcome, answer_of r))
+
+-- What a host does for a slice of a paused call is turns of it.
+abbrev pub SlicesAreTurns : Type 0
+SlicesAreTurns = (w : World) (p : Machine) (i : ℕ) (c : Running) (to : ℕ) (new : (k : Kind) → Contents k) (marks : List Bool) (r : CallResult) → Calls w p i c → IsPaused w c
+    → c.turns ≤ to → to ≤ c.request.fuel → HostResumes w c to (slots_of w p i) new marks r → AreTurnsOf w p i c to new marks r
 
 -- To prepare what is prepared for the same module changes nothing. So a pool's take may prepare before the call begins.
 abbrev pub PreparingTwiceIsOnce : Type 0

@@ -1,6 +1,7 @@
 //! What holds of every pool in use. Each function does nothing: its contract is the law.
-ghost use Rattle.pool_worlds.specs.Worlds.{AlwaysShadow, TwoWorldsAgree, AnswersAgree, RunsAreTurns, PreparingTwiceIsOnce};
+ghost use Rattle.pool_worlds.specs.Worlds.{AlwaysShadow, TwoWorldsAgree, AnswersAgree, RunsAreTurns, SlicesAreTurns, PreparingTwiceIsOnce};
 ghost use Rattle.pool_worlds.specs.Histories.{StepsAreHistories};
+ghost use Rattle.pool_worlds.specs.Tenants.{OwnEventsDecide, WarmSlotsStayWithin};
 ghost use Rattle.pool_worlds.specs.Fitting.{FreeSlotsFit, ClearedFitsCold, RestoredFitsWarm, UsedFitsAwaiting, TablesFitWarm};
 
 /// Whatever events came since the opening, each running call has the store of a fresh instance after as many turns, with nothing past the memory's size, and will be answered as that is.
@@ -17,6 +18,11 @@ pub fn two_worlds()
 /// A run of the machine on all of a call's fuel, as its contract says it, is turns of the call, after which it ends.
 pub fn runs_are_turns()
     ensures { RunsAreTurns }
+{}
+
+/// A slice of a paused call, as the contract of what makes it says it, is turns of the call: as many as the slice has, where the call goes on, or those up to its end, and its end.
+pub fn slices_are_turns()
+    ensures { SlicesAreTurns }
 {}
 
 /// To prepare what is prepared for the same module already changes nothing.
@@ -36,4 +42,14 @@ pub fn contents_fit_their_words()
 /// Whatever events came since the opening, those of one kind's pool among them are a history of that pool: a list of its own events from its opening, none of which it refuses, that leads to it as it stands.
 pub fn steps_are_histories()
     ensures { StepsAreHistories }
+{}
+
+/// Where the events of one tenant's passes are the same list in two worlds of tenants, modules' numbers included, its pools have the same words, counts and seats after them, its callers the same running calls on the same instances, what its claims read is the same, and so is what its callers are answered. Other tenants may have and do anything.
+pub fn own_events_decide()
+    ensures { OwnEventsDecide }
+{}
+
+/// Whatever events came since the pools of several tenants opened, the slots of a kind that are warm while nobody holds them are, of all tenants together, no more than their limits add up to.
+pub fn warm_slots_stay_within()
+    ensures { WarmSlotsStayWithin }
 {}

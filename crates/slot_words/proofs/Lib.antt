@@ -8,7 +8,7 @@ mod HistoryAccounts
 mod HistorySteps
 mod Holdings
 mod KindSums
-mod Lookups
+pub mod Lookups
 mod NotedSums
 mod OneCount
 mod Openings

@@ -54,7 +54,7 @@ module _ {V : Type 0} (fits : State → ℕ → V → Type 0) (room : V → List
   ClockCountsStamps = (bounds : Bounds) (s : TableState (Option V) PassView) → IsKept fits room bounds s
       → slice_index_or s.words (length s.homes + 2) 0 ≡ count_by is_stamp (all_operations s.views) % 2 ^ 64
 
-  -- All steps of all passes, in the order in which they came, are one list of events from the opening, none of which is refused where it comes. It leads to what is shown. Each pass's trail, and each trail that was joined into it, is what that trail's seat noted of it.
+  -- All steps of all passes, in some order, are one list of events from the opening, none of which is refused where it comes. The order need not be that in time: the list of a later moment need not go on from that of an earlier one. It leads to what is shown. Each pass's trail, and each trail that was joined into it, is what that trail's seat noted of it.
   abbrev pub OneHistory : Type 0
   OneHistory = (bounds : Bounds) (s : TableState (Option V) PassView) → IsKept fits room bounds s
       → (core : PoolCore) × Shows fits room bounds core s × IsHistory (opening_of bounds core) core s.views

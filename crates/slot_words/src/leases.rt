@@ -4,7 +4,8 @@ ghost use Rattle.slot_words.specs.Leases.{lease_number, lease_word};
 
 use thiserror::Error;
 
-/// A slot that a claim won. It has to be spent, by `Words::release` or by [`Lease::keep`].
+/// A slot that a claim won, until `Words::release`. One that is dropped leaves its number held by the pass, as [`Lease::keep`] does.
+#[derive(Drop)]
 pub struct Lease<V> {
     pub value: V,
     pub(crate) number: u32,

@@ -1,6 +1,7 @@
 -- Functions of the host that are called from outside.
-use Rattle.std.proofs.Common.{◌≡◌, ℕ, ◌-◌, ◌^◌, ◌<◌, ◌≤◌, List, [], ◌∷◌, Bool, true, false, length, map, Option, Some, None, refl, sym, ap, ◌∙◌, subst}
-use Rattle.std.specs.Prelude.{slice_get, if◌then◌else◌, option_and_then, option_map}
+use Rattle.std.proofs.Common.{◌≡◌, ℕ, ◌-◌, ◌^◌, ◌<◌, ◌≤◌, List, [], ◌∷◌, Bool, true, false, length, map, Option, Some, None, ⊎_elim, refl, sym, ap, ◌∙◌, subst}
+use Rattle.std.specs.Prelude.{IfSome, slice_get, if◌then◌else◌, option_and_then, option_map}
+use Rattle.std.proofs.lemmas.Bool.{cases_lt}
 use Rattle.wasm_types.specs.declared.types.ValType.TheVariants as type
 use Rattle.wasm_types.specs.declared.types.FuncType.{FuncType}
 use Rattle.wasm_types.specs.declared.outcome.Val.{Val}
@@ -9,13 +10,15 @@ use Rattle.wasm_types.specs.declared.outcome.TrapKind.TheVariants as trap
 use Rattle.wasm_types.specs.declared.outcome.Outcome.{Outcome}
 use Rattle.wasm_types.specs.declared.outcome.Outcome.TheVariants as outcome
 use Rattle.wasm_types.specs.declared.host.HostFunction.{HostFunction}
+use Rattle.wasm_types.specs.declared.host.HostFunction.TheVariants as host
 use Rattle.wasm_types.specs.declared.instr.Width.TheVariants.{W32}
 use Rattle.wasm_types.specs.declared.module.Import.{Import}
 use Rattle.wasm_types.specs.declared.module.Module.{Module}
 use Rattle.wasm_types.specs.Tree.{FunctionTree, module_tree}
-use Rattle.wasm_spec.specs.Functions.{Callee, Imported, Own, callee_at, callee_type}
+use Rattle.wasm_spec.specs.Functions.{Callee, Imported, Own, callee_at, callee_type, host_type}
 use Rattle.wasm_spec.proofs.FunctionNumbers.{callee-imported, callee-past}
 use Rattle.wasm_spec.specs.Typing.{type_of}
+use Rattle.wasm_spec.specs.Validity.{IsStart, IsValid}
 use Rattle.wasm_spec.specs.Store.{Store}
 use Rattle.wasm_spec.specs.Execution.{Terms, State, Signal, Next, Branch, Returned, Trapped, OutOfFuel, Stuck, number, and_then, given, call, exec, with_operands, memory_set, answer_set, host_call}
 use Rattle.wasm_spec.specs.Result.{finish, result_of, function_result}
@@ -124,3 +127,27 @@ own_call_by m y args t (Some f) there typed fit = record { function = f; type = 
 pub own_call : (m : Module) (x : ℕ) (args : List Val) → IsCall m x args → length m.imports ≤ x → IsOwnCall m (x - length m.imports) args
 own_call m x args is le = own_call_by m (x - length m.imports) args is.type (slice_get (module_tree m).functions (x - length m.imports)) refl
     (sym (ap (option_and_then (callee_type (module_tree m))) (callee-past (module_tree m) x le)) ∙ is.typed) is.args_fit
+
+-- ---- the start function
+
+-- a valid module's is called with nothing
+pub start_call : (m : Module) (start : ℕ) → IsValid (module_tree m) → m.start ≡ Some start → IsCall m start []
+start_call m start valid is =
+    let s : IsStart (module_tree m) start = subst (λ (o : Option ℕ). IfSome o (IsStart (module_tree m))) is valid.start in
+    record { type = s.type; typed = s.there; args_fit = sym s.no_params }
+
+-- each function of the host has a result
+gives_one : (f : HostFunction) → (host_type f).results ≡ [] → ⊥
+gives_one host.Len e = cc
+gives_one host.Read e = cc
+gives_one host.Write e = cc
+
+-- so it is none of them
+pub start_own : (m : Module) (frame start : ℕ) → IsRunnable m frame → m.start ≡ Some start → length m.imports ≤ start
+start_own m frame start run is = ⊎_elim (λ (lt : start < length m.imports). absurd (imported lt)) (λ (le : length m.imports ≤ start). le) (cases_lt start (length m.imports)) where
+  imported : start < length m.imports → ⊥
+  imported lt =
+      let s : IsStart (module_tree m) start = subst (λ (o : Option ℕ). IfSome o (IsStart (module_tree m))) is run.valid.start in
+      let limits : Terms = record { pages = 0; depth = 0; request = [] } in
+      let h = outside_callee m limits frame start [] run (record { type = s.type; typed = s.there; args_fit = sym s.no_params }) lt in
+      gives_one h.function (sym h.results ∙ s.no_results)

@@ -1,24 +1,32 @@
 -- Whole runs.
-use Rattle.wasm_spec.specs.Execution.{Terms}
-use Rattle.std.proofs.Common.{◌≡◌, ℕ, ◌+◌, ◌-◌, ◌*◌, ◌<◌, ◌≤◌, List, [], ◌∷◌, ◌++◌, length, reverse, Option, Some, refl, sym, ap, ◌∙◌, arith, length-append, mul-le-mul_right}
+use Rattle.std.proofs.Common.{◌≡◌, ℕ, ◌+◌, ◌-◌, ◌*◌, ◌<◌, ◌≤◌, List, [], ◌∷◌, ◌++◌, length, take, reverse, Option, Some, refl, sym, ap, ◌∙◌, subst, arith, length-append, mul-le-mul_right}
 use Rattle.std.specs.Prelude.{slice_get, vec_capacity}
+use Rattle.std.proofs.Math.Seq.{take-append_seam}
 use Rattle.std.proofs.lemmas.List.{reverse-append, reverse-reverse, length-reverse, length-map}
 use Rattle.wasm_types.specs.declared.types.FuncType.{FuncType}
 use Rattle.wasm_types.specs.declared.outcome.Val.{Val}
 use Rattle.wasm_types.specs.declared.outcome.TrapKind.{TrapKind}
+use Rattle.wasm_types.specs.declared.outcome.Outcome.{Outcome}
 use Rattle.wasm_types.specs.declared.outcome.Outcome.TheVariants as outcome
 use Rattle.wasm_types.specs.declared.module.Module.{Module}
-use Rattle.wasm_types.specs.Tree.{function_tree, module_tree}
+use Rattle.wasm_types.specs.declared.profile.Profile.TheVariants.{Three}
+use Rattle.wasm_types.specs.Tree.{function_tree, global_tree, module_tree}
 use Rattle.wasm_spec.specs.Typing.{params_or_none, type_of}
 use Rattle.wasm_spec.specs.Store.{Store}
-use Rattle.wasm_spec.specs.Execution.{Trapped, OutOfFuel, ended}
-use Rattle.wasm_spec.specs.Result.{function_result, result_of, run_function}
+use Rattle.wasm_spec.specs.Validity.{IsSupported, IsValid}
+use Rattle.wasm_spec.specs.Execution.{Terms, Trapped, Ended, ended}
+use Rattle.wasm_spec.specs.Result.{CallResult, result_of}
+use Rattle.wasm_validate.specs.Locals.{HaveNoEmptyRun}
+use Rattle.linear_memory.specs.declared.memory.Memory.{Memory}
 use Rattle.machine_steps.specs.declared.machine.Machine.{Machine}
-use Rattle.wasm_machine.specs.Calls.{IsOwnCall}
+use Rattle.machine_steps.specs.Lent.{store_of}
 use Rattle.machine_steps.specs.StackLayout.{HasRoom}
+use Rattle.wasm_machine.specs.Calls.{FitsFrame, IsOwnCall}
 use Rattle.wasm_machine.specs.Remaining.{function_of}
-use Rattle.wasm_machine.specs.TypedConfiguration.{IsRunnable, local_types}
-use Rattle.wasm_machine.specs.Simulation.{IsOver, after}
+use Rattle.wasm_machine.specs.Lent.{lent_store, own}
+use Rattle.wasm_machine.specs.TypedConfiguration.{IsRunnable, IsTypedStore, local_types}
+use Rattle.wasm_machine.specs.Resuming.{HasEnded, IsOutOfFuel}
+use Rattle.wasm_machine.specs.Simulation.{IsOver, Simulates, after}
 use Rattle.wasm_machine.proofs.CallLemmas.{body_resumes, type_known}
 use Rattle.wasm_machine.proofs.BlockLemmas.{frame_fits}
 
@@ -35,19 +43,23 @@ first_of (z ∷ zs) =
 pub top_is : (xs : List Val) → slice_get (reverse xs) 0 ≡ slice_get xs (length xs - 1)
 top_is xs = first_of (reverse xs) ∙ ap (λ (l : List Val). slice_get l (length (reverse xs) - 1)) (reverse-reverse xs) ∙ ap (λ (n : ℕ). slice_get xs (n - 1)) (length-reverse xs)
 
-pub done_result : (m : Module) (limits : Terms) (x : ℕ) (args : List Val) (machine : Machine) (before store : Store) (fuel left : ℕ) (v : Option Val) → left ≤ fuel → v ≡ slice_get (reverse machine.values.items) 0
-    → IsOver m machine store (after (fuel - left) (run_function (module_tree m) limits x args before)) → function_result (module_tree m) limits x args before fuel ≡ Some (record { outcome = outcome.Done v; store = store; fuel = left })
-done_result m limits x args machine before store fuel left v le top over =
-    ap (λ (n : ℕ). function_result (module_tree m) limits x args before n) (omega arith) ∙ ap result_of (over.goes left)
-    ∙ ap (λ (o : Option Val). Some (record { outcome = outcome.Done o; store = store; fuel = left })) (sym top)
+-- it ends after so much fuel, and leaves the rest
+pub at_fuel : (r : ℕ → Ended) (fuel left : ℕ) (y : ℕ → Option CallResult) → left ≤ fuel → ((more : ℕ) → result_of (r (fuel - left + more)) ≡ y more) → result_of (r fuel) ≡ y left
+at_fuel r fuel left y le h = ap (λ (n : ℕ). result_of (r n)) (omega arith) ∙ h left
 
-pub trap_result : (m : Module) (limits : Terms) (x : ℕ) (args : List Val) (before store : Store) (fuel left : ℕ) (t : TrapKind) → left ≤ fuel
-    → ((g : ℕ) → run_function (module_tree m) limits x args before ((fuel - left) + g) ≡ ended (Trapped t store) g) → function_result (module_tree m) limits x args before fuel ≡ Some (record { outcome = outcome.Trap t; store = store; fuel = left })
-trap_result m limits x args before store fuel left t le h = ap (λ (n : ℕ). function_result (module_tree m) limits x args before n) (omega arith) ∙ ap result_of (h left)
+pub done_at : (m : Module) (machine : Machine) (store : Store) (r : ℕ → Ended) (spent : ℕ) (v : Option Val) → v ≡ slice_get (reverse machine.values.items) 0 → IsOver m machine store (after spent r)
+    → (more : ℕ) → result_of (r (spent + more)) ≡ Some (record { outcome = outcome.Done v; store = store; fuel = more })
+done_at m machine store r spent v top over more = ap result_of (over.goes more) ∙ ap (λ (o : Option Val). Some (record { outcome = outcome.Done o; store = store; fuel = more })) (sym top)
 
-pub fuel_result : (m : Module) (limits : Terms) (x : ℕ) (args : List Val) (before store : Store) (fuel : ℕ)
-    → run_function (module_tree m) limits x args before fuel ≡ ended (OutOfFuel store) 0 → function_result (module_tree m) limits x args before fuel ≡ Some (record { outcome = outcome.Fuel; store = store; fuel = 0 })
-fuel_result m limits x args before store fuel h = ap result_of h
+pub trapped_at : (store : Store) (r : ℕ → Ended) (spent : ℕ) (t : TrapKind) → ((g : ℕ) → r (spent + g) ≡ ended (Trapped t store) g)
+    → (more : ℕ) → result_of (r (spent + more)) ≡ Some (record { outcome = outcome.Trap t; store = store; fuel = more })
+trapped_at store r spent t h more = ap result_of (h more)
+
+-- what has ended is not out of fuel
+pub not_both : (o : Outcome) → HasEnded o → IsOutOfFuel o → ⊥
+not_both outcome.Fuel ended out = ended
+not_both (outcome.Done v) ended out = out
+not_both (outcome.Trap t) ended out = out
 
 -- room for the first frame
 pub first_frame : (m : Module) (limits : Terms) (frame x : ℕ) (args : List Val) (machine : Machine) → IsRunnable m frame → IsOwnCall m x args → 0 < limits.depth → HasRoom limits.depth frame machine
@@ -66,3 +78,29 @@ pub less_room : (depth frame depth' : ℕ) (machine : Machine) → depth' ≤ de
 less_room depth frame depth' machine le room =
     let less : depth' * frame ≤ depth * frame = mul-le-mul_right frame le in
     record { values = let a = room.values in omega arith; labels = let a = room.labels in omega arith; frames = let a = room.frames in omega arith }
+
+-- ---- runs on lent parts
+
+-- the machine has a module that equals the valid one
+pub runnable_as : (n m : Module) (frame : ℕ) → n ≡ m → IsSupported Three (module_tree m) → IsValid (module_tree m) → FitsFrame m frame → HaveNoEmptyRun m → IsRunnable n frame
+runnable_as n m frame same supported valid needs locals =
+    subst (λ (p : Module). IsRunnable p frame) (sym same) (record { supported = supported; valid = valid; needs = needs; locals = locals })
+
+-- of the globals it is lent as many as the module has
+pub stands_inside : (n m : Module) (limits : Terms) (frame : ℕ) (machine : Machine) (memory : Memory) (table : List (Option ℕ)) (globals : List Val) (answer : List ℕ) (count : ℕ) (r : ℕ → Ended) → n ≡ m → count ≡ length n.globals
+    → Simulates m limits frame machine (lent_store m memory table globals answer) r → Simulates n limits frame machine (store_of memory table (take count globals) answer) r
+stands_inside n m limits frame machine memory table globals answer count r same counted h =
+    subst (λ (k : ℕ). Simulates n limits frame machine (store_of memory table (take k globals) answer) r) (sym (counted ∙ ap (λ (p : Module). length p.globals) same))
+    (subst (λ (p : Module). Simulates p limits frame machine (lent_store m memory table globals answer) r) (sym same) h)
+
+-- the module's own globals are as many as it has
+own_there : (m : Module) (store : Store) (globals : List Val) → store.globals ≡ own m globals → IsTypedStore m store → length (own m globals) ≡ length m.globals
+own_there m store globals is typed =
+    ap length (sym is) ∙ sym (length-map store.globals type_of) ∙ ap length typed.globals ∙ length-map (module_tree m).globals _ ∙ length-map m.globals global_tree
+
+-- and the first of what they were written back into
+pub globals_back : (n m : Module) (store : Store) (globals new rest : List Val) (count : ℕ) → n ≡ m → count ≡ length n.globals → store.globals ≡ own m globals → IsTypedStore m store
+    → length new ≡ length (take count globals) → new ≡ own m (new ++ rest)
+globals_back n m store globals new rest count same counted is typed long =
+    let all : length new ≡ length m.globals = long ∙ ap (λ (k : ℕ). length (take k globals)) (counted ∙ ap (λ (p : Module). length p.globals) same) ∙ own_there m store globals is typed in
+    sym (ap (λ (k : ℕ). take k (new ++ rest)) (sym all) ∙ take-append_seam new rest)

@@ -4,3 +4,4 @@ pub mod Simulation
 pub mod Lent
 pub mod Calls
 pub mod Room
+pub mod Resuming

@@ -1,21 +1,24 @@
-//! A function's run from its beginning to its end.
+//! A function's run, from its beginning to its end or in slices.
 ghost use Rattle.std.specs.Prelude.{◌≡◌, ℕ, ◌+◌, ◌-◌, ◌*◌, ◌<◌, ◌≤◌, ◌^◌, List, Option, Some, IsSome, length, map, option_and_then, reverse, slice_get};
 ghost use Rattle.wasm_types.specs.declared.outcome.Val.{Val as AVal};
 ghost use Rattle.wasm_types.specs.declared.limits.RunLimits.{RunLimits as Limits};
 ghost use Rattle.wasm_types.specs.declared.instr.Width.TheVariants.{W32};
 ghost use Rattle.wasm_spec.specs.Functions.{host_type};
 ghost use Rattle.wasm_spec.specs.Typing.{type_of};
-ghost use Rattle.wasm_spec.specs.Execution.{host_call, number, terms};
+ghost use Rattle.wasm_spec.specs.Execution.{Ended, Terms, host_call, number, terms};
+ghost use Rattle.wasm_spec.specs.Store.{Store};
 ghost use Rattle.wasm_types.specs.Tree.{module_tree};
 ghost use Rattle.wasm_spec.specs.Bulk.{HasFewMarks};
 ghost use Rattle.wasm_spec.specs.Instances.{room_for};
-ghost use Rattle.wasm_spec.specs.Result.{CallResult, function_result};
+ghost use Rattle.wasm_spec.specs.Result.{CallResult, function_result, result_of, run_function};
 ghost use Rattle.linear_memory.specs.Bytes.{IsMemory};
 ghost use Rattle.linear_memory.specs.Marks.{HasSameRoom, KeepsUnmarked, MarksChanges, count_marks};
 ghost use Rattle.machine_steps.specs.Lent.{store_of};
-ghost use Rattle.machine_steps.specs.StackLayout.{HasRoom, KeepsRoom};
+ghost use Rattle.machine_steps.specs.StackLayout.{KeepsRoom};
 ghost use Rattle.wasm_machine.specs.Calls.{FitsFrame, GivesOutside, IsCall, IsOwnCall, IsDone, outside};
 ghost use Rattle.wasm_machine.specs.Lent.{MarksWithin, lent_store, others};
+ghost use Rattle.wasm_machine.specs.Resuming.{CanResume, HasEnded, IsOutOfFuel, Resumes};
+ghost use Rattle.wasm_machine.specs.Simulation.{Simulates, after};
 ghost use Rattle.wasm_machine.specs.TypedConfiguration.{IsRunnable, IsTypedStore};
 
 use crate::calls::begin;
@@ -105,6 +108,7 @@ fn run_import(
     ensures result { (limits : Limits) (table : List (Option ℕ)) (globals : List AVal) (turns : ℕ)
         → function_result (module_tree m.now) (terms limits request.now) x args.now (store_of memory.old table globals answer.old) turns
         ≡ Some (record { outcome = result.outcome; store = store_of memory.new table globals answer.new; fuel = turns }) }
+    ensures ended { HasEnded result.outcome }
     ensures left { result.left ≡ fuel }
     ensures memory { (most : ℕ) → IsMemory most memory.old → IsMemory most memory.new }
     ensures marks { (added : ℕ) × MarksChanges memory.old memory.new added }
@@ -125,11 +129,9 @@ fn run_import(
     }
 }
 
-// The same of one of the module's own functions, by its number among these, over a machine and the module's own globals.
-fn run_machine(
+// Goes on from where a run stands, over a machine and the module's own globals.
+fn go_on(
     m: &Module,
-    x: usize,
-    args: &[Val],
     fuel: u64,
     limits: RunLimits,
     request: &[u8],
@@ -139,26 +141,31 @@ fn run_machine(
     answer: &mut AnswerBuf,
     machine: &mut Machine,
 ) -> RunEnd
-    requires runs { (frame : ℕ) × IsRunnable m.now frame × HasRoom limits.depth frame machine.old }
-    requires call { IsOwnCall m.now x args.now }
-    requires depth { 0 < limits.depth }
+    requires runs { (frame : ℕ) × (r : ℕ → Ended) × IsRunnable m.now frame
+        × Simulates m.now (terms limits request.now) frame machine.old (store_of memory.old table.now globals.old answer.old) r }
     requires memory { IsMemory (room_for m.now.memories limits.pages) memory.old }
-    requires store { IsTypedStore m.now (store_of memory.old table.now globals.old answer.old) }
     requires short { length request.now < 2 ^ 32 }
-    ensures result { function_result (module_tree m.now) (terms limits request.now) (length m.now.imports + x) args.now (store_of memory.old table.now globals.old answer.old) fuel
-        ≡ Some (record { outcome = result.outcome; store = store_of memory.new table.now globals.new answer.new; fuel = result.left }) }
+    ensures result { (frame : ℕ) (r : ℕ → Ended) → IsRunnable m.now frame
+        → Simulates m.now (terms limits request.now) frame machine.old (store_of memory.old table.now globals.old answer.old) r
+        → result_of (r fuel) ≡ Some (record { outcome = result.outcome; store = store_of memory.new table.now globals.new answer.new; fuel = result.left }) }
+    ensures ended { HasEnded result.outcome → (frame : ℕ) (r : ℕ → Ended) → IsRunnable m.now frame
+        → Simulates m.now (terms limits request.now) frame machine.old (store_of memory.old table.now globals.old answer.old) r → (more : ℕ)
+        → result_of (r (fuel - result.left + more)) ≡ Some (record { outcome = result.outcome; store = store_of memory.new table.now globals.new answer.new; fuel = more }) }
+    ensures stands { IsOutOfFuel result.outcome → (frame : ℕ) (r : ℕ → Ended) → IsRunnable m.now frame
+        → Simulates m.now (terms limits request.now) frame machine.old (store_of memory.old table.now globals.old answer.old) r
+        → Simulates m.now (terms limits request.now) frame machine.new (store_of memory.new table.now globals.new answer.new) (after fuel r) }
     ensures left { result.left ≤ fuel }
     ensures store { IsDone result.outcome → IsTypedStore m.now (store_of memory.new table.now globals.new answer.new) }
-    ensures marked { (turns : ℕ) (r : CallResult) → turns ≤ fuel
-        → function_result (module_tree m.now) (terms limits request.now) (length m.now.imports + x) args.now (store_of memory.old table.now globals.old answer.old) turns ≡ Some r
-        → KeepsUnmarked memory.old.bytes.items r.store.memory memory.old.marks.items memory.new.marks.items }
+    ensures marked { (frame : ℕ) (r : ℕ → Ended) → IsRunnable m.now frame
+        → Simulates m.now (terms limits request.now) frame machine.old (store_of memory.old table.now globals.old answer.old) r
+        → (turns : ℕ) (x : CallResult) → turns ≤ fuel → result_of (r turns) ≡ Some x
+        → KeepsUnmarked memory.old.bytes.items x.store.memory memory.old.marks.items memory.new.marks.items }
     ensures unspent { result.left ≡ fuel → memory.new.marks.items ≡ memory.old.marks.items }
     ensures marks { MarksWithin m.now memory.old memory.new (2 * (fuel - result.left)) }
     ensures memory { IsMemory (room_for m.now.memories limits.pages) memory.new }
     ensures globals { length globals.new ≡ length globals.old }
     ensures room { KeepsRoom machine.old machine.new }
 {
-    begin(machine, m, x, args);
     match advance(
         machine, m, limits, request, memory, table, globals, answer, fuel,
     ) {
@@ -174,6 +181,130 @@ fn run_machine(
             outcome: Outcome::Fuel,
             left: 0,
         },
+    }
+}
+
+impl Stacks {
+    // Stands at the beginning of one of the module's own functions, by its number among these, which is called with these arguments
+    // from outside. What stood there is gone.
+    fn begin(&mut self, valid: &Valid, x: usize, args: &[Val])
+        requires call { IsOwnCall valid.now x args.now }
+        requires depth { 0 < self.old.room.depth }
+        requires frame { FitsFrame valid.now self.old.room.frame }
+        ensures begins { (limits : Terms) (store : Store) → 0 < limits.depth → limits.depth ≤ self.old.room.depth → IsTypedStore valid.now store
+            → Resumes valid.now limits self.new store (run_function (module_tree valid.now) limits (length valid.now.imports + x) args.now store) }
+        ensures room { self.new.room ≡ self.old.room }
+    {
+        begin(&mut self.machine, valid.module(), x, args);
+    }
+
+    /// Goes on from where a run stands, on so much fuel, on parts that are lent to it as to [`Stacks::invoke`]. Where the fuel is used
+    /// up before the run ends, it stands at the instruction that is next, and can go on from there, whatever lay on the stacks of
+    /// others meanwhile. It takes no memory.
+    pub fn advance(
+        &mut self,
+        valid: &Valid,
+        fuel: u64,
+        limits: RunLimits,
+        memory: &mut Memory,
+        table: &[Option<u32>],
+        globals: &mut [Val],
+        request: &[u8],
+        answer: &mut AnswerBuf,
+    ) -> RunEnd
+        requires resumes { CanResume valid.now (terms limits request.now) self.old (lent_store valid.now memory.old table.now globals.old answer.old) }
+        requires frame { FitsFrame valid.now self.old.room.frame }
+        requires memory { IsMemory (room_for valid.now.memories limits.pages) memory.old }
+        requires request { length request.now ≤ 65536 }
+        ensures result { (r : ℕ → Ended) → Resumes valid.now (terms limits request.now) self.old (lent_store valid.now memory.old table.now globals.old answer.old) r
+            → result_of (r fuel) ≡ Some (record { outcome = result.outcome; store = lent_store valid.now memory.new table.now globals.new answer.new; fuel = result.left }) }
+        ensures ended { HasEnded result.outcome → (r : ℕ → Ended) → Resumes valid.now (terms limits request.now) self.old (lent_store valid.now memory.old table.now globals.old answer.old) r
+            → (more : ℕ) → result_of (r (fuel - result.left + more)) ≡ Some (record { outcome = result.outcome; store = lent_store valid.now memory.new table.now globals.new answer.new; fuel = more }) }
+        ensures stands { IsOutOfFuel result.outcome → (r : ℕ → Ended) → Resumes valid.now (terms limits request.now) self.old (lent_store valid.now memory.old table.now globals.old answer.old) r
+            → Resumes valid.now (terms limits request.now) self.new (lent_store valid.now memory.new table.now globals.new answer.new) (after fuel r) }
+        ensures left { result.left ≤ fuel }
+        ensures memory { IsMemory (room_for valid.now.memories limits.pages) memory.new }
+        ensures store { IsDone result.outcome → IsTypedStore valid.now (lent_store valid.now memory.new table.now globals.new answer.new) }
+
+        ensures marked { (r : ℕ → Ended) → Resumes valid.now (terms limits request.now) self.old (lent_store valid.now memory.old table.now globals.old answer.old) r
+            → (turns : ℕ) (x : CallResult) → turns ≤ fuel → result_of (r turns) ≡ Some x
+            → KeepsUnmarked memory.old.bytes.items x.store.memory memory.old.marks.items memory.new.marks.items }
+        ensures unspent { result.left ≡ fuel → memory.new.marks.items ≡ memory.old.marks.items }
+        ensures marks { MarksWithin valid.now memory.old memory.new (2 * (fuel - result.left)) }
+
+        ensures globals { length globals.new ≡ length globals.old }
+        ensures others { others valid.now globals.new ≡ others valid.now globals.old }
+        ensures stacks { self.new.room ≡ self.old.room }
+    {
+        let m = valid.module();
+        let count = m.globals.len();
+        go_on(
+            m,
+            fuel,
+            limits,
+            request,
+            memory,
+            table,
+            &mut globals[..count],
+            answer,
+            &mut self.machine,
+        )
+    }
+
+    /// Runs a function of a valid module from its beginning, as [`run`] does. Where the fuel is used up before the run ends, it stands
+    /// in these stacks, and [`Stacks::advance`] goes on with it. An import never stands there: it ends at once. What stood there is
+    /// gone. It takes no memory.
+    pub fn invoke(
+        &mut self,
+        valid: &Valid,
+        function: u32,
+        args: &[Val],
+        fuel: u64,
+        limits: RunLimits,
+        memory: &mut Memory,
+        table: &[Option<u32>],
+        globals: &mut [Val],
+        request: &[u8],
+        answer: &mut AnswerBuf,
+    ) -> RunEnd
+        requires call { IsCall valid.now function args.now }
+        requires depth { 0 < limits.depth }
+        requires memory { IsMemory (room_for valid.now.memories limits.pages) memory.old }
+        requires store { IsTypedStore valid.now (lent_store valid.now memory.old table.now globals.old answer.old) }
+        requires request { length request.now ≤ 65536 }
+        requires frames { limits.depth ≤ self.old.room.depth }
+        requires frame { FitsFrame valid.now self.old.room.frame }
+        ensures result { function_result (module_tree valid.now) (terms limits request.now) function args.now (lent_store valid.now memory.old table.now globals.old answer.old) fuel
+            ≡ Some (record { outcome = result.outcome; store = lent_store valid.now memory.new table.now globals.new answer.new; fuel = result.left }) }
+        ensures ended { HasEnded result.outcome → (more : ℕ)
+            → function_result (module_tree valid.now) (terms limits request.now) function args.now (lent_store valid.now memory.old table.now globals.old answer.old) (fuel - result.left + more)
+            ≡ Some (record { outcome = result.outcome; store = lent_store valid.now memory.new table.now globals.new answer.new; fuel = more }) }
+        ensures stands { IsOutOfFuel result.outcome
+            → Resumes valid.now (terms limits request.now) self.new (lent_store valid.now memory.new table.now globals.new answer.new)
+            (after fuel (run_function (module_tree valid.now) (terms limits request.now) function args.now (lent_store valid.now memory.old table.now globals.old answer.old))) }
+        ensures left { result.left ≤ fuel }
+        ensures memory { IsMemory (room_for valid.now.memories limits.pages) memory.new }
+        ensures store { IsDone result.outcome → IsTypedStore valid.now (lent_store valid.now memory.new table.now globals.new answer.new) }
+
+        ensures marked { (turns : ℕ) (r : CallResult) → turns ≤ fuel
+            → function_result (module_tree valid.now) (terms limits request.now) function args.now (lent_store valid.now memory.old table.now globals.old answer.old) turns ≡ Some r
+            → KeepsUnmarked memory.old.bytes.items r.store.memory memory.old.marks.items memory.new.marks.items }
+        ensures unspent { length valid.now.imports ≤ function → result.left ≡ fuel → memory.new.marks.items ≡ memory.old.marks.items }
+        ensures still { IsOutOfFuel result.outcome → result.left ≡ fuel → memory.new.marks.items ≡ memory.old.marks.items }
+        ensures marks { MarksWithin valid.now memory.old memory.new (2 * (fuel - result.left)) }
+
+        ensures globals { length globals.new ≡ length globals.old }
+        ensures others { others valid.now globals.new ≡ others valid.now globals.old }
+        ensures stacks { self.new.room ≡ self.old.room }
+    {
+        let m = valid.module();
+        let x = function as usize;
+        let imported = m.imports.len();
+        if x < imported {
+            return run_import(m, x, args, fuel, request, memory, answer);
+        }
+        self.begin(valid, x - imported, args);
+        self.advance(valid, fuel, limits, memory, table, globals, request, answer)
     }
 }
 
@@ -223,24 +354,7 @@ pub fn run(
     ensures others { others valid.now globals.new ≡ others valid.now globals.old }
     ensures stacks { stacks.new.room ≡ stacks.old.room }
 {
-    let m = valid.module();
-    let x = function as usize;
-    let imported = m.imports.len();
-    if x < imported {
-        return run_import(m, x, args, fuel, request, memory, answer);
-    }
-    let count = m.globals.len();
-    run_machine(
-        m,
-        x - imported,
-        args,
-        fuel,
-        limits,
-        request,
-        memory,
-        table,
-        &mut globals[..count],
-        answer,
-        &mut stacks.machine,
+    stacks.invoke(
+        valid, function, args, fuel, limits, memory, table, globals, request, answer,
     )
 }

@@ -20,7 +20,7 @@ impl Model for Stacks {
 
     ghost Value = { StacksView };
 
-    ghost view = { λ s. record { room = record { depth = s.depth; frame = s.frame } } };
+    ghost view = { λ s. record { room = record { depth = s.depth; frame = s.frame }; machine = s.machine } };
 
     ghost invariant = { λ s. HasRoom s.depth s.frame s.machine };
 }

@@ -8,8 +8,9 @@ pub mod Loading
 pub mod FuelLaws
 pub mod Equations
 pub mod StoreLaws
-pub mod ResultLaws
 pub mod MoreFuel
+pub mod ImportLaws
+pub mod ResultLaws
 pub mod NeedLaws
 pub mod StoreSizes
 pub mod FunctionNumbers

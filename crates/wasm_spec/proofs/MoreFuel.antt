@@ -241,3 +241,16 @@ module _ (d : ℕ) where
     pub result-more : (x : ℕ) (arguments : List Val) (store : Store) (fuel : ℕ) → is_fuel_end (result_from m limits x arguments store fuel) ≡ false
         → result_from m limits x arguments store (fuel + d) ≡ with_more d (result_from m limits x arguments store fuel)
     result-more x arguments store fuel e = start-more m.start x arguments store fuel e
+
+    end-kept : (d : ℕ) (o : Option CallResult) → is_fuel_end (with_more d o) ≡ is_fuel_end o
+    end-kept d None = refl
+    end-kept d (Some r) = refl
+
+    -- A call that ends for want of fuel ends so on less fuel too.
+    pub result-less : (x : ℕ) (arguments : List Val) (store : Store) (less : ℕ) → is_fuel_end (result_from m limits x arguments store (less + d)) ≡ true
+        → is_fuel_end (result_from m limits x arguments store less) ≡ true
+    result-less x arguments store less e =
+        let split : (b : Bool) → is_fuel_end (result_from m limits x arguments store less) ≡ b → is_fuel_end (result_from m limits x arguments store less) ≡ true = elim [
+          | true ↦ λ h. h
+          | false ↦ λ h. absurd (true≢false (sym e ∙ ap is_fuel_end (result-more x arguments store less h) ∙ end-kept d (result_from m limits x arguments store less) ∙ h))
+        ] in split (is_fuel_end (result_from m limits x arguments store less)) refl

@@ -1,5 +1,5 @@
 -- What a call keeps of the store that it begins with.
-use Rattle.std.proofs.Common.{◌≡◌, ℕ, ◌+◌, ◌*◌, ◌/◌, ◌≤◌, List, [], ◌∷◌, ◌++◌, length, Option, Some, None, Bool, true, false, cond, refl, sym, ap, ◌∙◌, subst, arith, length-append, length-set}
+use Rattle.std.proofs.Common.{◌≡◌, ℕ, ◌+◌, ◌*◌, ◌/◌, ◌≤◌, List, [], ◌∷◌, ◌++◌, length, Option, Some, None, Bool, true, false, true≢false, cond, refl, sym, ap, ◌∙◌, subst, arith, length-append, length-set}
 use Rattle.std.specs.Prelude.{nat_lt, slice_get, replicate, reverse, fold, find, map}
 use Rattle.std.specs.List.{enumerate_from}
 use Rattle.std.proofs.lemmas.List.{length-map, length-replicate}
@@ -17,9 +17,11 @@ use Rattle.wasm_types.specs.declared.host.HostFunction.TheVariants as host
 use Rattle.wasm_spec.specs.Functions.{Callee, Imported, Own, callee_at, host_function}
 use Rattle.wasm_spec.specs.Execution.{Terms, host_call, import_call, call, State, Signal, Next, Branch, Returned, Trapped, OutOfFuel, Stuck, pages_of, most_pages, entered, exec}
 use Rattle.wasm_spec.specs.Result.{CallResult, finish, run_function, result_by, function_result, if_done_by, if_done, after_start, result_from}
+use Rattle.wasm_spec.specs.MoreFuel.{is_fuel, is_fuel_end}
 use Rattle.wasm_spec.specs.Instances.{IsInstance, room_for}
 use Rattle.wasm_spec.proofs.FuelLaws.{with_function-spends, call-spends, exec-spends}
 use Rattle.wasm_spec.proofs.StoreSizes.{length-written, whole_pages}
+use Rattle.wasm_spec.proofs.ImportLaws.{imported-ends}
 use Rattle.wasm_spec.proofs.StoreLaws.{KeptIn, Keeps, IsKeptByChanges, given-keeps, and_then-keeps, import-keeps, invoke-keeps_at, with_function-keeps_at, exec-keeps}
 
 -- ---- results
@@ -165,28 +167,39 @@ module _ (m : ModuleTree) (limits : Terms) where
   pub result-spends : (x : ℕ) (arguments : List Val) (store : Store) (fuel : ℕ) (r : CallResult) → result_from m limits x arguments store fuel ≡ Some r → r.fuel ≤ fuel
   result-spends x arguments store fuel r e = start-spends m.start x arguments store fuel r e
 
-  two-at_zero : (next : Store → ℕ → Option CallResult) → (store : Store) → ((s : Store) (r : CallResult) → s ≡ store → next s 0 ≡ Some r → r.store ≡ store)
-      → (o : Outcome) (first r : CallResult) → first.store ≡ store → first.fuel ≡ 0 → if_done_by o first next ≡ Some r → r.store ≡ store
-  two-at_zero next store h (outcome.Done v) first r p z e = h first.store r p (ap (next first.store) (sym z) ∙ e)
-  two-at_zero next store h (outcome.Trap t) first r p z e = sym (same_store first r e) ∙ p
-  two-at_zero next store h outcome.Fuel first r p z e = sym (same_store first r e) ∙ p
+  -- where the call ends with this, and each of its two runs leaves the store
+  two-at_zero : (next : Store → ℕ → Option CallResult) (store : Store) (r : CallResult) → ((s : Store) → next s 0 ≡ Some r → r.store ≡ s)
+      → (o : Outcome) (first : CallResult) → first.store ≡ store → first.fuel ≡ 0 → if_done_by o first next ≡ Some r → r.store ≡ store
+  two-at_zero next store r h (outcome.Done v) first p z e = h first.store (ap (next first.store) (sym z) ∙ e) ∙ p
+  two-at_zero next store r h (outcome.Trap t) first p z e = sym (same_store first r e) ∙ p
+  two-at_zero next store r h outcome.Fuel first p z e = sym (same_store first r e) ∙ p
 
-  done-at_zero : (next : Store → ℕ → Option CallResult) → (store : Store) → ((s : Store) (r : CallResult) → s ≡ store → next s 0 ≡ Some r → r.store ≡ store)
-      → (o : Option CallResult) (r : CallResult) → ((first : CallResult) → o ≡ Some first → (first.store ≡ store) × (first.fuel ≡ 0)) → if_done o next ≡ Some r → r.store ≡ store
-  done-at_zero next store h None r k e = absurd (cc)
-  done-at_zero next store h (Some first) r k e = let f = k first refl in two-at_zero next store h first.outcome first r f.0 f.1 e
+  done-at_zero : (next : Store → ℕ → Option CallResult) (store : Store) (r : CallResult) → ((s : Store) → next s 0 ≡ Some r → r.store ≡ s)
+      → (o : Option CallResult) → ((first : CallResult) → o ≡ Some first → (first.store ≡ store) × (first.fuel ≡ 0)) → if_done o next ≡ Some r → r.store ≡ store
+  done-at_zero next store r h None k e = absurd (cc)
+  done-at_zero next store r h (Some first) k e = let f = k first refl in two-at_zero next store r h first.outcome first f.0 f.1 e
 
-  start-at_zero : (start : Option ℕ) (x : ℕ) (f : FunctionTree) (arguments : List Val) (store : Store) (r : CallResult) → callee_at m x ≡ Some (Own f)
+  start-at_zero : (start : Option ℕ) (x : ℕ) (arguments : List Val) (store : Store) (r : CallResult) → ((s : Store) → function_result m limits x arguments s 0 ≡ Some r → r.store ≡ s)
       → after_start m limits start (function_result m limits x arguments) store 0 ≡ Some r → r.store ≡ store
-  start-at_zero None x f arguments store r own e = function-at_zero x f arguments store r own e
-  start-at_zero (Some y) x f arguments store r own e =
-      done-at_zero (function_result m limits x arguments) store (λ s r p e. function-at_zero x f arguments s r own e ∙ p) (function_result m limits y [] store 0) r
+  start-at_zero None x arguments store r h e = h store e
+  start-at_zero (Some y) x arguments store r h e =
+      done-at_zero (function_result m limits x arguments) store r h (function_result m limits y [] store 0)
       (λ first e. (start-function-at_zero y store first e, let le = function-spends y [] store 0 first e in omega arith)) e
 
   -- without fuel a call of an own function leaves the store as it is
   pub result-at_zero : (x : ℕ) (f : FunctionTree) (arguments : List Val) (store : Store) (r : CallResult) → callee_at m x ≡ Some (Own f)
       → result_from m limits x arguments store 0 ≡ Some r → r.store ≡ store
-  result-at_zero x f arguments store r own e = start-at_zero m.start x f arguments store r own e
+  result-at_zero x f arguments store r own e = start-at_zero m.start x arguments store r (λ s e. function-at_zero x f arguments s r own e) e
+
+  unfinished-function : (x : ℕ) (arguments : List Val) (store : Store) (r : CallResult) → is_fuel r.outcome ≡ true
+      → function_result m limits x arguments store 0 ≡ Some r → r.store ≡ store
+  unfinished-function x arguments store r out e = at_zero x arguments store r
+      (λ i there. absurd (true≢false (sym out ∙ ap is_fuel_end (sym e) ∙ imported-ends m limits x i (outside arguments store) 0 there))) e
+
+  -- and so does a call of any that ends for want of it
+  pub result-unfinished : (x : ℕ) (arguments : List Val) (store : Store) (r : CallResult) → is_fuel r.outcome ≡ true
+      → result_from m limits x arguments store 0 ≡ Some r → r.store ≡ store
+  result-unfinished x arguments store r out e = start-at_zero m.start x arguments store r (λ s e. unfinished-function x arguments s r out e) e
 
 -- ---- one instance
 

@@ -1,6 +1,6 @@
 //! Laws of the definitions, as contracts of functions that do nothing.
 
-ghost use Rattle.std.specs.Prelude.{◌≡◌, ◌≢◌, ◌<◌, ◌≤◌, ◌+◌, ℕ, suc, false, List, Option, Some, None, Result};
+ghost use Rattle.std.specs.Prelude.{◌≡◌, ◌≢◌, ◌<◌, ◌≤◌, ◌+◌, ℕ, suc, true, false, List, Option, Some, None, Result};
 ghost use Rattle.wasm_types.specs.declared.outcome.Val.{Val};
 ghost use Rattle.wasm_types.specs.declared.types.ValType.{ValType};
 ghost use Rattle.wasm_types.specs.declared.instr.Instr.{Instr};
@@ -84,6 +84,14 @@ pub fn more_fuel_gives_the_same()
     ensures { (m : ModuleTree) (limits : Terms) (x : ℕ) (arguments : List Val) (store : Store) (fuel more : ℕ)
         → is_fuel_end (result_from m limits x arguments store fuel) ≡ false
         → result_from m limits x arguments store (fuel + more) ≡ with_more more (result_from m limits x arguments store fuel) }
+{}
+
+/// A call that ends for want of fuel ends so on less fuel too. So whether it is unfinished after so many turns is told by their
+/// number alone, however they were cut into slices.
+pub fn less_fuel_ends_for_want_of_it()
+    ensures { (m : ModuleTree) (limits : Terms) (x : ℕ) (arguments : List Val) (store : Store) (fuel less : ℕ)
+        → less ≤ fuel → is_fuel_end (result_from m limits x arguments store fuel) ≡ true
+        → is_fuel_end (result_from m limits x arguments store less) ≡ true }
 {}
 
 /// Which modules a host runs in a profile.

@@ -507,9 +507,9 @@ fn a_frame_is_enough_or_too_small(rt: HostRuntime) -> Result<(), Fail> {
     Ok(())
 }
 
-// The summary of a load of 2,000 calls.
+// The summary of a load of 2,000 calls, made whole and in slices.
 #[test]
-fn eight_workers_and_one_have_the_same_summary(rt: HostRuntime) -> Result<(), Fail> {
+fn a_load_has_one_summary_for_all_workers_and_slices(rt: HostRuntime) -> Result<(), Fail> {
     let alloc = rt.alloc();
     let (status, load) = run(&rt, alloc, "poolhost make 7 2000", "", whole(alloc))?;
     assert_eq!(rt; status, 0);
@@ -519,6 +519,8 @@ fn eight_workers_and_one_have_the_same_summary(rt: HostRuntime) -> Result<(), Fa
     for line in [
         "poolhost run --summary --workers 1",
         "poolhost run --summary --workers 8 --memories 9 --instances 9",
+        "poolhost run --summary --workers 8 --memories 17 --instances 17 --slice 7",
+        "poolhost run --summary --workers 2 --memories 2 --instances 2 --slice 1",
     ] {
         check(&rt, alloc, line, text, written)?;
     }

@@ -13,9 +13,10 @@ use Rattle.pool_core.specs.declared.events.Event.TheVariants.{Claim, Out}
 use Rattle.pool_core.specs.PoolCore.{opening_core}
 use Rattle.pool_worlds.specs.Contents.{Named, Kind, Ticket, Memory, Table, Contents, memory_image, needs, IsCold}
 use Rattle.pool_worlds.specs.PoolMachine.{World, Request, Machine, WorldEvent, Step, Begin, Turn, End, IsModule, IsCallable, HasOut, after_all, AllMayHappen, answer, IsOpening}
+use Rattle.world_examples.proofs.NoCode.{no_code}
 
 abbrev named : Named
-named = record { number = 0; tag = 0; tree = add }
+named = record { number = 0; tag = 0; tree = add; code = no_code }
 
 abbrev world : World
 world = record { limits = record { pages = 1; elements = 0; frame = 8; depth = 4 }; shelf = λ n. named; seats = λ k i. i; apart = λ k i j e. e }

@@ -9,12 +9,13 @@ use Rattle.pool_core.specs.declared.events.Event.TheVariants.{Stamp}
 use Rattle.pool_core.specs.RefusalRules.{refusal_of}
 use Rattle.pool_worlds.specs.Contents.{Named, Ticket, Memory, Table, Marks}
 use Rattle.pool_worlds.specs.PoolMachine.{InstanceLimits, World, Step, Begin, load_limits, slot_of, terms_of, same_kind, answer, after, MayHappen, IsModule, IsOpening}
+use Rattle.world_examples.proofs.NoCode.{no_code}
 use Rattle.world_examples.proofs.FreshCalls.{set_module}
 use Rattle.world_examples.proofs.ShortCalls.{numbered, world, world_of, request_of, taken, running, running_alone, used, call_is_there}
 
 -- ---- seats: caller i has the seat i + 1
 
-abbrev beside : World
+abbrev pub beside : World
 beside = record world { seats = λ k i. i + 1; apart = λ k i j e. omega (arith, e) }
 
 slot_of_its_seat : slot_of beside taken 0 Ticket ≡ 1
@@ -70,7 +71,7 @@ no_change_without_a_mark marks = let zero_is : 0 ≡ 1 = marks.changed 0 refl in
 
 -- ---- what is no opening
 
-no_opening_with_contents : IsOpening world used → ⊥
+pub no_opening_with_contents : IsOpening world used → ⊥
 no_opening_with_contents opens = let e = (opens.cold Table 0).1 in cc (e)
 
 no_opening_with_a_call : IsOpening world (running_alone (running 0 2 0)) → ⊥
@@ -81,7 +82,7 @@ no_opening_with_a_call opens = call_is_there (opens.calls 0)
 abbrev of_two_memories : ModuleTree
 of_two_memories = record set_module { memories = record { min = 0; max = None } ∷ record { min = 0; max = None } ∷ [] }
 
-no_invalid_module : IsModule (world_of of_two_memories) (record { number = 0; tag = 0; tree = of_two_memories }) → ⊥
+no_invalid_module : IsModule (world_of of_two_memories) (record { number = 0; tag = 0; tree = of_two_memories; code = no_code }) → ⊥
 no_invalid_module is =
     let few = is.loads.answers.0.valid.one_memory in
     let same = ap (λ (m : ModuleTree). length m.memories) is.loads.answers.1 in

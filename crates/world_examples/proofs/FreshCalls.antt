@@ -10,8 +10,9 @@ use Rattle.wasm_spec.specs.Execution.{exec}
 use Rattle.wasm_spec.proofs.AddModule.{add, add_function}
 use Rattle.pool_core.specs.declared.events.Event.TheVariants.{Load}
 use Rattle.pool_worlds.specs.Contents.{Named, Ticket, Memory}
-use Rattle.pool_worlds.specs.PoolMachine.{InstanceLimits, Request, WorldEvent, Step, Prepare, Restore, Begin, Turn, End}
+use Rattle.pool_worlds.specs.PoolMachine.{InstanceLimits, Request, WorldEvent, Step, Prepare, Restore, Begin, Turn, End, Cancel}
 use Rattle.pool_worlds.specs.FreshMachine.{FreshCall, fresh_answer, fresh_after_all, nothing_runs}
+use Rattle.world_examples.proofs.NoCode.{no_code}
 
 abbrev pub limits : InstanceLimits
 limits = record { pages = 1; elements = 0; frame = 8; depth = 4 }
@@ -28,7 +29,7 @@ set_module = record add {
 }
 
 abbrev named : Named
-named = record { number = 0; tag = 0; tree = set_module }
+named = record { number = 0; tag = 0; tree = set_module; code = no_code }
 
 abbrev request : Request
 request = record { named = named; function = 0; arguments = []; sent = []; fuel = 2 }
@@ -65,6 +66,10 @@ slots_are_of_no_account = refl
 ended : after_events (Begin 3 request ∷ Turn 3 [] ∷ End 3 [] ∷ []) 3 ≡ None
 unfolding exec
 ended = refl
+
+given_up : after_events (Begin 3 request ∷ Turn 3 [] ∷ Cancel 3 ∷ []) 3 ≡ None
+unfolding exec
+given_up = refl
 
 -- the answer is that on all of its fuel
 answered : fresh_answer limits request ≡ Some (outcome.Done None, [])

@@ -30,7 +30,7 @@ abbrev writing : Instr → FunctionTree
 writing next = record { type_index = 0; locals = []; body = Plain (instr.Const (I32 0)) (Plain (instr.Const (I32 2)) (Call 1 (Plain next End))) }
 
 -- It imports `read` and `write`; its own functions write two bytes, and then the last one traps. The bytes are in its memory.
-abbrev hosted : ModuleTree
+abbrev pub hosted : ModuleTree
 hosted = record set_module {
   types = record { params = []; results = [] } ∷ record { params = type.I32 ∷ type.I32 ∷ type.I32 ∷ []; results = type.I32 ∷ [] } ∷ record { params = type.I32 ∷ type.I32 ∷ []; results = type.I32 ∷ [] } ∷ [];
   imports = record { module_name = codes "host"; item_name = codes "read"; desc = item.Func 1 } ∷ record { module_name = codes "host"; item_name = codes "write"; desc = item.Func 2 } ∷ [];
@@ -116,7 +116,7 @@ no_turns : AreItsTurns world (begun_by reads) 0 (running reads 0) (left (true �
 no_turns = record { count = 0; happen = tt; ends = read_may_end; contents = λ k needed. left_there k }
 
 -- an end that marks nothing comes after no number of turns
-same_call : {r c : Running} → ◌≡◌ {A = Option Running} (Some r) (Some c) → r ≡ c
+pub same_call : {r c : Running} → ◌≡◌ {A = Option Running} (Some r) (Some c) → r ≡ c
 same_call e = cc
 
 no_end_without_its_mark : MayHappen world (begun_by reads) (Ends 0 (false ∷ [])) → ⊥

@@ -1,3 +1,4 @@
+pub mod NoCode
 pub mod Keeper
 pub mod Scenes
 pub mod Story
@@ -9,4 +10,6 @@ mod Preparing
 mod FreshCalls
 mod ShortCalls
 mod Callers
-mod ImportCalls
+pub mod ImportCalls
+mod SliceCalls
+mod TenantCalls

@@ -9,6 +9,7 @@ use Rattle.wasm_types.specs.Tree.{End, Plain, GlobalTree, ModuleTree}
 use Rattle.wasm_spec.specs.Store.{Store}
 use Rattle.wasm_spec.proofs.AddModule.{add}
 use Rattle.pool_worlds.specs.Contents.{Named, Kind, Ticket, Memory, Table, MemoryContents, TableContents, Contents, owner, filled, memory_image, table_image, prepared, restored, replaced, needs, shown, turned}
+use Rattle.world_examples.proofs.NoCode.{no_code}
 use Rattle.world_examples.proofs.Keeper.{keeper}
 
 abbrev a_global : Val → GlobalTree
@@ -19,7 +20,7 @@ abbrev with_globals : ModuleTree
 with_globals = record keeper { globals = a_global (I32 1) ∷ a_global (I64 2) ∷ [] }
 
 abbrev numbered : (number tag : ℕ) → Named
-numbered number tag = record { number = number; tag = tag; tree = with_globals }
+numbered number tag = record { number = number; tag = tag; tree = with_globals; code = no_code }
 
 -- two bytes of a memory of three pages that this module left so, with these marks
 abbrev left_by : Named → List Bool → MemoryContents

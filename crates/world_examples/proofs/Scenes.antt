@@ -10,13 +10,14 @@ use Rattle.pool_core.specs.declared.events.Event.TheVariants.{Release}
 use Rattle.pool_core.specs.PoolCore.{opening_core}
 use Rattle.pool_core.specs.RefusalRules.{refusal_of, seat_of}
 use Rattle.pool_worlds.specs.Contents.{Named, Kind, Ticket, Memory, Table, Contents, memory_image, is_marked, IsCold}
-use Rattle.pool_worlds.specs.PoolMachine.{World, Request, Running, Machine, WorldEvent, Step, Prepare, Restore, Clear, Begin, Turn, End, IsFree, IsModule, IsCallable, after, after_all, AllMayHappen, IsOpening}
+use Rattle.pool_worlds.specs.PoolMachine.{World, Request, Running, Machine, WorldEvent, Step, Prepare, Restore, Clear, Begin, Turn, End, Cancel, IsFree, IsModule, IsCallable, after, after_all, AllMayHappen, IsOpening}
 use Rattle.pool_worlds.specs.Fitting.{ReleaseFits, AllReleasesFit}
+use Rattle.world_examples.proofs.NoCode.{no_code}
 use Rattle.world_examples.proofs.Keeper.{keeper, keeper_bytes, keeper_loads, f_export, f_type}
 
 -- Each number on the shelf has the same module, under a tag of its own.
 abbrev pub module_at : ℕ → Named
-module_at n = record { number = n; tag = n; tree = keeper }
+module_at n = record { number = n; tag = n; tree = keeper; code = no_code }
 
 abbrev pub first : Named
 first = module_at 0
@@ -92,6 +93,7 @@ steps_happen p (Clear k s x ∷ es) h = absurd (true≢false (sym h))
 steps_happen p (Begin i q ∷ es) h = absurd (true≢false (sym h))
 steps_happen p (Turn i marks ∷ es) h = absurd (true≢false (sym h))
 steps_happen p (End i marks ∷ es) h = absurd (true≢false (sym h))
+steps_happen p (Cancel i ∷ es) h = absurd (true≢false (sym h))
 
 -- ---- releases
 

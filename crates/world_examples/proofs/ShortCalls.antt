@@ -13,14 +13,15 @@ use Rattle.pool_core.specs.declared.events.Event.TheVariants.{Claim, Home, Load,
 use Rattle.pool_core.specs.PoolCore.{opening_core}
 use Rattle.pool_core.specs.RefusalRules.{refusal_of}
 use Rattle.pool_worlds.specs.Contents.{Named, Kind, Ticket, Memory, Table, TableContents, Contents, memory_image}
-use Rattle.pool_worlds.specs.PoolMachine.{World, Request, Running, Machine, WorldEvent, Step, Prepare, Restore, Clear, Begin, Turn, End, after, after_all, IsCallable, CanTurn, MarksTurn, MayHappen}
+use Rattle.pool_worlds.specs.PoolMachine.{World, Request, Running, Machine, WorldEvent, Step, Prepare, Restore, Clear, Begin, Turn, End, Cancel, after, after_all, IsCallable, CanTurn, MarksTurn, MayHappen}
 use Rattle.pool_worlds.specs.Fitting.{ReleaseFits}
 use Rattle.pool_worlds.specs.Histories.{steps_of}
 use Rattle.pool_worlds.specs.Worlds.{IsSameRequest, answers}
+use Rattle.world_examples.proofs.NoCode.{no_code}
 use Rattle.world_examples.proofs.FreshCalls.{limits, set_module}
 
 abbrev pub numbered : ℕ → Named
-numbered n = record { number = n; tag = n; tree = set_module }
+numbered n = record { number = n; tag = n; tree = set_module; code = no_code }
 
 abbrev pub world : World
 world = record { limits = limits; shelf = numbered; seats = λ k i. i; apart = λ k i j e. e }
@@ -70,7 +71,7 @@ the_call_of_the_second = refl
 nobody_else_calls : begun.calls 2 ≡ None
 nobody_else_calls = refl
 
-abbrev turned_twice : Machine
+abbrev pub turned_twice : Machine
 turned_twice = after_all world begun (Turn 0 [] ∷ Turn 0 [] ∷ [])
 
 two_turns_of_the_first : turned_twice.calls 0 ≡ Some (running 0 2 2)
@@ -96,6 +97,14 @@ and_keeps_its_global = refl
 
 the_others_call_goes_on : (after world turned_twice (End 0 [])).calls 1 ≡ Some (running 1 1 0)
 the_others_call_goes_on = refl
+
+-- a call that is given up runs no more, and leaves what its turns left
+given_up : (after world turned_twice (Cancel 0)).calls 0 ≡ None
+given_up = refl
+
+its_global_stays : (after world turned_twice (Cancel 0)).contents Ticket 0 ≡ I32 5 ∷ []
+unfolding exec
+its_global_stays = refl
 
 -- a machine in whose table 0 another module's element stands, and in whose memory 0 a byte of the first
 abbrev pub used : Machine
@@ -132,6 +141,11 @@ first_answers = refl
 second_answers : answers world opened all_events 1 ≡ (request_of 1 1, Some (outcome.Fuel, [])) ∷ []
 unfolding exec
 second_answers = refl
+
+-- a call that is given up is answered nothing
+given_up_answers : answers world begun (Turn 0 [] ∷ Cancel 0 ∷ Begin 0 (request_of 0 1) ∷ Turn 0 [] ∷ End 0 [] ∷ []) 0 ≡ (request_of 0 1, Some (outcome.Fuel, [])) ∷ []
+unfolding exec
+given_up_answers = refl
 
 same_request : IsSameRequest (request_of 0 2) (request_of 1 2)
 same_request = record { tree = refl; function = refl; arguments = refl; sent = refl; fuel = refl }
@@ -197,7 +211,7 @@ unfolding exec
 no_end_before_the_last_turn (r, calls, stuck, marks) = stuck (subst (λ (x : Running). CanTurn world x) (same_call calls) last_turn)
 
 -- the same module with a memory of no pages, in which a byte of 1 is changed to 0
-abbrev with_memory : Running
+abbrev pub with_memory : Running
 with_memory = record (running 0 2 0) { request = record (request_of 0 2) { named = record (numbered 0) { tree = record set_module { memories = record { min = 0; max = None } ∷ [] } } } }
 
 abbrev of_one_byte : Machine
@@ -241,6 +255,9 @@ no_clear_while_it_runs may = call_is_there (may.1 0 refl)
 no_second_call_while_it_runs : MayHappen world begun (Begin 0 (request_of 0 2)) → ⊥
 no_second_call_while_it_runs may = call_is_there may.0
 
+no_call_is_given_up_twice : MayHappen world (after world turned_twice (Cancel 0)) (Cancel 0) → ⊥
+no_call_is_given_up_twice (r, calls) = call_is_there (sym calls)
+
 -- a step that its pool refuses
 no_refused_step : MayHappen world opened (Step Ticket (Home 0 0)) → ⊥
 no_refused_step may = let four : 4 ≡ 0 = may.0 in omega (arith, four)
@@ -272,10 +289,10 @@ no_call_without_a_ticket may = let e = (may.1 Ticket refl).holds in cc
 
 -- a shelf on which each number has this module
 abbrev pub world_of : ModuleTree → World
-world_of m = record world { shelf = λ n. record { number = n; tag = n; tree = m } }
+world_of m = record world { shelf = λ n. record { number = n; tag = n; tree = m; code = no_code } }
 
 abbrev request_in : ModuleTree → Request
-request_in m = record (request_of 0 2) { named = record { number = 0; tag = 0; tree = m } }
+request_in m = record (request_of 0 2) { named = record { number = 0; tag = 0; tree = m; code = no_code } }
 
 abbrev with_a_table : ModuleTree
 with_a_table = record set_module { tables = record { min = 0; max = None } ∷ [] }

@@ -3,5 +3,5 @@ use Rattle.host_run.proofs.due.run_due.Goals as goal
 
 pub returns : goal.returns
 returns g c =
-    owes_file g.S.Source.left g.S.Source.faults c.args.config c.args.summary c.args.source.now c.read_input.new.source _ _ c.in_ok-answer.field-0
+    owes_file g.S.Source.left g.S.Source.faults c.args.config c.args.summary c.args.slice c.args.source.now c.read_input.new.source _ _ c.in_ok-answer.field-0
     c.in_ok-bytes.ensures.bytes c.in_ok-bytes.ensures.quiet c.deref.ensures.value c.in_ok-answer.ensures.answer

@@ -17,7 +17,7 @@ returns-clause-leaves g c = λ x owner.
     let items = c.ticket.inside.globals.items in
     let table = c.args.table.now in
     let after : List Val = take c.ticket.inside.globals.len (c.run.new.globals ++ drop (length c.run.new.globals) items) in
-    let old : c.deref_mut.result.now ≡ c.args.ticket.now = search rules in
+    let old : c.deref_mut.result.now ≡ c.args.ticket.now.globals = search rules in
     let new : c.run.new.globals ≡ after = written_back c.ticket.inside.globals.len c.run.new.globals (drop (length c.run.new.globals) items) (c.run.ensures.globals ∙ c.deref_mut.ensures.len) in
     let limits = terms c.args.limits c.args.request.now in
     let said = c.args.answer.now in
@@ -32,4 +32,4 @@ returns-clause-leaves g c = λ x owner.
     let lent : P c.deref_mut.result.now c.run.new.globals =
     leaves_bare g.N.Naming.config.pages valid x owner table c.deref_mut.result.now c.run.new.globals c.requires.none (function_result (module_tree valid) limits c.args.function c.args.args.now (bare_store valid table c.deref_mut.result.now said)) c.args.fuel
     c.run.result.outcome c.run.result.left said says here c.run.ensures.globals c.run.ensures.others gives in
-    subst (λ (ys : List Val). P c.args.ticket.now ys) new (subst (λ (xs : List Val). P xs c.run.new.globals) old lent)
+    subst (λ (ys : List Val). P c.args.ticket.now.globals ys) new (subst (λ (xs : List Val). P xs c.run.new.globals) old lent)

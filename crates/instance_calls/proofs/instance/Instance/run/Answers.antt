@@ -37,7 +37,7 @@ run_call-outcome-requires-clause-ready g c =
     record {
       depth = c.limits_of-limits.ensures.depth;
       memory = fresh.memory.ready;
-      store = subst (IsTypedStore valid) (sym (fresh_is (module_tree valid) self.ticket.value self.memory self.table config fresh.globals fresh.memory fresh.table)) (c.the_machine_may_run_it.ensures.store limits valid within);
+      store = subst (IsTypedStore valid) (sym (fresh_is (module_tree valid) self.ticket.value.globals self.memory self.table config fresh.globals fresh.memory fresh.table)) (c.the_machine_may_run_it.ensures.store limits valid within);
       frame = c.the_machine_may_run_it.ensures.frame limits valid within;
     }
 
@@ -54,4 +54,4 @@ returns-clause-ends g c = λ export may.
     let left = c.run_call-outcome.new.answer in
     let ran : RanOn config tree c.args.function c.args.args.now c.args.request.now c.args.fuel (instance_contents self) (instance_contents c.run_call-outcome.new.self) left c.run_call-outcome.result =
     subst (λ (m : ModuleTree). RanOn config m c.args.function c.args.args.now c.args.request.now c.args.fuel (instance_contents self) (instance_contents c.run_call-outcome.new.self) left c.run_call-outcome.result) c.valid-valid.ensures.tree c.run_call-outcome.ensures.ran in
-    ended config tree export c.args.function c.args.args.now c.args.request.now c.args.fuel _ _ left _ _ may (fresh_is tree self.ticket.value self.memory self.table config fresh.globals fresh.memory fresh.table) c.keep_if_done.ensures ran
+    ended config tree export c.args.function c.args.args.now c.args.request.now c.args.fuel _ _ left _ _ may (fresh_is tree self.ticket.value.globals self.memory self.table config fresh.globals fresh.memory fresh.table) c.keep_if_done.ensures ran

@@ -10,7 +10,7 @@ returns-in-Some-clause-runs g c =
     let self = c.args.self.now in
     let m = module_tree c.args.valid.now in
     let lent = runs_with_memory g.N.Naming.config.pages c.args.valid.now (λ (s : Store). function_result m (terms c.args.limits c.args.request.now) c.args.function c.args.args.now s) c.args.fuel self.memory self.table
-    c.requires.parts.memory c.requires.parts.table c.entries_of-table.result.now c.entries_of-table.ensures c.run_with_memory.result.outcome c.run_with_memory.result.left self.ticket.value c.run_with_memory.new.ticket c.args.answer.now c.run_with_memory.new.answer
+    c.requires.parts.memory c.requires.parts.table c.entries_of-table.result.now c.entries_of-table.ensures c.run_with_memory.result.outcome c.run_with_memory.result.left self.ticket.value.globals c.run_with_memory.new.ticket.globals c.args.answer.now c.run_with_memory.new.answer
     c.in-Some.memory c.run_with_memory.new.memory c.in-Some.is c.run_with_memory.ensures.leaves in
     runs_under g.N.Naming.config.pages m c.args.function c.args.args.now c.args.fuel _ _ _ _ _ _ _ c.args.request.now c.requires.limits lent
 
@@ -19,6 +19,6 @@ returns-in-None-clause-runs g c =
     let self = c.args.self.now in
     let m = module_tree c.args.valid.now in
     let lent = runs_without_memory g.N.Naming.config.pages c.args.valid.now (λ (s : Store). function_result m (terms c.args.limits c.args.request.now) c.args.function c.args.args.now s) c.args.fuel self.memory self.table
-    c.requires.parts.memory c.requires.parts.table c.entries_of-table.result.now c.entries_of-table.ensures c.run_without_memory.result.outcome c.run_without_memory.result.left self.ticket.value c.run_without_memory.new.ticket c.args.answer.now c.run_without_memory.new.answer
+    c.requires.parts.memory c.requires.parts.table c.entries_of-table.result.now c.entries_of-table.ensures c.run_without_memory.result.outcome c.run_without_memory.result.left self.ticket.value.globals c.run_without_memory.new.ticket.globals c.args.answer.now c.run_without_memory.new.answer
     c.in-None.is c.run_without_memory.ensures.leaves in
     runs_under g.N.Naming.config.pages m c.args.function c.args.args.now c.args.fuel _ _ _ _ _ _ _ c.args.request.now c.requires.limits lent

@@ -1,0 +1,176 @@
+-- A call that is paused on parts which are equal.
+use Rattle.std.proofs.Common.{◌≡◌, ◌≢◌, ℕ, ◌-◌, ◌<◌, ◌≤◌, List, [], Bool, true, false, Option, Some, None, ⊎_elim, length, ap, sym, ◌∙◌, subst, arith, length-append}
+use Rattle.std.specs.Prelude.{is_some}
+use Rattle.std.proofs.lemmas.Bool.{cases_lt}
+use Rattle.std.proofs.lemmas.List.{length-map}
+use Rattle.wasm_types.specs.declared.host.HostFunction.{HostFunction}
+use Rattle.wasm_types.specs.declared.host.HostFunction.TheVariants as host
+use Rattle.wasm_types.specs.declared.limits.RunLimits.{RunLimits}
+use Rattle.wasm_types.specs.declared.module.Module.{Module}
+use Rattle.wasm_types.specs.declared.outcome.Val.{Val}
+use Rattle.wasm_types.specs.Tree.{ModuleTree, module_tree}
+use Rattle.wasm_spec.specs.Functions.{host_type}
+use Rattle.wasm_spec.specs.Typing.{params_of, params_or_none, type_of}
+use Rattle.wasm_spec.specs.Execution.{Terms, answer_set, terms}
+use Rattle.wasm_spec.specs.Instances.{room_for}
+use Rattle.wasm_spec.specs.Result.{CallResult}
+use Rattle.wasm_spec.specs.Store.{Store}
+use Rattle.wasm_machine.specs.Calls.{IsCall}
+use Rattle.wasm_machine.specs.Room.{StacksView}
+use Rattle.wasm_machine.specs.TypedConfiguration.{IsRunnable}
+use Rattle.wasm_machine.proofs.OutsideLemmas.{outside_callee, own_call}
+use Rattle.slot_words.specs.declared.leases.Lease.{Lease}
+use Rattle.pool_limits.specs.declared.numbers.Numbers.{Numbers}
+use Rattle.pool_worlds.specs.Contents.{Contents, Kind, Memory, MemoryContents, Named, Table, needs, shown}
+use Rattle.pool_worlds.specs.Runs.{LeavesFrom}
+use Rattle.memory_slots.specs.Lent.{IsReady, parts, store_in}
+use Rattle.paused_call.specs.declared.call.PausedCall.{PausedCall}
+use Rattle.paused_call.specs.declared.call.Turned.{Turned}
+use Rattle.paused_call.specs.Standing.{HasTurned, Stands, upto, whole}
+use Rattle.instance_calls.specs.declared.instance.Instance.{Instance}
+use Rattle.instance_calls.specs.CallWords.{run_limits}
+use Rattle.instance_calls.specs.Instances.{bare_store, instance_contents}
+use Rattle.instance_calls.specs.Parts.{memory_in, table_in}
+use Rattle.instance_calls.specs.Paused.{IsPausedOn, ResumedOn}
+use Rattle.instance_calls.proofs.InstanceLemmas.{with_memory, without_memory}
+
+module _ (m : Module) (limits : Terms) (begun : Store) (call : PausedCall) where
+  pub stands_same : (a a' : List Val) (s s' : StacksView) (t t' : Store) → a ≡ a' → s ≡ s' → t ≡ t' → Stands m limits begun a call s t → Stands m limits begun a' call s' t'
+  stands_same a a' s s' t t' p q r h =
+      subst (λ (x : Store). Stands m limits begun a' call s' x) r (subst (λ (x : StacksView). Stands m limits begun a' call x t) q (subst (λ (x : List Val). Stands m limits begun x call s t) p h))
+
+  pub turned_same : (slice : ℕ) (t : Turned) (a a' : List Val) (s s' : Store) → a ≡ a' → s ≡ s'
+      → HasTurned (whole m limits call a begun) call slice s t → HasTurned (whole m limits call a' begun) call slice s' t
+  turned_same slice t a a' s s' p q h =
+      subst (λ (x : Store). HasTurned (whole m limits call a' begun) call slice x t) q (subst (λ (x : List Val). HasTurned (whole m limits call x begun) call slice s t) p h)
+
+  pub leaves_same : (pages : ℕ) (slice : ℕ) (x y : MemoryContents) (owner : Option Named) (table : List (Option ℕ)) (marks : List Bool) (r : CallResult) (a a' : List Val) (old old' new new' : List Val) → a ≡ a' → old ≡ old' → new ≡ new'
+      → LeavesFrom pages (module_tree m) (whole m limits call a begun) call.turns (upto call slice) (parts x owner table old) (parts y owner table new) marks r
+      → LeavesFrom pages (module_tree m) (whole m limits call a' begun) call.turns (upto call slice) (parts x owner table old') (parts y owner table new') marks r
+  leaves_same pages slice x y owner table marks r a a' old old' new new' p q e h =
+      subst (λ (g : List Val). LeavesFrom pages (module_tree m) (whole m limits call a' begun) call.turns (upto call slice) (parts x owner table old') (parts y owner table g) marks r) e
+      (subst (λ (g : List Val). LeavesFrom pages (module_tree m) (whole m limits call a' begun) call.turns (upto call slice) (parts x owner table g) (parts y owner table new) marks r) q
+      (subst (λ (l : List Val). LeavesFrom pages (module_tree m) (whole m limits call l begun) call.turns (upto call slice) (parts x owner table old) (parts y owner table new) marks r) p h))
+
+-- a function of the host takes at most three arguments
+three_at_most : (f : HostFunction) → length (host_type f).params ≤ 3
+three_at_most host.Len = omega arith
+three_at_most host.Read = omega arith
+three_at_most host.Write = omega arith
+
+-- a call's arguments are at most as many as a frame has entries, or as an import takes
+pub args_within : (m : Module) (frame x : ℕ) (args : List Val) (room : ℕ) → IsRunnable m frame → IsCall m x args → frame ≤ room → 3 ≤ room → length args ≤ room
+args_within m frame x args room run call le three = ⊎_elim imported own (cases_lt x (length m.imports)) where
+  imported : x < length m.imports → length args ≤ room
+  imported lt =
+      let limits : Terms = record { pages = 0; depth = 0; request = [] } in
+      let h = outside_callee m limits frame x args run call lt in
+      let counted : length args ≡ length (host_type h.function).params = sym (length-map args type_of) ∙ ap length call.args_fit ∙ ap length h.params in
+      let few = three_at_most h.function in omega arith
+
+  own : length m.imports ≤ x → length args ≤ room
+  own past =
+      let o = own_call m x args call past in
+      let f = o.function in
+      let there = run.needs (x - length m.imports) f o.there in
+      let params : params_of (module_tree m) f ≡ o.type.params = ap params_or_none o.typed in
+      let counted : length args ≡ length (params_of (module_tree m) f) = sym (length-map args type_of) ∙ ap length o.args_fit ∙ ap length (sym params) in
+      omega (arith, there, counted, length-append (params_of (module_tree m) f) f.locals)
+
+-- ---- a call that is paused on an instance, and on what is lent of it
+
+-- it is paused there, and a slice is lent the module's code, the limits of its runs, and the table's entries
+pub record IsLent {N : Type 0} (config : Numbers) (m : Named) (request : List ℕ) (begun : Store) (call : PausedCall) (said : List ℕ) (x : Instance N) (valid : Module) (limits : RunLimits) (entries : List (Option ℕ)) : Type 0 where
+  pub paused : IsPausedOn config m request begun call said x
+  pub code : valid ≡ m.code
+  pub limits_are : limits ≡ run_limits config
+  pub entries_are : entries ≡ (table_in x.table).entries
+
+module _ {N : Type 0} {config : Numbers} {m : Named} {request : List ℕ} {begun : Store} {call : PausedCall} {said : List ℕ} {x : Instance N} {valid : Module} {limits : RunLimits} {entries : List (Option ℕ)}
+    (h : IsLent config m request begun call said x valid limits entries) where
+  tree_is : module_tree valid ≡ m.tree
+  tree_is = ap module_tree h.code ∙ h.paused.code
+
+  had_memory : is_some x.memory ≡ needs Memory (module_tree valid)
+  had_memory = h.paused.parts.memory ∙ ap (needs Memory) (sym tree_is)
+
+  had_table : is_some x.table ≡ needs Table (module_tree valid)
+  had_table = h.paused.parts.table ∙ ap (needs Table) (sym tree_is)
+
+  -- in the words of what runs it
+  stands_lent : Stands valid (terms limits request) begun x.ticket.value.args call x.ticket.value.stacks (answer_set said (shown (module_tree valid) (instance_contents x)))
+  stands_lent =
+      subst (λ (t : ModuleTree). Stands valid (terms limits request) begun x.ticket.value.args call x.ticket.value.stacks (answer_set said (shown t (instance_contents x)))) (sym tree_is)
+      (subst (λ (k : Module). Stands k (terms limits request) begun x.ticket.value.args call x.ticket.value.stacks (answer_set said (shown m.tree (instance_contents x)))) (sym h.code)
+      (subst (λ (l : RunLimits). Stands m.code (terms l request) begun x.ticket.value.args call x.ticket.value.stacks (answer_set said (shown m.tree (instance_contents x)))) (sym h.limits_are) h.paused.stands))
+
+  pub stands_with_memory : (l : Lease MemoryContents) → x.memory ≡ Some l → Stands valid (terms limits request) begun x.ticket.value.args call x.ticket.value.stacks (store_in valid l.value entries x.ticket.value.globals said)
+  stands_with_memory l is =
+      let needed : needs Memory (module_tree valid) ≡ true = sym had_memory ∙ ap is_some is in
+      let shows : answer_set said (shown (module_tree valid) (instance_contents x)) ≡ store_in valid l.value entries x.ticket.value.globals said =
+      ap (λ (o : Option (Lease MemoryContents)). answer_set said (shown (module_tree valid) (parts (memory_in o) (table_in x.table).holds (table_in x.table).entries x.ticket.value.globals))) is
+      ∙ with_memory valid x.ticket.value.globals l.value x.table had_table said needed
+      ∙ ap (λ (es : List (Option ℕ)). store_in valid l.value es x.ticket.value.globals said) (sym h.entries_are) in
+      subst (λ (s : Store). Stands valid (terms limits request) begun x.ticket.value.args call x.ticket.value.stacks s) shows stands_lent
+
+  pub stands_without_memory : x.memory ≡ None → Stands valid (terms limits request) begun x.ticket.value.args call x.ticket.value.stacks (bare_store valid entries x.ticket.value.globals said)
+  stands_without_memory is =
+      let unneeded : needs Memory (module_tree valid) ≡ false = sym had_memory ∙ ap is_some is in
+      let shows : answer_set said (shown (module_tree valid) (instance_contents x)) ≡ bare_store valid entries x.ticket.value.globals said =
+      without_memory valid x.ticket.value.globals (memory_in x.memory) x.table had_table said unneeded
+      ∙ ap (λ (es : List (Option ℕ)). bare_store valid es x.ticket.value.globals said) (sym h.entries_are) in
+      subst (λ (s : Store). Stands valid (terms limits request) begun x.ticket.value.args call x.ticket.value.stacks s) shows stands_lent
+
+  -- what a slice on what is lent comes to, it comes to for the call
+  pub turned_there : (slice : ℕ) (t : Turned) (s : Store) (says : List ℕ) (y : (k : Kind) → Contents k) → s ≡ answer_set says (shown (module_tree valid) y)
+      → HasTurned (whole valid (terms limits request) call x.ticket.value.args begun) call slice s t
+      → HasTurned (whole m.code (terms (run_limits config) request) call x.ticket.value.args begun) call slice (answer_set says (shown m.tree y)) t
+  turned_there slice t s says y shows turned =
+      subst (λ (tree : ModuleTree). HasTurned (whole m.code (terms (run_limits config) request) call x.ticket.value.args begun) call slice (answer_set says (shown tree y)) t) tree_is
+      (subst (λ (l : RunLimits). HasTurned (whole m.code (terms l request) call x.ticket.value.args begun) call slice (answer_set says (shown (module_tree valid) y)) t) h.limits_are
+      (subst (λ (k : Module). HasTurned (whole k (terms limits request) call x.ticket.value.args begun) call slice (answer_set says (shown (module_tree valid) y)) t) h.code
+      (subst (λ (u : Store). HasTurned (whole valid (terms limits request) call x.ticket.value.args begun) call slice u t) shows turned)))
+
+  -- a slice on what is lent is one on the instance
+  pub resumed_there : (slice : ℕ) (y : MemoryContents) (globals : List Val) (marks : List Bool) (r : CallResult)
+      → LeavesFrom config.pages (module_tree valid) (whole valid (terms limits request) call x.ticket.value.args begun) call.turns (upto call slice)
+      (parts (memory_in x.memory) (table_in x.table).holds entries x.ticket.value.globals) (parts y (table_in x.table).holds entries globals) marks r
+      → ResumedOn config m request begun x.ticket.value.args call slice (instance_contents x) (parts y (table_in x.table).holds (table_in x.table).entries globals)
+  resumed_there slice y globals marks r leaves = record {
+    marks = marks;
+    result = r;
+    leaves = subst (λ (es : List (Option ℕ)). LeavesFrom config.pages m.tree (whole m.code (terms (run_limits config) request) call x.ticket.value.args begun) call.turns (upto call slice)
+        (parts (memory_in x.memory) (table_in x.table).holds es x.ticket.value.globals) (parts y (table_in x.table).holds es globals) marks r) h.entries_are
+        (subst (λ (l : RunLimits). LeavesFrom config.pages m.tree (whole m.code (terms l request) call x.ticket.value.args begun) call.turns (upto call slice)
+        (parts (memory_in x.memory) (table_in x.table).holds entries x.ticket.value.globals) (parts y (table_in x.table).holds entries globals) marks r) h.limits_are
+        (subst (λ (k : Module). LeavesFrom config.pages m.tree (whole k (terms limits request) call x.ticket.value.args begun) call.turns (upto call slice)
+        (parts (memory_in x.memory) (table_in x.table).holds entries x.ticket.value.globals) (parts y (table_in x.table).holds entries globals) marks r) h.code
+        (subst (λ (t : ModuleTree). LeavesFrom config.pages t (whole valid (terms limits request) call x.ticket.value.args begun) call.turns (upto call slice)
+        (parts (memory_in x.memory) (table_in x.table).holds entries x.ticket.value.globals) (parts y (table_in x.table).holds entries globals) marks r) tree_is leaves)));
+  }
+
+  -- the call that comes of it is paused on the instance that comes of it
+  pub paused_there : (next : PausedCall) (says : List ℕ) (y : Instance N) → y.table ≡ x.table → is_some y.memory ≡ is_some x.memory
+      → (m.code.memories ≢ [] → IsReady (room_for m.code.memories config.pages) (memory_in y.memory))
+      → Stands valid (terms limits request) begun y.ticket.value.args next y.ticket.value.stacks (answer_set says (shown (module_tree valid) (instance_contents y))) → IsPausedOn config m request begun next says y
+  paused_there next says y table memory ready stands = record {
+    code = h.paused.code;
+    parts = record { memory = memory ∙ h.paused.parts.memory; table = ap is_some table ∙ h.paused.parts.table };
+    frame = h.paused.frame;
+    memory = ready;
+    stands = subst (λ (t : ModuleTree). Stands m.code (terms (run_limits config) request) begun y.ticket.value.args next y.ticket.value.stacks (answer_set says (shown t (instance_contents y)))) tree_is
+        (subst (λ (l : RunLimits). Stands m.code (terms l request) begun y.ticket.value.args next y.ticket.value.stacks (answer_set says (shown (module_tree valid) (instance_contents y)))) h.limits_are
+        (subst (λ (k : Module). Stands k (terms limits request) begun y.ticket.value.args next y.ticket.value.stacks (answer_set says (shown (module_tree valid) (instance_contents y)))) h.code stands));
+  }
+
+  pub shown_with : (l : Lease MemoryContents) (y : MemoryContents) (globals : List Val) (says : List ℕ) → x.memory ≡ Some l
+      → store_in valid y entries globals says ≡ answer_set says (shown (module_tree valid) (parts y (table_in x.table).holds (table_in x.table).entries globals))
+  shown_with l y globals says is =
+      let needed : needs Memory (module_tree valid) ≡ true = sym had_memory ∙ ap is_some is in
+      ap (λ (es : List (Option ℕ)). store_in valid y es globals says) h.entries_are ∙ sym (with_memory valid globals y x.table had_table says needed)
+
+  pub shown_bare : (globals : List Val) (says : List ℕ) → x.memory ≡ None
+      → bare_store valid entries globals says ≡ answer_set says (shown (module_tree valid) (parts (memory_in x.memory) (table_in x.table).holds (table_in x.table).entries globals))
+  shown_bare globals says is =
+      let unneeded : needs Memory (module_tree valid) ≡ false = sym had_memory ∙ ap is_some is in
+      ap (λ (es : List (Option ℕ)). bare_store valid es globals says) h.entries_are ∙ sym (without_memory valid globals (memory_in x.memory) x.table had_table says unneeded)

@@ -1,0 +1,36 @@
+use Rattle.std.proofs.Common.{ℕ, List, [], sym, ap, subst}
+use Rattle.wasm_types.specs.declared.outcome.Val.{Val}
+use Rattle.wasm_spec.specs.Store.{fresh_store}
+use Rattle.pool_worlds.specs.Contents.{Named}
+use Rattle.instance_calls.specs.CallWords.{MayCall}
+use Rattle.instance_calls.specs.Parts.{BelongsTo, table_slot}
+use Rattle.instance_calls.specs.Paused.{IsPausedOn}
+use Rattle.instance_calls.specs.PausedInstances.{IsPausedInstance}
+use Rattle.instance_calls.proofs.paused_instance.PausedInstance.begin.Goals as goal
+
+pub invariant_of-result : goal.invariant_of-result
+invariant_of-result g c =
+    let config = g.N.Naming.config in
+    let m = c.args.module.now in
+    let x = c.begin-call.new.self in
+    let call = c.begin-call.result in
+    let (export, may) = c.requires.call in
+    let kept : IsPausedInstance config x m call c.args.answer = record {
+      paused = subst (λ (bytes : List ℕ). IsPausedOn config m [] (fresh_store m.tree) call bytes x) (sym c.requires.none) (c.begin-call.ensures.paused []);
+      memory_belongs = subst (BelongsTo m) (sym c.begin-call.ensures.slots.memory) c.requires.memory;
+      table_belongs = subst (BelongsTo m) (ap table_slot (sym c.begin-call.ensures.slots.table)) c.requires.table;
+      export = export;
+      may = subst (λ (l : List Val). MayCall m.tree export call.function l) (sym c.begin-call.ensures.args)
+          (subst (λ (f : ℕ). MayCall m.tree export f c.args.args.now) (sym c.begin-call.ensures.function) may);
+    } in
+    subst (λ (n : Named). IsPausedInstance config x n call c.args.answer) (sym c.again.ensures) kept
+
+pub returns-clause-begun : goal.returns-clause-begun
+returns-clause-begun g c = record {
+  named_is = c.again.ensures;
+  function_is = c.begin-call.ensures.function;
+  fuel_is = c.begin-call.ensures.fuel;
+  turns_are = c.begin-call.ensures.turns;
+  args_are = c.begin-call.ensures.args;
+  no_answer = c.requires.none;
+}

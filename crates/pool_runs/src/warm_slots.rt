@@ -1,0 +1,68 @@
+//! Which slots stay warm after calls, and which await their cleaning.
+ghost use Rattle.module_store.specs.Names.{Bears};
+ghost use Rattle.pool_host.specs.Hosts.{IsHostPass};
+
+use crate::callers::{BUMP, ONE, bump, one_caller, open, register};
+use host_edge::OpenGate;
+use module_store::{Naming, Opened};
+use pool_host::Answer;
+use slot_words::KindCounts;
+use std::alloc::Global;
+use std::marker::Brand;
+use std::process::Abort;
+use std::sync::Wait;
+use std::test::Fail;
+use wasm_types::Profile;
+
+fn kinds(cold: u32, warm: u32, awaiting: u32) -> KindCounts {
+    KindCounts {
+        cold,
+        warm,
+        awaiting,
+        held: 0,
+    }
+}
+
+// The states of three memories after calls of these modules, each of which counts in its memory.
+fn memories_after<N: Naming, R: Abort + Wait>(
+    rt: &R,
+    alloc: Global,
+    opened: Opened,
+    calls: &[usize],
+) -> KindCounts
+    requires { Bears opened N.shelves N.config }
+{
+    let (store, mut desk) = opened.named::<N>();
+    let modules = [
+        register(rt, alloc, &store, &mut desk, Profile::One, BUMP.as_slice()),
+        register(rt, alloc, &store, &mut desk, Profile::One, BUMP.as_slice()),
+        register(rt, alloc, &store, &mut desk, Profile::One, BUMP.as_slice()),
+    ];
+    let (host, mut pass) = one_caller(rt, alloc, &store);
+    for call in calls {
+        let module = &modules[call % 3];
+        let (answer, back) = bump(&host, pass, &store, module, 1, &OpenGate);
+        assert_eq!(rt; answer, Answer::Done(ONE));
+        pass = back;
+    }
+    let mut passes = Vec::new(alloc);
+    passes.push(pass).expect(rt, "room");
+    host.close(passes).memory
+}
+
+#[test]
+fn memories_are_warm_up_to_the_limit_and_await_up_to_a_batch(rt: HostRuntime) -> Result<(), Fail> {
+    let alloc = rt.alloc();
+    let rows = [
+        (3, 2, [0].as_slice(), kinds(2, 0, 1)),
+        (3, 2, [0, 1].as_slice(), kinds(1, 2, 0)),
+        (2, 1, [0, 1, 0, 2].as_slice(), kinds(1, 2, 0)),
+        (0, 1, [0, 1].as_slice(), kinds(3, 0, 0)),
+    ];
+    for (warm, batch, calls, expected) in rows {
+        let opened = open(alloc, warm, batch)?;
+        let counts = memories_after::<Brand, HostRuntime>(&rt, alloc, opened, calls);
+        assert_eq!(rt; counts, expected, "{calls:?}");
+    }
+    Ok(())
+}

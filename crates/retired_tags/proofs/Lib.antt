@@ -1,0 +1,3 @@
+mod StepCounts
+mod ViewSums
+mod Rules

@@ -1,0 +1,5 @@
+pub mod Steps
+pub mod Views
+pub mod Rule
+pub mod Outcomes
+pub mod Passes
