@@ -1,6 +1,3 @@
-pub mod Entries
+pub mod Made
 pub mod Taken
 pub mod Crews
-pub mod Queued
-pub mod Slices
-pub mod SliceCrews

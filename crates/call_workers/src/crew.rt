@@ -1,26 +1,26 @@
 //! Workers that work side by side.
 ghost use Rattle.std.specs.Prelude.{◌≡◌, ◌+◌, ◌^◌, ◌<◌, ◌≤◌, false, All, IfOk, length};
 ghost use Rattle.job_queue.specs.Passes.{IsNewPassOf};
-ghost use Rattle.pool_host.specs.Hosts.{IsHostPass, IsNewHostPass, IsShare};
+ghost use Rattle.tenant_share.specs.Tenants.{IsCaller, IsNewCaller};
+ghost use Rattle.due_calls.specs.Entries.{AreNumbered, IsOfTenants};
 ghost use Rattle.call_workers.specs.Crews.{IsDone, IsNewCrew, IsNewWorker};
-ghost use Rattle.call_workers.specs.Entries.{AreNumbered};
 
-use crate::calls::Due;
 use crate::members::{Crew, Done, Worker};
 use crate::shared::Shared;
 use crate::working::work;
+use due_calls::Due;
 use host_edge::Gate;
 use job_queue::Jobs;
 use module_store::{ModuleStore, Naming};
-use pool_host::{Host, MOST_PASSES};
-use pool_limits::Share;
+use pool_host::MOST_PASSES;
 use std::alloc::Global;
 use std::sync::Wait;
 use std::thread::{self, Threads};
+use tenant_share::{Plan, ShareHost};
 use wasm_types::NoMemory;
 
-/// So many workers over a host with these slots, and a queue for these calls: for each pass of the host a worker, which takes one
-/// of the queue's.
+/// So many workers over the tenants' hosts of this plan, and a queue for these calls: each has a pass of each tenant and one of the
+/// queue's.
 ///
 /// # Errors
 ///
@@ -28,25 +28,26 @@ use wasm_types::NoMemory;
 pub fn open_crew<N: Naming>(
     alloc: Global,
     store: &ModuleStore<N>,
-    share: Share,
+    plan: &Plan,
     calls: Vec<Due>,
     count: u32,
 ) -> Result<Crew<N>, NoMemory>
-    requires share { IsShare share }
+    requires plan { plan.now.0 ≡ N.config }
     requires count { (1 ≤ count) × (count ≤ MOST_PASSES) }
     requires numbered { AreNumbered calls.items }
+    requires tenants { All (IsOfTenants (length plan.now.1)) calls.items }
     requires few { length calls.items < 2 ^ 32 }
-    ensures { IfOk result (IsNewCrew N.config share calls.items count) }
+    ensures { IfOk result (IsNewCrew plan.now.1 calls.items count) }
 {
-    let (host, mut passes) = Host::open(alloc, store, share, count)?;
+    let (share, mut callers) = ShareHost::open_for(alloc, store, plan, count)?;
     let (jobs, putter, mut takers) = Jobs::open(alloc, calls.len() as u32, count)?;
     let mut workers = Vec::new(alloc);
-    while let Some(pass) = passes.pop() {
+    while let Some(caller) = callers.pop() {
         let own = takers.pop().unwrap();
         workers.reserve(1).map_err(|_| NoMemory)?;
-        workers.push_reserved(Worker { pass, own });
+        workers.push_reserved(Worker { caller, own });
     }
-    let shared = Shared { host, jobs, calls };
+    let shared = Shared { share, jobs, calls };
     Ok(Crew {
         shared,
         putter,
@@ -63,12 +64,12 @@ fn work_one<N: Naming, R: Wait, G: Gate>(
     mut worker: Worker<N>,
     gate: &G,
 ) -> Done<N>
-    requires worker { IsNewWorker shared.now.host shared.now.jobs worker }
+    requires worker { IsNewWorker shared.now.share shared.now.jobs worker }
     ensures { IsDone N.config shared.now result }
 {
-    let Worker { pass, own } = &mut worker;
-    let Shared { host, jobs, calls } = shared;
-    let made = work(rt, alloc, host, pass, store, jobs, own, calls, gate);
+    let Worker { caller, own } = &mut worker;
+    let Shared { share, jobs, calls } = shared;
+    let made = work(rt, alloc, share, caller, store, jobs, own, calls, gate);
     Done { worker, made }
 }
 
@@ -85,7 +86,7 @@ pub fn work_all<N: Naming + Send + Sync, R: Threads + Wait + Sync, G: Gate>(
     workers: Vec<Worker<N>>,
     gate: &G,
 ) -> Result<Vec<Done<N>>, NoMemory>
-    requires workers { All (IsNewWorker shared.now.host shared.now.jobs) workers.items }
+    requires workers { All (IsNewWorker shared.now.share shared.now.jobs) workers.items }
     ensures count { IfOk result (λ done. length done.items ≡ length workers.items) }
     ensures done { IfOk result (λ done. All (IsDone N.config shared.now) done.items) }
 {
@@ -93,7 +94,7 @@ pub fn work_all<N: Naming + Send + Sync, R: Threads + Wait + Sync, G: Gate>(
         rt,
         workers,
         &|worker| -> Done<N>
-            requires worker { IsNewWorker shared.now.host shared.now.jobs worker }
+            requires worker { IsNewWorker shared.now.share shared.now.jobs worker }
             ensures { IsDone N.config shared.entry.now result }
         { work_one(rt, alloc, store, shared, worker, gate) },
     );

@@ -1,24 +1,17 @@
 //! What all workers made, once they have ended.
-ghost use Rattle.std.specs.Prelude.{◌≡◌, ◌+◌, ◌<◌, [], ◌++◌, All, IfOk, OnOk, length};
+ghost use Rattle.std.specs.Prelude.{◌≡◌, ◌+◌, ◌<◌, [], All, IfOk, length};
 ghost use Rattle.job_queue.specs.Passes.{IsJobPass, given_to, passes_of, put_by, share_of};
-ghost use Rattle.call_workers.specs.Crews.{AnswersAll, HasJoined, IsDone};
-ghost use Rattle.call_workers.specs.Entries.{EndsAll};
+ghost use Rattle.due_calls.specs.Entries.{AnswersAll, EndsAll};
+ghost use Rattle.call_workers.specs.Crews.{HasJoined, IsDone};
 
-use crate::calls::{Item, Worked};
 use crate::members::Done;
 use crate::shared::Shared;
+use due_calls::{Item, Worked, put_behind};
 use job_queue::JobPass;
 use module_store::Naming;
 use std::alloc::Global;
 use std::sync::Wait;
 use wasm_types::NoMemory;
-
-// Puts entries behind others.
-pub(crate) fn put_behind(entries: &mut Vec<Worked>, mut more: Vec<Worked>) -> Result<(), NoMemory>
-    ensures { OnOk result (entries.new.items ≡ entries.old.items ++ more.items) }
-{
-    entries.append(&mut more).map_err(|_| NoMemory)
-}
 
 // Joins the passes of the queue into this one, and what all made.
 fn join_all<N: Naming>(

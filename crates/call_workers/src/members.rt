@@ -1,15 +1,15 @@
 //! Workers, before and after their work.
-use crate::calls::{Item, Worked};
 use crate::shared::Shared;
+use due_calls::{Item, Worked};
 use job_queue::JobPass;
 use module_store::Naming;
-use pool_host::HostPass;
+use tenant_share::Caller;
 use wasm_types::NoMemory;
 
-/// What a worker works with: its pass of the host, and its pass of the queue.
+/// What a worker works with: its pass of each tenant, and its pass of the queue.
 #[derive(Drop)]
 pub struct Worker<N: Naming> {
-    pub pass: HostPass<N>,
+    pub caller: Caller<N>,
     pub own: JobPass<Item<N>>,
 }
 

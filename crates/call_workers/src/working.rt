@@ -1,22 +1,22 @@
 //! The work of one worker.
-ghost use Rattle.std.specs.Prelude.{◌≤◌, IfOk, OnErr, length};
+ghost use Rattle.std.specs.Prelude.{◌≤◌, All, IfOk, OnErr, length};
 ghost use Rattle.job_queue.specs.Passes.{IsJobPass, account_of, count_of};
-ghost use Rattle.pool_host.specs.Hosts.{IsHostPass};
-ghost use Rattle.call_workers.specs.Entries.{AreNumbered};
+ghost use Rattle.tenant_share.specs.Tenants.{IsCaller, tenants_of};
+ghost use Rattle.due_calls.specs.Entries.{AreNumbered, IsOfTenants};
 ghost use Rattle.call_workers.specs.Taken.{DidWork, WasGiven};
 
-use crate::calls::{Due, Item, Worked, make};
-use crate::waiting::Waits;
+use crate::calls::make;
+use due_calls::{Due, Item, Waits, Worked};
 use host_edge::Gate;
 use job_queue::{JobPass, Jobs};
 use module_store::{ModuleStore, Naming};
-use pool_host::{Host, HostPass};
 use std::alloc::Global;
 use std::sync::Wait;
 use std::thread;
+use tenant_share::{Caller, ShareHost};
 use wasm_types::NoMemory;
 
-/// Makes the calls that the queue gives it, on the host, until it is given a 0; where the queue is empty it asks again. There is
+/// Makes the calls that the queue gives it, each on the slots of its tenant, until it is given a 0; where the queue is empty it asks again. There is
 /// an entry for each call, in the order in which they were given. After a call that found a kind full it waits before it asks for
 /// the next one, so that the queue is left to those that have slots. `calls` has the call of each number of the queue, at the place
 /// before its number. `gate` is told of each call.
@@ -27,21 +27,22 @@ use wasm_types::NoMemory;
 pub fn work<N: Naming, R: Wait, G: Gate>(
     rt: &R,
     alloc: Global,
-    host: &Host<N>,
-    pass: &mut HostPass<N>,
+    share: &ShareHost<N>,
+    caller: &mut Caller<N>,
     store: &ModuleStore<N>,
     jobs: &Jobs<Item<N>>,
     own: &mut JobPass<Item<N>>,
     calls: &[Due],
     gate: &G,
 ) -> Result<Vec<Worked>, NoMemory>
-    requires pass { IsHostPass host.now pass.old }
+    requires caller { IsCaller share.now caller.old }
     requires own { IsJobPass jobs.now own.old }
     requires numbered { AreNumbered calls.now }
     requires enough { count_of jobs.now ≤ length calls.now }
-    ensures pass { IsHostPass host.now pass.new }
+    requires tenants { All (IsOfTenants (tenants_of share.now)) calls.now }
+    ensures caller { IsCaller share.now caller.new }
     ensures own { IsJobPass jobs.now own.new }
-    ensures made { IfOk result (λ made. DidWork N.config host.now calls.now (account_of own.old) (account_of own.new) pass.old.passes pass.new.passes made.items) }
+    ensures made { IfOk result (λ made. DidWork N.config share.now calls.now (account_of own.old) (account_of own.new) caller.old caller.new made.items) }
     ensures spent { OnErr result (WasGiven (account_of own.old) (account_of own.new)) }
 {
     let mut made = Vec::new(alloc);
@@ -56,7 +57,7 @@ pub fn work<N: Naming, R: Wait, G: Gate>(
                 if number == 0 {
                     return Ok(made);
                 }
-                let worked = make(alloc, host, pass, store, number, item, calls, gate)?;
+                let worked = make(alloc, share, caller, store, number, item, calls, gate)?;
                 waits = waits.after(worked.answer);
                 made.push_reserved(worked);
                 waits.wait();

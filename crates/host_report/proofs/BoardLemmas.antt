@@ -14,8 +14,9 @@ use Rattle.job_queue.specs.Boards.{IsOpen}
 use Rattle.request_text.specs.declared.request.Directive.{Directive}
 use Rattle.request_text.specs.declared.request.Directive.TheVariants.{Module, Call}
 use Rattle.report_text.specs.declared.report.CallLine.{CallLine}
+use Rattle.pool_limits.specs.declared.wants.Want.{Want}
 use Rattle.request_text.specs.Text.{AreRequests, call_count, modules_of}
-use Rattle.call_workers.specs.declared.calls.Worked.{Worked}
+use Rattle.due_calls.specs.declared.entries.Worked.{Worked}
 use Rattle.host_report.specs.Answers.{AreAnswers}
 use Rattle.host_report.specs.Collected.{AreCollected, AreOfCalls, HasLinesOf, IsBoard, IsLineOf, IsOfWorked, call_at, line_of, lines_on}
 use Rattle.host_report.specs.Report.{GoesAs, IsCallLine, Limits}
@@ -96,8 +97,8 @@ open_here board number there none =
     record { above = omega arith; within = omega arith; free = rw (at, get_or_from_slice_get board number None None none) refl }
 
 module _ (limits : Limits) (whole : List Directive) where
-  pub settled_begin : (board : Lines) → AreRequests whole → IsBoard limits whole board → SettledLeft limits whole whole 0 board
-  settled_begin board lawful is = record {
+  pub settled_begin : (wants : List Want) (board : Lines) → AreRequests wants whole → IsBoard limits whole board → SettledLeft limits whole whole 0 board
+  settled_begin wants board lawful is = record {
     left = calls_begin limits whole lawful.placed lawful.few_calls;
     count = omega arith;
     board_is = is;
@@ -118,33 +119,33 @@ module _ (limits : Limits) (whole : List Directive) where
     settled_module : (name bytes : List ℕ) → d ≡ Module name bytes → SettledLeft limits whole more number board
     settled_module name bytes module_is =
         let k : SettledLeft limits whole (Module name bytes ∷ more) number board = rw (is, module_is) at h in record {
-          left = after_other limits whole rest more number (lines_on (take number board)) d is h.left (λ place invocation call_is. cc);
+          left = after_other limits whole rest more number (lines_on (take number board)) d is h.left (λ tenant place invocation call_is. cc);
           count = (let f = k.count in omega (arith, call_count-module name bytes more));
           board_is = h.board_is;
           calls = k.calls;
           begun = k.begun;
         }
 
-    pub settled_other : ((place : ℕ) (invocation : Invocation) → d ≡ Call place invocation → ⊥) → SettledLeft limits whole more number board
-    settled_other other = elim (kind_of d) [ inl (name, bytes, module_is) ↦ settled_module name bytes module_is | inr (place, invocation, call_is) ↦ absurd (other place invocation call_is) ]
+    pub settled_other : ((tenant place : ℕ) (invocation : Invocation) → d ≡ Call tenant place invocation → ⊥) → SettledLeft limits whole more number board
+    settled_other other = elim (kind_of d) [ inl (name, bytes, module_is) ↦ settled_module name bytes module_is | inr (tenant, place, invocation, call_is) ↦ absurd (other tenant place invocation call_is) ]
 
-    module _ (place : ℕ) (invocation : Invocation) (call_is : d ≡ Call place invocation) where
-      as_settled : SettledLeft limits whole (Call place invocation ∷ more) number board
+    module _ (tenant place : ℕ) (invocation : Invocation) (call_is : d ≡ Call tenant place invocation) where
+      as_settled : SettledLeft limits whole (Call tenant place invocation ∷ more) number board
       as_settled = rw (is, call_is) at h
 
-      this_call : call_at whole number ≡ Some (Call place invocation)
+      this_call : call_at whole number ≡ Some (Call tenant place invocation)
       this_call = let none : number + 0 ≡ number = omega arith in ap (call_at whole) (sym none) ∙ as_settled.calls 0
 
       pub on_board : number < length board
-      on_board = let f = as_settled.count in let m = h.board_is.many in omega (arith, call_count-call place invocation more)
+      on_board = let f = as_settled.count in let m = h.board_is.many in omega (arith, call_count-call tenant place invocation more)
 
       -- the board begins with one line more
       settled_more : (how : CallLine) (board' : Lines) → GoesAs limits (modules_of whole) place invocation how → IsBoard limits whole board'
           → take (number + 1) board' ≡ take number board ++ Some how ∷ [] → SettledLeft limits whole more (number + 1) board'
       settled_more how board' goes on one_more =
           let pushed : lines_on (take (number + 1) board') ≡ lines_on (take number board) ++ how ∷ [] = ap lines_on one_more ∙ lines_on-snoc (take number board) how in record {
-            left = after_call limits whole rest more number (lines_on (take number board)) d is h.left place invocation call_is goes.bytes how (lines_on (take (number + 1) board')) goes.there goes.goes pushed;
-            count = (let f = as_settled.count in omega (arith, call_count-call place invocation more));
+            left = after_call limits whole rest more number (lines_on (take number board)) d is h.left tenant place invocation call_is goes.bytes how (lines_on (take (number + 1) board')) goes.there goes.goes pushed;
+            count = (let f = as_settled.count in omega (arith, call_count-call tenant place invocation more));
             board_is = on;
             calls = λ j. let shift : number + 1 + j ≡ number + suc j = omega arith in ap (call_at whole) shift ∙ as_settled.calls (suc j);
             begun = one_more ∙ (ap (λ (lines : Lines). lines ++ Some how ∷ []) h.begun ∙ sym (ap (map (λ (line : CallLine). Some line)) pushed ∙ map-append (λ (line : CallLine). Some line) (lines_on (take number board)) (how ∷ [])));

@@ -41,21 +41,21 @@ pub call_count-module : (name bytes : List ℕ) (ds : List Directive) → call_c
 call_count-module name bytes ds =
     let count : call_count (Module name bytes ∷ ds) ≡ 0 + call_count ds = sum_by-cons (λ x. cond (is_call x) 1 0) (Module name bytes) ds in omega arith
 
-pub call_count-call : (place : ℕ) (invocation : Invocation) (ds : List Directive) → call_count (Call place invocation ∷ ds) ≡ 1 + call_count ds
-call_count-call place invocation ds = sum_by-cons (λ x. cond (is_call x) 1 0) (Call place invocation) ds
+pub call_count-call : (tenant place : ℕ) (invocation : Invocation) (ds : List Directive) → call_count (Call tenant place invocation ∷ ds) ≡ 1 + call_count ds
+call_count-call tenant place invocation ds = sum_by-cons (λ x. cond (is_call x) 1 0) (Call tenant place invocation) ds
 
 -- each call's module is one of so many
 abbrev pub ArePlacedBelow : ℕ → List Directive → Type 0
 ArePlacedBelow n [] = Unit {0}
 ArePlacedBelow n (Module name bytes ∷ rest) = ArePlacedBelow n rest
-ArePlacedBelow n (Call place invocation ∷ rest) = (place < n) × ArePlacedBelow n rest
+ArePlacedBelow n (Call tenant place invocation ∷ rest) = (place < n) × ArePlacedBelow n rest
 
 pub placed_below : (ds : List Directive) (m n : ℕ) → IsPlacedFrom m ds → m + length (modules_of ds) ≤ n → ArePlacedBelow n ds
 placed_below [] m n placed le = tt
 placed_below (Module name bytes ∷ ds) m n placed le =
     let more : length (modules_of (Module name bytes ∷ ds)) ≡ suc (length (modules_of ds)) = refl in
     placed_below ds (m + 1) n placed (omega arith)
-placed_below (Call place invocation ∷ ds) m n placed le = (let p : place < m = placed.0 in omega arith, placed_below ds m n placed.1 le)
+placed_below (Call tenant place invocation ∷ ds) m n placed le = (let p : place < m = placed.0 in omega arith, placed_below ds m n placed.1 le)
 
 pub element_below : (modules : List (List ℕ)) (i : ℕ) → i < length modules → (b : List ℕ) × (slice_get modules i ≡ Some b)
 element_below [] i lt = absurd (omega arith)
@@ -63,9 +63,9 @@ element_below (b ∷ modules) zero lt = (b, refl)
 element_below (b ∷ modules) (suc i) lt = element_below modules i (omega arith)
 
 pub kind_of : (d : Directive) → ((name : List ℕ) × (bytes : List ℕ) × (d ≡ Module name bytes))
-    ⊎ ((place : ℕ) × (invocation : Invocation) × (d ≡ Call place invocation))
+    ⊎ ((tenant : ℕ) × (place : ℕ) × (invocation : Invocation) × (d ≡ Call tenant place invocation))
 kind_of (Module name bytes) = inl (name, bytes, refl)
-kind_of (Call place invocation) = inr (place, invocation, refl)
+kind_of (Call tenant place invocation) = inr (tenant, place, invocation, refl)
 
 -- So many calls have been made, and these are their answers: whatever are the answers of the calls that are left completes
 -- them.
@@ -89,15 +89,15 @@ module _ (limits : Limits) (whole : List Directive) where
         let k : CallsLeft limits whole (Module name bytes ∷ more) number answers = rw (is, module_is) at h in
         record { placed = k.placed; few = (let f = k.few in omega (arith, call_count-module name bytes more)); completes = k.completes }
 
-    pub after_other : ((place : ℕ) (invocation : Invocation) → d ≡ Call place invocation → ⊥) → CallsLeft limits whole more number answers
-    after_other other = elim (kind_of d) [ inl (name, bytes, module_is) ↦ after_module name bytes module_is | inr (place, invocation, call_is) ↦ absurd (other place invocation call_is) ]
+    pub after_other : ((tenant place : ℕ) (invocation : Invocation) → d ≡ Call tenant place invocation → ⊥) → CallsLeft limits whole more number answers
+    after_other other = elim (kind_of d) [ inl (name, bytes, module_is) ↦ after_module name bytes module_is | inr (tenant, place, invocation, call_is) ↦ absurd (other tenant place invocation call_is) ]
 
-    module _ (place : ℕ) (invocation : Invocation) (call_is : d ≡ Call place invocation) where
-      as_call : CallsLeft limits whole (Call place invocation ∷ more) number answers
+    module _ (tenant place : ℕ) (invocation : Invocation) (call_is : d ≡ Call tenant place invocation) where
+      as_call : CallsLeft limits whole (Call tenant place invocation ∷ more) number answers
       as_call = rw (is, call_is) at h
 
       pub few_calls : number < MOST_CALLS
-      few_calls = let f = as_call.few in omega (arith, call_count-call place invocation more)
+      few_calls = let f = as_call.few in omega (arith, call_count-call tenant place invocation more)
 
       pub called_module : (b : List ℕ) × (slice_get (modules_of whole) place ≡ Some b)
       called_module = element_below (modules_of whole) place as_call.placed.0
@@ -111,6 +111,6 @@ module _ (limits : Limits) (whole : List Directive) where
           let k = as_call in
           record {
             placed = k.placed.1;
-            few = (let f = k.few in omega (arith, call_count-call place invocation more));
+            few = (let f = k.few in omega (arith, call_count-call tenant place invocation more));
             completes = λ others g. rw (is', append_assoc) (k.completes (how ∷ others) (record { bytes = bytes; there = there; goes = goes }, g));
           }

@@ -37,10 +37,10 @@ module _ {N : Type 0} (config : Numbers) (lane : Host N) (entries : List Entry) 
       left_module : (name bytes : List ℕ) → d ≡ Module name bytes → LeftSoFar config lane entries whole more number first board before now
       left_module name bytes module_is = record { slots = h.slots; completes = λ after g. h.completes after (rw (is, module_is) g) }
 
-      pub left_other : ((place : ℕ) (invocation : Invocation) → d ≡ Call place invocation → ⊥) → LeftSoFar config lane entries whole more number first board before now
-      left_other other = elim (kind_of d) [ inl (name, bytes, module_is) ↦ left_module name bytes module_is | inr (place, invocation, call_is) ↦ absurd (other place invocation call_is) ]
+      pub left_other : ((tenant place : ℕ) (invocation : Invocation) → d ≡ Call tenant place invocation → ⊥) → LeftSoFar config lane entries whole more number first board before now
+      left_other other = elim (kind_of d) [ inl (name, bytes, module_is) ↦ left_module name bytes module_is | inr (tenant, place, invocation, call_is) ↦ absurd (other tenant place invocation call_is) ]
 
-      module _ (place : ℕ) (invocation : Invocation) (call_is : d ≡ Call place invocation) where
+      module _ (tenant place : ℕ) (invocation : Invocation) (call_is : d ≡ Call tenant place invocation) where
         had : slice_get board number ≡ slice_get first number
         had = h.slots number (omega arith)
 

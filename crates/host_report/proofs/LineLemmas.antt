@@ -56,7 +56,7 @@ module _ (one_load : LoadsOnce) (within : LoadsWithin) (one_answer : AnswersOnce
   one_line : (limits : Limits) (modules : List (List ℕ)) (number : ℕ) (d : Directive) (a b : ReportLine) → IsLine limits modules number d a → IsLine limits modules number d b → a ≡ b
   one_line limits modules number (Module name bytes) a b (how, told, is) (how', told', is') =
       is ∙ ap (λ (l : ModuleLine). report.Module name l) (one_module_line one_load limits bytes how how' told told') ∙ sym is'
-  one_line limits modules number (Call place invocation) a b (how, goes, is) (how', goes', is') =
+  one_line limits modules number (Call tenant place invocation) a b (how, goes, is) (how', goes', is') =
       let both : Some goes'.bytes ≡ Some goes.bytes = sym goes'.there ∙ goes.there in
       let same : goes'.bytes ≡ goes.bytes = cc in
       is
@@ -76,16 +76,16 @@ module _ (one_load : LoadsOnce) (within : LoadsWithin) (one_answer : AnswersOnce
 
 next_count : (number : ℕ) (d : Directive) (ds : List Directive) → next_number number d + call_count ds ≡ number + call_count (d ∷ ds)
 next_count number (Module name bytes) ds = omega (arith, call_count-module name bytes ds)
-next_count number (Call place invocation) ds = omega (arith, call_count-call place invocation ds)
+next_count number (Call tenant place invocation) ds = omega (arith, call_count-call tenant place invocation ds)
 
 module _ (limits : Limits) (modules : List (List ℕ)) (bytes : List ℕ) (invocation : Invocation) where
-  pub line_at : (ds : List Directive) (at number place : ℕ) (lines : List ReportLine) → AreLines limits modules number ds lines → slice_get ds at ≡ Some (Call place invocation)
+  pub line_at : (ds : List Directive) (at number tenant place : ℕ) (lines : List ReportLine) → AreLines limits modules number ds lines → slice_get ds at ≡ Some (Call tenant place invocation)
       → slice_get modules place ≡ Some bytes
       → (how : CallLine) × IsCallLine limits bytes invocation how × (slice_get lines at ≡ Some (report.Call (number + call_count (take at ds)) how))
-  line_at [] at number place lines h got there = cc
-  line_at (d ∷ ds) at number place [] h got there = absurd h
-  line_at (d ∷ ds) zero number place (line ∷ lines) h got there =
-      let call : d ≡ Call place invocation = cc in
+  line_at [] at number tenant place lines h got there = cc
+  line_at (d ∷ ds) at number tenant place [] h got there = absurd h
+  line_at (d ∷ ds) zero number tenant place (line ∷ lines) h got there =
+      let call : d ≡ Call tenant place invocation = cc in
       let (how, goes, is) = subst (λ (x : Directive). IsLine limits modules number x line) call h.0 in
       let both : Some goes.bytes ≡ Some bytes = sym goes.there ∙ there in
       let same : goes.bytes ≡ bytes = cc in
@@ -94,6 +94,6 @@ module _ (limits : Limits) (modules : List (List ℕ)) (bytes : List ℕ) (invoc
         subst (λ (b : List ℕ). IsCallLine limits b invocation how) same goes.goes,
         ap (λ (l : ReportLine). Some l) is ∙ ap (λ (n : ℕ). Some (report.Call n how)) none,
       )
-  line_at (d ∷ ds) (suc at) number place (line ∷ lines) h got there =
-      let (how, told, is) = line_at ds at (next_number number d) place lines h.1 got there in
+  line_at (d ∷ ds) (suc at) number tenant place (line ∷ lines) h got there =
+      let (how, told, is) = line_at ds at (next_number number d) tenant place lines h.1 got there in
       (how, told, is ∙ ap (λ (n : ℕ). Some (report.Call n how)) (next_count number d (take at ds)))

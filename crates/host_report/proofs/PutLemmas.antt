@@ -16,7 +16,7 @@ use Rattle.module_store.specs.declared.desk.TheConstants.{MOST_MODULES}
 use Rattle.request_text.specs.declared.request.Directive.{Directive}
 use Rattle.request_text.specs.declared.request.Directive.TheVariants.{Module, Call}
 use Rattle.request_text.specs.Text.{IsPlacedFrom, call_count, module_names, modules_of}
-use Rattle.call_workers.specs.Entries.{EndsAll, Pair}
+use Rattle.due_calls.specs.Entries.{EndsAll, Pair}
 use Rattle.host_report.specs.Collected.{call_at}
 use Rattle.host_report.specs.Entries.{AreEntries, Entry, IsEntry}
 use Rattle.host_report.specs.Put.{HasPut, module_at, module_of, pairs_from, pairs_put}
@@ -97,15 +97,15 @@ module _ (limits : Limits) (whole : List Directive) where
               completes = λ others. rw (is', append_assoc) (k.completes (e ∷ others));
             }
 
-      module _ (place : ℕ) (invocation : Invocation) (call_is : d ≡ Call place invocation) where
-        at_call : PutsLeft limits whole (Call place invocation ∷ more) registered entries number before after
+      module _ (tenant place : ℕ) (invocation : Invocation) (call_is : d ≡ Call tenant place invocation) where
+        at_call : PutsLeft limits whole (Call tenant place invocation ∷ more) registered entries number before after
         at_call = rw (is, call_is) at h
 
         pub entry_is_there : place < length entries
         entry_is_there = at_call.placed.0
 
         pub room_for_call : number < call_count whole
-        room_for_call = let f = at_call.few in omega (arith, call_count-call place invocation more)
+        room_for_call = let f = at_call.few in omega (arith, call_count-call tenant place invocation more)
 
         pub puts_call : (after' : Puts) (m : Option Named) → m ≡ module_at entries place → after' ≡ with_put after ((number + 1, m) ∷ []) → PutsLeft limits whole more registered entries (number + 1) before after'
         puts_call after' m module_is stored =
@@ -114,7 +114,7 @@ module _ (limits : Limits) (whole : List Directive) where
             let put' : after'.put ≡ after.put ++ (number + 1, module_at entries place) ∷ [] = ap (λ (x : Puts). x.put) put in record {
               entered = record { few = k.entered.few; completes = k.entered.completes };
               placed = k.placed.1;
-              few = (let f = k.few in omega (arith, call_count-call place invocation more));
+              few = (let f = k.few in omega (arith, call_count-call tenant place invocation more));
               putter = ap (λ (x : Puts). x.puts) put ∙ k.putter;
               many = (let m = k.many in let l = length-append after.put ((number + 1, module_at entries place) ∷ []) in let e : length after'.put ≡ length (after.put ++ (number + 1, module_at entries place) ∷ []) = ap length put' in omega arith);
               given = ap (λ (x : Puts). x.given) put ∙ k.given;
@@ -153,9 +153,10 @@ put_and_ends (Err wanting) items requests workers a b c h is = tt
 
 -- it is a call's, with the call's module, or a 0
 pub record IsPairAt (entries : List Entry) (requests whole : List Directive) (at : ℕ) (m : Option Named) : Type 0 where
+  pub tenant : ℕ
   pub place : ℕ
   pub invocation : Invocation
-  pub call : call_at requests at ≡ Some (Call place invocation)
+  pub call : call_at requests at ≡ Some (Call tenant place invocation)
   pub bytes : List ℕ
   pub there : slice_get (modules_of whole) place ≡ Some bytes
   pub module_is : m ≡ module_at entries place
@@ -176,7 +177,7 @@ module _ (entries : List Entry) where
   times_from : (n k : ℕ) (ds : List Directive) → (times k (pairs_from entries n ds) ≤ 1) × (k < n → times k (pairs_from entries n ds) ≡ 0)
   times_from n k [] = (omega arith, λ _. refl)
   times_from n k (Module name bytes ∷ ds) = times_from n k ds
-  times_from n k (Call place invocation ∷ ds) =
+  times_from n k (Call tenant place invocation ∷ ds) =
       let (most, none) = times_from (n + 1) k ds in
       let all : times k ((n, module_at entries place) ∷ pairs_from entries (n + 1) ds) ≡ cond (n == k) 1 0 + times k (pairs_from entries (n + 1) ds) =
       sum_by-cons (λ (pair : Pair). cond (pair.0 == k) 1 0) (n, module_at entries place) (pairs_from entries (n + 1) ds) in
@@ -207,16 +208,16 @@ module _ (entries : List Entry) where
   below_from n (Module name bytes ∷ ds) =
       let same : n + call_count ds ≡ n + call_count (Module name bytes ∷ ds) = ap (λ c. n + c) (sym (call_count-module name bytes ds)) in
       subst (λ (most : ℕ). All (λ (pair : Pair). pair.0 < most) (pairs_from entries n ds)) same (below_from n ds)
-  below_from n (Call place invocation ∷ ds) =
-      let same : n + 1 + call_count ds ≡ n + call_count (Call place invocation ∷ ds) = omega (arith, call_count-call place invocation ds) in
-      All-cons (λ (pair : Pair). pair.0 < n + call_count (Call place invocation ∷ ds)) (n, module_at entries place) (pairs_from entries (n + 1) ds)
-      (omega (arith, call_count-call place invocation ds))
+  below_from n (Call tenant place invocation ∷ ds) =
+      let same : n + 1 + call_count ds ≡ n + call_count (Call tenant place invocation ∷ ds) = omega (arith, call_count-call tenant place invocation ds) in
+      All-cons (λ (pair : Pair). pair.0 < n + call_count (Call tenant place invocation ∷ ds)) (n, module_at entries place) (pairs_from entries (n + 1) ds)
+      (omega (arith, call_count-call tenant place invocation ds))
       (subst (λ (most : ℕ). All (λ (pair : Pair). pair.0 < most) (pairs_from entries (n + 1) ds)) same (below_from (n + 1) ds))
 
   counted_from : (n : ℕ) (ds : List Directive) → 0 < n → All (λ (pair : Pair). 0 < pair.0) (pairs_from entries n ds)
   counted_from n [] some = All-nil (λ (pair : Pair). 0 < pair.0)
   counted_from n (Module name bytes ∷ ds) some = counted_from n ds some
-  counted_from n (Call place invocation ∷ ds) some =
+  counted_from n (Call tenant place invocation ∷ ds) some =
       All-cons (λ (pair : Pair). 0 < pair.0) (n, module_at entries place) (pairs_from entries (n + 1) ds) some (counted_from (n + 1) ds (omega arith))
 
   pub put_ends : (requests : List Directive) (workers : ℕ) → EndsAll (pairs_put entries requests workers) workers
@@ -232,12 +233,12 @@ module _ (entries : List Entry) where
       → All (IsPair entries whole) (pairs_from entries n ds)
   pairs_at whole n [] counted here placed = All-nil (IsPair entries whole)
   pairs_at whole n (Module name bytes ∷ ds) counted here placed = pairs_at whole n ds counted here placed
-  pairs_at whole n (Call place invocation ∷ ds) counted here placed =
+  pairs_at whole n (Call tenant place invocation ∷ ds) counted here placed =
       let (bytes, there) = element_below (modules_of whole) place placed.0 in
-      let first : call_at whole (0 + (n - 1)) ≡ Some (Call place invocation) = here 0 in
+      let first : call_at whole (0 + (n - 1)) ≡ Some (Call tenant place invocation) = here 0 in
       let nought : 0 + (n - 1) ≡ n - 1 = omega arith in
       All-cons (IsPair entries whole) (n, module_at entries place) (pairs_from entries (n + 1) ds)
-      (λ _. record { place = place; invocation = invocation; call = ap (call_at whole) (sym nought) ∙ first; bytes = bytes; there = there; module_is = refl })
+      (λ _. record { tenant = tenant; place = place; invocation = invocation; call = ap (call_at whole) (sym nought) ∙ first; bytes = bytes; there = there; module_is = refl })
       (pairs_at whole (n + 1) ds (omega arith) (λ at. let shift : at + (n + 1 - 1) ≡ suc at + (n - 1) = omega arith in ap (call_at whole) shift ∙ here (suc at)) placed.1)
 
   pub put_pairs : (whole : List Directive) (workers : ℕ) → ArePlacedBelow (length (modules_of whole)) whole → All (IsPair entries whole) (pairs_put entries whole workers)

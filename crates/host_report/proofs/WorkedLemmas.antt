@@ -19,12 +19,11 @@ use Rattle.request_text.specs.declared.request.Directive.TheVariants.{Module, Ca
 use Rattle.report_text.specs.declared.report.CallLine.{CallLine}
 use Rattle.report_text.specs.declared.report.CallLine.TheVariants as call_line
 use Rattle.request_text.specs.Text.{call_count, modules_of}
-use Rattle.call_workers.specs.declared.calls.Due.{Due}
-use Rattle.call_workers.specs.declared.calls.Worked.{Worked}
-use Rattle.call_workers.specs.Crews.{AnswersAll}
-use Rattle.call_workers.specs.Entries as worked
-use Rattle.call_workers.specs.Entries.{IsAnswered, Pair, called}
-use Rattle.call_workers.proofs.EntryLemmas.{called_counted}
+use Rattle.due_calls.specs.declared.calls.Due.{Due}
+use Rattle.due_calls.specs.declared.entries.Worked.{Worked}
+use Rattle.due_calls.specs.Entries as worked
+use Rattle.due_calls.specs.Entries.{AnswersAll, IsAnswered, Pair, called}
+use Rattle.due_calls.proofs.EntryLemmas.{called_counted}
 use Rattle.host_report.specs.Collected.{AreOfCalls, IsBoard, IsLineOf, IsOfWorked, call_at, line_of}
 use Rattle.host_report.specs.Due.{dues_from}
 use Rattle.host_report.specs.Entries.{AreEntries, Entry, IsEntry}
@@ -71,7 +70,7 @@ module _ (profile : Profile) (config : Numbers) (requests : List Directive) (ent
       → slice_get (dues_from 1 requests) at ≡ Some due → IsAnswered config due.invocation m a shown → line_of a shown ≡ Some line → IsLineOf (limits_in profile config) requests at line
   line_right at m due a shown line p due_is answered told =
       let limits = limits_in profile config in
-      let same = due_at_call 1 requests at due p.place p.invocation due_is p.call in
+      let same = due_at_call 1 requests at due p.tenant p.place p.invocation due_is p.call in
       let (entry, stands) = some_entry entries p.place (entry_there limits (modules_of requests) entries p.place p.bytes are p.there) in
       let is_entry = entry_at limits (modules_of requests) entries p.place p.bytes entry are p.there stands in
       let module_is : m ≡ module_of entry = p.module_is ∙ rw stands refl in

@@ -9,6 +9,6 @@ use Rattle.host_report.specs.Report.{GoesAs, Limits}
 abbrev pub AreAnswers : Limits → (modules : List (List ℕ)) → List Directive → List CallLine → Type 0
 AreAnswers limits modules [] answers = answers ≡ []
 AreAnswers limits modules (Module name bytes ∷ requests) answers = AreAnswers limits modules requests answers
-AreAnswers limits modules (Call place invocation ∷ requests) [] = ⊥
-AreAnswers limits modules (Call place invocation ∷ requests) (how ∷ answers) =
+AreAnswers limits modules (Call tenant place invocation ∷ requests) [] = ⊥
+AreAnswers limits modules (Call tenant place invocation ∷ requests) (how ∷ answers) =
     GoesAs limits modules place invocation how × AreAnswers limits modules requests answers

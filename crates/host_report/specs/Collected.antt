@@ -7,7 +7,7 @@ use Rattle.request_text.specs.declared.request.Directive.TheVariants.{Module, Ca
 use Rattle.report_text.specs.declared.report.CallLine.{CallLine}
 use Rattle.report_text.specs.declared.report.CallLine.TheVariants as call_line
 use Rattle.request_text.specs.Text.{call_count, modules_of}
-use Rattle.call_workers.specs.declared.calls.Worked.{Worked}
+use Rattle.due_calls.specs.declared.entries.Worked.{Worked}
 use Rattle.pool_host.specs.declared.lane.LaneAnswer.TheVariants as lane
 use Rattle.host_report.specs.Report.{GoesAs, Limits, answer_line}
 
@@ -23,13 +23,13 @@ line_of (Some (answer.Full kind)) shown = None
 abbrev pub call_at : List Directive → ℕ → Option Directive
 call_at [] at = None
 call_at (Module name bytes ∷ requests) at = call_at requests at
-call_at (Call place invocation ∷ requests) zero = Some (Call place invocation)
-call_at (Call place invocation ∷ requests) (suc at) = call_at requests at
+call_at (Call tenant place invocation ∷ requests) zero = Some (Call tenant place invocation)
+call_at (Call tenant place invocation ∷ requests) (suc at) = call_at requests at
 
 -- the line tells how this call goes
 abbrev pub Tells : Limits → (modules : List (List ℕ)) → Directive → CallLine → Type 0
 Tells limits modules (Module name bytes) line = ⊥
-Tells limits modules (Call place invocation) line = GoesAs limits modules place invocation line
+Tells limits modules (Call tenant place invocation) line = GoesAs limits modules place invocation line
 
 -- the line tells how the call goes that comes after so many others
 abbrev pub IsLineOf : Limits → List Directive → ℕ → CallLine → Type 0

@@ -3,13 +3,13 @@ use Rattle.std.specs.Prelude.{ℕ, ◌+◌, List, [], ◌∷◌}
 use Rattle.request_text.specs.declared.invocation.Invocation.{Invocation}
 use Rattle.request_text.specs.declared.request.Directive.{Directive}
 use Rattle.request_text.specs.declared.request.Directive.TheVariants.{Module, Call}
-use Rattle.call_workers.specs.declared.calls.Due.{Due}
+use Rattle.due_calls.specs.declared.calls.Due.{Due}
 
-abbrev pub due_of : (number : ℕ) → Invocation → Due
-due_of number invocation = record { number = number; invocation = invocation }
+abbrev pub due_of : (number tenant : ℕ) → Invocation → Due
+due_of number tenant invocation = record { number = number; tenant = tenant; invocation = invocation }
 
 -- the calls among these directives, of which the first has this number
 abbrev pub dues_from : ℕ → List Directive → List Due
 dues_from number [] = []
 dues_from number (Module name bytes ∷ requests) = dues_from number requests
-dues_from number (Call place invocation ∷ requests) = due_of number invocation ∷ dues_from (number + 1) requests
+dues_from number (Call tenant place invocation ∷ requests) = due_of number tenant invocation ∷ dues_from (number + 1) requests

@@ -29,5 +29,5 @@ module _ {N : Type 0} (config : Numbers) (lane : Host N) where
   abbrev pub MadeLeft : List Entry → (board : List (Option CallLine)) → ℕ → List Directive → (before after : Passes N) → Type 0
   MadeLeft entries board at [] before after = after ≡ before
   MadeLeft entries board at (Module name bytes ∷ requests) before after = MadeLeft entries board at requests before after
-  MadeLeft entries board at (Call place invocation ∷ requests) before after = (between : Passes N)
+  MadeLeft entries board at (Call tenant place invocation ∷ requests) before after = (between : Passes N)
       × MadeIfLeft (slice_get board at) (module_at entries place) before between × MadeLeft entries board (at + 1) requests between after

@@ -16,21 +16,21 @@ HasLine board calls = (how : CallLine) × (slice_get board calls ≡ Some (Some 
 -- there is an entry, or a line on the board, for this directive, after so many of each
 abbrev pub HasSource : Counts → List Entry → (board : List (Option CallLine)) → Directive → Type 0
 HasSource counts entries board (Module name bytes) = counts.modules < length entries
-HasSource counts entries board (Call place invocation) = HasLine board counts.calls × (counts.calls < MOST_CALLS)
+HasSource counts entries board (Call tenant place invocation) = HasLine board counts.calls × (counts.calls < MOST_CALLS)
 
 -- the line shows the entry, or what stands on the board, that comes next
 abbrev pub ShowsNext : Counts → List Entry → (board : List (Option CallLine)) → Directive → ReportLine → Type 0
 ShowsNext counts entries board (Module name bytes) line =
     (entry : Entry) × (slice_get entries counts.modules ≡ Some entry) × (line ≡ report.Module name (entry_line entry))
-ShowsNext counts entries board (Call place invocation) line =
+ShowsNext counts entries board (Call tenant place invocation) line =
     (how : CallLine) × (slice_get board counts.calls ≡ Some (Some how)) × (line ≡ report.Call (counts.calls + 1) how)
 
 -- the board after this directive, whose line is taken off if it is a call
 abbrev pub board_after : Counts → (board : List (Option CallLine)) → Directive → List (Option CallLine)
 board_after counts board (Module name bytes) = board
-board_after counts board (Call place invocation) = slice_set board counts.calls None
+board_after counts board (Call tenant place invocation) = slice_set board counts.calls None
 
 -- how many module lines and calls there are after this directive too
 abbrev pub counts_after : Counts → Directive → Counts
 counts_after counts (Module name bytes) = record counts { modules = counts.modules + 1 }
-counts_after counts (Call place invocation) = record counts { calls = counts.calls + 1 }
+counts_after counts (Call tenant place invocation) = record counts { calls = counts.calls + 1 }

@@ -4,7 +4,7 @@ use Rattle.job_queue.specs.declared.accounts.Account.{Account}
 use Rattle.pool_worlds.specs.Contents.{Named}
 use Rattle.request_text.specs.declared.request.Directive.{Directive}
 use Rattle.request_text.specs.declared.request.Directive.TheVariants.{Module, Call}
-use Rattle.call_workers.specs.Entries.{Pair}
+use Rattle.due_calls.specs.Entries.{Pair}
 use Rattle.host_report.specs.Entries.{Entry}
 
 -- the module of a line, if it was accepted
@@ -20,7 +20,7 @@ module_at entries place = option_and_then module_of (slice_get entries place)
 abbrev pub pairs_from : List Entry → ℕ → List Directive → List Pair
 pairs_from entries number [] = []
 pairs_from entries number (Module name bytes ∷ requests) = pairs_from entries number requests
-pairs_from entries number (Call place invocation ∷ requests) = (number, module_at entries place) ∷ pairs_from entries (number + 1) requests
+pairs_from entries number (Call tenant place invocation ∷ requests) = (number, module_at entries place) ∷ pairs_from entries (number + 1) requests
 
 -- all calls, and then a 0 for each worker
 abbrev pub pairs_put : List Entry → List Directive → ℕ → List Pair

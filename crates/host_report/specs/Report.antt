@@ -91,13 +91,13 @@ pub record GoesAs (limits : Limits) (modules : List (List ℕ)) (place : ℕ) (i
 abbrev pub IsLine : Limits → (modules : List (List ℕ)) → (number : ℕ) → Directive → ReportLine → Type 0
 IsLine limits modules number (Module name bytes) line =
     (how : ModuleLine) × IsModuleLine limits bytes how × (line ≡ report.Module name how)
-IsLine limits modules number (Call place invocation) line =
+IsLine limits modules number (Call tenant place invocation) line =
     (how : CallLine) × GoesAs limits modules place invocation how × (line ≡ report.Call number how)
 
 -- the number of the first call after a directive
 abbrev pub next_number : ℕ → Directive → ℕ
 next_number number (Module name bytes) = number
-next_number number (Call place invocation) = number + 1
+next_number number (Call tenant place invocation) = number + 1
 
 -- the lines of these directives, one of each, the first call among which has this number
 abbrev pub AreLines : Limits → (modules : List (List ℕ)) → (number : ℕ) → List Directive → List ReportLine → Type 0

@@ -97,7 +97,12 @@ pub(crate) fn make_left<N: Naming, G: Gate>(
     let directives = requests.directives();
     let mut number = 0u32;
     for directive in directives {
-        if let Directive::Call { module, invocation } = directive {
+        if let Directive::Call {
+            module,
+            invocation,
+            ..
+        } = directive
+        {
             number += 1;
             let entry = entry_at(entries, *module);
             if is_left(board, number) {

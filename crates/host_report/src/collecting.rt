@@ -5,7 +5,7 @@ ghost use Rattle.job_queue.specs.Boards.{IsOpen};
 ghost use Rattle.host_report.specs.Collected.{AreOfCalls, HasLinesOf, IsOfWorked, line_of};
 
 use crate::calls::answer_line;
-use call_workers::Worked;
+use due_calls::Worked;
 use job_queue::Board;
 use pool_host::{Answer, LaneAnswer};
 use report_text::CallLine;

@@ -47,8 +47,8 @@ pub fn at_most_one_report()
 /// before it.
 pub fn each_call_has_its_line()
     ensures { (numbers : Numbers) (requests : Asked) (lines : List ReportLine)
-        (at place : ℕ) (bytes : List ℕ) (invocation : Invocation)
-        → IsReport numbers requests lines → slice_get requests.directives at ≡ Some (Call place invocation)
+        (at tenant place : ℕ) (bytes : List ℕ) (invocation : Invocation)
+        → IsReport numbers requests lines → slice_get requests.directives at ≡ Some (Call tenant place invocation)
         → slice_get (modules_of requests.directives) place ≡ Some bytes
         → (how : CallLine) × IsCallLine (limits_in requests.profile numbers) bytes invocation how
         × (slice_get lines at ≡ Some (LineOfCall (1 + call_count (take at requests.directives)) how)) }

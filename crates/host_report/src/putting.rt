@@ -3,7 +3,7 @@ ghost use Rattle.std.specs.Prelude.{◌≡◌, ◌+◌, ◌≤◌, List, [], ◌
 ghost use Rattle.job_queue.specs.Accounts.{with_put};
 ghost use Rattle.job_queue.specs.Passes.{IsJobPass, IsPutter, account_of, capacity_of, count_of, put_by};
 ghost use Rattle.request_text.specs.Text.{call_count, modules_of};
-ghost use Rattle.call_workers.specs.Entries.{Pair};
+ghost use Rattle.due_calls.specs.Entries.{Pair};
 ghost use Rattle.host_report.specs.Entries.{AreEntries};
 ghost use Rattle.host_report.specs.Put.{HasPut, module_of, pairs_from, pairs_put};
 ghost use Rattle.host_report.specs.Report.{limits_in};
@@ -11,7 +11,7 @@ ghost use Rattle.host_report.specs.Report.{limits_in};
 use crate::calls::entry_at;
 use crate::modules::{Entry, register};
 use crate::shares::worker_count;
-use call_workers::Item;
+use due_calls::Item;
 use job_queue::{JobPass, Jobs};
 use module_store::{Desk, ModuleStore, Naming};
 use request_text::{Directive, Requests};

@@ -1,6 +1,7 @@
 //! The report on what a request file asks for.
-ghost use Rattle.std.specs.Prelude.{◌≡◌, IfOk, None, Some, slice_get, slice_set};
+ghost use Rattle.std.specs.Prelude.{◌≡◌, [], IfOk, None, Some, slice_get, slice_set};
 ghost use Rattle.module_store.specs.Names.{Bears};
+ghost use Rattle.pool_limits.specs.Plans.{plan_fault};
 ghost use Rattle.request_text.specs.Text.{modules_of};
 ghost use Rattle.host_report.specs.Answers.{AreAnswers};
 ghost use Rattle.host_report.specs.Collected.{AreCollected, lines_on};
@@ -108,6 +109,7 @@ fn report_in<N: Naming + Send + Sync, R: Threads + Wait + Sync, G: Gate>(
     gate: &G,
 ) -> Result<Vec<ReportLine>, NoMemory>
     requires name { Bears opened N.shelves N.config }
+    requires plan { (plan_fault N.config [] ≡ None) → plan_fault N.config requests.now.wants ≡ None }
     ensures { IfOk result (λ lines. AreLines (limits_in requests.now.profile N.config) (modules_of requests.now.directives) 1 requests.now.directives lines.items) }
 {
     let (store, desk) = opened.named::<N>();
@@ -120,8 +122,8 @@ fn report_in<N: Naming + Send + Sync, R: Threads + Wait + Sync, G: Gate>(
     lines(alloc, requests, &entries, &mut board)
 }
 
-/// The report on what a request file asks for, under a configuration. Several workers make calls in slices of so many instructions, or
-/// whole where that is 0. `gate` is told of each call.
+/// The report on what a request file asks for that was read under this configuration. Several workers make calls in slices of so many
+/// instructions, or whole where that is 0 or the file has tenants. `gate` is told of each call.
 ///
 /// # Errors
 ///
@@ -134,6 +136,7 @@ pub fn report<R: Threads + Wait + Sync, G: Gate>(
     requests: &Requests,
     gate: &G,
 ) -> Result<Vec<ReportLine>, NoMemory>
+    requires plan { (plan_fault config [] ≡ None) → plan_fault config requests.now.wants ≡ None }
     ensures { IfOk result (λ lines. IsReport config requests.now lines.items) }
 {
     let opened = Opened::open(alloc, config)?;

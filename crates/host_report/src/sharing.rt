@@ -1,8 +1,11 @@
 //! Workers make the calls on a host that they share, while the modules are registered.
-ghost use Rattle.std.specs.Prelude.{◌≡◌, ◌≢◌, ◌+◌, ◌^◌, ◌<◌, ◌≤◌, [], All, IfOk, length};
-ghost use Rattle.call_workers.specs.Crews.{AnswersAll, IsDone, IsNewWorker};
+ghost use Rattle.std.specs.Prelude.{◌≡◌, ◌≢◌, ◌+◌, ◌^◌, ◌<◌, ◌≤◌, [], All, IfOk, None, length};
+ghost use Rattle.due_calls.specs.Entries.{AnswersAll, IsOfTenants};
+ghost use Rattle.call_workers.specs.Crews.{IsDone, IsNewWorker};
+ghost use Rattle.pool_limits.specs.Plans.{plan_fault};
 ghost use Rattle.job_queue.specs.Passes.{IsJobPass, IsPutter, account_of, capacity_of, count_of, passes_of, put_by};
-ghost use Rattle.request_text.specs.Text.{AreRequests, call_count, is_call, modules_of};
+ghost use Rattle.request_text.specs.declared.request.TheConstants.{MOST_CALLS};
+ghost use Rattle.request_text.specs.Text.{call_count, is_call, modules_of};
 ghost use Rattle.host_report.specs.Collected.{IsBoard};
 ghost use Rattle.host_report.specs.Due.{dues_from};
 ghost use Rattle.host_report.specs.Entries.{AreEntries};
@@ -15,7 +18,8 @@ use crate::modules::{Entry, register_all};
 use crate::putting::{Put, put_all};
 use crate::shares::{open_slicers, open_workers};
 use crate::slicing::sliced_on;
-use call_workers::{Crew, Done, Due, Worked, finish, work_all};
+use call_workers::{Crew, Done, finish, work_all};
+use due_calls::{Due, Worked};
 use host_edge::Gate;
 use job_queue::Board;
 use module_store::{Desk, ModuleStore, Naming};
@@ -44,7 +48,7 @@ fn worked_on<N: Naming + Send + Sync, R: Threads + Wait + Sync, G: Gate>(
     gate: &G,
 ) -> Result<(Vec<Entry<N>>, Vec<Worked>), NoMemory>
     requires desk { desk ≡ 0 }
-    requires workers { All (IsNewWorker crew.shared.host crew.shared.jobs) crew.workers.items }
+    requires workers { All (IsNewWorker crew.shared.share crew.shared.jobs) crew.workers.items }
     requires own { IsJobPass crew.shared.jobs crew.putter }
     requires putter { IsPutter crew.putter }
     requires none { put_by crew.putter ≡ [] }
@@ -67,7 +71,7 @@ fn worked_on<N: Naming + Send + Sync, R: Threads + Wait + Sync, G: Gate>(
     let (done, put) = thread::join(
         rt,
         move || -> Result<Vec<Done<N>>, NoMemory>
-            requires workers { All (IsNewWorker shared.now.host shared.now.jobs) workers.items }
+            requires workers { All (IsNewWorker shared.now.share shared.now.jobs) workers.items }
             ensures many { IfOk result (λ done. length done.items ≡ length workers.items) }
             ensures done { IfOk result (λ done. All (IsDone N.config shared.entry.now) done.items) }
         { work_all(rt, alloc, store, shared, workers, gate) },
@@ -89,7 +93,8 @@ fn worked_on<N: Naming + Send + Sync, R: Threads + Wait + Sync, G: Gate>(
     Ok((entries, worked))
 }
 
-// What several workers made of all calls, in slices of so many instructions unless that is 0, and the entries of the modules.
+// What several workers made of all calls, and the entries of the modules: in slices of so many instructions, unless that is 0 or the
+// file's calls run whole.
 fn worked<N: Naming + Send + Sync, R: Threads + Wait + Sync, G: Gate>(
     rt: &R,
     alloc: Global,
@@ -101,15 +106,17 @@ fn worked<N: Naming + Send + Sync, R: Threads + Wait + Sync, G: Gate>(
     gate: &G,
 ) -> Result<(Vec<Entry<N>>, Vec<Worked>), NoMemory>
     requires several { N.config.workers ≢ 1 }
+    requires plan { (plan_fault N.config [] ≡ None) → plan_fault N.config requests.now.wants ≡ None }
     requires desk { desk ≡ 0 }
     requires calls { calls.items ≡ dues_from 1 requests.now.directives }
+    requires tenants { All (IsOfTenants (1 + length requests.now.wants)) calls.items }
     requires count { length calls.items ≡ call_count requests.now.directives }
     requires few { length calls.items < 2 ^ 32 }
     ensures entries { IfOk result (λ r. AreEntries (limits_in requests.now.profile N.config) (modules_of requests.now.directives) r.0.items) }
     ensures answers { IfOk result (λ r. AnswersAll N.config (dues_from 1 requests.now.directives) (pairs_put r.0.items requests.now.directives N.config.workers) r.1.items) }
 {
-    if slice == 0 {
-        let crew = open_workers(alloc, store, calls)?;
+    if slice == 0 || requests.runs_whole() {
+        let crew = open_workers(alloc, store, requests.wants(), calls)?;
         worked_on(rt, alloc, store, desk, requests, crew, gate)
     } else {
         let crew = open_slicers(alloc, store, calls)?;
@@ -128,6 +135,7 @@ fn by_workers<N: Naming + Send + Sync, R: Threads + Wait + Sync, G: Gate>(
     gate: &G,
 ) -> Result<Collected<N>, NoMemory>
     requires several { N.config.workers ≢ 1 }
+    requires plan { (plan_fault N.config [] ≡ None) → plan_fault N.config requests.now.wants ≡ None }
     requires desk { desk ≡ 0 }
     ensures entries { IfOk result (λ c. AreEntries (limits_in requests.now.profile N.config) (modules_of requests.now.directives) c.entries.items) }
     ensures board { IfOk result (λ c. IsBoard (limits_in requests.now.profile N.config) requests.now.directives c.board) }
@@ -159,7 +167,7 @@ fn by_none<N: Naming, R: Wait>(
 
 // How many calls there are.
 fn count_calls(requests: &[Directive]) -> u32
-    requires { AreRequests requests.now }
+    requires { call_count requests.now ≤ MOST_CALLS }
     ensures { result ≡ call_count requests.now }
 {
     let calls = requests.iter().filter(|directive| is_call(directive));
@@ -186,6 +194,7 @@ pub(crate) fn gather<N: Naming + Send + Sync, R: Threads + Wait + Sync, G: Gate>
     requests: &Requests,
     gate: &G,
 ) -> Result<Collected<N>, NoMemory>
+    requires plan { (plan_fault N.config [] ≡ None) → plan_fault N.config requests.now.wants ≡ None }
     requires desk { desk ≡ 0 }
     ensures entries { IfOk result (λ c. AreEntries (limits_in requests.now.profile N.config) (modules_of requests.now.directives) c.entries.items) }
     ensures board { IfOk result (λ c. IsBoard (limits_in requests.now.profile N.config) requests.now.directives c.board) }

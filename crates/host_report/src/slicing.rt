@@ -1,7 +1,7 @@
 //! Workers make the calls in slices on a host that they share, while the modules are registered.
 ghost use Rattle.std.specs.Prelude.{◌≡◌, ◌+◌, ◌*◌, ◌<◌, ◌≤◌, [], All, IfOk, false, length};
-ghost use Rattle.call_workers.specs.Crews.{AnswersAll};
-ghost use Rattle.call_workers.specs.Slices.{HasSlicedAll};
+ghost use Rattle.due_calls.specs.Entries.{AnswersAll};
+ghost use Rattle.slice_workers.specs.Slices.{HasSlicedAll};
 ghost use Rattle.job_queue.specs.Passes.{IsJobPass, IsNewPassOf, IsPutter, account_of, capacity_of, count_of, passes_of, put_by};
 ghost use Rattle.pool_host.specs.Hosts.{IsHostPass};
 ghost use Rattle.request_text.specs.Text.{call_count, modules_of};
@@ -13,10 +13,11 @@ ghost use Rattle.host_report.specs.Report.{limits_in};
 use crate::modules::Entry;
 use crate::putting::{Put, put_all};
 use crate::shares::worker_count;
-use call_workers::{SliceCrew, Sliced, Worked, finish_slices, slice_all};
+use due_calls::Worked;
 use host_edge::Gate;
 use module_store::{Desk, ModuleStore, Naming};
 use request_text::Requests;
+use slice_workers::{SliceCrew, Sliced, finish_slices, slice_all};
 use std::alloc::Global;
 use std::sync::Wait;
 use std::thread::{self, Threads};

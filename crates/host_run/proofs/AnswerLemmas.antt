@@ -18,7 +18,7 @@ module _ (one_report : ReportsOnce) where
   abbrev answer_of : ℕ → List ℕ → Answer
   answer_of status text = record { status = status; text = text }
 
-  answered_once : (numbers : Numbers) (summary : Bool) (requests : Result Asked FileRefusal) (bytes : List ℕ) (a b : Answer) → requests_of bytes ≡ requests
+  answered_once : (numbers : Numbers) (summary : Bool) (requests : Result Asked FileRefusal) (bytes : List ℕ) (a b : Answer) → requests_of numbers bytes ≡ requests
       → IsFileAnswer numbers summary bytes a → IsFileAnswer numbers summary bytes b → a ≡ b
   answered_once numbers summary (Ok requests) bytes a b is h g =
       let first = rw is at h in
@@ -33,7 +33,7 @@ module _ (one_report : ReportsOnce) where
 
   due_once : (given : Option Command) (words : List (List ℕ)) (bytes : List ℕ) (a b : Answer) → command_of words ≡ given → IsDue words bytes a → IsDue words bytes b → a ≡ b
   due_once None words bytes a b is h g = let first = rw is at h in let second = rw is at g in first ∙ sym second
-  due_once (Some (Run numbers summary slice)) words bytes a b is h g = answered_once numbers summary (requests_of bytes) bytes a b refl (rw is at h) (rw is at g)
+  due_once (Some (Run numbers summary slice)) words bytes a b is h g = answered_once numbers summary (requests_of numbers bytes) bytes a b refl (rw is at h) (rw is at g)
   due_once (Some (Make seed count)) words bytes a b is h g = let first = rw is at h in let second = rw is at g in first ∙ sym second
 
   pub one_due : (words : List (List ℕ)) (bytes : List ℕ) (a b : Answer) → IsDue words bytes a → IsDue words bytes b → a ≡ b

@@ -9,14 +9,14 @@ use Rattle.request_text.specs.Refusal.{refusal_line}
 use Rattle.request_text.specs.Text.{FileTooLong, requests_of}
 use Rattle.pool_limits.specs.declared.numbers.Numbers.{Numbers}
 
-pub too_long : (text : List ℕ) → MOST_BYTES < length text → requests_of text ≡ Err FileTooLong
+pub too_long : (numbers : Numbers) (text : List ℕ) → MOST_BYTES < length text → requests_of numbers text ≡ Err FileTooLong
 unfolding requests_of
-too_long text long = let over : nat_lt MOST_BYTES (length text) ≡ true = lt-ltb _ _ long in rw over refl
+too_long numbers text long = let over : nat_lt MOST_BYTES (length text) ≡ true = lt-ltb _ _ long in rw over refl
 
 -- what is answered to a text that is too long
 pub answer_too_long : (numbers : Numbers) (summary : Bool) (text : List ℕ) (answer : Answer) → MOST_BYTES < length text
     → IsFileAnswer numbers summary text answer → answer ≡ refused (refusal_line FileTooLong)
-answer_too_long numbers summary text answer long is = rw (too_long text long) at is
+answer_too_long numbers summary text answer long is = rw (too_long numbers text long) at is
 
 -- all known bytes were taken
 pub all_taken : (all bytes : List ℕ) (after : Option (List ℕ)) → Consumes (Some all) after bytes → IsAtEnd after → all ≡ bytes
@@ -35,7 +35,7 @@ answer_of_all numbers summary all bytes after answer read is = elim (cases_lt MO
   | inl long ↦
       let none_lost = no_longer all bytes after read.taken in
       let longer : MOST_BYTES < length all = omega arith in
-      rw (too_long all longer) (answer_too_long numbers summary bytes answer long is)
+      rw (too_long numbers all longer) (answer_too_long numbers summary bytes answer long is)
 ]
 
 -- in the next two, `text` is the bytes as they were handed on

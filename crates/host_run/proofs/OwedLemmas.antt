@@ -12,7 +12,7 @@ use Rattle.host_run.specs.Streams.{ReadsInput}
 use Rattle.host_run.proofs.DueLemmas.{at_end_of_report, due_of_all, no_longer}
 
 -- the answer to a file has status 0 or 2
-file_status : (numbers : Numbers) (summary : Bool) (bytes : List ℕ) (answer : Answer) (requests : Result Asked FileRefusal) → requests_of bytes ≡ requests
+file_status : (numbers : Numbers) (summary : Bool) (bytes : List ℕ) (answer : Answer) (requests : Result Asked FileRefusal) → requests_of numbers bytes ≡ requests
     → IsFileAnswer numbers summary bytes answer → (answer.status ≡ 0) ⊎ (answer.status ≡ 2)
 file_status numbers summary bytes answer (Ok requests) asks is = let report = rw asks at is in inl report.status
 file_status numbers summary bytes answer (Err why) asks is = let refusal = rw asks at is in inr (ap (λ a. a.status) refusal)
@@ -33,7 +33,7 @@ owes_file left faults numbers summary slice before after bytes text due read qui
       taken = (bytes, read.taken, answer);
       refused = λ none. absurd (cc);
       load = λ seed count load. absurd (cc);
-      status = file_status numbers summary bytes (shown due) (requests_of bytes) refl answer;
+      status = file_status numbers summary bytes (shown due) (requests_of numbers bytes) refl answer;
       accepted = λ _. refl;
       unread = λ reads. absurd (cc);
       end = λ zero reads. at_end_of_report numbers summary (left before) (left after) bytes text (shown due) read same is zero;

@@ -14,8 +14,8 @@ use Rattle.host_run.specs.Tenants.{CallsAt, HasReport, TellsAt, WritesAt}
 
 -- a call has its line in a report, and one line only
 abbrev pub CallsTold : Type 0
-CallsTold = (numbers : Numbers) (requests : Asked) (lines : List ReportLine) (at place : ℕ) (bytes : List ℕ) (invocation : Invocation)
-    → IsReport numbers requests lines → slice_get requests.directives at ≡ Some (Call place invocation) → slice_get (modules_of requests.directives) place ≡ Some bytes
+CallsTold = (numbers : Numbers) (requests : Asked) (lines : List ReportLine) (at tenant place : ℕ) (bytes : List ℕ) (invocation : Invocation)
+    → IsReport numbers requests lines → slice_get requests.directives at ≡ Some (Call tenant place invocation) → slice_get (modules_of requests.directives) place ≡ Some bytes
     → (how : CallLine) × IsCallLine (limits_in requests.profile numbers) bytes invocation how × TellsAt requests lines at how
 
 abbrev pub CallsOnce : Type 0
@@ -28,8 +28,8 @@ pub same_told : CallsTold → CallsOnce → (words words' : List (List ℕ)) (nu
     → CallsAt requests at module_bytes invocation → CallsAt requests' at' module_bytes invocation
     → (how : CallLine) × TellsAt requests lines at how × TellsAt requests' lines' at' how
 same_told call_told one_call words words' numbers numbers' bytes bytes' requests requests' lines lines' at at' module_bytes invocation limits r r' c c' =
-    let (how, told, is) = call_told numbers requests lines at c.place module_bytes invocation r.report c.call c.module_bytes in
-    let (how', told', is') = call_told numbers' requests' lines' at' c'.place module_bytes invocation r'.report c'.call c'.module_bytes in
+    let (how, told, is) = call_told numbers requests lines at c.tenant c.place module_bytes invocation r.report c.call c.module_bytes in
+    let (how', told', is') = call_told numbers' requests' lines' at' c'.tenant c'.place module_bytes invocation r'.report c'.call c'.module_bytes in
     let same : how' ≡ how = one_call (limits_in requests'.profile numbers') module_bytes invocation how' how told'
     (subst (λ (l : Limits). IsCallLine l module_bytes invocation how) limits told) in
     (how, is, subst (λ (l : CallLine). TellsAt requests' lines' at' l) same is')

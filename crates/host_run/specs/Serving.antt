@@ -48,7 +48,7 @@ pub record IsReported (numbers : Numbers) (summary : Bool) (requests : Asked) (a
 
 -- what a request file is answered: the report on what it asks for, or the line that tells why it is refused
 abbrev pub IsFileAnswer : Numbers → (summary : Bool) → List ℕ → Answer → Type 0
-IsFileAnswer numbers summary bytes answer = MatchResult (requests_of bytes)
+IsFileAnswer numbers summary bytes answer = MatchResult (requests_of numbers bytes)
     (λ requests. IsReported numbers summary requests answer)
     (λ refusal. answer ≡ refused (refusal_line refusal))
 

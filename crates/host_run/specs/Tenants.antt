@@ -19,13 +19,14 @@ use Rattle.host_run.specs.Serving.{lines_text}
 pub record HasReport (words : List (List ℕ)) (numbers : Numbers) (bytes : List ℕ) (requests : Asked) (lines : List ReportLine) : Type 0 where
   pub slice : ℕ
   pub command : command_of words ≡ Some (Run numbers false slice)
-  pub asked : requests_of bytes ≡ Ok requests
+  pub asked : requests_of numbers bytes ≡ Ok requests
   pub report : IsReport numbers requests lines
 
 -- the directive at this place is a call whose name stands for a module of these bytes
 pub record CallsAt (requests : Asked) (at : ℕ) (bytes : List ℕ) (invocation : Invocation) : Type 0 where
+  pub tenant : ℕ
   pub place : ℕ
-  pub call : slice_get requests.directives at ≡ Some (Call place invocation)
+  pub call : slice_get requests.directives at ≡ Some (Call tenant place invocation)
   pub module_bytes : slice_get (modules_of requests.directives) place ≡ Some bytes
 
 -- the line at this place tells how the call went, after the call's number: one more than the calls before it

@@ -1,8 +1,9 @@
 //! What a request file is answered.
-ghost use Rattle.std.specs.Prelude.{◌≡◌, ◌⊎◌, ◌<◌, IfOk, IsOk, IsSomeAnd, length, option_map};
+ghost use Rattle.std.specs.Prelude.{[], ◌≡◌, ◌⊎◌, ◌<◌, IfOk, IsOk, IsSomeAnd, None, length, option_map};
 ghost use Rattle.std.specs.Result.{result_ok};
 ghost use Rattle.host_run.specs.Refusal.{told};
 ghost use Rattle.host_run.specs.Serving.{IsFileAnswer, IsReported, lines_text, refused, shown};
+ghost use Rattle.pool_limits.specs.Plans.{plan_fault};
 ghost use Rattle.request_text.specs.Refusal.{refusal_line};
 ghost use Rattle.request_text.specs.Text.{BadLine, file_refusal_of};
 
@@ -44,6 +45,7 @@ fn reported<R: Threads + Wait + Sync, G: Gate>(
     requests: &Requests,
     gate: &G,
 ) -> Result<Due, NoMemory>
+    requires plan { (plan_fault config [] ≡ None) → plan_fault config requests.now.wants ≡ None }
     ensures { IfOk result (λ due. IsReported config summary requests.now (shown due)) }
 {
     let lines = report(rt, alloc, config, slice, requests, gate)?;
@@ -68,7 +70,7 @@ pub(crate) fn answer<R: Threads + Wait + Sync, G: Gate>(
     ensures status { IfOk result (λ due. (due.status ≡ 0) ⊎ (due.status ≡ 2)) }
     ensures too_long { MOST_BYTES < length bytes.now → IsOk result }
 {
-    match parse(alloc, bytes) {
+    match parse(alloc, &config, bytes) {
         Ok(requests) => reported(rt, alloc, config, summary, slice, &requests, gate),
         Err(fault) => refused_file(alloc, fault),
     }

@@ -39,7 +39,7 @@ pub fn serve<S: Source, K: Sink, G: Gate>(
 
     // 0, after the report on all that the source had left, or its summary, or after a load
     ensures report { (numbers : Numbers) (summary : Bool) (slice : ℕ) → command_of (texts_of words.now) ≡ Some (Run numbers summary slice)
-        → result ≡ 0 → IfSome (S.left source.old) (λ bytes. IsOkAnd (requests_of bytes) (λ requests.
+        → result ≡ 0 → IfSome (S.left source.old) (λ bytes. IsOkAnd (requests_of numbers bytes) (λ requests.
         (lines : List ReportLine) × IsReport numbers requests lines
         × Appends (K.written sink.old) (K.written sink.new) (lines_text summary lines))) }
     ensures end { reads (texts_of words.now) ≡ true → result ≡ 0 → IsAtEnd (S.left source.new) }
@@ -50,8 +50,8 @@ pub fn serve<S: Source, K: Sink, G: Gate>(
     ensures refused_words { command_of (texts_of words.now) ≡ None
         → Delivers (λ due. due ≡ refused_words) (K.written sink.old) (K.written sink.new) result }
     ensures unread { reads (texts_of words.now) ≡ false → source.new ≡ source.old }
-    ensures refused_file { reads (texts_of words.now) ≡ true → result ≡ 2
-        → IfSome (S.left source.old) (λ bytes. IsErrAnd (requests_of bytes) (λ why.
+    ensures refused_file { (numbers : Numbers) (summary : Bool) (slice : ℕ) → command_of (texts_of words.now) ≡ Some (Run numbers summary slice)
+        → result ≡ 2 → IfSome (S.left source.old) (λ bytes. IsErrAnd (requests_of numbers bytes) (λ why.
         Appends (K.written sink.old) (K.written sink.new) (refusal_line why))) }
     ensures all_read { reads (texts_of words.now) ≡ true → (result ≡ 0) ⊎ ((result ≡ 2) ⊎ (result ≡ 4))
         → IfSome (S.left source.old) (λ bytes. length bytes ≤ MOST_BYTES → IsAtEnd (S.left source.new)) }
@@ -76,8 +76,8 @@ pub fn serve<S: Source, K: Sink, G: Gate>(
     ensures accepted { result ≡ 0 → is_accepted (texts_of words.now) ≡ true }
     ensures read { result ≡ 3 → reads (texts_of words.now) ≡ true }
     ensures at_most { TakesAtMost (S.left source.old) (S.left source.new) (MOST_BYTES + 1) }
-    ensures complete { reads (texts_of words.now) ≡ true
-        → IfSome (S.left source.old) (λ bytes. IsOk (requests_of bytes)
+    ensures complete { (numbers : Numbers) (summary : Bool) (slice : ℕ) → command_of (texts_of words.now) ≡ Some (Run numbers summary slice)
+        → IfSome (S.left source.old) (λ bytes. IsOk (requests_of numbers bytes)
         → (Rose (S.faults source.old) (S.faults source.new) → ⊥) → (Rose (K.faults sink.old) (K.faults sink.new) → ⊥)
         → (result ≡ 0) ⊎ (result ≡ 5)) }
     ensures complete_load { (seed count : ℕ) → command_of (texts_of words.now) ≡ Some (Make seed count)

@@ -455,6 +455,63 @@ const ONE_SLOT: [Run; 1] = [
     },
 ];
 
+// Calls of two tenants, and of tenant 0 before them.
+const TENANTS: &[u8] = b"profile 4
+module bump 0061736d010000000105016000017f0302010005030100010708010462756d7000000a160114004100410028020041016a36020041002802000b
+call bump bump 8
+tenant flood 1 1 1 0
+tenant quiet 1 1 1 1
+for flood
+call bump bump 8
+call bump bump 7
+for quiet
+call bump bump 8
+for flood
+call bump bimp 8
+";
+
+// Files with tenants, under totals of five slots.
+const SHARED: [Run; 3] = [
+    // tenants and their calls write no line of their own
+    Run {
+        words: &[
+            "poolhost",
+            "run",
+            "--instances",
+            "5",
+            "--memories",
+            "5",
+            "--tables",
+            "5",
+            "--warm",
+            "1",
+        ],
+        bytes: TENANTS,
+        source: (4096, &[]),
+        sink: (4096, &[]),
+        status: 0,
+        written: b"module bump ok\n1 ok i32:1\n2 ok i32:1\n3 fuel\n4 ok i32:1\n5 refused export\n",
+    },
+    // the second tenant leaves one table, and the lane's
+    Run {
+        words: &["poolhost", "run", "--tables", "5"],
+        bytes: b"profile 4\ntenant a 1 1 1 0\ntenant b 1 1 3 0\n",
+        source: (4096, &[]),
+        sink: (4096, &[]),
+        status: 2,
+        written: b"line 3: share too large\n",
+    },
+    // so that one slot more is enough
+    Run {
+        words: &["poolhost", "run", "--tables", "6"],
+        bytes: b"profile 4\ntenant a 1 1 1 0\ntenant b 1 1 3 0\nfor c\n",
+        source: (4096, &[]),
+        sink: (4096, &[]),
+        status: 2,
+        written: b"line 4: unknown tenant\n",
+    },
+];
+
 // Three modules and a call that loops until its fuel is used up.
 const LOAD: &[u8] =
     b"module add 0061736d0100000001070160027f7f017f030201000707010361646400000a09010700200020016a0b
@@ -605,6 +662,13 @@ const SLICES_OF_ONE: &[&str] = &["--workers", "2", "--slice", "1"];
 fn slices_change_no_line(rt: HostRuntime) -> Result<(), Fail> {
     check_runs(&rt, rt.alloc(), &RUNS, SLICES_OF_ONE)?;
     check_runs(&rt, rt.alloc(), &INSTANCES, SLICES_OF_ONE)
+}
+
+#[test]
+fn tenants_change_no_line(rt: HostRuntime) -> Result<(), Fail> {
+    check_runs(&rt, rt.alloc(), &SHARED, &[])?;
+    check_runs(&rt, rt.alloc(), &SHARED, FOUR_WORKERS)?;
+    check_runs(&rt, rt.alloc(), &SHARED, SLICES_OF_ONE)
 }
 
 #[test]
@@ -825,5 +889,33 @@ fn two_calls_run_at_the_same_time(rt: HostRuntime) -> Result<(), Fail> {
     let written = b"module bump ok\n1 ok i32:1\n2 ok i32:1\n";
     let answered = answered_beside_a_held_call(&rt, rt.alloc(), &words, BUMPS, 1, 1, written)?;
     assert_eq!(rt; answered, 2);
+    Ok(())
+}
+
+// One tenant has a memory: while its first call is held its others are answered Full, and the other tenant's call is not.
+#[test]
+fn a_full_tenant_leaves_the_other_its_slots(rt: HostRuntime) -> Result<(), Fail> {
+    let alloc = rt.alloc();
+    let mut text = String::from_str(
+        alloc,
+        "profile 4\ntenant flood 2 1 1 0\ntenant quiet 1 1 1 0\nfor flood\n",
+    )?;
+    text.push_str(BUMPS)?;
+    text.push_str("call bump bump 100\nfor quiet\ncall bump bump 100\n")?;
+    let words = [
+        "poolhost",
+        "run",
+        "--workers",
+        "2",
+        "--memories",
+        "4",
+        "--instances",
+        "5",
+        "--tables",
+        "4",
+    ];
+    let written = b"module bump ok\n1 ok i32:1\n2 ok i32:1\n3 ok i32:1\n4 ok i32:1\n";
+    let answered = answered_beside_a_held_call(&rt, alloc, &words, text.as_str(), 1, 3, written)?;
+    assert_eq!(rt; answered, 6);
     Ok(())
 }

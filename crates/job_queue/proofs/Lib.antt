@@ -1,3 +1,4 @@
+pub mod AccountLemmas
 pub mod AccountLists
 pub mod BalanceMoves
 pub mod Partings

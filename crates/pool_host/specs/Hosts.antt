@@ -1,7 +1,6 @@
 -- A host and its passes.
 use Rattle.std.specs.Prelude.{◌≡◌, ℕ, ◌≤◌}
 use Rattle.pool_core.specs.declared.limits.TheConstants.{MOST_SLOTS}
-use Rattle.pool_limits.specs.declared.numbers.Numbers.{Numbers}
 use Rattle.pool_limits.specs.declared.share.Share.{Share}
 use Rattle.slot_words.specs.Owned.{limit_of, passes_of, slots_of}
 use Rattle.slot_words.specs.Passes.{IsIdle, IsSamePass}
@@ -50,14 +49,14 @@ module _ {N : Type 0} where
     pub of_memories : passes_of (memories.words_of host.memories) ≡ passes
     pub of_tables : passes_of (tables.words_of host.tables) ≡ passes
 
-  -- it has as many slots as its share says, of which at most the configured number are warm while no call has them
-  pub record HasShare (config : Numbers) (share : Share) (host : Host N) : Type 0 where
+  -- it has as many slots as its share says, of which of each kind at most so many are warm while no call has them
+  pub record HasShare (warm : ℕ) (share : Share) (host : Host N) : Type 0 where
     pub of_tickets : slots_of (tickets.words_of host.tickets) ≡ share.instances
     pub of_memories : slots_of (memories.words_of host.memories) ≡ share.memories
     pub of_tables : slots_of (tables.words_of host.tables) ≡ share.tables
-    pub warm_tickets : limit_of (tickets.words_of host.tickets) ≡ config.warm
-    pub warm_memories : limit_of (memories.words_of host.memories) ≡ config.warm
-    pub warm_tables : limit_of (tables.words_of host.tables) ≡ config.warm
+    pub warm_tickets : limit_of (tickets.words_of host.tickets) ≡ warm
+    pub warm_memories : limit_of (memories.words_of host.memories) ≡ warm
+    pub warm_tables : limit_of (tables.words_of host.tables) ≡ warm
 
 module _ {N : Type 0} {G : Ghosts N} where
   -- the pass is one of this host's

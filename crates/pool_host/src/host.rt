@@ -34,7 +34,8 @@ pub struct Host<N: Naming> {
 }
 
 impl<N: Naming> Host<N> {
-    /// A host with so many slots of each kind, and as many passes as are asked for. There are no others.
+    /// A host with so many slots of each kind, and as many passes as are asked for. There are no others. Of the memories, and of
+    /// the tables, at most as many as the store's configuration says are warm while no call has them.
     ///
     /// # Errors
     ///
@@ -47,13 +48,37 @@ impl<N: Naming> Host<N> {
     ) -> Result<(Host<N>, Vec<HostPass<N>>), NoMemory>
         requires share { IsShare share }
         requires passes { (1 ≤ passes) × (passes ≤ MOST_PASSES) }
-        ensures share { IfOk result (λ o. HasShare N.config share o.0) }
+        ensures share { IfOk result (λ o. HasShare N.config.warm share o.0) }
         ensures out { IfOk result (λ o. HandedOut o.0 passes) }
         ensures count { IfOk result (λ o. length o.1.items ≡ passes) }
         ensures passes { IfOk result (λ o. All (IsNewHostPass o.0) o.1.items) }
         ensures own { IfOk result (λ o. All (IsHostPass o.0) o.1.items) }
     {
         let warm = store.config().numbers().warm;
+        Host::open_warm(alloc, store, share, warm, passes)
+    }
+
+    /// The same with another number of warm slots: of the memories, and of the tables, at most `warm` are warm while no call has
+    /// them.
+    ///
+    /// # Errors
+    ///
+    /// `NoMemory` where memory is refused.
+    pub fn open_warm(
+        alloc: Global,
+        store: &ModuleStore<N>,
+        share: Share,
+        warm: u32,
+        passes: u32,
+    ) -> Result<(Host<N>, Vec<HostPass<N>>), NoMemory>
+        requires share { IsShare share }
+        requires passes { (1 ≤ passes) × (passes ≤ MOST_PASSES) }
+        ensures share { IfOk result (λ o. HasShare warm share o.0) }
+        ensures out { IfOk result (λ o. HandedOut o.0 passes) }
+        ensures count { IfOk result (λ o. length o.1.items ≡ passes) }
+        ensures passes { IfOk result (λ o. All (IsNewHostPass o.0) o.1.items) }
+        ensures own { IfOk result (λ o. All (IsHostPass o.0) o.1.items) }
+    {
         let (tickets, of_tickets) = TicketPool::open(alloc, store, share.instances, warm, passes)?;
         let (memories, of_memories) = MemoryPool::open(alloc, store, share.memories, warm, passes)?;
         let (tables, of_tables) = TablePool::open(alloc, store, share.tables, warm, passes)?;

@@ -46,7 +46,7 @@ impl<N: Naming> LaneHost<N> {
         share: Share,
     ) -> Result<LaneHost<N>, NoMemory>
         requires { IsShare share }
-        ensures { IfOk result (λ lane. HasShare N.config share lane.host) }
+        ensures { IfOk result (λ lane. HasShare N.config.warm share lane.host) }
     {
         let (host, mut passes) = Host::open(alloc, store, share, 1)?;
         let pass = passes.pop().unwrap();

@@ -22,17 +22,26 @@ static ADD: [u8; 41] =
 
 // Holds call 1 as it enters until call 2 was answered, and lets call 2 begin then; both for so many turns at most.
 #[derive(Drop)]
-struct HoldingGate {
-    entered: AtomicBool,
-    answered: AtomicBool,
+pub(crate) struct HoldingGate {
+    pub entered: AtomicBool,
+    pub answered: AtomicBool,
 }
 
 const MOST_TURNS: u64 = 2_000_000_000;
 
-fn wait_for(flag: &AtomicBool) {
+pub(crate) fn wait_for(flag: &AtomicBool) {
     for _ in 0..MOST_TURNS {
         if flag.load(Ordering::SeqCst) {
             return;
+        }
+    }
+}
+
+impl HoldingGate {
+    pub(crate) fn new() -> HoldingGate {
+        HoldingGate {
+            entered: AtomicBool::new(false),
+            answered: AtomicBool::new(false),
         }
     }
 }
@@ -95,10 +104,7 @@ fn held<N: Naming + Send + Sync, R: Abort + Threads + Wait>(
     let (store, mut desk) = opened.named::<N>();
     let module = register(rt, alloc, &store, &mut desk, Profile::One, BUMP.as_slice());
     let (host, one, two) = two_callers(rt, alloc, &store, memories);
-    let gate = HoldingGate {
-        entered: AtomicBool::new(false),
-        answered: AtomicBool::new(false),
-    };
+    let gate = HoldingGate::new();
     let ((first, one), (second, two)) = both(rt, &host, one, two, &store, &module, &gate);
     let (again, two) = bump(&host, two, &store, &module, 2, &gate);
     let mut passes = Vec::new(alloc);
@@ -151,10 +157,7 @@ fn registered_beside<N: Naming + Send + Sync, R: Abort + Threads + Wait + Sync>(
     let (store, mut desk) = opened.named::<N>();
     let module = register(rt, alloc, &store, &mut desk, Profile::One, BUMP.as_slice());
     let (host, one, two) = two_callers(rt, alloc, &store, 2);
-    let gate = HoldingGate {
-        entered: AtomicBool::new(false),
-        answered: AtomicBool::new(false),
-    };
+    let gate = HoldingGate::new();
     let (held, other) = thread::join(
         rt,
         || -> Answer

@@ -1,4 +1,4 @@
-//! Tests of calls on hosts and lanes: what they are answered, on which slots they run, and how they go in slices. Nothing stands on this crate.
+//! Tests of calls on hosts and lanes, and on tenants' hosts: what they are answered, on which slots they run, and how they go in slices. Nothing stands on this crate.
 #![tactic(auto)]
 
 #[cfg(test)]
@@ -15,6 +15,8 @@ mod given_up;
 mod handed_on;
 #[cfg(test)]
 mod slices;
+#[cfg(test)]
+mod tenants;
 #[cfg(test)]
 mod told;
 #[cfg(test)]

@@ -3,6 +3,9 @@ pub mod NumberLemmas
 pub mod ReadingLemmas
 pub mod WordLemmas
 pub mod PlaceLemmas
+pub mod TenantLemmas
+pub mod PlanLemmas
 pub mod TextExamples
 pub mod ProfileExamples
+pub mod TenantExamples
 pub mod RefusalExamples

@@ -8,7 +8,7 @@ use Rattle.std.specs.Str.Parse.{digits_value, ParsesUnsigned}
 use Rattle.std.proofs.lemmas.Str.Parse.{IsNumeralModel, numerals_by_value, parse_digits}
 use Rattle.std.proofs.lemmas.Fmt.{IsAscii-from_digits}
 use Rattle.std.proofs.lemmas.Str.{IsUtf8-from_ascii}
-use Rattle.request_text.specs.Text.{is_empty}
+use Rattle.request_text.specs.Words.{is_empty}
 
 pub empty_is : {A : Type 0} (xs : List A) → (length xs == 0) ≡ is_empty xs
 empty_is [] = refl

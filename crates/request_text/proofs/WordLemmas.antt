@@ -8,7 +8,7 @@ use Rattle.std.proofs.lemmas.List.{drop_all}
 use Rattle.std.proofs.lemmas.List.Quantifiers.{position-Some}
 use Rattle.std.proofs.lemmas.Option.{cond_some}
 use Rattle.std.proofs.Math.Seq.{drop-cons}
-use Rattle.request_text.specs.Text.{line_words, is_empty}
+use Rattle.request_text.specs.Words.{line_words, is_empty}
 
 abbrev pub is_space : ℕ → Bool
 is_space b = b == 32

@@ -1,3 +1,6 @@
+pub mod Words
+pub mod Profiles
+pub mod Tenants
 pub mod Text
 pub mod Invocations
 pub mod Reading

@@ -1,16 +1,20 @@
 -- How the reader's answers agree with the definition of the request text.
 use Rattle.std.specs.Global.{Global}
-use Rattle.std.specs.Prelude.{None, Vec, ◌≡◌, ◌<◌, ℕ, List, length, Result, Ok, Err, MatchResult, ⊤}
+use Rattle.std.specs.Prelude.{None, Vec, ◌≡◌, ◌<◌, ◌≤◌, ℕ, List, length, Result, Ok, Err, MatchResult, ⊤}
+use Rattle.std.specs.List.{All}
 use Rattle.request_text.specs.declared.request.Directive.{Directive}
 use Rattle.request_text.specs.declared.request.Directive.TheVariants.{Module, Call}
 use Rattle.request_text.specs.declared.request.Reason.{Reason}
 use Rattle.hex.specs.declared.error.FromHexError.{FromHexError}
 use Rattle.hex.specs.declared.error.FromHexError.TheVariants.{OutOfMemory}
-use Rattle.request_text.specs.declared.directive.LineFault.{LineFault}
+use Rattle.request_text.specs.declared.fault.LineFault.{LineFault}
 use Rattle.request_text.specs.declared.request.ParseFault.{ParseFault}
 use Rattle.request_text.specs.declared.request.ParseFault.TheVariants.{TextFault, TooLong, NoMemory}
-use Rattle.request_text.specs.declared.directive.LineFault.TheVariants as judged
-use Rattle.request_text.specs.Text.{BadLine, Declared, FileRefusal, most_calls, most_modules, place_of}
+use Rattle.request_text.specs.declared.fault.LineFault.TheVariants as judged
+use Rattle.pool_limits.specs.Plans.{HasSlots}
+use Rattle.request_text.specs.Words.{place_of}
+use Rattle.request_text.specs.Tenants.{Tenants}
+use Rattle.request_text.specs.Text.{BadLine, Declared, FileRefusal, most_calls, most_modules}
 use Rattle.std.specs.BTreeMap.{BTreeMap, get_by}
 use Rattle.std.specs.Cmp.Lexicographic.{slice_cmp}
 use Rattle.std.specs.Ordering.{nat_cmp}
@@ -44,7 +48,25 @@ Reports NoMemory meaning = ⊤
 abbrev pub ArePlaces : BTreeMap (Vec ℕ Global) ℕ → List (List ℕ) → Type 0
 ArePlaces places names = (name : List ℕ) → get_by (λ key. slice_cmp nat_cmp name key.items) places ≡ place_of names name
 
--- one more directive keeps within the numbers of modules and calls; a module's name is new, and a call is of one of the modules
+-- Each tenant has a name and a share, few share, and the calls that follow are those of tenant 0 or of one of them.
+pub record AreTenants (tenants : Tenants) : Type 0 where
+  pub named : length tenants.names ≡ length tenants.wants
+  pub few : length tenants.wants ≤ 15
+  pub each : All HasSlots tenants.wants
+  pub current : tenants.current ≤ length tenants.wants
+
+-- one more call keeps within their number, and is of one of the modules and by one of the tenants
+pub record TakesCall (before : Declared) (tenant place : ℕ) : Type 0 where
+  pub few : before.calls < most_calls
+  pub placed : place < length before.names
+  pub by_tenant : tenant ≤ length before.tenants.wants
+
+-- one more directive keeps within the numbers of modules and calls; a module's name is new
 abbrev pub HasRoom : Declared → Directive → Type 0
 HasRoom before (Module name bytes) = (length before.names < most_modules) × (place_of before.names name ≡ None)
-HasRoom before (Call place invocation) = (before.calls < most_calls) × (place < length before.names)
+HasRoom before (Call tenant place invocation) = TakesCall before tenant place
+
+-- what is declared with these tenants, or the reason for which there are none
+abbrev pub declared_with : Declared → Result Tenants Reason → Result Declared Reason
+declared_with before (Ok tenants) = Ok (record before { tenants = tenants })
+declared_with before (Err reason) = Err reason

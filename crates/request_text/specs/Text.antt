@@ -1,101 +1,24 @@
--- The request text: the lines of a file, the words of a line, and the ladder of reasons for which a line is refused.
-use Rattle.std.specs.Prelude.{◌<◌, ◌≤◌, ℕ, ◌+◌, ◌-◌, ◌%◌, ◌^◌, ◌==◌, ◌&&◌, ◌||◌, nat_lt, nat_le, Bool, true, false, not, if◌then◌else◌, List, [], ◌∷◌, ◌++◌, length, take, drop, codes, filter, filter_map, count_by, position, Option, Some, None, is_none, unwrap_or, option_and_then, Result, Ok, Err}
-use Rattle.std.specs.List.{slice_split, list_all}
-use Rattle.std.specs.Option.{option_map, ok_or}
-use Rattle.std.specs.Result.{result_ok}
-use Rattle.std.specs.Char.{is_ascii_digit}
+-- The request text: what each line of a file asks for, and the ladder of reasons for which it is refused.
+use Rattle.std.specs.Prelude.{◌<◌, ◌≤◌, ℕ, ◌+◌, ◌&&◌, nat_lt, nat_le, Bool, true, false, if◌then◌else◌, List, [], ◌∷◌, ◌++◌, length, codes, filter_map, count_by, Option, Some, None, is_none, unwrap_or, Result, Ok, Err}
+use Rattle.std.specs.List.{All, list_all}
+use Rattle.std.specs.Option.{ok_or}
 use Rattle.std.specs.Str.{bytes_eq}
-use Rattle.std.specs.Str.Parse.{digits_value}
-use Rattle.hex.specs.Hex.{decode_of}
-use Rattle.wasm_types.specs.declared.outcome.Val.{Val}
-use Rattle.wasm_types.specs.declared.outcome.Val.TheVariants.{I32, I64}
 use Rattle.wasm_types.specs.declared.profile.Profile.{Profile}
-use Rattle.wasm_types.specs.declared.profile.Profile.TheVariants.{One, Two, Three}
-use Rattle.request_text.specs.declared.invocation.Invocation.{Invocation}
+use Rattle.pool_limits.specs.declared.numbers.Numbers.{Numbers}
+use Rattle.pool_limits.specs.declared.wants.Want.{Want}
+use Rattle.request_text.specs.declared.file_profile.FileProfile.{FileProfile}
+use Rattle.request_text.specs.declared.file_profile.FileProfile.TheVariants.{One}
 use Rattle.request_text.specs.declared.request.Directive.{Directive}
 use Rattle.request_text.specs.declared.request.Directive.TheVariants.{Module, Call}
 use Rattle.request_text.specs.declared.request.Reason.{Reason}
-use Rattle.request_text.specs.declared.request.Reason.TheVariants.{BadByte, UnknownDirective, LateProfile, BadProfile, BadWords, BadName, BadHex, NameUsedTwice, TooManyModules, UnknownModule, BadFuel, BadRequest, RequestTooLong, BadArgument, TooManyCalls}
+use Rattle.request_text.specs.declared.request.Reason.TheVariants.{BadByte, UnknownDirective, LateProfile, BadWords, BadName, BadHex, NameUsedTwice, TooManyModules, UnknownModule, BadFuel, BadRequest, RequestTooLong, BadArgument, TooManyCalls}
 use Rattle.request_text.specs.declared.request.ParseFault.{ParseFault}
 use Rattle.request_text.specs.declared.request.ParseFault.TheVariants.{TextFault, TooLong, NoMemory}
+use Rattle.request_text.specs.Words.{◌>>=◌, arguments_of, demand, fuel_of, hex_bytes, is_comment, is_empty, is_printable, line_words, place_of, text_lines}
+use Rattle.request_text.specs.Profiles.{has_tenants, modules_profile, profile_of, runs_whole, sends}
+use Rattle.request_text.specs.Tenants.{Tenants, for_after, no_tenants, tenant_after}
 
--- ---- lines and words
-
--- The lines of a file end in LF (10). What follows the last LF is a line too; if it is empty it has no words.
-abbrev pub text_lines : List ℕ → List (List ℕ)
-text_lines text = slice_split (λ b. b == 10) text
-
-abbrev pub is_empty : {A : Type 0} → List A → Bool
-is_empty [] = true
-is_empty (x ∷ xs) = false
-
--- The words of a line stand between spaces (32); empty words are dropped.
-unfoldable pub line_words : List ℕ → List (List ℕ)
-line_words line = filter (λ word. not (is_empty word)) (slice_split (λ b. b == 32) line)
-
--- A comment has `#` (35) as its first byte.
-abbrev pub is_comment : List ℕ → Bool
-is_comment [] = false
-is_comment (b ∷ rest) = b == 35
-
--- These lines ask for nothing.
-abbrev pub is_skipped : List ℕ → Bool
-is_skipped line = is_comment line || is_empty (line_words line)
-
-abbrev pub is_printable : ℕ → Bool
-is_printable b = nat_le 32 b && nat_le b 126
-
--- ---- what a word stands for
-
-abbrev pub begins_with : List ℕ → List ℕ → Bool
-begins_with word front = bytes_eq (take (length front) word) front
-
--- the bytes that hex digits of either case spell, two a byte
-abbrev pub hex_bytes : List ℕ → Option (List ℕ)
-hex_bytes word = result_ok (decode_of word)
-
--- the number that a word of digits alone writes, if it is at most `most`; leading zeros are allowed
-unfoldable pub number_up_to : ℕ → List ℕ → Option ℕ
-number_up_to most word =
-    if not (is_empty word) && list_all is_ascii_digit word && nat_le (digits_value 10 word) most
-    then Some (digits_value 10 word)
-    else None
-
-abbrev pub fuel_of : List ℕ → Option ℕ
-fuel_of word = number_up_to 4294967295 word
-
--- the number, from -2^(bits-1) to 2^bits - 1, that digits after an optional `-` write, modulo 2^bits
-unfoldable pub integer_of : ℕ → List ℕ → Option ℕ
-integer_of bits text =
-    if begins_with text (codes "-")
-    then option_map (λ n. (2 ^ bits - n) % 2 ^ bits) (number_up_to (2 ^ (bits - 1)) (drop 1 text))
-    else number_up_to (2 ^ bits - 1) text
-
--- an argument names its type before its number
-unfoldable pub argument_of : List ℕ → Option Val
-argument_of word =
-    if begins_with word (codes "i32:") then option_map I32 (integer_of 32 (drop 4 word))
-    else if begins_with word (codes "i64:") then option_map I64 (integer_of 64 (drop 4 word))
-    else None
-
--- the arguments that these words are, if each of them is one
-abbrev pub arguments_of : List (List ℕ) → Option (List Val)
-arguments_of [] = Some []
-arguments_of (word ∷ words) =
-    option_and_then (λ arg. option_map (λ args. arg ∷ args) (arguments_of words)) (argument_of word)
-
--- ---- the ladder: what a line asks for, or the first reason that applies
-
--- the next step where the one before gave a value, else its error
-infixl 10 ◌>>=◌
-abbrev pub ◌>>=◌ : {A B E : Type 0} → Result A E → (A → Result B E) → Result B E
-Ok x >>= next = next x
-Err e >>= next = Err e
-
--- a line is refused for this reason, unless the test holds
-abbrev pub demand : Bool → Reason → Result (Unit {0}) Reason
-demand true reason = Ok tt
-demand false reason = Err reason
+-- ---- directives: the lines that are answered by a line of the report
 
 -- the most that a file has: bytes, module lines and call lines
 abbrev pub most_bytes : ℕ
@@ -107,14 +30,11 @@ most_modules = 1048576
 abbrev pub most_calls : ℕ
 most_calls = 1000000
 
--- what the lines before have declared: the names of their modules, and how many calls
+-- what the lines before have declared: the names of their modules, how many calls, and the tenants
 pub record Declared : Type 0 where
   pub names : List (List ℕ)
   pub calls : ℕ
-
--- the place among these module names, from 0, of the one that is `name`
-unfoldable pub place_of : List (List ℕ) → List ℕ → Option ℕ
-place_of names name = position (λ other. bytes_eq other name) names
+  pub tenants : Tenants
 
 -- what the words after `module` ask for
 unfoldable pub module_directive_of : Declared → List (List ℕ) → Result Directive Reason
@@ -133,12 +53,12 @@ request_of word = if bytes_eq word (codes "-") then Ok [] else do
   _ ← demand (nat_le (length bytes) 65536) RequestTooLong
   Ok bytes
 
--- a call of the module at this place, with the arguments that the words are
+-- a call of the module at this place, with the arguments that the words are, by the tenant whose calls follow
 unfoldable pub call_of : Declared → (place : ℕ) (export : List ℕ) (fuel : ℕ) (request : Option (List ℕ)) → List (List ℕ) → Result Directive Reason
 call_of before place export fuel request words = do
   args ← ok_or (arguments_of words) BadArgument
   _ ← demand (nat_lt before.calls most_calls) TooManyCalls
-  Ok (Call place (record { export = export; fuel = fuel; request = request; args = args }))
+  Ok (Call before.tenants.current place (record { export = export; fuel = fuel; request = request; args = args }))
 
 -- what the words after `call` ask for
 unfoldable pub call_directive_of : Declared → List (List ℕ) → Result Directive Reason
@@ -157,30 +77,20 @@ send_directive_of before (name ∷ export ∷ fuel_word ∷ digits ∷ words) = 
   call_of before place export fuel (Some request) words
 send_directive_of before words = Err BadWords
 
--- lines send from profile 3 on
-abbrev pub sends : Profile → Bool
-sends Three = true
-sends profile = false
-
-unfoldable pub directive_of_words : Profile → Declared → List (List ℕ) → Result Directive Reason
-directive_of_words profile before [] = Err UnknownDirective
-directive_of_words profile before (word ∷ words) =
+-- what a line asks for whose first word is this one, with these behind it
+unfoldable pub directive_of : FileProfile → Declared → (word : List ℕ) (words : List (List ℕ)) → Result Directive Reason
+directive_of profile before word words =
     if bytes_eq word (codes "module") then module_directive_of before words
     else if bytes_eq word (codes "call") then call_directive_of before words
     else if sends profile && bytes_eq word (codes "send") then send_directive_of before words
     else Err UnknownDirective
 
-unfoldable pub directive_of : Profile → Declared → List ℕ → Result Directive Reason
-directive_of profile before line = do
-  _ ← demand (list_all is_printable line) BadByte
-  directive_of_words profile before (line_words line)
-
--- ---- the file
+-- ---- the directives of a file
 
 -- the name of a module line
 abbrev pub module_name : Directive → Option (List ℕ)
 module_name (Module name bytes) = Some name
-module_name (Call place invocation) = None
+module_name (Call tenant place invocation) = None
 
 abbrev pub module_names : List Directive → List (List ℕ)
 module_names directives = filter_map module_name directives
@@ -188,7 +98,7 @@ module_names directives = filter_map module_name directives
 -- the bytes of a module line
 abbrev pub module_bytes : Directive → Option (List ℕ)
 module_bytes (Module name bytes) = Some bytes
-module_bytes (Call place invocation) = None
+module_bytes (Call tenant place invocation) = None
 
 -- the modules of a request file, in the order of their lines
 abbrev pub modules_of : List Directive → List (List ℕ)
@@ -196,7 +106,7 @@ modules_of directives = filter_map module_bytes directives
 
 abbrev pub is_call : Directive → Bool
 is_call (Module name bytes) = false
-is_call (Call place invocation) = true
+is_call (Call tenant place invocation) = true
 
 abbrev pub call_count : List Directive → ℕ
 call_count directives = count_by is_call directives
@@ -205,78 +115,80 @@ call_count directives = count_by is_call directives
 abbrev pub IsPlacedFrom : ℕ → List Directive → Type 0
 IsPlacedFrom modules [] = Unit {0}
 IsPlacedFrom modules (Module name bytes ∷ rest) = IsPlacedFrom (modules + 1) rest
-IsPlacedFrom modules (Call place invocation ∷ rest) = (place < modules) × IsPlacedFrom modules rest
+IsPlacedFrom modules (Call tenant place invocation ∷ rest) = (place < modules) × IsPlacedFrom modules rest
 
--- what holds of the directives of each file that is read
-pub record AreRequests (directives : List Directive) : Type 0 where
+-- a call is tenant 0's, or that of one of so many others
+abbrev pub IsOfTenant : ℕ → Directive → Type 0
+IsOfTenant tenants (Module name bytes) = Unit {0}
+IsOfTenant tenants (Call tenant place invocation) = tenant ≤ tenants
+
+-- what holds of the wants and the directives of each file that is read
+pub record AreRequests (wants : List Want) (directives : List Directive) : Type 0 where
   pub placed : IsPlacedFrom 0 directives
+  pub by_tenants : All (IsOfTenant (length wants)) directives
   pub few_modules : length (module_names directives) ≤ most_modules
   pub few_calls : call_count directives ≤ most_calls
+  pub few_tenants : length wants ≤ 15
 
--- what these directives declare
-abbrev pub declared_by : List Directive → Declared
-declared_by directives = record { names = module_names directives; calls = call_count directives }
+-- ---- the lines in turn
+
+-- what the lines so far ask for: the profile, if one of them names it, tenants and directives
+pub record ReadLines : Type 0 where
+  pub profile : Option FileProfile
+  pub tenants : Tenants
+  pub directives : List Directive
+
+abbrev pub nothing_read : ReadLines
+nothing_read = record { profile = None; tenants = no_tenants; directives = [] }
+
+-- what they declare
+abbrev pub declared_by : ReadLines → Declared
+declared_by before = record { names = module_names before.directives; calls = call_count before.directives; tenants = before.tenants }
 
 -- what is declared once this directive is read too
 abbrev pub declared_after : Declared → Directive → Declared
 declared_after before (Module name bytes) = record before { names = before.names ++ name ∷ [] }
-declared_after before (Call place invocation) = record before { calls = before.calls + 1 }
-
--- what the lines so far ask for: the profile, if one of them names it, and directives
-pub record ReadLines : Type 0 where
-  pub profile : Option Profile
-  pub directives : List Directive
-
-abbrev pub nothing_read : ReadLines
-nothing_read = record { profile = None; directives = [] }
+declared_after before (Call tenant place invocation) = record before { calls = before.calls + 1 }
 
 abbrev pub with_directive : ReadLines → Directive → ReadLines
 with_directive before directive = record before { directives = before.directives ++ directive ∷ [] }
 
--- ---- the profile
+-- what is asked for with these tenants, or the reason for which there are none
+abbrev pub with_tenants : ReadLines → Result Tenants Reason → Result ReadLines Reason
+with_tenants before (Ok tenants) = Ok (record before { tenants = tenants })
+with_tenants before (Err reason) = Err reason
 
--- these words begin with `profile`
-abbrev pub begins_profile : List (List ℕ) → Bool
-begins_profile [] = false
-begins_profile (word ∷ words) = bytes_eq word (codes "profile")
+-- the profile of the lines that follow: where none names one it is 1
+abbrev pub profile_in : ReadLines → FileProfile
+profile_in before = unwrap_or before.profile One
 
--- the profile of this number
-abbrev pub profile_named : List ℕ → Result Profile Reason
-profile_named word =
-    if bytes_eq word (codes "1") then Ok One
-    else if bytes_eq word (codes "2") then Ok Two
-    else if bytes_eq word (codes "3") then Ok Three
-    else Err BadProfile
-
--- the profile that the words of a line name, of which the first is `profile`
-unfoldable pub profile_of : List (List ℕ) → Result Profile Reason
-profile_of (directive ∷ word ∷ []) = profile_named word
-profile_of words = Err BadProfile
-
--- each line before is skipped
+-- each line before asks for nothing
 abbrev pub is_first : ReadLines → Bool
 is_first before = is_none before.profile && is_empty before.directives
 
--- what is asked for once a line is read that begins with `profile`
-unfoldable pub profile_after : ReadLines → List ℕ → Result ReadLines Reason
-profile_after before line = do
-  _ ← demand (list_all is_printable line) BadByte
+-- what is asked for once the words after `profile` are read
+unfoldable pub profile_after : ReadLines → List (List ℕ) → Result ReadLines Reason
+profile_after before words = do
   _ ← demand (is_first before) LateProfile
-  profile ← profile_of (line_words line)
+  profile ← profile_of words
   Ok (record before { profile = Some profile })
 
--- ---- the lines in turn
-
--- the profile of the lines that follow: where none names one it is 1
-abbrev pub profile_in : ReadLines → Profile
-profile_in before = unwrap_or before.profile One
+-- what is asked for once a line of these words is read
+unfoldable pub words_after : Numbers → ReadLines → List (List ℕ) → Result ReadLines Reason
+words_after numbers before [] = Ok before
+words_after numbers before (word ∷ words) =
+    if bytes_eq word (codes "profile") then profile_after before words
+    else if has_tenants (profile_in before) && bytes_eq word (codes "tenant") then with_tenants before (tenant_after numbers before.tenants words)
+    else if has_tenants (profile_in before) && bytes_eq word (codes "for") then with_tenants before (for_after before.tenants words)
+    else (directive_of (profile_in before) (declared_by before) word words >>= λ directive. Ok (with_directive before directive))
 
 -- what is asked for once a line is read
-unfoldable pub requests_after : ReadLines → List ℕ → Result ReadLines Reason
-requests_after before line =
-    if is_skipped line then Ok before
-    else if begins_profile (line_words line) then profile_after before line
-    else (directive_of (profile_in before) (declared_by before.directives) line >>= λ directive. Ok (with_directive before directive))
+unfoldable pub requests_after : Numbers → ReadLines → List ℕ → Result ReadLines Reason
+requests_after numbers before line = if is_comment line then Ok before else do
+  _ ← demand (list_all is_printable line) BadByte
+  words_after numbers before (line_words line)
+
+-- ---- the file
 
 -- Why a file is refused: it is too long, or its first bad line, counted from 1, is refused for this reason.
 pub data FileRefusal : Type 0 where
@@ -295,23 +207,32 @@ at_line line (Ok x) = Ok x
 at_line line (Err reason) = Err (BadLine line reason)
 
 -- what was asked for before and by the further lines, the first of which has this number
-abbrev pub requests_from : ℕ → ReadLines → List (List ℕ) → Result ReadLines FileRefusal
-requests_from number before [] = Ok before
-requests_from number before (line ∷ lines) = do
-  read ← at_line number (requests_after before line)
-  requests_from (number + 1) read lines
+abbrev pub requests_from : Numbers → (first : ℕ) → ReadLines → List (List ℕ) → Result ReadLines FileRefusal
+requests_from numbers first before [] = Ok before
+requests_from numbers first before (line ∷ lines) = do
+  read ← at_line first (requests_after numbers before line)
+  requests_from numbers (first + 1) read lines
 
--- what a request file asks for: the profile of its modules, and its directives in file order
+-- What a request file asks for: the profile of its modules, whether each call is made whole, what tenants 1, 2, .. want, and its
+-- directives in file order.
 pub record Asked : Type 0 where
   pub profile : Profile
+  pub whole : Bool
+  pub wants : List Want
   pub directives : List Directive
 
 -- what lines ask for that are all of a file
 abbrev pub asked_by : ReadLines → Asked
-asked_by read = record { profile = profile_in read; directives = read.directives }
+asked_by read =
+    record {
+      profile = modules_profile (profile_in read);
+      whole = runs_whole (profile_in read);
+      wants = read.tenants.wants;
+      directives = read.directives;
+    }
 
--- what a request file of these bytes asks for, or why it is refused
-unfoldable pub requests_of : List ℕ → Result Asked FileRefusal
-requests_of text =
+-- what a request file of these bytes asks for where the pools have these numbers, or why it is refused
+unfoldable pub requests_of : Numbers → List ℕ → Result Asked FileRefusal
+requests_of numbers text =
     if nat_lt most_bytes (length text) then Err FileTooLong
-    else (requests_from 1 nothing_read (text_lines text) >>= λ read. Ok (asked_by read))
+    else (requests_from numbers 1 nothing_read (text_lines text) >>= λ read. Ok (asked_by read))

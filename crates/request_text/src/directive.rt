@@ -1,10 +1,12 @@
 //! One line of a request file is read.
 ghost use Rattle.std.specs.Prelude.{◌≡◌, ◌<◌, IfOk, length};
-ghost use Rattle.std.specs.List.{list_all};
 ghost use Rattle.std.specs.Option.{ok_or};
-ghost use Rattle.request_text.specs.Text.{arguments_of, call_directive_of, call_of, directive_of, directive_of_words, hex_bytes, is_printable, line_words, module_directive_of, profile_of, request_of, send_directive_of, sends};
+ghost use Rattle.request_text.specs.Words.{arguments_of, hex_bytes, line_words};
+ghost use Rattle.request_text.specs.Text.{call_directive_of, call_of, directive_of, module_directive_of, request_of, send_directive_of};
 ghost use Rattle.request_text.specs.Reading.{Agrees, HasRoom, hex_fault};
 
+use crate::fault::LineFault;
+use crate::file_profile::FileProfile;
 use crate::invocation::Invocation;
 use crate::numbers::{argument, fuel};
 use crate::request::{Directive, MOST_NAME_BYTES, Reason};
@@ -12,38 +14,8 @@ use crate::scope::Scope;
 use crate::words::next_word;
 use call_payload::Payload;
 use hex::FromHexError;
-use std::alloc::{AllocError, Global};
-use thiserror::Error;
-use wasm_types::{Items, Profile, Val};
-
-// Why a line is not read.
-#[derive(Debug, Drop, Error)]
-pub(crate) enum LineFault {
-    #[error("{0}")]
-    Refused(Reason),
-    #[error("out of memory")]
-    NoMemory,
-}
-
-impl From<AllocError> for LineFault {
-    ghost use Rattle.request_text.specs.declared.directive.LineFault.TheVariants.{NoMemory};
-
-    ghost from_gives = { λ _ e. e ≡ NoMemory };
-
-    fn from(_: AllocError) -> Self {
-        LineFault::NoMemory
-    }
-}
-
-impl From<Reason> for LineFault {
-    ghost use Rattle.request_text.specs.declared.directive.LineFault.TheVariants.{Refused};
-
-    ghost from_gives = { λ reason e. e ≡ Refused reason };
-
-    fn from(reason: Reason) -> Self {
-        LineFault::Refused(reason)
-    }
-}
+use std::alloc::Global;
+use wasm_types::{Items, Val};
 
 // A copy of some bytes.
 fn copied(alloc: Global, bytes: &[u8]) -> Result<Items<u8>, LineFault>
@@ -128,7 +100,7 @@ fn request(alloc: Global, word: &[u8]) -> Result<Payload, LineFault>
     Ok(request)
 }
 
-// A call of the module at this place, with the arguments that the words are.
+// A call of the module at this place, with the arguments that the words are, by the tenant whose calls follow.
 #[tactic(auto, unfolding(crate::specs::Text::call_of))]
 fn call(
     alloc: Global,
@@ -154,6 +126,7 @@ fn call(
         args,
     };
     Ok(Directive::Call {
+        tenant: scope.tenant(),
         module: place,
         invocation,
     })
@@ -189,82 +162,25 @@ fn send_directive(alloc: Global, scope: &Scope, words: &[u8]) -> Result<Directiv
     call(alloc, scope, module, export, fuel, Some(request), rest)
 }
 
-// Whether each byte is printable ASCII.
-pub(crate) fn is_printable(line: &[u8]) -> bool
-    ensures { result ≡ list_all is_printable line.now }
-{
-    line.iter().all(|byte| b' ' <= *byte && *byte <= b'~')
-}
-
-// Whether lines send in this profile.
-fn sends(profile: Profile) -> bool
-    ensures { result ≡ sends profile }
-{
-    match profile {
-        Profile::One | Profile::Two => false,
-        Profile::Three => true,
-    }
-}
-
-// What the words of a line ask for.
-#[tactic(auto, unfolding(crate::specs::Text::directive_of_words))]
-fn words_directive(
-    alloc: Global,
-    profile: Profile,
-    scope: &Scope,
-    words: &[u8],
-) -> Result<Directive, LineFault>
-    ensures meaning { Agrees result (directive_of_words profile scope.now (line_words words.now)) }
-    ensures room { IfOk result (HasRoom scope.now) }
-{
-    let Some((word, rest)) = next_word(words) else {
-        return Err(LineFault::Refused(Reason::UnknownDirective));
-    };
-    if word == b"module".as_slice() {
-        module_directive(alloc, scope, rest)
-    } else if word == b"call".as_slice() {
-        call_directive(alloc, scope, rest)
-    } else if sends(profile) && word == b"send".as_slice() {
-        send_directive(alloc, scope, rest)
-    } else {
-        Err(LineFault::Refused(Reason::UnknownDirective))
-    }
-}
-
-// What a line asks for.
+// What a line asks for whose first word is this one, with these behind it.
 #[tactic(auto, unfolding(crate::specs::Text::directive_of))]
 pub(crate) fn line_directive(
     alloc: Global,
-    profile: Profile,
+    profile: FileProfile,
     scope: &Scope,
-    line: &[u8],
+    word: &[u8],
+    words: &[u8],
 ) -> Result<Directive, LineFault>
-    ensures meaning { Agrees result (directive_of profile scope.now line.now) }
+    ensures meaning { Agrees result (directive_of profile scope.now word.now (line_words words.now)) }
     ensures room { IfOk result (HasRoom scope.now) }
 {
-    if !is_printable(line) {
-        return Err(LineFault::Refused(Reason::BadByte));
-    }
-    words_directive(alloc, profile, scope, line)
-}
-
-// The profile that the words of a line name, the first of which is `profile`.
-#[tactic(auto, unfolding(crate::specs::Text::profile_of))]
-pub(crate) fn line_profile(line: &[u8]) -> Result<Profile, Reason>
-    ensures { result ≡ profile_of (line_words line.now) }
-{
-    let (_, rest) = next_word(line).ok_or(Reason::BadProfile)?;
-    let (word, rest) = next_word(rest).ok_or(Reason::BadProfile)?;
-    if next_word(rest).is_some() {
-        return Err(Reason::BadProfile);
-    }
-    if word == b"1".as_slice() {
-        Ok(Profile::One)
-    } else if word == b"2".as_slice() {
-        Ok(Profile::Two)
-    } else if word == b"3".as_slice() {
-        Ok(Profile::Three)
+    if word == b"module".as_slice() {
+        module_directive(alloc, scope, words)
+    } else if word == b"call".as_slice() {
+        call_directive(alloc, scope, words)
+    } else if profile.sends() && word == b"send".as_slice() {
+        send_directive(alloc, scope, words)
     } else {
-        Err(Reason::BadProfile)
+        Err(LineFault::Refused(Reason::UnknownDirective))
     }
 }

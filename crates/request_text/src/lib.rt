@@ -1,14 +1,18 @@
-//! The request file's text: a request file is read into its directives, or refused at its first bad line.
+//! The request file's text: a request file is read into its profile, its tenants and its directives, or refused at its first bad line.
 #![tactic(auto)]
 
 mod directive;
+mod fault;
+mod file_profile;
 mod invocation;
+pub mod laws;
 mod numbers;
 mod parser;
 mod reading;
 mod refusal;
 mod request;
 mod scope;
+mod tenants;
 mod words;
 
 pub use invocation::Invocation;

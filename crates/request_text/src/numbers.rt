@@ -3,7 +3,7 @@ ghost use Rattle.std.specs.Prelude.{◌≡◌, ◌^◌, ◌<◌, ◌≤◌, ◌&
 ghost use Rattle.std.specs.Char.{is_ascii_digit};
 ghost use Rattle.std.specs.List.{list_all};
 ghost use Rattle.std.specs.Str.Parse.{digits_value};
-ghost use Rattle.request_text.specs.Text.{is_empty, number_up_to, fuel_of, integer_of, argument_of};
+ghost use Rattle.request_text.specs.Words.{is_empty, number_up_to, fuel_of, integer_of, argument_of};
 
 use wasm_types::Val;
 
@@ -35,8 +35,8 @@ fn number(digits: &[u8]) -> Option<u64>
 }
 
 // The number that a word of digits alone writes, if it is at most `most`.
-#[tactic(auto, unfolding(crate::specs::Text::number_up_to))]
-fn number_up_to(most: u64, word: &[u8]) -> Option<u64>
+#[tactic(auto, unfolding(crate::specs::Words::number_up_to))]
+pub(crate) fn number_up_to(most: u64, word: &[u8]) -> Option<u64>
     ensures value { result ≡ number_up_to most word.now }
     ensures within { IfSome result (λ n. n ≤ most) }
 {
@@ -56,7 +56,7 @@ pub(crate) fn fuel(word: &[u8]) -> Option<u32>
 }
 
 // The number of an `i32` argument, from -2^31 to 2^32 - 1, modulo 2^32.
-#[tactic(auto, unfolding(crate::specs::Text::integer_of))]
+#[tactic(auto, unfolding(crate::specs::Words::integer_of))]
 fn integer_32(text: &[u8]) -> Option<u32>
     ensures { result ≡ integer_of 32 text.now }
 {
@@ -73,7 +73,7 @@ fn integer_32(text: &[u8]) -> Option<u32>
 }
 
 // The number of an `i64` argument, from -2^63 to 2^64 - 1, modulo 2^64.
-#[tactic(auto, unfolding(crate::specs::Text::integer_of))]
+#[tactic(auto, unfolding(crate::specs::Words::integer_of))]
 fn integer_64(text: &[u8]) -> Option<u64>
     ensures { result ≡ integer_of 64 text.now }
 {
@@ -87,7 +87,7 @@ fn integer_64(text: &[u8]) -> Option<u64>
 }
 
 // The argument that a word gives, by its type and its number.
-#[tactic(auto, unfolding(crate::specs::Text::argument_of))]
+#[tactic(auto, unfolding(crate::specs::Words::argument_of))]
 pub(crate) fn argument(word: &[u8]) -> Option<Val>
     ensures { result ≡ argument_of word.now }
 {

@@ -1,9 +1,12 @@
 //! What a request file asks for, and why one is refused.
-ghost use Rattle.std.specs.Prelude.{◌≡◌, Some};
+ghost use Rattle.std.specs.Prelude.{◌≡◌, ◌≤◌, Some, length};
 ghost use Rattle.request_text.specs.Refusal.{reason_text};
+ghost use Rattle.request_text.specs.Profiles.{modules_profile, runs_whole};
 ghost use Rattle.request_text.specs.Text.{AreRequests};
 
+use crate::file_profile::FileProfile;
 use crate::invocation::Invocation;
+use pool_limits::{MOST_TENANTS, Want};
 use std::fmt;
 use std::marker::Model;
 use thiserror::Error;
@@ -12,7 +15,7 @@ use wasm_types::{Items, Profile};
 /// The greatest size of a request file, in bytes.
 pub const MOST_BYTES: usize = 67_108_864;
 
-/// The greatest length of a module's name, in bytes.
+/// The greatest length of the name of a module or a tenant, in bytes.
 pub const MOST_NAME_BYTES: usize = 64;
 
 /// The greatest number of module lines of a request file.
@@ -25,38 +28,52 @@ pub const MOST_CALLS: usize = 1_000_000;
 #[derive(Drop)]
 pub enum Directive {
     /// The bytes of a module binary, known by a name from here on.
-    Module { name: Items<u8>, bytes: Items<u8> },
-    /// A call, by a `call` or a `send` line. `module` is the place of its module line among the module lines, from 0.
-    Call { module: u32, invocation: Invocation },
+    Module {
+        name: Items<u8>,
+        bytes: Items<u8>,
+    },
+    /// A call, by a `call` or a `send` line. `tenant` is the number of the tenant whose slots it has where workers share them:
+    /// that of its `tenant` line among these, from 1, or 0. `module` is the place of its module line among the module lines,
+    /// from 0.
+    Call {
+        tenant: u32,
+        module: u32,
+        invocation: Invocation,
+    },
 }
 
-/// What a request file asks for, which contracts see as the profile of its modules and the list of its directives, in file
-/// order. `parse` alone makes one.
+/// What a request file asks for, which contracts see as the profile of its modules, whether each call is made whole, what
+/// tenants 1, 2, .. want, and the list of its directives, in file order. `parse` alone makes one.
 #[derive(Drop)]
 pub struct Requests {
-    profile: Profile,
+    profile: FileProfile,
+    wants: Vec<Want>,
     directives: Vec<Directive>,
 }
 
 impl Model for Requests {
+    ghost use Rattle.request_text.specs.Profiles.{modules_profile, runs_whole};
     ghost use Rattle.request_text.specs.Text.{AreRequests, Asked};
 
     ghost Value = { Asked };
 
-    ghost view = { λ r. record { profile = r.profile; directives = r.directives.items } };
+    ghost view = { λ r. record { profile = modules_profile r.profile; whole = runs_whole r.profile; wants = r.wants.items; directives = r.directives.items } };
 
-    ghost invariant = { λ r. AreRequests r.directives.items };
+    ghost invariant = { λ r. AreRequests r.wants.items r.directives.items };
 }
 
 impl Requests {
-    // The requests of these directives, in this profile. Takes no memory.
-    pub(crate) fn new(profile: Profile, directives: Vec<Directive>) -> Self
-        requires { AreRequests directives.items }
-        ensures profile { result.profile ≡ profile }
+    // The requests of these directives, in this profile, of tenants that want this. Takes no memory.
+    pub(crate) fn new(profile: FileProfile, wants: Vec<Want>, directives: Vec<Directive>) -> Self
+        requires { AreRequests wants.items directives.items }
+        ensures profile { result.profile ≡ modules_profile profile }
+        ensures whole { result.whole ≡ runs_whole profile }
+        ensures wants { result.wants ≡ wants.items }
         ensures directives { result.directives ≡ directives.items }
     {
         Requests {
             profile,
+            wants,
             directives,
         }
     }
@@ -65,43 +82,68 @@ impl Requests {
     pub fn profile(&self) -> Profile
         ensures { result ≡ self.now.profile }
     {
-        self.profile
+        self.profile.of_modules()
     }
 
-    /// The directives: at most `MOST_MODULES` module lines and `MOST_CALLS` call lines, and the module of each call is a
-    /// module line before it.
+    /// Whether each call is made whole, and not in slices, as those of a file of profile 4 are.
+    pub fn runs_whole(&self) -> bool
+        ensures { result ≡ self.now.whole }
+    {
+        self.profile.runs_whole()
+    }
+
+    /// What tenants 1, 2, .. want of the slots.
+    pub fn wants(&self) -> &[Want]
+        ensures all { result.now ≡ self.now.wants }
+        ensures few { length result.now ≤ MOST_TENANTS }
+    {
+        self.wants.as_slice()
+    }
+
+    /// The directives: at most `MOST_MODULES` module lines and `MOST_CALLS` call lines. The module of each call is a
+    /// module line before it, and its tenant is 0 or one of those that want a share.
     pub fn directives(&self) -> &[Directive]
         ensures all { result.now ≡ self.now.directives }
-        ensures lawful { AreRequests self.now.directives }
+        ensures lawful { AreRequests self.now.wants self.now.directives }
     {
         self.directives.as_slice()
     }
 }
 
 /// Why a line of a request file is refused: the first of these that applies, in this order. Source:
-/// `specs/Text.antt`, `profile_after` and `directive_of`.
+/// `specs/Text.antt`, `requests_after`.
 #[derive(Clone, Copy, Debug, PartialEq, Eq)]
 pub enum Reason {
     /// A byte is outside 0x20 to 0x7E.
     BadByte,
-    /// The first word is none of `profile`, `module` and `call`, nor, from profile 3 on, `send`.
+    /// The first word is none of `profile`, `module` and `call`, nor, from profile 3 on, `send`, nor, from profile 4 on, `tenant`
+    /// or `for`.
     UnknownDirective,
     /// `profile` where a line that isn't skipped stands before.
     LateProfile,
-    /// `profile` without exactly one more word, which is `1`, `2` or `3`.
+    /// `profile` without exactly one more word, which is `1`, `2`, `3` or `4`.
     BadProfile,
-    /// `module` without exactly two more words, `call` with fewer than three, or `send` with fewer than four.
+    /// `module` without exactly two more words, `call` with fewer than three, `send` with fewer than four, `tenant` without
+    /// exactly five, or `for` without exactly one.
     BadWords,
-    /// A module's name has more than 64 bytes.
+    /// The name of a module or a tenant has more than 64 bytes.
     BadName,
     /// A module's bytes have an odd number of digits, or a byte that is no hex digit.
     BadHex,
-    /// An earlier module line has this name.
+    /// A number of a share isn't digits alone, or is above 1,024, or one of the first three is 0.
+    BadShare,
+    /// An earlier module line has the name of this module line, or an earlier tenant line that of this tenant line.
     NameUsedTwice,
     /// 1,048,576 module lines stand before.
     TooManyModules,
+    /// 15 tenant lines stand before.
+    TooManyTenants,
+    /// The tenants so far, this one among them, want more together than there is for them.
+    ShareTooLarge,
     /// No earlier module line has this name.
     UnknownModule,
+    /// No earlier tenant line has this name.
+    UnknownTenant,
     /// The fuel isn't digits alone, or is above 4,294,967,295.
     BadFuel,
     /// A request is neither `-` nor an even number of hex digits.
@@ -127,9 +169,13 @@ impl Reason {
             Reason::BadWords => "bad words",
             Reason::BadName => "bad name",
             Reason::BadHex => "bad hex",
+            Reason::BadShare => "bad share",
             Reason::NameUsedTwice => "name used twice",
             Reason::TooManyModules => "too many modules",
+            Reason::TooManyTenants => "too many tenants",
+            Reason::ShareTooLarge => "share too large",
             Reason::UnknownModule => "unknown module",
+            Reason::UnknownTenant => "unknown tenant",
             Reason::BadFuel => "bad fuel",
             Reason::BadRequest => "bad request",
             Reason::RequestTooLong => "request too long",

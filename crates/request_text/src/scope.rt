@@ -1,20 +1,26 @@
 //! What the lines of a request file have declared.
 ghost use Rattle.std.specs.Prelude.{◌≡◌, ◌↔◌, ◌<◌, ◌≤◌, [], ◌∷◌, ◌++◌, None, length, IsTrue, IfOk, IfSome};
-ghost use Rattle.request_text.specs.Text.{declared_after, declared_by, place_of};
-ghost use Rattle.request_text.specs.Reading.{ArePlaces, HasRoom};
+ghost use Rattle.request_text.specs.Words.{line_words, place_of};
+ghost use Rattle.request_text.specs.Tenants.{for_after, tenant_after};
+ghost use Rattle.request_text.specs.Text.{declared_after, declared_by, nothing_read};
+ghost use Rattle.request_text.specs.Reading.{Agrees, ArePlaces, HasRoom, declared_with};
 
-use crate::request::{Directive, MOST_CALLS, MOST_MODULES};
+use crate::fault::LineFault;
+use crate::request::{Directive, MOST_CALLS, MOST_MODULES, Reason};
+use crate::tenants::TenantScope;
+use pool_limits::{PoolConfig, Want};
 use std::alloc::{AllocError, Global};
 use std::collections::BTreeMap;
 use std::marker::Model;
 use wasm_types::Items;
 
-// The names of the modules of the lines before, the place of each, and how many calls stood there.
+// The names of the modules of the lines before, the place of each, how many calls stood there, and the tenants.
 #[derive(Drop)]
 pub(crate) struct Scope {
     names: Vec<Items<u8>>,
     places: BTreeMap<Vec<u8>, u32>,
     calls: usize,
+    tenants: TenantScope,
 }
 
 impl Model for Scope {
@@ -22,7 +28,7 @@ impl Model for Scope {
 
     ghost Value = { Declared };
 
-    ghost view = { λ s. record { names = s.names.items; calls = s.calls } };
+    ghost view = { λ s. record { names = s.names.items; calls = s.calls; tenants = s.tenants } };
 
     ghost use Rattle.request_text.specs.Reading.{ArePlaces};
 
@@ -53,12 +59,13 @@ fn declare(
 impl Scope {
     // Nothing is declared. Takes no memory.
     pub(crate) fn new(alloc: Global) -> Scope
-        ensures { result ≡ declared_by [] }
+        ensures { result ≡ declared_by nothing_read }
     {
         Scope {
             names: Vec::new(alloc),
             places: BTreeMap::new(alloc),
             calls: 0,
+            tenants: TenantScope::new(alloc),
         }
     }
 
@@ -84,6 +91,21 @@ impl Scope {
         self.calls < MOST_CALLS
     }
 
+    // The tenant that has the calls that follow.
+    pub(crate) fn tenant(&self) -> u32
+        ensures tenant { result ≡ self.now.tenants.current }
+        ensures within { result ≤ length self.now.tenants.wants }
+    {
+        self.tenants.current()
+    }
+
+    // What tenants 1, 2, .. want.
+    pub(crate) fn into_wants(self) -> Vec<Want>
+        ensures { result.items ≡ self.tenants.wants }
+    {
+        self.tenants.into_wants()
+    }
+
     // What is declared once this directive is read too.
     pub(crate) fn after(self, alloc: Global, directive: &Directive) -> Result<Scope, AllocError>
         requires { HasRoom self directive.now }
@@ -93,6 +115,7 @@ impl Scope {
             mut names,
             mut places,
             mut calls,
+            tenants,
         } = self;
         match directive {
             Directive::Module { name, bytes: _ } => {
@@ -104,6 +127,50 @@ impl Scope {
             names,
             places,
             calls,
+            tenants,
+        })
+    }
+
+    // What is declared once the words after `tenant` are read too.
+    pub(crate) fn after_tenant(
+        self,
+        alloc: Global,
+        config: &PoolConfig,
+        words: &[u8],
+    ) -> Result<Scope, LineFault>
+        ensures { Agrees result (declared_with self (tenant_after config.now self.tenants (line_words words.now))) }
+    {
+        let Scope {
+            names,
+            places,
+            calls,
+            tenants,
+        } = self;
+        let tenants = tenants.after_tenant(alloc, config, words)?;
+        Ok(Scope {
+            names,
+            places,
+            calls,
+            tenants,
+        })
+    }
+
+    // What is declared once the words after `for` are read too.
+    pub(crate) fn after_for(self, words: &[u8]) -> Result<Scope, Reason>
+        ensures { result ≡ declared_with self (for_after self.tenants (line_words words.now)) }
+    {
+        let Scope {
+            names,
+            places,
+            calls,
+            tenants,
+        } = self;
+        let tenants = tenants.after_for(words)?;
+        Ok(Scope {
+            names,
+            places,
+            calls,
+            tenants,
         })
     }
 }

@@ -1,8 +1,37 @@
 //! Texts and what is read from them.
 use crate::{Directive, Invocation, ParseFault, Reason, Requests, parse, write_text_fault};
+use pool_limits::{Numbers, PoolConfig};
 use std::alloc::{AllocError, Global};
 use std::test::Fail;
 use wasm_types::Profile;
+
+// Four totals that differ, so that each share is seen to be compared with its own: tenants may want 4, 5, 6 and 7.
+const NUMBERS: Numbers = Numbers {
+    workers: 2,
+    instances: 6,
+    memories: 7,
+    tables: 8,
+    warm: 7,
+    batch: 4,
+    pages: 32,
+    elements: 1_024,
+    depth: 128,
+    frame: 1_024,
+};
+
+// The most of everything.
+const GREATEST: Numbers = Numbers {
+    workers: 16,
+    instances: 1_024,
+    memories: 1_024,
+    tables: 1_024,
+    warm: 1_024,
+    batch: 1_024,
+    pages: 256,
+    elements: 65_536,
+    depth: 1_000,
+    frame: 4_096,
+};
 
 // Pushes a call: its module's place, its export, its fuel, its request if it has one, and its arguments.
 fn push_invocation(
@@ -30,7 +59,7 @@ fn push_invocation(
     Ok(())
 }
 
-// Pushes a directive as one line: a module's name and bytes, or a call.
+// Pushes a directive as one line: a module's name and bytes, or a call, behind its tenant's number if that isn't 0.
 fn push_directive(text: &mut String, directive: &Directive) -> Result<(), AllocError> {
     match directive {
         Directive::Module { name, bytes } => {
@@ -43,7 +72,16 @@ fn push_directive(text: &mut String, directive: &Directive) -> Result<(), AllocE
                 write!(text, "{byte:02x}")?;
             }
         }
-        Directive::Call { module, invocation } => push_invocation(text, *module, invocation)?,
+        Directive::Call {
+            tenant,
+            module,
+            invocation,
+        } => {
+            if *tenant != 0 {
+                write!(text, "for {tenant}: ")?;
+            }
+            push_invocation(text, *module, invocation)?;
+        }
     }
     text.push_str("\n")
 }
@@ -58,6 +96,13 @@ fn described(alloc: Global, parsed: &Result<Requests, ParseFault>) -> Result<Str
                 Profile::Two => text.push_str("profile 2\n")?,
                 Profile::Three => text.push_str("profile 3\n")?,
             }
+            if requests.runs_whole() {
+                text.push_str("whole\n")?;
+            }
+            for want in requests.wants() {
+                write!(text, "wants {} {} ", want.instances, want.memories)?;
+                write!(text, "{} {}\n", want.tables, want.warm)?;
+            }
             for directive in requests.directives() {
                 push_directive(&mut text, directive)?;
             }
@@ -70,6 +115,7 @@ fn described(alloc: Global, parsed: &Result<Requests, ParseFault>) -> Result<Str
 #[test]
 fn texts_are_read_or_refused_at_their_first_bad_line(rt: HostRuntime) -> Result<(), Fail> {
     let alloc = rt.alloc();
+    let config = PoolConfig::new(NUMBERS)?;
     let rows = [
         ("", ""),
         ("module a 00FFab\n", "module a 00ffab\n"),
@@ -171,7 +217,7 @@ fn texts_are_read_or_refused_at_their_first_bad_line(rt: HostRuntime) -> Result<
         ),
     ];
     for (text, want) in rows {
-        let got = described(alloc, &parse(alloc, text.as_bytes()))?;
+        let got = described(alloc, &parse(alloc, &config, text.as_bytes()))?;
         assert_eq!(rt; got.as_str(), want, "of {text}");
     }
     Ok(())
@@ -189,17 +235,24 @@ fn most_modules(alloc: Global) -> Result<String, AllocError> {
 #[test]
 fn the_limits_are_exact(rt: HostRuntime) -> Result<(), Fail> {
     let alloc = rt.alloc();
+    let config = PoolConfig::new(NUMBERS)?;
     let long = "n".repeat(alloc, 64)?;
     let text = format!(in alloc; "module {long} 00")?;
-    assert!(rt; parse(alloc, text.as_bytes()).is_ok(), "a name of 64 bytes");
+    assert!(rt;
+        parse(alloc, &config, text.as_bytes()).is_ok(),
+        "a name of 64 bytes"
+    );
     let text = format!(in alloc; "module n{long} 0")?;
-    let got = described(alloc, &parse(alloc, text.as_bytes()))?;
+    let got = described(alloc, &parse(alloc, &config, text.as_bytes()))?;
     assert_eq!(rt; got.as_str(), "line 1: bad name");
 
     let mut comment = vec![in alloc; b'#'; 67_108_864]?;
-    assert!(rt; parse(alloc, comment.as_slice()).is_ok(), "67108864 bytes");
+    assert!(rt;
+        parse(alloc, &config, comment.as_slice()).is_ok(),
+        "67108864 bytes"
+    );
     comment.push(b'#')?;
-    let got = described(alloc, &parse(alloc, comment.as_slice()))?;
+    let got = described(alloc, &parse(alloc, &config, comment.as_slice()))?;
     assert_eq!(rt; got.as_str(), "file too long");
     Ok(())
 }
@@ -207,9 +260,10 @@ fn the_limits_are_exact(rt: HostRuntime) -> Result<(), Fail> {
 #[test]
 fn one_module_more_is_refused(rt: HostRuntime) -> Result<(), Fail> {
     let alloc = rt.alloc();
+    let config = PoolConfig::new(NUMBERS)?;
     let mut text = most_modules(alloc)?;
     text.push_str("module m 00")?;
-    let got = described(alloc, &parse(alloc, text.as_bytes()))?;
+    let got = described(alloc, &parse(alloc, &config, text.as_bytes()))?;
     assert_eq!(rt; got.as_str(), "line 1048577: too many modules");
     Ok(())
 }
@@ -217,12 +271,13 @@ fn one_module_more_is_refused(rt: HostRuntime) -> Result<(), Fail> {
 #[test]
 fn as_many_modules_and_calls_as_a_file_may_have_are_read(rt: HostRuntime) -> Result<(), Fail> {
     let alloc = rt.alloc();
+    let config = PoolConfig::new(NUMBERS)?;
     let mut text = most_modules(alloc)?;
     for _ in 0..1_000_000 {
         text.push_str("call m1048575 f 1\n")?;
     }
     let mut places = 0u64;
-    for directive in parse(alloc, text.as_bytes())?.directives() {
+    for directive in parse(alloc, &config, text.as_bytes())?.directives() {
         if let Directive::Call { module, .. } = directive {
             places = places.saturating_add(u64::from(*module));
         }
@@ -234,11 +289,12 @@ fn as_many_modules_and_calls_as_a_file_may_have_are_read(rt: HostRuntime) -> Res
 #[test]
 fn one_call_more_is_refused(rt: HostRuntime) -> Result<(), Fail> {
     let alloc = rt.alloc();
+    let config = PoolConfig::new(NUMBERS)?;
     let mut text = String::from_str(alloc, "module a 00\n")?;
     for _ in 0..1_000_001 {
         text.push_str("call a f 1\n")?;
     }
-    let got = described(alloc, &parse(alloc, text.as_bytes()))?;
+    let got = described(alloc, &parse(alloc, &config, text.as_bytes()))?;
     assert_eq!(rt; got.as_str(), "line 1000002: too many calls");
     Ok(())
 }
@@ -246,11 +302,12 @@ fn one_call_more_is_refused(rt: HostRuntime) -> Result<(), Fail> {
 #[test]
 fn a_large_module_and_many_arguments_are_read(rt: HostRuntime) -> Result<(), Fail> {
     let alloc = rt.alloc();
+    let config = PoolConfig::new(NUMBERS)?;
     let digits = "0a".repeat(alloc, 1_000_000)?;
     let words = " i64:-1".repeat(alloc, 20_000)?;
     let text = format!(in alloc; "module a {digits}\ncall a f 1{words}\n")?;
     let mut sizes = (0, 0);
-    for directive in parse(alloc, text.as_bytes())?.directives() {
+    for directive in parse(alloc, &config, text.as_bytes())?.directives() {
         match directive {
             Directive::Module { bytes, .. } => sizes.0 = bytes.len(),
             Directive::Call { invocation, .. } => sizes.1 = invocation.args.len(),
@@ -263,6 +320,7 @@ fn a_large_module_and_many_arguments_are_read(rt: HostRuntime) -> Result<(), Fai
 #[test]
 fn a_request_has_at_most_65536_bytes(rt: HostRuntime) -> Result<(), Fail> {
     let alloc = rt.alloc();
+    let config = PoolConfig::new(NUMBERS)?;
     let digits = "0a".repeat(alloc, 65536)?;
     let rows = [
         ("", "line 3: bad argument"),
@@ -272,9 +330,166 @@ fn a_request_has_at_most_65536_bytes(rt: HostRuntime) -> Result<(), Fail> {
     ];
     for (more, want) in rows {
         let text = format!(in alloc; "profile 3\nmodule a 00\nsend a f 1 {digits}{more} x")?;
-        let got = described(alloc, &parse(alloc, text.as_bytes()))?;
+        let got = described(alloc, &parse(alloc, &config, text.as_bytes()))?;
         assert_eq!(rt; got.as_str(), want, "with {more}");
     }
+    Ok(())
+}
+
+#[test]
+fn calls_are_those_of_the_tenant_that_was_named_last(rt: HostRuntime) -> Result<(), Fail> {
+    let alloc = rt.alloc();
+    let config = PoolConfig::new(NUMBERS)?;
+    let rows = [
+        ("", ""),
+        (
+            "tenant a 1 2 3 4\ntenant b 003 3 3 0",
+            "wants 1 2 3 4\nwants 3 3 3 0\n",
+        ),
+        (
+            "tenant a 1 1 1 3\n tenant  b 1 1 1 4 ",
+            "wants 1 1 1 3\nwants 1 1 1 4\n",
+        ),
+        (
+            "module a 00\ncall a f 0\ntenant a 1 1 1 0\ncall a f 1",
+            "wants 1 1 1 0\nmodule a 00\ncall 0 f 0\ncall 0 f 1\n",
+        ),
+        (
+            "module m 00\ntenant a 1 1 1 0\ntenant b 1 1 1 0\nfor b\ncall m f 1\nsend m f 2 -\ncall m f 3\nfor a\ncall m f 4\nfor b\nfor b\ncall m f 5",
+            "wants 1 1 1 0\nwants 1 1 1 0\nmodule m 00\nfor 2: call 0 f 1\nfor 2: send 0 f 2 =\nfor 2: call 0 f 3\nfor 1: call 0 f 4\nfor 2: call 0 f 5\n",
+        ),
+        (
+            "tenant a 1 1 1 0\nfor a\nmodule m 00\ntenant b 1 1 1 0\ncall m f 1\n#for b\n\ncall m f 2",
+            "wants 1 1 1 0\nwants 1 1 1 0\nmodule m 00\nfor 1: call 0 f 1\nfor 1: call 0 f 2\n",
+        ),
+    ];
+    for (lines, read) in rows {
+        let text = format!(in alloc; "profile 4\n{lines}")?;
+        let want = format!(in alloc; "profile 3\nwhole\n{read}")?;
+        let got = described(alloc, &parse(alloc, &config, text.as_bytes()))?;
+        assert_eq!(rt; got.as_str(), want.as_str(), "of {lines}");
+    }
+    Ok(())
+}
+
+#[test]
+fn tenants_are_refused_at_the_first_bad_line(rt: HostRuntime) -> Result<(), Fail> {
+    let alloc = rt.alloc();
+    let config = PoolConfig::new(NUMBERS)?;
+    let rows = [
+        ("tenant a 1 1 1 0", "line 1: unknown directive"),
+        ("profile 3\ntenant a 1 1 1 0", "line 2: unknown directive"),
+        ("profile 3\nfor a", "line 2: unknown directive"),
+        ("profile 4\ntenants a 1 1 1 0", "line 2: unknown directive"),
+        ("profile 4\nFor a", "line 2: unknown directive"),
+        (
+            "profile 4\ntenant a 1 1 1 0\nprofile 4",
+            "line 3: late profile",
+        ),
+        ("profile 5\ntenant a 1 1 1 0", "line 1: bad profile"),
+        ("profile 4\n\ntenant a 1 1 1", "line 3: bad words"),
+        ("profile 4\ntenant a 1 1 1 0 0", "line 2: bad words"),
+        ("profile 4\nfor", "line 2: bad words"),
+        ("profile 4\nfor a a", "line 2: bad words"),
+        ("profile 4\nfor a\t", "line 2: bad byte"),
+        ("profile 4\ntenant a 0 1 1 0", "line 2: bad share"),
+        ("profile 4\ntenant a 1 0 1 0", "line 2: bad share"),
+        ("profile 4\ntenant a 1 1 0 0", "line 2: bad share"),
+        ("profile 4\ntenant a 1025 1 1 0", "line 2: bad share"),
+        ("profile 4\ntenant a 1 1025 1 0", "line 2: bad share"),
+        ("profile 4\ntenant a 1 1 1025 0", "line 2: bad share"),
+        ("profile 4\ntenant a 1 1 1 1025", "line 2: bad share"),
+        ("profile 4\ntenant a +1 1 1 0", "line 2: bad share"),
+        ("profile 4\ntenant a 1 1 1 -0", "line 2: bad share"),
+        ("profile 4\ntenant a 1024 1 1 0", "line 2: share too large"),
+        ("profile 4\ntenant a 1 1 1 1024", "line 2: share too large"),
+        ("profile 4\ntenant a 5 1 1 0", "line 2: share too large"),
+        ("profile 4\ntenant a 1 6 1 0", "line 2: share too large"),
+        ("profile 4\ntenant a 1 1 7 0", "line 2: share too large"),
+        ("profile 4\ntenant a 1 1 1 8", "line 2: share too large"),
+        (
+            "profile 4\ntenant a 3 1 1 0\ntenant b 2 1 1 0",
+            "line 3: share too large",
+        ),
+        (
+            "profile 4\ntenant a 1 1 1 4\ntenant b 1 1 1 4",
+            "line 3: share too large",
+        ),
+        (
+            "profile 4\ntenant a 1 1 1 0\ntenant a 0 1 1 0",
+            "line 3: bad share",
+        ),
+        (
+            "profile 4\ntenant a 1 1 1 0\ntenant a 9 1 1 0",
+            "line 3: name used twice",
+        ),
+        (
+            "profile 4\nmodule a 00\ntenant b 1 1 1 0\nfor a",
+            "line 4: unknown tenant",
+        ),
+        (
+            "profile 4\nfor a\ntenant a 1 1 1 0",
+            "line 2: unknown tenant",
+        ),
+        (
+            "profile 4\ntenant a 1 1 1 0\nfor a\nfor 0",
+            "line 4: unknown tenant",
+        ),
+    ];
+    for (text, want) in rows {
+        let got = described(alloc, &parse(alloc, &config, text.as_bytes()))?;
+        assert_eq!(rt; got.as_str(), want, "of {text}");
+    }
+    Ok(())
+}
+
+#[test]
+fn a_tenant_has_a_name_of_at_most_64_bytes(rt: HostRuntime) -> Result<(), Fail> {
+    let alloc = rt.alloc();
+    let config = PoolConfig::new(NUMBERS)?;
+    let long = "n".repeat(alloc, 64)?;
+    let rows = [
+        ("tenant n", " 0 1 1 0", "line 2: bad name"),
+        ("for n", "", "line 2: bad name"),
+        ("for ", "", "line 2: unknown tenant"),
+        ("tenant ", " 1 1 1 0", "profile 3\nwhole\nwants 1 1 1 0\n"),
+    ];
+    for (before, behind, want) in rows {
+        let text = format!(in alloc; "profile 4\n{before}{long}{behind}")?;
+        let got = described(alloc, &parse(alloc, &config, text.as_bytes()))?;
+        assert_eq!(rt; got.as_str(), want, "of {before}");
+    }
+    Ok(())
+}
+
+#[test]
+fn at_most_15_tenants_share(rt: HostRuntime) -> Result<(), Fail> {
+    let alloc = rt.alloc();
+    let config = PoolConfig::new(GREATEST)?;
+    let mut text = String::from_str(alloc, "profile 4\nmodule m 00\n")?;
+    for tenant in 1..16 {
+        write!(text, "tenant t{tenant} 1 1 1 0\n")?;
+    }
+    let rows = [
+        ("tenant t15 1 1 1 0", "line 18: name used twice"),
+        ("tenant t16 1 1 1025 0", "line 18: bad share"),
+        ("tenant t16 1024 1 1 0", "line 18: too many tenants"),
+    ];
+    for (line, want) in rows {
+        let more = format!(in alloc; "{text}{line}")?;
+        let got = described(alloc, &parse(alloc, &config, more.as_bytes()))?;
+        assert_eq!(rt; got.as_str(), want, "of {line}");
+    }
+    text.push_str("for t15\ncall m f 1")?;
+    let requests = parse(alloc, &config, text.as_bytes())?;
+    assert_eq!(rt; requests.wants().len(), 15);
+    let mut tenants = 0u32;
+    for directive in requests.directives() {
+        if let Directive::Call { tenant, .. } = directive {
+            tenants = tenants.saturating_add(*tenant);
+        }
+    }
+    assert_eq!(rt; tenants, 15);
     Ok(())
 }
 

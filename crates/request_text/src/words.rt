@@ -1,7 +1,7 @@
 //! The words of a line.
 ghost use Rattle.std.specs.Prelude.{◌≡◌, ◌==◌, ◌≤◌, not, [], ◌∷◌, length, take, drop, position, MatchOption, IfSome};
-ghost use Rattle.std.specs.List.{position_or_len};
-ghost use Rattle.request_text.specs.Text.{begins_profile, line_words, is_skipped};
+ghost use Rattle.std.specs.List.{list_all, position_or_len};
+ghost use Rattle.request_text.specs.Words.{is_comment, is_printable, line_words};
 
 // Where the first word of a line begins, if the line has one.
 fn word_start(line: &[u8]) -> Option<usize>
@@ -37,19 +37,16 @@ pub(crate) fn next_word(line: &[u8]) -> Option<(&[u8], &[u8])>
     Some(split_word(&line[start..]))
 }
 
-// Whether a line asks for nothing: it is a comment or has no words.
-pub(crate) fn is_skipped(line: &[u8]) -> bool
-    ensures { result ≡ is_skipped line.now }
+// Whether a line is a comment.
+pub(crate) fn is_comment(line: &[u8]) -> bool
+    ensures { result ≡ is_comment line.now }
 {
-    line.first() == Some(&b'#') || next_word(line).is_none()
+    line.first() == Some(&b'#')
 }
 
-// Whether the first word of a line is `profile`.
-pub(crate) fn begins_profile(line: &[u8]) -> bool
-    ensures { result ≡ begins_profile (line_words line.now) }
+// Whether each byte is printable ASCII.
+pub(crate) fn is_printable(line: &[u8]) -> bool
+    ensures { result ≡ list_all is_printable line.now }
 {
-    match next_word(line) {
-        Some((word, _)) => word == b"profile".as_slice(),
-        None => false,
-    }
+    line.iter().all(|byte| b' ' <= *byte && *byte <= b'~')
 }

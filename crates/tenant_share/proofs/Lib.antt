@@ -1,2 +1,5 @@
-pub mod ShareLemmas
+pub mod CallerLemmas
 mod Examples
+pub mod OpeningLemmas
+pub mod PlaceLemmas
+pub mod ShareLemmas

@@ -1,9 +1,10 @@
 -- What tenants have adds up.
-use Rattle.std.proofs.Common.{◌≡◌, ℕ, zero, suc, ◌+◌, ◌-◌, ◌∙◌, ◌≤◌, List, [], ◌∷◌, length, refl, sym, ap, subst, arith}
-use Rattle.std.specs.Prelude.{None, Some}
-use Rattle.std.specs.List.{All}
+use Rattle.std.proofs.Common.{◌≡◌, ℕ, zero, suc, ◌+◌, ◌-◌, ◌∙◌, ◌≤◌, List, [], ◌∷◌, length, sym, ap, subst, arith}
+use Rattle.std.specs.Prelude.{None, Some, map, slice_get, sum}
 use Rattle.std.proofs.lemmas.Bool.{cond-false, ne_eqb}
-use Rattle.std.proofs.lemmas.List.Sums.{sum_by-cons}
+use Rattle.std.proofs.lemmas.List.{length-map}
+use Rattle.std.proofs.lemmas.List.Sums.{get_or-le-sum_by, sum-map, sum_by-cons}
+use Rattle.std.proofs.lemmas.Option.{get_or_from_slice_get, slice_get_within}
 use Rattle.pool_limits.specs.declared.numbers.Numbers.{Numbers}
 use Rattle.pool_limits.specs.declared.share.Share.{Share}
 use Rattle.pool_limits.specs.declared.wants.Part.{Part}
@@ -12,9 +13,15 @@ use Rattle.pool_limits.specs.declared.wants.PlanFault.{PlanFault}
 use Rattle.pool_limits.specs.declared.wants.PlanFault.TheVariants.{BadShare, NoMemory, Over, TooManyTenants}
 use Rattle.pool_limits.specs.declared.wants.Want.{Want}
 use Rattle.pool_limits.specs.Plans.{amount, kept, plan_fault, total, wanted, HasSlots, MayWant}
+use Rattle.pool_limits.specs.Ranges.{AreInRange}
 use Rattle.pool_limits.specs.Shares.{AreAllSlots, lane_share, shared_share}
 use Rattle.pool_limits.proofs.WantLemmas.{may_want, not_memory}
-use Rattle.tenant_share.specs.Shares.{all_of, left_of, of_lane, rest, shares, AddUp, IsPlan, Names}
+use Rattle.pool_worlds.specs.Tenants.{all_free_warm, pools_after_all, WarmSlotsStayWithin}
+use Rattle.pool_host.specs.Hosts.{IsShare}
+use Rattle.tenant_share.specs.Shares.{all_of, rest, shares, IsPlan, Names}
+use Rattle.tenant_share.specs.Tenants.{share_of}
+use Rattle.tenant_share.specs.Worlds.{warm_of, PlansBoundWarmSlots}
+use Rattle.tenant_share.proofs.PlaceLemmas.{All-at}
 
 -- of each part enough is left
 pub part-within : (n : Numbers) (ws : List Want) → MayWant n ws → (part : Part) → wanted part ws + kept part ≤ total part n
@@ -70,3 +77,26 @@ names-fault n ws NoMemory is = absurd (not_memory n ws is)
 names-fault n ws (TooManyTenants count) is = is
 names-fault n ws (BadShare tenant kind) is = is
 names-fault n ws (Over kind sum total) is = is
+
+-- a tenant has no more of a part than all tenants have
+amount-within : (all : List Want) (part : Part) (tenant : ℕ) (w : Want) → slice_get all tenant ≡ Some w → amount part w ≤ wanted part all
+amount-within all part tenant w there =
+    subst (λ (v : Want). amount part v ≤ wanted part all) (get_or_from_slice_get all tenant w w there) (get_or-le-sum_by (amount part) all tenant w (slice_get_within all tenant w there))
+
+-- so its slots can be those of pools
+pub is-share : (n : Numbers) (all : List Want) (tenant : ℕ) (w : Want) → AreInRange n → IsPlan n all → slice_get all tenant ≡ Some w → IsShare (share_of w)
+is-share n all tenant w in_range plan there =
+    let has = All-at HasSlots all tenant w plan.each there in
+    let i = amount-within all Instance tenant w there in let m = amount-within all Memory tenant w there in let t = amount-within all Table tenant w there in
+    let s = plan.sums.slots in let si = s.instances in let sm = s.memories in let st = s.tables in
+    let ri = in_range.instances in let rm = in_range.memories in let rt = in_range.tables in
+    record { instances = (has.instances, omega arith); memories = (has.memories, omega arith); tables = (has.tables, omega arith) }
+
+-- the warm slots of a plan's pools
+pub warm-within : WarmSlotsStayWithin → PlansBoundWarmSlots
+warm-within stay n all ws ps es k plan opens may =
+    let limits : List ℕ = map warm_of all in
+    let within : all_free_warm (pools_after_all ws ps es) k (length all) ≤ sum limits =
+    subst (λ (m : ℕ). all_free_warm (pools_after_all ws ps es) k m ≤ sum limits) (length-map all warm_of) (stay ws ps es k limits opens may) in
+    let all_warm : sum limits ≡ n.warm = sum-map warm_of all ∙ plan.sums.warm in
+    subst (λ (m : ℕ). all_free_warm (pools_after_all ws ps es) k (length all) ≤ m) all_warm within

@@ -1,1 +1,4 @@
+pub mod Opening
 pub mod Shares
+pub mod Tenants
+pub mod Worlds

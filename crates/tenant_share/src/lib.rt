@@ -1,9 +1,16 @@
-//! Shares of tenants: what each of them has of the slots that are not the lane's.
+//! Shares of tenants: what each of them has of the slots that are not the lane's, and a host for each with its slots.
 #![tactic(auto)]
 
+mod calling;
 pub mod laws;
+mod opening;
+mod passes;
 mod plan;
+mod share_host;
 #[cfg(test)]
 mod tests;
 
+pub use calling::Asked;
+pub use passes::{Caller, TenantPass};
 pub use plan::Plan;
+pub use share_host::ShareHost;

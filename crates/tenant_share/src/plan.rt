@@ -1,7 +1,7 @@
 //! The plan of all shares.
 ghost use Rattle.std.specs.Prelude.{◌≡◌, ◌+◌, ◌≤◌, ◌<◌, None, Some, IfErr, IfOk, OnOk, length, slice_get};
 ghost use Rattle.pool_limits.specs.Plans.{plan_fault, MayWant};
-ghost use Rattle.tenant_share.specs.Shares.{left_of, of_lane, rest, shares, Names};
+ghost use Rattle.tenant_share.specs.Shares.{left_of, of_lane, rest, shares, IsPlan, Names};
 
 use pool_limits::{MOST_TENANTS, Numbers, Part, PlanFault, PoolConfig, Want, wanted};
 use std::alloc::Global;
@@ -95,7 +95,8 @@ impl Plan {
     /// What a tenant has. Takes no memory.
     pub fn share(&self, tenant: usize) -> Want
         requires { tenant < length self.now.1 }
-        ensures { slice_get self.now.1 tenant ≡ Some result }
+        ensures share { slice_get self.now.1 tenant ≡ Some result }
+        ensures plan { IsPlan self.now.0 self.now.1 }
     {
         self.shares[tenant]
     }

@@ -1,5 +1,5 @@
 use Rattle.std.proofs.Common.{sym, arith}
-use Rattle.call_workers.proofs.EndLemmas.{nothing_left}
+use Rattle.due_calls.proofs.EndLemmas.{nothing_left}
 use Rattle.call_workers.proofs.finishing.finish.Goals as goal
 
 pub unreachable-requires : goal.unreachable-requires

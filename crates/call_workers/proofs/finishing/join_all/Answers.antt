@@ -11,7 +11,7 @@ loop-one-preserved g c =
     let one : IsDone g.N.Naming.config c.args.shared.now c.in-Some.one = rw c.in-Some.is at rest.1 in
     let worked = rw c.in_ok-made.was at one.made in record {
       fewer = let len = c.in-Some.ensures.len in let most = i.fewer in omega arith;
-      joined = joined_more _ _ _ c.args.shared.now.host _ _ _ _ _ _ _ _ _ _ _ _ i.joined worked.did c.join_pass.ensures.own c.join_pass.ensures.both
-          (let len = c.in-Some.ensures.len in let most = i.fewer in omega arith) c.in_ok-put_behind.ensures;
+      joined = joined_more _ _ _ c.args.shared.now.share _ _ _ _ _ _ _ _ _ _ _ _ i.joined worked.did c.join_pass.ensures.own c.join_pass.ensures.both
+          (let len = c.in-Some.ensures.len in let most = i.fewer in omega arith) c.in_ok-put_behind.ensures.ok;
       done = rest.0;
     }

@@ -30,7 +30,7 @@ loop-directive-preserved g c =
           )
       | in-Call w ↦ (
           let there = module_there c.loop-directive.entries.items w.in-Call.module _ _ (rw w.deref.ensures.value at w.entry_at.ensures) w.item_of-item.ensures in
-          let next = puts_call limits whole _ _ _ _ _ _ _ _ first left _ _ w.in-Call.is _ _ there w.put.ensures.put in
+          let next = puts_call limits whole _ _ _ _ _ _ _ _ first left _ _ _ w.in-Call.is _ _ there w.put.ensures.put in
           record { own = rw w.own-is w.put.ensures.own; left = rw (w.own-is, w.desk-is, w.entries-is, w.number-is) next }
           )
     ]

@@ -2,12 +2,16 @@ use Rattle.std.proofs.Common.{◌∙◌, ap, arith, length}
 use Rattle.std.proofs.lemmas.List.{length-replicate}
 use Rattle.request_text.specs.Text.{modules_of}
 use Rattle.host_report.proofs.CallLemmas.{placed_below}
-use Rattle.host_report.proofs.DueLemmas.{length-dues}
+use Rattle.host_report.proofs.DueLemmas.{length-dues, tenants_of_dues}
 use Rattle.host_report.proofs.WorkedLemmas.{lines_of_calls, of_calls}
 use Rattle.host_report.proofs.sharing.by_workers.Goals as goal
 
 pub worked-requires-clause-calls : goal.worked-requires-clause-calls
 worked-requires-clause-calls g c κs within = rw c.directives-directives.ensures.all at c.in_ok-calls.ensures
+
+pub worked-requires-clause-tenants : goal.worked-requires-clause-tenants
+worked-requires-clause-tenants g c κs within =
+    rw (rw c.directives-directives.ensures.all at c.in_ok-calls.ensures) (tenants_of_dues (length c.args.requests.now.wants) 1 c.args.requests.now.directives c.directives-directives.ensures.lawful.by_tenants)
 
 pub worked-requires-clause-count : goal.worked-requires-clause-count
 worked-requires-clause-count g c κs within = ap length (rw c.directives-directives.ensures.all at c.in_ok-calls.ensures) ∙ length-dues 1 c.args.requests.now.directives

@@ -7,6 +7,12 @@ use Rattle.host_report.proofs.sharing.worked.Goals as goal
 pub open_workers-requires-clause-numbered : goal.open_workers-requires-clause-numbered
 open_workers-requires-clause-numbered g c = rw c.requires.calls (numbered_from 1 c.args.requests.now.directives)
 
+pub open_workers-requires-clause-plan : goal.open_workers-requires-clause-plan
+open_workers-requires-clause-plan g c = rw c.wants.ensures.all c.requires.plan
+
+pub open_workers-requires-clause-tenants : goal.open_workers-requires-clause-tenants
+open_workers-requires-clause-tenants g c = rw c.wants.ensures.all c.requires.tenants
+
 pub open_slicers-requires-clause-numbered : goal.open_slicers-requires-clause-numbered
 open_slicers-requires-clause-numbered g c = rw c.requires.calls (numbered_from 1 c.args.requests.now.directives)
 

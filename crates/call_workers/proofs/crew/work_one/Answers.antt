@@ -1,0 +1,11 @@
+use Rattle.job_queue.specs.Passes.{account_of}
+use Rattle.call_workers.proofs.CrewLemmas.{has_worked}
+use Rattle.call_workers.proofs.crew.work_one.Goals as goal
+
+pub returns : goal.returns
+returns g c =
+    let new = c.requires.worker in record {
+      caller = c.work-made.ensures.caller;
+      own = c.work-made.ensures.own;
+      made = has_worked g.N.Naming.config c.args.shared.now c.args.worker.caller (record { caller = c.work-made.new.caller; own = c.work-made.new.own }) (account_of c.args.worker.own) c.work-made.result new.new new.own.account_is (rw c.deref.ensures.value at c.work-made.ensures.made);
+    }

@@ -1,9 +1,0 @@
-use Rattle.pool_host.specs.Hosts.{ArePassesOf}
-use Rattle.call_workers.specs.Queued.{IsPausedIn}
-use Rattle.call_workers.proofs.slice_crew.slice_all.Given as goal
-
-abbrev pub ghosts-slice_in : goal.ghosts-slice_in
-ghosts-slice_in g a = record {
-  idle = λ p. ArePassesOf a.shared.now.host p;
-  paused = λ p v number. IsPausedIn a.shared.now.host a.shared.now.calls.items p v number;
-}

@@ -1,0 +1,30 @@
+//! Calls that are due.
+ghost use Rattle.std.specs.Prelude.{◌≡◌, ◌-◌, ◌<◌, ◌≤◌, Some, length, slice_get};
+ghost use Rattle.due_calls.specs.Entries.{AreNumbered};
+
+use module_store::ModuleRef;
+use request_text::Invocation;
+
+/// A call that is due.
+#[derive(Drop)]
+pub struct Due {
+    /// Its number. Calls are numbered from 1.
+    pub number: u32,
+    /// The tenant on whose slots it is made, where workers make calls whole.
+    pub tenant: u32,
+    pub invocation: Invocation,
+}
+
+/// What a queue hands on with a call's number: its module, or none where that was refused.
+pub type Item<N> = Option<ModuleRef<N>>;
+
+/// The call of this number, among calls that are numbered from 1.
+pub fn due_at(calls: &[Due], number: u32) -> &Due
+    requires numbered { AreNumbered calls.now }
+    requires counted { 0 < number }
+    requires enough { number ≤ length calls.now }
+    ensures there { slice_get calls.now (number - 1) ≡ Some result.now }
+    ensures number { result.now.number ≡ number }
+{
+    &calls[number as usize - 1]
+}

@@ -1,0 +1,82 @@
+-- The tenants of a file that is read may have what they want.
+use Rattle.std.proofs.Common.{◌≡◌, ◌∙◌, ◌+◌, ◌≤◌, ◌&&◌, ◌++◌, ℕ, List, [], ◌∷◌, length, subst, sym, codes, arith, length-append}
+use Rattle.std.specs.Prelude.{Result, Ok, Err, None, IfOk, nat_lt}
+use Rattle.std.specs.Str.{bytes_eq}
+use Rattle.std.specs.List.{All, list_all}
+use Rattle.std.proofs.lemmas.Bool.{cond_both}
+use Rattle.std.proofs.lemmas.List.Elements.{All-push}
+use Rattle.pool_limits.specs.declared.numbers.Numbers.{Numbers}
+use Rattle.pool_limits.specs.declared.wants.Want.{Want}
+use Rattle.pool_limits.specs.Plans.{plan_fault, HasSlots}
+use Rattle.pool_limits.proofs.WantLemmas.{may_want}
+use Rattle.request_text.specs.declared.request.Directive.{Directive}
+use Rattle.request_text.specs.declared.request.Reason.{Reason}
+use Rattle.request_text.specs.declared.request.Reason.TheVariants as why
+use Rattle.request_text.specs.Words.{◌>>=◌, demand, is_comment, is_printable, line_words, text_lines}
+use Rattle.request_text.specs.Profiles.{has_tenants, profile_of}
+use Rattle.request_text.specs.Tenants.{Tenants, for_after, tenant_after}
+use Rattle.request_text.specs.Text.{Asked, FileRefusal, ReadLines, at_line, declared_by, directive_of, is_first, most_bytes, nothing_read, profile_after, profile_in, requests_after, requests_from, requests_of, with_directive, with_tenants, words_after}
+use Rattle.request_text.proofs.TenantLemmas.{AddsTenant, any-IfOk, fault_is_over, for-keeps, step-IfOk, tenant-adds}
+
+-- the tenants so far may have what they want
+abbrev HasPlan : Numbers → ReadLines → Type 0
+HasPlan n read = plan_fault n read.tenants.wants ≡ None
+
+plan_of_more : (n : Numbers) (before after : Tenants) → plan_fault n before.wants ≡ None → AddsTenant n before after → plan_fault n after.wants ≡ None
+plan_of_more n before after plan adds =
+    let all : List Want = before.wants ++ adds.want ∷ [] in
+    let stood = adds.few in
+    let few : length all ≤ 15 = omega (arith, length-append before.wants (adds.want ∷ [])) in
+    let each : All HasSlots all = All-push HasSlots before.wants adds.want (may_want n before.wants plan).each adds.slots in
+    subst (λ (ws : List Want). plan_fault n ws ≡ None) (sym adds.wants) (fault_is_over n all few each ∙ adds.within)
+
+with_more : (n : Numbers) (before : ReadLines) (tenants : Result Tenants Reason) → HasPlan n before → IfOk tenants (AddsTenant n before.tenants) → IfOk (with_tenants before tenants) (HasPlan n)
+with_more n before (Ok after) plan adds = plan_of_more n before.tenants after plan adds
+with_more n before (Err reason) plan adds = tt
+
+with_same : (n : Numbers) (before : ReadLines) (tenants : Result Tenants Reason) → HasPlan n before → IfOk tenants (λ after. after.wants ≡ before.tenants.wants) → IfOk (with_tenants before tenants) (HasPlan n)
+with_same n before (Ok after) plan same = subst (λ (ws : List Want). plan_fault n ws ≡ None) (sym same) plan
+with_same n before (Err reason) plan same = tt
+
+with_any : (n : Numbers) (before : ReadLines) (directive : Result Directive Reason) → HasPlan n before → IfOk (directive >>= λ d. Ok (with_directive before d)) (HasPlan n)
+with_any n before (Ok directive) plan = plan
+with_any n before (Err reason) plan = tt
+
+plan_after_profile : (n : Numbers) (before : ReadLines) (words : List (List ℕ)) → HasPlan n before → IfOk (profile_after before words) (HasPlan n)
+unfolding profile_after
+plan_after_profile n before words plan =
+    step-IfOk (demand (is_first before) why.LateProfile) _ (λ _. Unit {0}) _ (any-IfOk (demand (is_first before) why.LateProfile)) (λ _ _.
+    step-IfOk (profile_of words) _ (λ _. Unit {0}) _ (any-IfOk (profile_of words)) (λ profile _. plan))
+
+plan_after_words : (n : Numbers) (before : ReadLines) (words : List (List ℕ)) → HasPlan n before → IfOk (words_after n before words) (HasPlan n)
+unfolding words_after
+plan_after_words n before [] plan = plan
+plan_after_words n before (word ∷ words) plan =
+    let P : Result ReadLines Reason → Type 0 = λ read. IfOk read (HasPlan n) in
+    cond_both (bytes_eq word (codes "profile")) _ _ P (λ _. plan_after_profile n before words plan) (λ _.
+    cond_both (has_tenants (profile_in before) && bytes_eq word (codes "tenant")) _ _ P (λ _. with_more n before (tenant_after n before.tenants words) plan (tenant-adds n before.tenants words)) (λ _.
+    cond_both (has_tenants (profile_in before) && bytes_eq word (codes "for")) _ _ P (λ _. with_same n before (for_after before.tenants words) plan (for-keeps before.tenants words)) (λ _.
+    with_any n before (directive_of (profile_in before) (declared_by before) word words) plan)))
+
+plan_after_line : (n : Numbers) (before : ReadLines) (line : List ℕ) → HasPlan n before → IfOk (requests_after n before line) (HasPlan n)
+unfolding requests_after
+plan_after_line n before line plan =
+    cond_both (is_comment line) _ _ (λ (read : Result ReadLines Reason). IfOk read (HasPlan n)) (λ _. plan) (λ _.
+    step-IfOk (demand (list_all is_printable line) why.BadByte) _ (λ _. Unit {0}) _ (any-IfOk (demand (list_all is_printable line) why.BadByte)) (λ _ _.
+    plan_after_words n before (line_words line) plan))
+
+plan_at_line : (n : Numbers) (line : ℕ) (read : Result ReadLines Reason) → IfOk read (HasPlan n) → IfOk (at_line line read) (HasPlan n)
+plan_at_line n line (Ok read) plan = plan
+plan_at_line n line (Err reason) plan = tt
+
+plan_from : (n : Numbers) (first : ℕ) (before : ReadLines) (lines : List (List ℕ)) → HasPlan n before → IfOk (requests_from n first before lines) (HasPlan n)
+plan_from n first before [] plan = plan
+plan_from n first before (line ∷ lines) plan =
+    step-IfOk (at_line first (requests_after n before line)) _ (HasPlan n) _ (plan_at_line n first (requests_after n before line) (plan_after_line n before line plan)) (λ read planned.
+    plan_from n (first + 1) read lines planned)
+
+pub accepted_plan : (n : Numbers) (text : List ℕ) → plan_fault n [] ≡ None → IfOk (requests_of n text) (λ asked. plan_fault n asked.wants ≡ None)
+unfolding requests_of
+accepted_plan n text plan =
+    cond_both (nat_lt most_bytes (length text)) _ _ (λ (asked : Result Asked FileRefusal). IfOk asked (λ a. plan_fault n a.wants ≡ None)) (λ _. tt) (λ _.
+    step-IfOk (requests_from n 1 nothing_read (text_lines text)) _ (HasPlan n) _ (plan_from n 1 nothing_read (text_lines text) plan) (λ read planned. planned))

@@ -1,0 +1,46 @@
+-- The profile of a request file: how a line names it, and what a file of it has.
+use Rattle.std.specs.Prelude.{ℕ, Bool, true, false, if◌then◌else◌, List, [], ◌∷◌, codes, Result, Ok, Err}
+use Rattle.std.specs.Str.{bytes_eq}
+use Rattle.wasm_types.specs.declared.profile.Profile.{Profile}
+use Rattle.wasm_types.specs.declared.profile.Profile.TheVariants as modules
+use Rattle.request_text.specs.declared.file_profile.FileProfile.{FileProfile}
+use Rattle.request_text.specs.declared.file_profile.FileProfile.TheVariants.{One, Two, Three, Four}
+use Rattle.request_text.specs.declared.request.Reason.{Reason}
+use Rattle.request_text.specs.declared.request.Reason.TheVariants.{BadProfile}
+
+-- the profile of this number
+abbrev pub profile_named : List ℕ → Result FileProfile Reason
+profile_named word =
+    if bytes_eq word (codes "1") then Ok One
+    else if bytes_eq word (codes "2") then Ok Two
+    else if bytes_eq word (codes "3") then Ok Three
+    else if bytes_eq word (codes "4") then Ok Four
+    else Err BadProfile
+
+-- the profile that the words after `profile` name
+unfoldable pub profile_of : List (List ℕ) → Result FileProfile Reason
+profile_of (word ∷ []) = profile_named word
+profile_of words = Err BadProfile
+
+-- the profile in which the modules of a file are read
+abbrev pub modules_profile : FileProfile → Profile
+modules_profile One = modules.One
+modules_profile Two = modules.Two
+modules_profile Three = modules.Three
+modules_profile Four = modules.Three
+
+-- lines send from profile 3 on
+abbrev pub sends : FileProfile → Bool
+sends Three = true
+sends Four = true
+sends profile = false
+
+-- lines name tenants from profile 4 on
+abbrev pub has_tenants : FileProfile → Bool
+has_tenants Four = true
+has_tenants profile = false
+
+-- each call is made whole from profile 4 on
+abbrev pub runs_whole : FileProfile → Bool
+runs_whole Four = true
+runs_whole profile = false

@@ -1,0 +1,89 @@
+//! The profile of a request file.
+ghost use Rattle.std.specs.Prelude.{◌≡◌};
+ghost use Rattle.request_text.specs.Words.{line_words};
+ghost use Rattle.request_text.specs.Profiles.{has_tenants, modules_profile, profile_named, profile_of, runs_whole, sends};
+
+use crate::request::Reason;
+use crate::words::next_word;
+use wasm_types::Profile;
+
+// The profile of a request file.
+#[derive(Clone, Copy)]
+pub(crate) enum FileProfile {
+    One,
+    Two,
+    Three,
+    Four,
+}
+
+impl FileProfile {
+    // The profile of this number.
+    fn named(word: &[u8]) -> Result<FileProfile, Reason>
+        ensures { result ≡ profile_named word.now }
+    {
+        if word == b"1".as_slice() {
+            Ok(FileProfile::One)
+        } else if word == b"2".as_slice() {
+            Ok(FileProfile::Two)
+        } else if word == b"3".as_slice() {
+            Ok(FileProfile::Three)
+        } else if word == b"4".as_slice() {
+            Ok(FileProfile::Four)
+        } else {
+            Err(Reason::BadProfile)
+        }
+    }
+
+    // The profile that the words after `profile` name.
+    #[tactic(auto, unfolding(crate::specs::Profiles::profile_of))]
+    pub(crate) fn read(words: &[u8]) -> Result<FileProfile, Reason>
+        ensures { result ≡ profile_of (line_words words.now) }
+    {
+        let (word, rest) = next_word(words).ok_or(Reason::BadProfile)?;
+        if next_word(rest).is_some() {
+            return Err(Reason::BadProfile);
+        }
+        FileProfile::named(word)
+    }
+
+    // The profile in which the modules of a file are read.
+    pub(crate) fn of_modules(self) -> Profile
+        ensures { result ≡ modules_profile self }
+    {
+        match self {
+            FileProfile::One => Profile::One,
+            FileProfile::Two => Profile::Two,
+            FileProfile::Three | FileProfile::Four => Profile::Three,
+        }
+    }
+
+    // Whether lines send.
+    pub(crate) fn sends(self) -> bool
+        ensures { result ≡ sends self }
+    {
+        match self {
+            FileProfile::One | FileProfile::Two => false,
+            FileProfile::Three | FileProfile::Four => true,
+        }
+    }
+
+    // Whether lines name tenants.
+    pub(crate) fn has_tenants(self) -> bool
+        ensures { result ≡ has_tenants self }
+    {
+        match self {
+            FileProfile::One | FileProfile::Two | FileProfile::Three => false,
+            FileProfile::Four => true,
+        }
+    }
+
+    // Whether each call is made whole.
+    pub(crate) fn runs_whole(self) -> bool
+        ensures { result ≡ runs_whole self }
+    {
+        match self {
+            FileProfile::One | FileProfile::Two | FileProfile::Three => false,
+            FileProfile::Four => true,
+        }
+    }
+}

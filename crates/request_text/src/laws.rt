@@ -1,0 +1,10 @@
+//! What holds of every request file. Each function does nothing: its contract is the law.
+ghost use Rattle.std.specs.Prelude.{◌≡◌, ℕ, List, [], None, IfOk};
+ghost use Rattle.pool_limits.specs.declared.numbers.Numbers.{Numbers};
+ghost use Rattle.pool_limits.specs.Plans.{plan_fault};
+ghost use Rattle.request_text.specs.Text.{requests_of};
+
+/// The tenants of each file that is read may have what they want, where there is a plan for none.
+pub fn accepted_wants_have_a_plan()
+    ensures { (numbers : Numbers) (text : List ℕ) → plan_fault numbers [] ≡ None → IfOk (requests_of numbers text) (λ asked. plan_fault numbers asked.wants ≡ None) }
+{}

@@ -1,0 +1,209 @@
+-- What workers did in slices is put together, and the calls that still go round are made to their end.
+use Rattle.std.proofs.Common.{◌≡◌, ◌==◌, ℕ, zero, suc, ◌+◌, ◌<◌, ◌≤◌, Bool, true, false, not, List, [], ◌∷◌, ◌++◌, Option, None, Some, Ok, Err, filter, length, refl, sym, ap, ◌∙◌, subst, arith, append_assoc, append-nil}
+use Rattle.std.specs.Prelude.{Result, OnOk}
+use Rattle.std.specs.List.{All, AllZip}
+use Rattle.std.specs.List.Sorted.{IsPermutation}
+use Rattle.std.proofs.lemmas.Bool.Decides.{nat_tests}
+use Rattle.std.proofs.lemmas.List.Elements.{All-head, All-tail}
+use Rattle.std.proofs.lemmas.List.Sorted.{All-permutation, IsPermutation-append_comm, IsPermutation-append_left, IsPermutation-append_right, IsPermutation-filter_both, IsPermutation-sym, IsPermutation-trans}
+use Rattle.job_queue.specs.declared.accounts.Account.{Account}
+use Rattle.job_queue.specs.declared.accounts.Terms.{Terms}
+use Rattle.job_queue.specs.declared.jobs.Jobs.{Jobs}
+use Rattle.job_queue.specs.declared.run_queue.RunAccount.{RunAccount}
+use Rattle.job_queue.specs.declared.run_queue.RunQueue.{RunQueue}
+use Rattle.job_queue.specs.declared.run_queue.RunTerms.{RunTerms}
+use Rattle.job_queue.specs.Accounts.{joined, new_account, with_given}
+use Rattle.job_queue.specs.Passes.{IsJobPass, JobPass, account_of, given_to, put_by, share_of}
+use Rattle.job_queue.specs.RunAccounts.{new_run_account, run_joined, with_run_given, with_run_put}
+use Rattle.job_queue.specs.RunPasses.{IsFirstRunPass, IsRunPass, RunPass, run_account_of, run_given_to, run_put_by, run_share}
+use Rattle.module_store.specs.declared.naming.Naming.{Ghosts}
+use Rattle.pool_limits.specs.declared.numbers.Numbers.{Numbers}
+use Rattle.pool_worlds.specs.Contents.{Named}
+use Rattle.pool_host.specs.declared.passes.HostPass.{HostPass}
+use Rattle.pool_host.specs.declared.paused.Paused.{Paused}
+use Rattle.due_calls.specs.declared.calls.Due.{Due}
+use Rattle.due_calls.specs.declared.entries.Worked.{Worked}
+use Rattle.slice_workers.specs.declared.queued.Queued.{Queued}
+use Rattle.slice_workers.specs.declared.queued.Queued.TheVariants as queued
+use Rattle.due_calls.specs.Entries.{AnswersAll}
+use Rattle.due_calls.specs.Entries.{IsEntry, Pair, called, zeros}
+use Rattle.slice_workers.specs.Queued.{pair_of, paused_pair, pairs_of}
+use Rattle.slice_workers.specs.Crews.{HasIdle}
+use Rattle.slice_workers.specs.Slices.{DidSlices, HasSlicedAll, HaveSliced}
+use Rattle.slice_workers.proofs.Cancelling.{flat_map_same, without}
+use Rattle.due_calls.proofs.EndLemmas.{zeros-append}
+use Rattle.due_calls.proofs.EntryLemmas.{all_zip_append, called-append, called_counted}
+use Rattle.slice_workers.proofs.SliceLemmas.{both_even, pairs_of-append}
+
+abbrev Given : Type 0
+Given = Account (Option Named)
+
+abbrev Own : Type 0
+Own = JobPass (Option Named)
+
+module _ {N A : Type 0} {G : Ghosts N} (config : Numbers) (jobs : Jobs (Option Named)) (queue : RunQueue (Queued N G) A) (calls : List Due) where
+  abbrev Did : Own → RunPass (Queued N G) → List Worked → Type 0
+  Did own place made = DidSlices config calls 1 (new_account jobs.terms false) (account_of own) (new_run_account queue.terms) (run_account_of place) made
+
+  abbrev Have : Own → RunPass (Queued N G) → ℕ → List Worked → Type 0
+  Have own place n entries = HaveSliced config jobs queue calls own place n entries
+
+  -- the first worker's passes, and the pass that put the idle passes
+  pub joined_first : (own : Own) (first after place : RunPass (Queued N G)) (made : List Worked) → HasIdle queue first → IsJobPass jobs own → IsRunPass queue after
+      → run_account_of after ≡ run_joined (run_account_of first) (run_account_of place) → Did own place made → Have own after 1 made
+  joined_first own first after place made idle is_own is_place both did =
+      let given : given_to own ≡ did.taken = ap (λ (a : Given). a.given) did.account_is in
+      let taken : run_given_to place ≡ did.given = ap (λ (r : RunAccount (Queued N G)). r.given) did.run_is in
+      let thrown : run_put_by place ≡ did.put = ap (λ (r : RunAccount (Queued N G)). r.put) did.run_is in
+      let all_given : run_given_to after ≡ did.given = ap (λ (r : RunAccount (Queued N G)). r.given) both ∙ (ap (λ (xs : List (Queued N G)). xs ++ run_given_to place) idle.given_none ∙ taken) in
+      let all_put : pairs_of (run_put_by after) ≡ pairs_of did.put =
+      ap (λ (r : RunAccount (Queued N G)). pairs_of r.put) both ∙ (pairs_of-append (run_put_by first) (run_put_by place)
+      ∙ (ap (λ (ps : List Pair). ps ++ pairs_of (run_put_by place)) idle.idle ∙ ap (λ (xs : List (Queued N G)). pairs_of xs) thrown)) in
+      record {
+        is_own = is_own;
+        is_place = is_place;
+        share = ap (λ (a : Given). a.share) did.account_is;
+        places = let s : run_share after ≡ run_share first + run_share place = ap (λ (r : RunAccount (Queued N G)). r.share) both in
+            let one : run_share place ≡ 1 = ap (λ (r : RunAccount (Queued N G)). r.share) did.run_is in let f = idle.share in omega arith;
+        puts_none = ap (λ (a : Given). a.put) did.account_is;
+        ended = ap zeros given ∙ did.ended;
+        made = did.made;
+        entries_are = did.entries_are;
+        even = rw (given, all_given, all_put) did.even;
+      }
+
+  -- one worker's passes more
+  pub joined_next : (own after others : Own) (first later place : RunPass (Queued N G)) (n k : ℕ) (entries made all : List Worked) → Have own first n entries → IsJobPass jobs after → IsRunPass queue later
+      → account_of after ≡ joined (account_of own) (account_of others) → run_account_of later ≡ run_joined (run_account_of first) (run_account_of place) → Did others place made
+      → n + 1 ≡ k → all ≡ entries ++ made → Have after later k all
+  joined_next own after others first later place n k entries made all h is_own is_place both run_both did next behind =
+      let given : given_to others ≡ did.taken = ap (λ (a : Given). a.given) did.account_is in
+      let taken : run_given_to place ≡ did.given = ap (λ (r : RunAccount (Queued N G)). r.given) did.run_is in
+      let thrown : run_put_by place ≡ did.put = ap (λ (r : RunAccount (Queued N G)). r.put) did.run_is in
+      let none : put_by others ≡ [] = ap (λ (a : Given). a.put) did.account_is in
+      let all_given : given_to after ≡ given_to own ++ did.taken = ap (λ (a : Given). a.given) both ∙ ap (λ (ps : List Pair). given_to own ++ ps) given in
+      let run_given : pairs_of (run_given_to later) ≡ pairs_of (run_given_to first) ++ pairs_of did.given =
+      ap (λ (r : RunAccount (Queued N G)). pairs_of r.given) run_both ∙ (pairs_of-append (run_given_to first) (run_given_to place) ∙ ap (λ (xs : List (Queued N G)). pairs_of (run_given_to first) ++ pairs_of xs) taken) in
+      let run_put : pairs_of (run_put_by later) ≡ pairs_of (run_put_by first) ++ pairs_of did.put =
+      ap (λ (r : RunAccount (Queued N G)). pairs_of r.put) run_both ∙ (pairs_of-append (run_put_by first) (run_put_by place) ∙ ap (λ (xs : List (Queued N G)). pairs_of (run_put_by first) ++ pairs_of xs) thrown) in
+      record {
+        is_own = is_own;
+        is_place = is_place;
+        share = let s : share_of after ≡ share_of own + share_of others = ap (λ (a : Given). a.share) both in
+            let one : share_of others ≡ 1 = ap (λ (a : Given). a.share) did.account_is in let f = h.share in omega arith;
+        places = let s : run_share later ≡ run_share first + run_share place = ap (λ (r : RunAccount (Queued N G)). r.share) run_both in
+            let one : run_share place ≡ 1 = ap (λ (r : RunAccount (Queued N G)). r.share) did.run_is in let f = h.places in omega arith;
+        puts_none = ap (λ (a : Given). a.put) both ∙ (ap (λ (ps : List Pair). ps ++ put_by others) h.puts_none ∙ none);
+        ended = ap zeros all_given ∙ (zeros-append (given_to own) did.taken ∙ (let e = h.ended in let f = did.ended in omega arith));
+        made = h.made ++ did.made;
+        entries_are = rw behind (all_zip_append (IsEntry config calls) h.made did.made entries made h.entries_are did.entries_are);
+        even = rw (all_given, called-append (given_to own) did.taken, run_given, run_put)
+            (both_even (called (given_to own)) (pairs_of (run_given_to first)) (pairs_of (run_put_by first)) h.made (called did.taken) (pairs_of did.given) (pairs_of did.put) did.made h.even did.even);
+      }
+
+  -- the same as an answer, where memory may have been refused
+  pub one_more : {V E : Type 0} (own after others : Own) (first later place : RunPass (Queued N G)) (entries made all : List Worked) (r : Result V E)
+      → Have own first (share_of own) entries → IsJobPass jobs after → IsRunPass queue later
+      → account_of after ≡ joined (account_of own) (account_of others) → run_account_of later ≡ run_joined (run_account_of first) (run_account_of place) → Did others place made
+      → OnOk r (all ≡ entries ++ made) → OnOk r (Have after later (share_of after) all)
+  one_more own after others first later place entries made all (Ok done) h is_own is_place both run_both did behind =
+      let s : share_of after ≡ share_of own + share_of others = ap (λ (a : Given). a.share) both in
+      let one : share_of others ≡ 1 = ap (λ (a : Given). a.share) did.account_is in
+      joined_next own after others first later place (share_of own) (share_of after) entries made all h is_own is_place both run_both did (omega arith) behind
+  one_more own after others first later place entries made all (Err wanting) h is_own is_place both run_both did behind = tt
+
+  -- ---- what still goes round
+
+  abbrev more : RunAccount (Queued N G) → Queued N G → RunAccount (Queued N G)
+  more a item = with_run_given a (item ∷ [])
+
+  pub took_idle_pass : (own : Own) (first after : RunPass (Queued N G)) (n : ℕ) (entries : List Worked) (pass : HostPass N G) → Have own first n entries → IsRunPass queue after
+      → run_account_of after ≡ more (run_account_of first) (queued.Idle pass) → Have own after n entries
+  took_idle_pass own first after n entries pass h is_place took =
+      let given : pairs_of (run_given_to after) ≡ pairs_of (run_given_to first) =
+      ap (λ (r : RunAccount (Queued N G)). pairs_of r.given) took ∙ (pairs_of-append (run_given_to first) (queued.Idle pass ∷ []) ∙ append-nil (pairs_of (run_given_to first))) in
+      let put : run_put_by after ≡ run_put_by first = ap (λ (r : RunAccount (Queued N G)). r.put) took in
+      record {
+        is_own = h.is_own;
+        is_place = is_place;
+        share = h.share;
+        places = ap (λ (r : RunAccount (Queued N G)). r.share) took ∙ h.places;
+        puts_none = h.puts_none;
+        ended = h.ended;
+        made = h.made;
+        entries_are = h.entries_are;
+        even = rw (given, put) h.even;
+      }
+
+  pub ended_paused : (own : Own) (first after : RunPass (Queued N G)) (n : ℕ) (entries all : List Worked) (paused : Paused N G) (worked : Worked) → Have own first n entries → IsRunPass queue after
+      → run_account_of after ≡ more (run_account_of first) (queued.Paused paused) → IsEntry config calls (paused_pair paused) worked → all ≡ entries ++ worked ∷ [] → Have own after n all
+  ended_paused own first after n entries all paused worked h is_place took entry behind =
+      let pair : List Pair = paused_pair paused ∷ [] in
+      let given : pairs_of (run_given_to after) ≡ pairs_of (run_given_to first) ++ pair =
+      ap (λ (r : RunAccount (Queued N G)). pairs_of r.given) took ∙ pairs_of-append (run_given_to first) (queued.Paused paused ∷ []) in
+      let put : run_put_by after ≡ run_put_by first = ap (λ (r : RunAccount (Queued N G)). r.put) took in
+      let left = append_assoc (called (given_to own)) (pairs_of (run_given_to first)) pair in
+      let right = append_assoc (pairs_of (run_put_by first)) h.made pair in
+      record {
+        is_own = h.is_own;
+        is_place = is_place;
+        share = h.share;
+        places = ap (λ (r : RunAccount (Queued N G)). r.share) took ∙ h.places;
+        puts_none = h.puts_none;
+        ended = h.ended;
+        made = h.made ++ pair;
+        entries_are = rw behind (all_zip_append (IsEntry config calls) h.made pair entries (worked ∷ []) h.entries_are (entry, tt));
+        even = rw (given, put) (subst (λ (l : List Pair). IsPermutation l (pairs_of (run_put_by first) ++ (h.made ++ pair))) left
+            (subst (λ (l : List Pair). IsPermutation ((called (given_to own) ++ pairs_of (run_given_to first)) ++ pair) l) right (IsPermutation-append_left pair _ _ h.even)));
+      }
+
+  -- nothing goes round any more
+  pub sliced_all : (own : Own) (first : RunPass (Queued N G)) (n : ℕ) (entries : List Worked) → Have own first n entries → IsPermutation (run_put_by first) (run_given_to first)
+      → HasSlicedAll config jobs calls own n entries
+  sliced_all own first n entries h out =
+      let went : IsPermutation (pairs_of (run_put_by first)) (pairs_of (run_given_to first)) = flat_map_same pair_of (run_put_by first) (run_given_to first) out in
+      let both : IsPermutation (called (given_to own) ++ pairs_of (run_given_to first)) (h.made ++ pairs_of (run_given_to first)) =
+      IsPermutation-trans _ _ _ h.even (IsPermutation-trans _ _ _ (IsPermutation-append_left h.made _ _ went) (IsPermutation-append_comm (pairs_of (run_given_to first)) h.made)) in
+      record {
+        is_own = h.is_own;
+        share = h.share;
+        puts_none = h.puts_none;
+        ended = h.ended;
+        made = h.made;
+        all = without (pairs_of (run_given_to first)) (called (given_to own)) h.made both;
+        entries_are = h.entries_are;
+      }
+
+-- the pass that put is joined with those of the workers
+pub record IsWhole (own others after : Own) (workers : ℕ) : Type 0 where
+  pub share : share_of after ≡ share_of own + workers
+  pub put : put_by after ≡ put_by own
+  pub given : given_to after ≡ given_to others
+
+pub joined_whole : (config : Numbers) (jobs : Jobs (Option Named)) (calls : List Due) (own others after : Own) (workers : ℕ) (entries : List Worked) → HasSlicedAll config jobs calls others workers entries
+    → given_to own ≡ [] → account_of after ≡ joined (account_of own) (account_of others) → IsWhole own others after workers
+joined_whole config jobs calls own others after workers entries h none both = record {
+  share = let s : share_of after ≡ share_of own + share_of others = ap (λ (a : Given). a.share) both in let w = h.share in omega arith;
+  put = ap (λ (a : Given). a.put) both ∙ (ap (λ (ps : List Pair). put_by own ++ ps) h.puts_none ∙ append-nil (put_by own));
+  given = ap (λ (a : Given). a.given) both ∙ ap (λ (ps : List Pair). ps ++ given_to others) none;
+}
+
+-- one idle pass more is put to go round
+module _ {N A : Type 0} {G : Ghosts N} (queue : RunQueue (Queued N G) A) where
+  pub idle_first : (first : RunPass (Queued N G)) → IsFirstRunPass queue first → HasIdle queue first
+  idle_first first new = record {
+    own = new.own;
+    share = ap (λ (r : RunAccount (Queued N G)). r.share) new.account_is;
+    idle = ap (λ (r : RunAccount (Queued N G)). pairs_of r.put) new.account_is;
+    given_none = ap (λ (r : RunAccount (Queued N G)). r.given) new.account_is;
+  }
+
+  pub idle_more : (first after : RunPass (Queued N G)) (pass : HostPass N G) → HasIdle queue first → IsRunPass queue after
+      → run_account_of after ≡ with_run_put (run_account_of first) (queued.Idle pass ∷ []) → HasIdle queue after
+  idle_more first after pass h is_place put = record {
+    own = is_place;
+    share = ap (λ (r : RunAccount (Queued N G)). r.share) put ∙ h.share;
+    idle = ap (λ (r : RunAccount (Queued N G)). pairs_of r.put) put
+        ∙ (pairs_of-append (run_put_by first) (queued.Idle pass ∷ []) ∙ (append-nil (pairs_of (run_put_by first)) ∙ h.idle));
+    given_none = ap (λ (r : RunAccount (Queued N G)). r.given) put ∙ h.given_none;
+  }

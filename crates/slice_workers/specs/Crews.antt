@@ -1,0 +1,57 @@
+-- Workers that make calls in slices, before and after their work.
+use Rattle.std.specs.Prelude.{◌≡◌, ℕ, ◌+◌, ◌*◌, false, true, List, [], Option, All, IfOk, length, replicate}
+use Rattle.job_queue.specs.declared.jobs.Jobs.{Jobs}
+use Rattle.job_queue.specs.declared.run_queue.RunQueue.{RunQueue}
+use Rattle.job_queue.specs.Accounts.{new_account}
+use Rattle.job_queue.specs.Passes.{IsJobPass, IsNewPassOf, account_of, capacity_of, count_of, passes_of}
+use Rattle.job_queue.specs.RunAccounts.{new_run_account}
+use Rattle.job_queue.specs.RunPasses.{FitsWhere, IsNewRunPass, IsRunPass, RunPass, run_account_of, run_given_to, run_put_by, run_share}
+use Rattle.module_store.specs.declared.naming.Naming.{Ghosts}
+use Rattle.pool_limits.specs.declared.numbers.Numbers.{Numbers}
+use Rattle.pool_limits.specs.declared.share.Share.{Share}
+use Rattle.pool_worlds.specs.Contents.{Named}
+use Rattle.pool_host.specs.Hosts.{HasShare, IsHostPass}
+use Rattle.due_calls.specs.declared.calls.Due.{Due}
+use Rattle.slice_workers.specs.declared.queued.Queued.{Queued}
+use Rattle.slice_workers.specs.declared.shared.SliceShared.{SliceShared}
+use Rattle.slice_workers.specs.declared.crew.SliceCrew.{SliceCrew}
+use Rattle.slice_workers.specs.declared.crew.SliceDone.{SliceDone}
+use Rattle.slice_workers.specs.declared.steps.Slicer.{Slicer}
+use Rattle.slice_workers.specs.Queued.{IsOfRun, pairs_of}
+use Rattle.slice_workers.specs.Slices.{DidSlices}
+
+module _ {N : Type 0} {G : Ghosts N} where
+  -- so many workers that have not begun, over a host with these slots, with two passes of it for each to go round, and a queue for these
+  -- calls with room for all and a 0 for each worker
+  pub record IsNewSliceCrew (config : Numbers) (share : Share) (calls : List Due) (count : ℕ) (crew : SliceCrew N G) : Type 0 where
+    pub host : HasShare config.warm share crew.shared.host
+    pub calls_are : crew.shared.calls.items ≡ calls
+    pub numbers : count_of crew.shared.jobs ≡ length calls
+    pub room : capacity_of crew.shared.jobs ≡ length calls + count
+    pub passes : passes_of crew.shared.jobs ≡ count + 1
+    pub putter : IsNewPassOf true crew.shared.jobs crew.putter
+    pub many : length crew.takers.items ≡ count
+    pub takers : All (IsNewPassOf false crew.shared.jobs) crew.takers.items
+    pub items : length crew.passes.items ≡ 2 * count
+    pub go_round : All (IsHostPass crew.shared.host) crew.passes.items
+
+  module _ {A : Type 0} (queue : RunQueue (Queued N G) A) where
+    -- a worker that has not begun, in a run in which just what is of it may go round: its passes are as they are handed out
+    pub record IsNewSlicer (may_go_round : Queued N G → Type 0) (shared : SliceShared N) (worker : Slicer N G) : Type 0 where
+      pub own : IsNewPassOf false shared.jobs worker.own
+      pub place : IsNewRunPass queue worker.place
+      pub fits : FitsWhere may_go_round (IsOfRun shared.host shared.calls.items)
+
+    -- a worker that has ended: its passes are still those of the queues. If memory lasted, it did its work.
+    pub record IsSliceDone (config : Numbers) (jobs : Jobs (Option Named)) (calls : List Due) (done : SliceDone N G) : Type 0 where
+      pub own : IsJobPass jobs done.worker.own
+      pub place : IsRunPass queue done.worker.place
+      pub made : IfOk done.made (λ made. DidSlices config calls 1 (new_account jobs.terms false) (account_of done.worker.own)
+          (new_run_account queue.terms) (run_account_of done.worker.place) made.items)
+
+    -- the first pass of the run queue, which stands for itself, has put idle passes and was given nothing
+    pub record HasIdle (first : RunPass (Queued N G)) : Type 0 where
+      pub own : IsRunPass queue first
+      pub share : run_share first ≡ 1
+      pub idle : pairs_of (run_put_by first) ≡ []
+      pub given_none : run_given_to first ≡ []

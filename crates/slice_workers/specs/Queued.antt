@@ -1,0 +1,61 @@
+-- What goes round among workers that make calls in slices.
+use Rattle.std.specs.Prelude.{◌≡◌, ◌↔◌, ℕ, ◌-◌, ◌<◌, List, [], ◌∷◌, flat_map, None, Some, slice_get}
+use Rattle.module_store.specs.declared.naming.Naming.{Ghosts}
+use Rattle.pool_host.specs.declared.host.Host.{Host}
+use Rattle.pool_host.specs.declared.passes.Passes.{Passes}
+use Rattle.pool_host.specs.declared.paused.Paused.{Paused}
+use Rattle.instance_calls.specs.CallWords.{MayCall}
+use Rattle.instance_calls.specs.PausedViews.{PausedView}
+use Rattle.instance_calls.specs.Resumed.{IsCallOf}
+use Rattle.pool_host.specs.Hosts.{ArePassesOf, IsHostPass}
+use Rattle.pool_host.specs.Pausing.{AreOfHost}
+use Rattle.due_calls.specs.declared.calls.Due.{Due}
+use Rattle.slice_workers.specs.declared.queued.Queued.{Queued}
+use Rattle.slice_workers.specs.declared.queued.Queued.TheVariants as queued
+use Rattle.due_calls.specs.Entries.{Pair}
+
+-- what is paused is the call of this number among these, which is sent nothing; its number and its fuel are of 32 bits
+pub record IsCallIn (calls : List Due) (number : ℕ) (v : PausedView) : Type 0 where
+  pub counted : 0 < number
+  pub due : Due
+  pub due_is : slice_get calls (number - 1) ≡ Some due
+  pub unsent : due.invocation.request ≡ None
+  pub function : ℕ
+  pub may : MayCall v.named.tree due.invocation.export function due.invocation.args
+  pub call : IsCallOf v.named function due.invocation.args due.invocation.fuel v
+  pub small : (number < 4294967296) × (v.call.fuel < 4294967296)
+
+module _ {N : Type 0} where
+  -- and it is paused on this host, with these passes
+  pub record IsPausedIn (host : Host N) (calls : List Due) (passes : Passes N) (v : PausedView) (number : ℕ) : Type 0 where
+    pub own : AreOfHost host passes v
+    pub call : IsCallIn calls number v
+
+  -- what is known of idle passes, and of calls that are paused, is that they are of this host and of these calls
+  pub record NamesRun (host : Host N) (calls : List Due) (idle : Passes N → Type 0) (paused : Passes N → PausedView → ℕ → Type 0) : Type 0 where
+    pub idle_are : (p : Passes N) → idle p ↔ ArePassesOf host p
+    pub paused_are : (p : Passes N) (v : PausedView) (number : ℕ) → paused p v number ↔ IsPausedIn host calls p v number
+
+module _ {N : Type 0} {G : Ghosts N} where
+  -- what is known of idle passes, or of calls that are paused, is so of this
+  abbrev pub goes_round : (Passes N → Type 0) → (Passes N → PausedView → ℕ → Type 0) → Queued N G → Type 0
+  goes_round idle paused (queued.Idle pass) = idle pass.passes
+  goes_round idle paused (queued.Paused p) = paused p.passes p.running p.number
+
+  -- a pass of the host, or a call of these that is paused there
+  abbrev pub IsOfRun : Host N → List Due → Queued N G → Type 0
+  IsOfRun host calls (queued.Idle pass) = IsHostPass host pass
+  IsOfRun host calls (queued.Paused p) = IsPausedIn host calls p.passes p.running p.number
+
+  -- the pair of a call that is paused: its number, and its module
+  abbrev pub paused_pair : Paused N G → Pair
+  paused_pair paused = (paused.number, Some paused.running.named)
+
+  -- that of what goes round, if it is a call
+  abbrev pub pair_of : Queued N G → List Pair
+  pair_of (queued.Idle pass) = []
+  pair_of (queued.Paused paused) = paused_pair paused ∷ []
+
+  -- those of all calls among these
+  abbrev pub pairs_of : List (Queued N G) → List Pair
+  pairs_of items = flat_map pair_of items

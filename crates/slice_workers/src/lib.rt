@@ -1,0 +1,15 @@
+//! Workers that make the calls of a queue in slices on one host, each worker in a thread of its own.
+#![tactic(auto)]
+
+mod crew;
+mod ends;
+mod queued;
+mod run_names;
+mod shared;
+mod slices;
+mod slicing;
+mod steps;
+
+pub use crew::{SliceCrew, Sliced, open_slice_crew, slice_all};
+pub use ends::finish_slices;
+pub use shared::SliceShared;

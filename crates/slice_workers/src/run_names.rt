@@ -1,0 +1,37 @@
+//! The name of a run.
+use crate::queued::Queued;
+use job_queue::Admits;
+use module_store::Naming;
+use std::marker::{Brand, PhantomData};
+
+/// What is known in one run of the passes of its host that are idle, and of its calls that are paused: of their passes, of what they show,
+/// and of their numbers. It is picked by the proof of the function in which the run queue is opened.
+pub(crate) trait RunNaming<N> {
+    ghost use Rattle.std.specs.Prelude.{ℕ};
+    ghost use Rattle.pool_host.specs.declared.passes.Passes.{Passes};
+    ghost use Rattle.instance_calls.specs.PausedViews.{PausedView};
+
+    ghost idle: { Passes N → Type 0 };
+
+    ghost paused: { Passes N → PausedView → ℕ → Type 0 };
+}
+
+impl<N> RunNaming<N> for Brand {
+    ghost use Rattle.std.specs.Prelude.{⊤};
+
+    ghost idle = { λ p. ⊤ };
+
+    ghost paused = { λ p v n. ⊤ };
+}
+
+/// What goes round in one run.
+pub(crate) struct InRun<N, J> {
+    store: PhantomData<N>,
+    run: PhantomData<J>,
+}
+
+impl<N: Naming, J: RunNaming<N>> Admits<Queued<N>> for InRun<N, J> {
+    ghost use Rattle.slice_workers.specs.Queued.{goes_round};
+
+    ghost fits = { goes_round J.idle J.paused };
+}

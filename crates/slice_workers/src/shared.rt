@@ -1,0 +1,20 @@
+//! What workers share.
+ghost use Rattle.std.specs.Prelude.{◌≤◌, length};
+ghost use Rattle.job_queue.specs.Passes.{count_of};
+ghost use Rattle.due_calls.specs.Entries.{AreNumbered};
+
+use due_calls::{Due, Item};
+use job_queue::Jobs;
+use module_store::Naming;
+use pool_host::Host;
+
+/// What workers share that make calls in slices: the host on which they make them, the queue that hands them numbers, and the calls of
+/// these numbers.
+#[derive(Drop)]
+pub struct SliceShared<N: Naming> {
+    pub host: Host<N>,
+    pub jobs: Jobs<Item<N>>,
+    pub calls: Vec<Due>,
+    ghost numbered: { AreNumbered calls.items },
+    ghost enough: { count_of jobs ≤ length calls.items },
+}

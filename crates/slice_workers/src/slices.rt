@@ -1,0 +1,161 @@
+//! The slices of calls.
+ghost use Rattle.std.specs.Prelude.{◌≡◌, ◌-◌, ◌^◌, ◌<◌, ◌≤◌, None, Some, Ok, length, slice_get};
+ghost use Rattle.pool_host.specs.Hosts.{IsHostPass};
+ghost use Rattle.slice_workers.specs.Queued.{IsPausedIn, paused_pair};
+ghost use Rattle.slice_workers.specs.Slices.{IsSliceOf};
+
+use crate::queued::Queued;
+use crate::shared::SliceShared;
+use due_calls::{Due, Item, Worked, due_at};
+use host_edge::Gate;
+use module_store::{ModuleRef, ModuleStore, Naming};
+use pool_host::{Answer, Begun, HostPass, Paused, Turned};
+use std::alloc::Global;
+use wasm_types::NoMemory;
+
+// What a slice of a call left: what goes round from here on, and what was made of the call, if it was answered.
+#[derive(Drop)]
+pub(crate) struct Slice<N: Naming> {
+    pub queued: Queued<N>,
+    pub entry: Result<Option<Worked>, NoMemory>,
+}
+
+// The call of this number is answered so, and its pass is idle.
+fn answered<N: Naming>(pass: HostPass<N>, number: u32, answer: Option<Answer>) -> Slice<N>
+    ensures queued { result.queued ≡ Queued.Idle pass }
+    ensures entry { result.entry ≡ Ok (Some (record { number = number; answer = answer; bytes = None })) }
+{
+    let worked = Worked {
+        number,
+        answer,
+        bytes: None,
+    };
+    Slice {
+        queued: Queued::Idle(pass),
+        entry: Ok(Some(worked)),
+    }
+}
+
+// Begins a call that is sent nothing.
+fn begin<N: Naming, G: Gate>(
+    shared: &SliceShared<N>,
+    pass: HostPass<N>,
+    store: &ModuleStore<N>,
+    called: &ModuleRef<N>,
+    due: &Due,
+    gate: &G,
+) -> Slice<N>
+    requires pass { IsHostPass shared.now.host pass }
+    requires counted { 0 < due.now.number }
+    requires due { slice_get shared.now.calls.items (due.now.number - 1) ≡ Some due.now }
+    requires unsent { due.now.invocation.request ≡ None }
+    ensures { IsSliceOf N.config shared.now.host shared.now.calls.items (due.now.number, Some called.now) result }
+{
+    let asked = &due.invocation;
+    let number = due.number;
+    let begun = shared.host.begin(
+        pass,
+        store,
+        called,
+        asked.export.as_slice(),
+        asked.args.as_slice(),
+        asked.fuel as u64,
+        number as u64,
+        gate,
+    );
+    match begun {
+        Begun::Ready(paused) => Slice {
+            queued: Queued::Paused(paused),
+            entry: Ok(None),
+        },
+        Begun::NoExport(pass) => answered(pass, number, Some(Answer::NoExport)),
+        Begun::BadArgs(pass) => answered(pass, number, Some(Answer::BadArgs)),
+        Begun::Full(pass, kind) => answered(pass, number, Some(Answer::Full(kind))),
+    }
+}
+
+// Makes a call whole.
+fn send<N: Naming, G: Gate>(
+    alloc: Global,
+    shared: &SliceShared<N>,
+    mut pass: HostPass<N>,
+    store: &ModuleStore<N>,
+    called: &ModuleRef<N>,
+    due: &Due,
+    gate: &G,
+) -> Slice<N>
+    requires pass { IsHostPass shared.now.host pass }
+    requires counted { 0 < due.now.number }
+    requires due { slice_get shared.now.calls.items (due.now.number - 1) ≡ Some due.now }
+    ensures { IsSliceOf N.config shared.now.host shared.now.calls.items (due.now.number, Some called.now) result }
+{
+    let asked = &due.invocation;
+    let number = due.number;
+    let answer = shared.host.send(
+        &mut pass,
+        store,
+        called,
+        asked.export.as_slice(),
+        asked.args.as_slice(),
+        asked.sent(),
+        asked.fuel as u64,
+        number as u64,
+        gate,
+    );
+    let entry = asked.shown(alloc, pass.answer()).map(|bytes| Some(Worked {
+        number,
+        answer: Some(answer),
+        bytes,
+    }));
+    Slice {
+        queued: Queued::Idle(pass),
+        entry,
+    }
+}
+
+// Begins the call of this number, if it has a module. One that is sent bytes is made whole.
+pub(crate) fn begin_call<N: Naming, G: Gate>(
+    alloc: Global,
+    shared: &SliceShared<N>,
+    pass: HostPass<N>,
+    store: &ModuleStore<N>,
+    number: u32,
+    item: Item<N>,
+    gate: &G,
+) -> Slice<N>
+    requires pass { IsHostPass shared.now.host pass }
+    requires counted { 0 < number }
+    requires enough { number ≤ length shared.now.calls.items }
+    ensures { IsSliceOf N.config shared.now.host shared.now.calls.items (number, item) result }
+{
+    let due = due_at(&shared.calls, number);
+    match item {
+        None => answered(pass, number, None),
+        Some(called) => match &due.invocation.request {
+            Some(_) => send(alloc, shared, pass, store, &called, due, gate),
+            None => begin(shared, pass, store, &called, due, gate),
+        },
+    }
+}
+
+// Makes so many turns more of a call. With so many that no call has fuel for them it is answered.
+pub(crate) fn resume<N: Naming, G: Gate>(
+    shared: &SliceShared<N>,
+    store: &ModuleStore<N>,
+    paused: Paused<N>,
+    slice: u64,
+    gate: &G,
+) -> Slice<N>
+    requires paused { IsPausedIn shared.now.host shared.now.calls.items paused.passes paused.running paused.number }
+    ensures slice { IsSliceOf N.config shared.now.host shared.now.calls.items (paused_pair paused) result }
+    ensures over { 2 ^ 32 ≤ slice → (worked : Worked) × (result.entry ≡ Ok (Some worked)) }
+{
+    let number = paused.number() as u32;
+    match paused.resume(&shared.host, store, slice, gate) {
+        Turned::Again(paused) => Slice {
+            queued: Queued::Paused(paused),
+            entry: Ok(None),
+        },
+        Turned::Done(outcome, pass) => answered(pass, number, Some(Answer::Done(outcome))),
+    }
+}

@@ -1,0 +1,19 @@
+use Rattle.std.proofs.Common.{◌≡◌, ◌∙◌, subst}
+use Rattle.std.proofs.lemmas.Option.{get_or_from_slice_get}
+use Rattle.pool_host.specs.declared.host.Host.{Host}
+use Rattle.pool_host.specs.Hosts.{IsHostPass}
+use Rattle.pool_host.specs.Trails.{AddsTrails}
+use Rattle.tenant_share.proofs.share_host.ShareHost.send.Goals as goal
+
+pub returns-clause-own : goal.returns-clause-own
+returns-clause-own g c =
+    let own = c.requires.pass in
+    let called = c.index-host.result.now in
+    let is : called ≡ own.host = c.index-host.ensures ∙ get_or_from_slice_get c.args.self.now.hosts.items c.args.pass.now.tenant own.host called own.there in
+    record { host = own.host; there = own.there; own = subst (λ (h : Host _). IsHostPass h c.send.new.pass) is c.send.ensures.own }
+
+pub returns-clause-trails : goal.returns-clause-trails
+returns-clause-trails g c = λ host there.
+    let called = c.index-host.result.now in
+    let is : called ≡ host = c.index-host.ensures ∙ get_or_from_slice_get c.args.self.now.hosts.items c.args.pass.now.tenant host called there in
+    subst (λ (h : Host _). AddsTrails g.N.Naming.config h c.args.module.now c.send.result c.args.pass.now.pass.passes c.send.new.pass.passes) is c.send.ensures.trails

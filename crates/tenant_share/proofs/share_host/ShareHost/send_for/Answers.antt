@@ -1,0 +1,45 @@
+use Rattle.std.proofs.Common.{List, ℕ, sym, subst, refl}
+use Rattle.std.specs.Vec.{with_item}
+use Rattle.instance_calls.specs.CallWords.{run_limits}
+use Rattle.pool_host.specs.CallWords.{IfFull, IsHostAnswer}
+use Rattle.pool_host.specs.Hosts.{AreSamePasses}
+use Rattle.pool_host.specs.Trails.{AddsTrails, HasCause}
+use Rattle.tenant_share.proofs.CallerLemmas.{answer_elsewhere, answer_there, at_both, host_read, passes_elsewhere, read_own, still_caller}
+use Rattle.tenant_share.proofs.share_host.ShareHost.send_for.Goals as goal
+
+pub send-requires-clause-pass : goal.send-requires-clause-pass
+send-requires-clause-pass g c κs within = let r = c.requires in let i = c.index_mut-pass in read_own c.args.self.now c.args.caller.now r.caller c.args.tenant r.tenant i.result.now i.ensures.value
+
+pub returns-clause-own : goal.returns-clause-own
+returns-clause-own g c = let r = c.requires in let i = c.index_mut-pass in let e = c.send.ensures in
+    still_caller c.args.self.now c.args.caller.now r.caller c.args.tenant r.tenant i.result.now i.ensures.value _ c.send.new.pass refl e.same e.own
+
+pub returns-clause-answer : goal.returns-clause-answer
+returns-clause-answer g c = let r = c.requires in let i = c.index_mut-pass in let a = c.args.asked.now in
+    subst (λ (bytes : List ℕ). IsHostAnswer c.args.module.now.tree (run_limits g.N.Naming.config) a.export.now a.args.now a.request.now a.fuel c.send.result bytes)
+    (sym (answer_there c.args.self.now c.args.caller.now r.caller c.args.tenant r.tenant i.result.now i.ensures.value (record { passes = with_item c.args.caller.now.passes c.args.tenant c.send.new.pass }) c.send.new.pass refl)) c.send.ensures.answer
+
+pub returns-clause-same : goal.returns-clause-same
+returns-clause-same g c = let r = c.requires in let i = c.index_mut-pass in
+    at_both c.args.self.now c.args.caller.now r.caller c.args.tenant r.tenant i.result.now i.ensures.value (record { passes = with_item c.args.caller.now.passes c.args.tenant c.send.new.pass }) c.send.new.pass refl
+    AreSamePasses c.send.ensures.same.same
+
+pub returns-clause-trails : goal.returns-clause-trails
+returns-clause-trails g c = λ host p q there. let r = c.requires in let i = c.index_mut-pass in
+    at_both c.args.self.now c.args.caller.now r.caller c.args.tenant r.tenant i.result.now i.ensures.value (record { passes = with_item c.args.caller.now.passes c.args.tenant c.send.new.pass }) c.send.new.pass refl
+    (AddsTrails g.N.Naming.config host c.args.module.now c.send.result)
+    (c.send.ensures.trails host (host_read c.args.self.now c.args.caller.now r.caller c.args.tenant r.tenant i.result.now i.ensures.value host there)) p q
+
+pub returns-clause-full : goal.returns-clause-full
+returns-clause-full g c = λ host p q there. let r = c.requires in let i = c.index_mut-pass in
+    at_both c.args.self.now c.args.caller.now r.caller c.args.tenant r.tenant i.result.now i.ensures.value (record { passes = with_item c.args.caller.now.passes c.args.tenant c.send.new.pass }) c.send.new.pass refl
+    (λ x y. IfFull c.send.result (HasCause g.N.Naming.config host c.args.module.now x y))
+    (c.send.ensures.full host (host_read c.args.self.now c.args.caller.now r.caller c.args.tenant r.tenant i.result.now i.ensures.value host there)) p q
+
+pub returns-clause-others : goal.returns-clause-others
+returns-clause-others g c = let r = c.requires in let i = c.index_mut-pass in
+    passes_elsewhere c.args.self.now c.args.caller.now r.caller c.args.tenant r.tenant i.result.now i.ensures.value (record { passes = with_item c.args.caller.now.passes c.args.tenant c.send.new.pass }) c.send.new.pass refl
+
+pub returns-clause-bytes : goal.returns-clause-bytes
+returns-clause-bytes g c = let r = c.requires in let i = c.index_mut-pass in
+    answer_elsewhere c.args.self.now c.args.caller.now r.caller c.args.tenant r.tenant i.result.now i.ensures.value (record { passes = with_item c.args.caller.now.passes c.args.tenant c.send.new.pass }) c.send.new.pass refl
