@@ -73,6 +73,19 @@ def calls_of_each(count):
     return (modules + "".join(f"call {k:x} f 1\n" for k in range(min(count, 1_000_000)))).encode()
 
 
+def retired_modules(count):
+    """So many modules of eight bytes, and then a retire line for each."""
+    modules = "".join(f"module {k:x} 0061736d01000000\n" for k in range(count))
+    return ("profile 5\n" + modules + "".join(f"retire {k:x}\n" for k in range(count))).encode()
+
+
+def rounds(count):
+    """So many calls of one module, behind each of which another is retired."""
+    modules = "".join(f"module {k:x} 0061736d01000000\n" for k in range(count))
+    calls = "".join(f"call m add 4 i32:1 i32:1\nretire {k:x}\n" for k in range(count))
+    return (f"profile 5\nmodule m {ADDITION}\n" + modules + calls).encode()
+
+
 def one_line(size):
     """One module line of so many bytes."""
     return line(HEADER + section(0, b"\x00" * (size // 2 - 18)))
@@ -187,6 +200,9 @@ GROWING = [
     ("calls of one module", calls_of_one, 1_000_000, lambda n: []),
     ("calls of one module on four workers", calls_of_one, 1_000_000, lambda n: ["--workers", "4"]),
     ("modules of eight bytes with a call each", calls_of_each, 1_048_576, lambda n: []),
+    ("modules of eight bytes with a retire line each", retired_modules, 100_000, lambda n: []),
+    ("retire lines with a call before each", rounds, 20_000, lambda n: []),
+    ("retire lines with a call before each on four workers", rounds, 20_000, lambda n: ["--workers", "4"]),
     ("bytes in one module line", one_line, 1 << 26, lambda n: []),
     ("requests of 65,536 bytes, each answered as it was sent", lambda n: sends(n, 65_536), 500, lambda n: ["--pages", "1"]),
     ("requests of 65,536 bytes on four workers", lambda n: sends(n, 65_536), 500,

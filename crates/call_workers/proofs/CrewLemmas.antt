@@ -12,15 +12,13 @@ use Rattle.pool_limits.specs.declared.numbers.Numbers.{Numbers}
 use Rattle.pool_worlds.specs.Contents.{Named}
 use Rattle.module_store.specs.declared.naming.Naming.{Ghosts}
 use Rattle.tenant_share.specs.declared.passes.Caller.{Caller}
-use Rattle.tenant_share.specs.declared.share_host.ShareHost.{ShareHost}
 use Rattle.due_calls.specs.declared.calls.Due.{Due}
 use Rattle.due_calls.specs.declared.entries.Worked.{Worked}
-use Rattle.tenant_share.specs.Tenants.{IsNewCaller}
 use Rattle.call_workers.specs.declared.members.Worker.{Worker}
 use Rattle.call_workers.specs.declared.shared.Shared.{Shared}
 use Rattle.call_workers.specs.Crews.{HasJoined, HasWorked}
 use Rattle.due_calls.specs.Entries.{IsEntry, Pair, called, zeros}
-use Rattle.call_workers.specs.Taken.{DidWork}
+use Rattle.call_workers.specs.Taken.{DidWork, HasTaken}
 use Rattle.due_calls.proofs.EndLemmas.{zeros-append, zeros_before_zero}
 use Rattle.due_calls.proofs.EntryLemmas.{all_zip_append, called-append, called_before_zero}
 
@@ -40,34 +38,36 @@ module _ (config : Numbers) (jobs : Jobs (Option Named)) (calls : List Due) wher
     made = subst (λ (given : List Pair). AllZip (IsEntry config calls) (called given) []) (sym none) tt;
   }
 
-  -- one worker's pass more, which did its work
-  pub joined_more : {N : Type 0} {G : Ghosts N} (share : ShareHost N) (before own after : Own) (n k : ℕ) (entries made all : List Worked) (terms : Terms) (a : Given) (began ended : Caller N G)
-      → HasJoined config jobs calls before own n entries → DidWork config share calls (new_account terms false) a began ended made → IsJobPass jobs after
+  -- one worker's pass more, which was given its calls
+  pub joined_more : (before own after : Own) (n k : ℕ) (entries made all : List Worked) (terms : Terms) (a : Given)
+      → HasJoined config jobs calls before own n entries → HasTaken config calls (new_account terms false) a made → IsJobPass jobs after
       → account_of after ≡ joined (account_of own) a → n + 1 ≡ k → all ≡ entries ++ made → HasJoined config jobs calls before after k all
-  joined_more share before own after n k entries made all terms a began ended h d is both next put_behind =
+  joined_more before own after n k entries made all terms a h d is both next put_behind =
       let share : (account_of after).share ≡ (account_of own).share + a.share = ap (λ (x : Given). x.share) both in
       let put : (account_of after).put ≡ (account_of own).put ++ a.put = ap (λ (x : Given). x.put) both in
       let given : (account_of after).given ≡ (account_of own).given ++ a.given = ap (λ (x : Given). x.given) both in
       let one : a.share ≡ 1 = ap (λ (x : Given). x.share) d.account_is in
       let none : a.put ≡ [] = ap (λ (x : Given). x.put) d.account_is in
-      let taken : a.given ≡ d.taken ++ (0, d.last) ∷ [] = ap (λ (x : Given). x.given) d.account_is in
-      let calls_of : called ((account_of own).given ++ a.given) ≡ called ((account_of own).given) ++ d.taken =
-      called-append (account_of own).given a.given ∙ ap (λ (ps : List Pair). called ((account_of own).given) ++ ps) (ap called taken ∙ called_before_zero d.taken d.last d.counted) in
+      let taken : a.given ≡ d.pairs ++ (0, d.last) ∷ [] = ap (λ (x : Given). x.given) d.account_is in
+      let calls_of : called ((account_of own).given ++ a.given) ≡ called ((account_of own).given) ++ d.pairs =
+      called-append (account_of own).given a.given ∙ ap (λ (ps : List Pair). called ((account_of own).given) ++ ps) (ap called taken ∙ called_before_zero d.pairs d.last d.counted) in
       record {
         own = is;
         share = let s = h.share in omega arith;
-        ended = ap zeros given ∙ (zeros-append (account_of own).given a.given ∙ (let e = h.ended in let one : zeros a.given ≡ 1 = ap zeros taken ∙ zeros_before_zero d.taken d.last d.counted in omega arith));
+        ended = ap zeros given ∙ (zeros-append (account_of own).given a.given ∙ (let e = h.ended in let one : zeros a.given ≡ 1 = ap zeros taken ∙ zeros_before_zero d.pairs d.last d.counted in omega arith));
         put = put ∙ (ap (λ (ps : List Pair). (account_of own).put ++ ps) none ∙ (append-nil (account_of own).put ∙ h.put));
-        made = rw (given, calls_of, put_behind) (all_zip_append (IsEntry config calls) (called ((account_of own).given)) d.taken entries made h.made d.entries_are);
+        made = rw (given, calls_of, put_behind) (all_zip_append (IsEntry config calls) (called ((account_of own).given)) d.pairs entries made h.made d.entries_are);
       }
 
--- a worker that was new did its work, if memory lasted
-pub has_worked : {N E : Type 0} {G : Ghosts N} (config : Numbers) (shared : Shared N) (began : Caller N G) (worker : Worker N G) (before : Given) (r : Result (Vec Worked Global) E)
-    → IsNewCaller shared.share began → before ≡ new_account shared.jobs.terms false
-    → IfOk r (λ made. DidWork config shared.share shared.calls.items before (account_of worker.own) began worker.caller made.items) → IfOk r (λ made. HasWorked config shared worker made.items)
-has_worked config shared began worker before (Ok made) new is did = record {
-  began = began;
-  new = new;
-  did = subst (λ (a : Given). DidWork config shared.share shared.calls.items a (account_of worker.own) began worker.caller made.items) is did;
-}
-has_worked config shared began worker before (Err e) new is did = tt
+module _ {N E : Type 0} {G : Ghosts N} (config : Numbers) (shared : Shared N) (jobs : Jobs (Option Named)) (began : Caller N G) (worker : Worker N G) where
+  -- a worker whose pass of the queue was new did its work, if memory lasted
+  pub has_worked : (before : Given) (r : Result (Vec Worked Global) E) → before ≡ new_account jobs.terms false
+      → IfOk r (λ made. DidWork config shared.share shared.calls.items before (account_of worker.own) began worker.caller made.items) → IfOk r (λ made. HasWorked config shared jobs began worker made.items)
+  has_worked before (Ok made) is did = subst (λ (a : Given). DidWork config shared.share shared.calls.items a (account_of worker.own) began worker.caller made.items) is did
+  has_worked before (Err e) is did = tt
+
+  -- so it was given its calls
+  pub has_taken : (r : Result (Vec Worked Global) E) → IfOk r (λ made. HasWorked config shared jobs began worker made.items)
+      → IfOk r (λ made. HasTaken config shared.calls.items (new_account jobs.terms false) (account_of worker.own) made.items)
+  has_taken (Ok made) did = did.taken
+  has_taken (Err e) did = tt

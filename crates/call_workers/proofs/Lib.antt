@@ -1,2 +1,5 @@
+pub mod ChangeLemmas
 pub mod CrewLemmas
+pub mod PassLemmas
 pub mod TakenLemmas
+pub mod ZipLemmas

@@ -10,16 +10,16 @@ use Rattle.module_store.specs.declared.naming.Naming.{Ghosts}
 use Rattle.pool_limits.specs.declared.numbers.Numbers.{Numbers}
 use Rattle.pool_worlds.specs.Contents.{Named}
 use Rattle.pool_host.specs.declared.host.Host.{Host}
-use Rattle.pool_host.specs.declared.passes.Passes.{Passes}
 use Rattle.tenant_share.specs.declared.passes.Caller.{Caller}
 use Rattle.tenant_share.specs.declared.share_host.ShareHost.{ShareHost}
-use Rattle.tenant_share.specs.Tenants.{IsCaller, IsHostOf, passes_at}
-use Rattle.tenant_share.proofs.CallerLemmas.{has_passes}
+use Rattle.tenant_share.specs.Tenants.{IsCaller}
 use Rattle.due_calls.specs.declared.calls.Due.{Due}
 use Rattle.due_calls.specs.declared.entries.Worked.{Worked}
 use Rattle.due_calls.specs.Entries.{IsAnswered, IsEntry, Pair}
 use Rattle.call_workers.specs.Made.{MadeEntries, MadeEntry, MadeOn}
-use Rattle.call_workers.specs.Taken.{DidWork, OfEachTenant, WasGiven}
+use Rattle.call_workers.specs.Passes.{AtHost, OfEachTenant}
+use Rattle.call_workers.specs.Taken.{DidWork, WasGiven}
+use Rattle.call_workers.proofs.PassLemmas.{has_at_host}
 use Rattle.due_calls.proofs.EntryLemmas.{all_zip_append}
 use Rattle.job_queue.proofs.AccountLemmas.{given_none, given_twice}
 
@@ -41,10 +41,10 @@ module _ (config : Numbers) (calls : List Due) where
 
 module _ {N : Type 0} (config : Numbers) (calls : List Due) where
   -- entries one after the other
-  made_more : (host : Host N) (tenant : ℕ) (pairs : List Pair) (entries : List Worked) (pair : Pair) (worked : Worked) (before between after : Passes N)
+  made_more : (host : Host N) (tenant : ℕ) (pairs : List Pair) (entries : List Worked) (pair : Pair) (worked : Worked) (before between after : AtHost N)
       → MadeEntries config host tenant calls pairs entries before between → MadeEntry config host tenant calls pair worked between after
       → MadeEntries config host tenant calls (pairs ++ pair ∷ []) (entries ++ worked ∷ []) before after
-  made_more host tenant [] [] pair worked before between after h e = (after, subst (λ (p : Passes N). MadeEntry config host tenant calls pair worked p after) h e, refl)
+  made_more host tenant [] [] pair worked before between after h e = (after, subst (λ (p : AtHost N). MadeEntry config host tenant calls pair worked p after) h e, refl)
   made_more host tenant [] (w ∷ entries) pair worked before between after h e = absurd h
   made_more host tenant (p ∷ pairs) [] pair worked before between after h e = absurd h
   made_more host tenant (p ∷ pairs) (w ∷ entries) pair worked before between after (middle, first, rest) e =
@@ -95,7 +95,7 @@ module _ {N : Type 0} {G : Ghosts N} (config : Numbers) (share : ShareHost N) (c
       account_is = given_twice a b c h.taken (pair ∷ []) h.account_is given;
       entries_are = all_zip_append (IsEntry config calls) h.taken (pair ∷ []) entries (worked ∷ []) h.entries_are (entry, tt);
       made = λ tenant host before after there was now.
-          let (between, is, own) = has_passes share q tenant host caller there in
+          let (between, is) = has_at_host share q tenant host caller there in
           made_more config calls host tenant h.taken entries pair worked before between after (h.made tenant host before between there was is) (made tenant host between after there is now);
     }
 
@@ -104,11 +104,13 @@ module _ {N : Type 0} {G : Ghosts N} (config : Numbers) (share : ShareHost N) (c
 
     pub ends : (c : Given) (pair : Pair) → pair.0 ≡ 0 → c ≡ with_given b (pair ∷ []) → DidWork config share calls a c p q entries
     ends c pair none given = record {
-      taken = h.taken;
-      counted = h.counted;
-      last = pair.1;
-      account_is = given_twice a b c h.taken ((0, pair.1) ∷ []) h.account_is (given ∙ ap (λ (n : ℕ). with_given b ((n, pair.1) ∷ [])) none);
-      entries_are = h.entries_are;
+      taken = record {
+        pairs = h.taken;
+        counted = h.counted;
+        last = pair.1;
+        account_is = given_twice a b c h.taken ((0, pair.1) ∷ []) h.account_is (given ∙ ap (λ (n : ℕ). with_given b ((n, pair.1) ∷ [])) none);
+        entries_are = h.entries_are;
+      };
       made = h.made;
     }
 

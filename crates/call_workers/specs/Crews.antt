@@ -1,9 +1,9 @@
--- Workers over one queue and the hosts of all tenants, before and after their work.
+-- Workers over the hosts of all tenants, and over the queue of a round, before and after their work.
 use Rattle.std.specs.Prelude.{◌≡◌, ℕ, ◌+◌, false, true, List, Option, All, IfOk, length}
 use Rattle.std.specs.List.{AllZip}
 use Rattle.job_queue.specs.declared.jobs.Jobs.{Jobs}
 use Rattle.job_queue.specs.Accounts.{new_account}
-use Rattle.job_queue.specs.Passes.{IsJobPass, IsNewPassOf, JobPass, account_of, capacity_of, count_of, given_to, passes_of, put_by, share_of}
+use Rattle.job_queue.specs.Passes.{IsJobPass, IsNewPassOf, JobPass, account_of, capacity_of, count_of, first_of, given_to, passes_of, put_by, share_of}
 use Rattle.module_store.specs.declared.naming.Naming.{Ghosts}
 use Rattle.pool_limits.specs.declared.numbers.Numbers.{Numbers}
 use Rattle.pool_limits.specs.declared.wants.Want.{Want}
@@ -15,40 +15,50 @@ use Rattle.due_calls.specs.declared.calls.Due.{Due}
 use Rattle.due_calls.specs.declared.entries.Worked.{Worked}
 use Rattle.call_workers.specs.declared.members.Crew.{Crew}
 use Rattle.call_workers.specs.declared.members.Done.{Done}
+use Rattle.call_workers.specs.declared.members.Round.{Round}
 use Rattle.call_workers.specs.declared.members.Worker.{Worker}
 use Rattle.call_workers.specs.declared.shared.Shared.{Shared}
 use Rattle.due_calls.specs.Entries.{IsEntry, called, zeros}
-use Rattle.call_workers.specs.Taken.{DidWork}
+use Rattle.call_workers.specs.Taken.{DidWork, HasTaken}
 
 module _ {N : Type 0} {G : Ghosts N} where
-  -- a worker that has not begun: its passes are the tenants' and the queue's, as they are handed out
-  pub record IsNewWorker (share : ShareHost N) (jobs : Jobs (Option Named)) (worker : Worker N G) : Type 0 where
-    pub caller : IsCaller share worker.caller
-    pub new : IsNewCaller share worker.caller
-    pub own : IsNewPassOf false jobs worker.own
-
-  -- so many workers that have not begun, over hosts with these shares, and a queue for these calls with room for all and a 0 for each worker
+  -- hosts with these shares, for these calls, and so many callers, whose passes are as they are handed out
   pub record IsNewCrew (all : List Want) (calls : List Due) (count : ℕ) (crew : Crew N G) : Type 0 where
     pub shares : HasShares all count crew.shared.share
     pub calls_are : crew.shared.calls.items ≡ calls
-    pub numbers : count_of crew.shared.jobs ≡ length calls
-    pub room : capacity_of crew.shared.jobs ≡ length calls + count
-    pub passes : passes_of crew.shared.jobs ≡ count + 1
-    pub putter : IsNewPassOf true crew.shared.jobs crew.putter
-    pub many : length crew.workers.items ≡ count
-    pub workers : All (IsNewWorker crew.shared.share crew.shared.jobs) crew.workers.items
+    pub many : length crew.callers.items ≡ count
+    pub callers : All (IsCaller crew.shared.share) crew.callers.items
+    pub new : All (IsNewCaller crew.shared.share) crew.callers.items
 
-  -- A worker that did the work of the calls that it was given, from passes on as they were handed out.
-  pub record HasWorked (config : Numbers) (shared : Shared N) (worker : Worker N G) (entries : List Worked) : Type 0 where
-    pub began : Caller N G
-    pub new : IsNewCaller shared.share began
-    pub did : DidWork config shared.share shared.calls.items (new_account shared.jobs.terms false) (account_of worker.own) began worker.caller entries
+  -- a worker that has not begun a round: its passes of the tenants are a caller's, and that of the queue is as it is handed out
+  pub record IsNewWorker (share : ShareHost N) (jobs : Jobs (Option Named)) (worker : Worker N G) : Type 0 where
+    pub caller : IsCaller share worker.caller
+    pub own : IsNewPassOf false jobs worker.own
 
-  -- A worker that has ended: its passes are still those of the tenants and the queue. If memory lasted, it did its work.
-  pub record IsDone (config : Numbers) (shared : Shared N) (done : Done N G) : Type 0 where
+  -- so many workers that have not begun, and a queue for so many calls, numbered from the first on, with room for all and a 0 for each worker
+  pub record IsNewRound (share : ShareHost N) (first count hands : ℕ) (round : Round N G) : Type 0 where
+    pub first_is : first_of round.jobs ≡ first
+    pub numbers : count_of round.jobs ≡ count
+    pub room : capacity_of round.jobs ≡ count + hands
+    pub passes : passes_of round.jobs ≡ hands + 1
+    pub putter : IsNewPassOf true round.jobs round.putter
+    pub many : length round.workers.items ≡ hands
+    pub workers : All (IsNewWorker share round.jobs) round.workers.items
+
+  -- A worker that has ended: its passes are still those of the tenants and the queue. If memory lasted, it was given calls and then a 0, with an entry for each call.
+  pub record HasEnded (config : Numbers) (shared : Shared N) (jobs : Jobs (Option Named)) (done : Done N G) : Type 0 where
     pub caller : IsCaller shared.share done.worker.caller
-    pub own : IsJobPass shared.jobs done.worker.own
-    pub made : IfOk done.made (λ made. HasWorked config shared done.worker made.items)
+    pub own : IsJobPass jobs done.worker.own
+    pub taken : IfOk done.made (λ made. HasTaken config shared.calls.items (new_account jobs.terms false) (account_of done.worker.own) made.items)
+
+  -- it did the work of the calls that it was given, from this caller on
+  abbrev pub HasWorked : Numbers → Shared N → Jobs (Option Named) → (began : Caller N G) → (worker : Worker N G) → List Worked → Type 0
+  HasWorked config shared jobs began worker entries = DidWork config shared.share shared.calls.items (new_account jobs.terms false) (account_of worker.own) began worker.caller entries
+
+  -- This worker has ended, and was this one as it began. If memory lasted, it did its work.
+  pub record IsDone (config : Numbers) (shared : Shared N) (jobs : Jobs (Option Named)) (began : Worker N G) (done : Done N G) : Type 0 where
+    pub ended : HasEnded config shared jobs done
+    pub made : IfOk done.made (λ made. HasWorked config shared jobs began.caller done.worker made.items)
 
 -- A pass of the queue into which the passes of so many workers were joined: it put what it put, was given what they were, a 0 for each
 -- worker among it, and these are the entries of those calls.

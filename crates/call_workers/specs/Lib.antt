@@ -1,3 +1,4 @@
+pub mod Passes
 pub mod Made
 pub mod Taken
 pub mod Crews

@@ -3,7 +3,7 @@ ghost use Rattle.std.specs.Prelude.{◌≡◌, ◌<◌, ◌≤◌, All, IfOk, So
 ghost use Rattle.tenant_share.specs.Tenants.{IsCaller, tenants_of};
 ghost use Rattle.due_calls.specs.Entries.{AreNumbered, IsAnswered, IsEntry, IsOfTenants};
 ghost use Rattle.call_workers.specs.Made.{MadeEntry, MadeOn};
-ghost use Rattle.call_workers.specs.Taken.{OfEachTenant};
+ghost use Rattle.call_workers.specs.Passes.{OfEachTenant};
 
 use due_calls::{Due, Item, Worked, due_at};
 use host_edge::Gate;

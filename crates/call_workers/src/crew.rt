@@ -1,14 +1,14 @@
 //! Workers that work side by side.
-ghost use Rattle.std.specs.Prelude.{◌≡◌, ◌+◌, ◌^◌, ◌<◌, ◌≤◌, false, All, IfOk, length};
-ghost use Rattle.job_queue.specs.Passes.{IsNewPassOf};
-ghost use Rattle.tenant_share.specs.Tenants.{IsCaller, IsNewCaller};
+ghost use Rattle.std.specs.Prelude.{◌≡◌, ◌+◌, ◌≤◌, All, IfOk, length};
+ghost use Rattle.std.specs.List.{AllZip};
+ghost use Rattle.job_queue.specs.Passes.{count_of, first_of};
 ghost use Rattle.due_calls.specs.Entries.{AreNumbered, IsOfTenants};
-ghost use Rattle.call_workers.specs.Crews.{IsDone, IsNewCrew, IsNewWorker};
+ghost use Rattle.call_workers.specs.Crews.{HasEnded, IsDone, IsNewCrew, IsNewWorker};
 
 use crate::members::{Crew, Done, Worker};
 use crate::shared::Shared;
 use crate::working::work;
-use due_calls::Due;
+use due_calls::{Due, Item};
 use host_edge::Gate;
 use job_queue::Jobs;
 use module_store::{ModuleStore, Naming};
@@ -19,8 +19,7 @@ use std::thread::{self, Threads};
 use tenant_share::{Plan, ShareHost};
 use wasm_types::NoMemory;
 
-/// So many workers over the tenants' hosts of this plan, and a queue for these calls: each has a pass of each tenant and one of the
-/// queue's.
+/// The tenants' hosts of this plan for these calls, with a caller for each of so many workers, who has a pass of each tenant.
 ///
 /// # Errors
 ///
@@ -36,23 +35,11 @@ pub fn open_crew<N: Naming>(
     requires count { (1 ≤ count) × (count ≤ MOST_PASSES) }
     requires numbered { AreNumbered calls.items }
     requires tenants { All (IsOfTenants (length plan.now.1)) calls.items }
-    requires few { length calls.items < 2 ^ 32 }
     ensures { IfOk result (IsNewCrew plan.now.1 calls.items count) }
 {
-    let (share, mut callers) = ShareHost::open_for(alloc, store, plan, count)?;
-    let (jobs, putter, mut takers) = Jobs::open(alloc, calls.len() as u32, count)?;
-    let mut workers = Vec::new(alloc);
-    while let Some(caller) = callers.pop() {
-        let own = takers.pop().unwrap();
-        workers.reserve(1).map_err(|_| NoMemory)?;
-        workers.push_reserved(Worker { caller, own });
-    }
-    let shared = Shared { share, jobs, calls };
-    Ok(Crew {
-        shared,
-        putter,
-        workers,
-    })
+    let (share, callers) = ShareHost::open_for(alloc, store, plan, count)?;
+    let shared = Shared { share, calls };
+    Ok(Crew { shared, callers })
 }
 
 // The work of one worker, whose passes are given back with what it made.
@@ -61,14 +48,16 @@ fn work_one<N: Naming, R: Wait, G: Gate>(
     alloc: Global,
     store: &ModuleStore<N>,
     shared: &Shared<N>,
+    jobs: &Jobs<Item<N>>,
     mut worker: Worker<N>,
     gate: &G,
 ) -> Done<N>
-    requires worker { IsNewWorker shared.now.share shared.now.jobs worker }
-    ensures { IsDone N.config shared.now result }
+    requires worker { IsNewWorker shared.now.share jobs.now worker }
+    requires numbers { first_of jobs.now + count_of jobs.now ≤ length shared.now.calls.items + 1 }
+    ensures { IsDone N.config shared.now jobs.now worker result }
 {
     let Worker { caller, own } = &mut worker;
-    let Shared { share, jobs, calls } = shared;
+    let Shared { share, calls } = shared;
     let made = work(rt, alloc, share, caller, store, jobs, own, calls, gate);
     Done { worker, made }
 }
@@ -83,20 +72,24 @@ pub fn work_all<N: Naming + Send + Sync, R: Threads + Wait + Sync, G: Gate>(
     alloc: Global,
     store: &ModuleStore<N>,
     shared: &Shared<N>,
+    jobs: &Jobs<Item<N>>,
     workers: Vec<Worker<N>>,
     gate: &G,
 ) -> Result<Vec<Done<N>>, NoMemory>
-    requires workers { All (IsNewWorker shared.now.share shared.now.jobs) workers.items }
+    requires workers { All (IsNewWorker shared.now.share jobs.now) workers.items }
+    requires numbers { first_of jobs.now + count_of jobs.now ≤ length shared.now.calls.items + 1 }
+    ensures done { IfOk result (λ done. AllZip (IsDone N.config shared.now jobs.now) workers.items done.items) }
+    ensures ended { IfOk result (λ done. All (HasEnded N.config shared.now jobs.now) done.items) }
     ensures count { IfOk result (λ done. length done.items ≡ length workers.items) }
-    ensures done { IfOk result (λ done. All (IsDone N.config shared.now) done.items) }
 {
     let done = thread::map_vec(
         rt,
         workers,
         &|worker| -> Done<N>
-            requires worker { IsNewWorker shared.now.share shared.now.jobs worker }
-            ensures { IsDone N.config shared.entry.now result }
-        { work_one(rt, alloc, store, shared, worker, gate) },
+            requires worker { IsNewWorker shared.now.share jobs.now worker }
+            requires numbers { first_of jobs.now + count_of jobs.now ≤ length shared.now.calls.items + 1 }
+            ensures { IsDone N.config shared.entry.now jobs.entry.now worker result }
+        { work_one(rt, alloc, store, shared, jobs, worker, gate) },
     );
     done.map_err(|_| NoMemory)
 }

@@ -1,12 +1,19 @@
-//! Workers, before and after their work.
+//! Workers, before and after their work, and what they have between rounds.
 use crate::shared::Shared;
 use due_calls::{Item, Worked};
-use job_queue::JobPass;
+use job_queue::{JobPass, Jobs};
 use module_store::Naming;
 use tenant_share::Caller;
 use wasm_types::NoMemory;
 
-/// What a worker works with: its pass of each tenant, and its pass of the queue.
+/// What lives across rounds: what workers share, and a caller for each worker.
+#[derive(Drop)]
+pub struct Crew<N: Naming> {
+    pub shared: Shared<N>,
+    pub callers: Vec<Caller<N>>,
+}
+
+/// What a worker works with: its pass of each tenant, and its pass of the round's queue.
 #[derive(Drop)]
 pub struct Worker<N: Naming> {
     pub caller: Caller<N>,
@@ -20,10 +27,10 @@ pub struct Done<N: Naming> {
     pub made: Result<Vec<Worked>, NoMemory>,
 }
 
-/// Workers, what they share, and the pass that puts their calls.
+/// One round: its queue, the pass that puts its calls, and its workers.
 #[derive(Drop)]
-pub struct Crew<N: Naming> {
-    pub shared: Shared<N>,
+pub struct Round<N: Naming> {
+    pub jobs: Jobs<Item<N>>,
     pub putter: JobPass<Item<N>>,
     pub workers: Vec<Worker<N>>,
 }

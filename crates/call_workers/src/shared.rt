@@ -1,21 +1,17 @@
 //! What workers share.
-ghost use Rattle.std.specs.Prelude.{◌≤◌, All, length};
-ghost use Rattle.job_queue.specs.Passes.{count_of};
+ghost use Rattle.std.specs.Prelude.{All};
 ghost use Rattle.tenant_share.specs.Tenants.{tenants_of};
 ghost use Rattle.due_calls.specs.Entries.{AreNumbered, IsOfTenants};
 
-use due_calls::{Due, Item};
-use job_queue::Jobs;
+use due_calls::Due;
 use module_store::Naming;
 use tenant_share::ShareHost;
 
-/// What workers share: the tenants' hosts on which they make calls, the queue that hands them numbers, and the calls of these numbers.
+/// What workers share in all rounds: the tenants' hosts on which they make calls, and the calls of a file, numbered from 1.
 #[derive(Drop)]
 pub struct Shared<N: Naming> {
     pub share: ShareHost<N>,
-    pub jobs: Jobs<Item<N>>,
     pub calls: Vec<Due>,
     ghost numbered: { AreNumbered calls.items },
-    ghost enough: { count_of jobs ≤ length calls.items },
     ghost tenants: { All (IsOfTenants (tenants_of share)) calls.items },
 }

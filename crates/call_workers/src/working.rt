@@ -1,6 +1,6 @@
 //! The work of one worker.
-ghost use Rattle.std.specs.Prelude.{◌≤◌, All, IfOk, OnErr, length};
-ghost use Rattle.job_queue.specs.Passes.{IsJobPass, account_of, count_of};
+ghost use Rattle.std.specs.Prelude.{◌+◌, ◌≤◌, All, IfOk, OnErr, length};
+ghost use Rattle.job_queue.specs.Passes.{IsJobPass, account_of, count_of, first_of};
 ghost use Rattle.tenant_share.specs.Tenants.{IsCaller, tenants_of};
 ghost use Rattle.due_calls.specs.Entries.{AreNumbered, IsOfTenants};
 ghost use Rattle.call_workers.specs.Taken.{DidWork, WasGiven};
@@ -38,7 +38,7 @@ pub fn work<N: Naming, R: Wait, G: Gate>(
     requires caller { IsCaller share.now caller.old }
     requires own { IsJobPass jobs.now own.old }
     requires numbered { AreNumbered calls.now }
-    requires enough { count_of jobs.now ≤ length calls.now }
+    requires numbers { first_of jobs.now + count_of jobs.now ≤ length calls.now + 1 }
     requires tenants { All (IsOfTenants (tenants_of share.now)) calls.now }
     ensures caller { IsCaller share.now caller.new }
     ensures own { IsJobPass jobs.now own.new }

@@ -1,1 +1,5 @@
 mod HandingIn
+mod Sweeps
+mod SweepParts
+mod SweptPools
+mod WorkedSweep

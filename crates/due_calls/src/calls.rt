@@ -12,6 +12,8 @@ pub struct Due {
     pub number: u32,
     /// The tenant on whose slots it is made, where workers make calls whole.
     pub tenant: u32,
+    /// Whether its module is retired where it stands.
+    pub retired: bool,
     pub invocation: Invocation,
 }
 

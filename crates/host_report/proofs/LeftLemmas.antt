@@ -1,50 +1,51 @@
 -- The lane makes the calls of which the board has no line, one after the other.
-use Rattle.std.proofs.Common.{◌≡◌, ◌≢◌, ℕ, ◌+◌, ◌<◌, ◌≤◌, List, [], ◌∷◌, Option, Some, None, inl, inr, refl, sym, ap, ◌∙◌, subst, arith}
+use Rattle.std.proofs.Common.{◌≡◌, ℕ, ◌+◌, ◌≤◌, Bool, List, [], ◌∷◌, Option, Some, None, refl, sym, ap, ◌∙◌, subst, arith}
 use Rattle.std.specs.Prelude.{slice_get, slice_set}
 use Rattle.request_text.specs.declared.invocation.Invocation.{Invocation}
 use Rattle.pool_limits.specs.declared.numbers.Numbers.{Numbers}
-use Rattle.pool_worlds.specs.Contents.{Named}
 use Rattle.pool_host.specs.declared.host.Host.{Host}
 use Rattle.pool_host.specs.declared.passes.Passes.{Passes}
 use Rattle.request_text.specs.declared.request.Directive.{Directive}
-use Rattle.request_text.specs.declared.request.Directive.TheVariants.{Module, Call}
+use Rattle.request_text.specs.declared.request.Directive.TheVariants.{Module, Call, Retire}
 use Rattle.report_text.specs.declared.report.CallLine.{CallLine}
 use Rattle.host_report.specs.Entries.{Entry}
 use Rattle.host_report.specs.Left.{MadeLeft, MadeOnLane}
 use Rattle.host_report.specs.Put.{module_at}
 use Rattle.host_report.proofs.BoardLemmas.{got_set_other}
-use Rattle.host_report.proofs.CallLemmas.{kind_of}
 
 abbrev Lines : Type 0
 Lines = List (Option CallLine)
 
 -- Those of so many calls were made that had no line, and no line of a call that is left was written: what is made of those that
 -- are left completes it.
-pub record LeftSoFar {N : Type 0} (config : Numbers) (lane : Host N) (entries : List Entry) (whole rest : List Directive) (number : ℕ) (first board : Lines)
+pub record LeftSoFar {N : Type 0} (config : Numbers) (lane : Host N) (entries : List Entry) (base : ℕ) (part rest : List Directive) (number : ℕ) (first board : Lines)
     (before now : Passes N) : Type 0 where
   pub slots : (j : ℕ) → number ≤ j → slice_get board j ≡ slice_get first j
-  pub completes : (after : Passes N) → MadeLeft config lane entries first number rest now after → MadeLeft config lane entries first 0 whole before after
+  pub completes : (after : Passes N) → MadeLeft config lane entries first number rest now after → MadeLeft config lane entries first base part before after
 
-module _ {N : Type 0} (config : Numbers) (lane : Host N) (entries : List Entry) (whole : List Directive) (first : Lines) (before : Passes N) where
-  pub left_begin : LeftSoFar config lane entries whole whole 0 first first before before
+module _ {N : Type 0} (config : Numbers) (lane : Host N) (entries : List Entry) (base : ℕ) (part : List Directive) (first : Lines) (before : Passes N) where
+  pub left_begin : LeftSoFar config lane entries base part part base first first before before
   left_begin = record { slots = λ j above. refl; completes = λ after h. h }
 
-  module _ (rest : List Directive) (number : ℕ) (board : Lines) (now : Passes N) (h : LeftSoFar config lane entries whole rest number first board before now) where
-    pub left_end : rest ≡ [] → MadeLeft config lane entries first 0 whole before now
+  module _ (rest : List Directive) (number : ℕ) (board : Lines) (now : Passes N) (h : LeftSoFar config lane entries base part rest number first board before now) where
+    pub left_end : rest ≡ [] → MadeLeft config lane entries first base part before now
     left_end none = h.completes now (rw none refl)
 
     module _ (more : List Directive) (d : Directive) (is : rest ≡ d ∷ more) where
-      left_module : (name bytes : List ℕ) → d ≡ Module name bytes → LeftSoFar config lane entries whole more number first board before now
-      left_module name bytes module_is = record { slots = h.slots; completes = λ after g. h.completes after (rw (is, module_is) g) }
+      pub left_other : ((tenant place : ℕ) (retired : Bool) (invocation : Invocation) → d ≡ Call tenant place retired invocation → ⊥) → LeftSoFar config lane entries base part more number first board before now
+      left_other other = record { slots = h.slots; completes = λ after g. h.completes after (subst (λ (ds : List Directive). MadeLeft config lane entries first number ds now after) (sym is) (with_other d other after g)) }
+        where
+          with_other : (x : Directive) → ((tenant place : ℕ) (retired : Bool) (invocation : Invocation) → x ≡ Call tenant place retired invocation → ⊥) → (after : Passes N)
+              → MadeLeft config lane entries first number more now after → MadeLeft config lane entries first number (x ∷ more) now after
+          with_other (Module name bytes) not after g = g
+          with_other (Retire place name) not after g = g
+          with_other (Call tenant place retired invocation) not after g = absurd (not tenant place retired invocation refl)
 
-      pub left_other : ((tenant place : ℕ) (invocation : Invocation) → d ≡ Call tenant place invocation → ⊥) → LeftSoFar config lane entries whole more number first board before now
-      left_other other = elim (kind_of d) [ inl (name, bytes, module_is) ↦ left_module name bytes module_is | inr (tenant, place, invocation, call_is) ↦ absurd (other tenant place invocation call_is) ]
-
-      module _ (tenant place : ℕ) (invocation : Invocation) (call_is : d ≡ Call tenant place invocation) where
+      module _ (tenant place : ℕ) (retired : Bool) (invocation : Invocation) (call_is : d ≡ Call tenant place retired invocation) where
         had : slice_get board number ≡ slice_get first number
         had = h.slots number (omega arith)
 
-        pub left_had : (line : CallLine) → slice_get board number ≡ Some (Some line) → LeftSoFar config lane entries whole more (number + 1) first board before now
+        pub left_had : (line : CallLine) → slice_get board number ≡ Some (Some line) → LeftSoFar config lane entries base part more (number + 1) first board before now
         left_had line stands =
             let stood : slice_get first number ≡ Some (Some line) = sym had ∙ stands in record {
               slots = λ j above. h.slots j (omega arith);
@@ -52,7 +53,7 @@ module _ {N : Type 0} (config : Numbers) (lane : Host N) (entries : List Entry) 
             }
 
         pub left_made : (line : CallLine) (board' : Lines) (now' : Passes N) → slice_get board number ≡ Some None → board' ≡ slice_set board number (Some line)
-            → MadeOnLane config lane (module_at entries place) now now' → LeftSoFar config lane entries whole more (number + 1) first board' before now'
+            → MadeOnLane config lane (module_at entries place) now now' → LeftSoFar config lane entries base part more (number + 1) first board' before now'
         left_made line board' now' none set_is made =
             let stood : slice_get first number ≡ Some None = sym had ∙ none in record {
               slots = λ j above. ap (λ (b : Lines). slice_get b j) set_is ∙ (got_set_other board number j (Some line) (λ same. absurd (omega arith)) ∙ h.slots j (omega arith));

@@ -1,7 +1,7 @@
 -- Each line is decided, and so is a report; each call has its line.
 use Rattle.wasm_types.specs.declared.limits.RunLimits.{RunLimits}
 use Rattle.wasm_types.specs.declared.limits.LoadLimits.{LoadLimits}
-use Rattle.std.proofs.Common.{◌≡◌, ℕ, zero, suc, ◌+◌, List, [], ◌∷◌, Some, Ok, Err, take, sym, ap, ◌∙◌, subst, arith}
+use Rattle.std.proofs.Common.{◌≡◌, ℕ, zero, suc, ◌+◌, Bool, true, false, List, [], ◌∷◌, Some, Ok, Err, take, sym, ap, ◌∙◌, subst, arith}
 use Rattle.std.specs.Prelude.{Result, slice_get}
 use Rattle.wasm_types.specs.declared.outcome.Val.{Val}
 use Rattle.request_text.specs.declared.invocation.Invocation.{Invocation}
@@ -11,17 +11,17 @@ use Rattle.wasm_spec.specs.Loading.{Loads, Refusal}
 use Rattle.wasm_spec.specs.Validity.{IsValid}
 use Rattle.loaded_modules.specs.Within.{IsWithin}
 use Rattle.pool_host.specs.declared.lane.LaneAnswer.{LaneAnswer}
-use Rattle.pool_host.specs.CallWords.{IsAnswer}
+use Rattle.pool_host.specs.CallWords.{IsAnswer, is_retired}
 use Rattle.request_text.specs.declared.request.Directive.{Directive}
-use Rattle.request_text.specs.declared.request.Directive.TheVariants.{Module, Call}
+use Rattle.request_text.specs.declared.request.Directive.TheVariants.{Module, Call, Retire}
 use Rattle.report_text.specs.declared.report.CallLine.{CallLine}
 use Rattle.report_text.specs.declared.report.ModuleLine.{ModuleLine}
 use Rattle.report_text.specs.declared.report.ReportLine.{ReportLine}
 use Rattle.report_text.specs.declared.report.ReportLine.TheVariants as report
 use Rattle.request_text.specs.Invocations.{sent_by, shown_of}
-use Rattle.request_text.specs.Text.{call_count, modules_of}
+use Rattle.request_text.specs.Text.{call_count}
 use Rattle.host_report.specs.Report.{AreLines, IsCallLine, IsLine, IsModuleLine, Limits, ShowsCall, answer_line, load_limits, loading_line, next_number, run_limits}
-use Rattle.host_report.proofs.CallLemmas.{call_count-call, call_count-module}
+use Rattle.host_report.proofs.PlaceLemmas.{call_count-call, call_count-module, call_count-retire}
 
 -- the laws of the layers below: bytes load to one answer, what loads is within its limits, and a call of a valid module has one answer
 abbrev pub LoadsOnce : Type 0
@@ -32,7 +32,7 @@ LoadsWithin = (profile : Profile) (bytes : List ℕ) (limits : LoadLimits) (m : 
 
 abbrev pub AnswersOnce : Type 0
 AnswersOnce = (m : ModuleTree) (limits : RunLimits) (export : List ℕ) (args : List Val) (request : List ℕ) (fuel : ℕ) (a b : LaneAnswer) (x y : List ℕ) → IsValid m
-    → IsAnswer m limits export args request fuel a x → IsAnswer m limits export args request fuel b y → (a ≡ b) × (x ≡ y)
+    → IsAnswer m limits export args request fuel a x → IsAnswer m limits export args request fuel b y → is_retired a ≡ is_retired b → (a ≡ b) × (x ≡ y)
 
 pub one_module_line : LoadsOnce → (limits : Limits) (bytes : List ℕ) (a b : ModuleLine) → IsModuleLine limits bytes a → IsModuleLine limits bytes b → a ≡ b
 one_module_line one_load limits bytes a b h g =
@@ -40,27 +40,30 @@ one_module_line one_load limits bytes a b h g =
     h.shows ∙ ap loading_line same ∙ sym g.shows
 
 module _ (one_load : LoadsOnce) (within : LoadsWithin) (one_answer : AnswersOnce) where
-  shown_once : (limits : Limits) (bytes : List ℕ) (invocation : Invocation) (loaded : Result ModuleTree Refusal) (a b : CallLine)
-      → Loads limits.profile bytes (load_limits limits) loaded → ShowsCall limits loaded invocation a → ShowsCall limits loaded invocation b → a ≡ b
-  shown_once limits bytes invocation (Err why) a b loads h g = h ∙ sym g
-  shown_once limits bytes asked (Ok m) a b loads (p, x, answer, is) (q, y, answer', is') =
-      let (same, bytes_same) = one_answer m (run_limits limits) asked.export asked.args (sent_by asked) asked.fuel p q x y (within limits.profile bytes (load_limits limits) m loads).valid answer answer' in
+  shown_once : (limits : Limits) (bytes : List ℕ) (retired : Bool) (invocation : Invocation) (loaded : Result ModuleTree Refusal) (a b : CallLine)
+      → Loads limits.profile bytes (load_limits limits) loaded → ShowsCall limits retired loaded invocation a → ShowsCall limits retired loaded invocation b → a ≡ b
+  shown_once limits bytes true invocation (Err why) a b loads h g = h ∙ sym g
+  shown_once limits bytes false invocation (Err why) a b loads h g = h ∙ sym g
+  shown_once limits bytes true invocation (Ok m) a b loads h g = h ∙ sym g
+  shown_once limits bytes false asked (Ok m) a b loads (p, x, answer, free, is) (q, y, answer', free', is') =
+      let (same, bytes_same) = one_answer m (run_limits limits) asked.export asked.args (sent_by asked) asked.fuel p q x y (within limits.profile bytes (load_limits limits) m loads).valid answer answer' (free ∙ sym free') in
       is ∙ ap (λ (l : LaneAnswer). answer_line l (shown_of asked x)) same ∙ ap (λ (s : List ℕ). answer_line q (shown_of asked s)) bytes_same ∙ sym is'
 
-  pub one_call_line : (limits : Limits) (bytes : List ℕ) (invocation : Invocation) (a b : CallLine)
-      → IsCallLine limits bytes invocation a → IsCallLine limits bytes invocation b → a ≡ b
-  one_call_line limits bytes invocation a b h g =
+  pub one_call_line : (limits : Limits) (bytes : List ℕ) (retired : Bool) (invocation : Invocation) (a b : CallLine)
+      → IsCallLine limits bytes retired invocation a → IsCallLine limits bytes retired invocation b → a ≡ b
+  one_call_line limits bytes retired invocation a b h g =
       let same : g.loaded ≡ h.loaded = one_load limits.profile bytes (load_limits limits) g.loaded h.loaded g.loads h.loads in
-      shown_once limits bytes invocation h.loaded a b h.loads h.shows (subst (λ (r : Result ModuleTree Refusal). ShowsCall limits r invocation b) same g.shows)
+      shown_once limits bytes retired invocation h.loaded a b h.loads h.shows (subst (λ (r : Result ModuleTree Refusal). ShowsCall limits retired r invocation b) same g.shows)
 
   one_line : (limits : Limits) (modules : List (List ℕ)) (number : ℕ) (d : Directive) (a b : ReportLine) → IsLine limits modules number d a → IsLine limits modules number d b → a ≡ b
   one_line limits modules number (Module name bytes) a b (how, told, is) (how', told', is') =
       is ∙ ap (λ (l : ModuleLine). report.Module name l) (one_module_line one_load limits bytes how how' told told') ∙ sym is'
-  one_line limits modules number (Call tenant place invocation) a b (how, goes, is) (how', goes', is') =
+  one_line limits modules number (Retire place name) a b h g = h ∙ sym g
+  one_line limits modules number (Call tenant place retired invocation) a b (how, goes, is) (how', goes', is') =
       let both : Some goes'.bytes ≡ Some goes.bytes = sym goes'.there ∙ goes.there in
       let same : goes'.bytes ≡ goes.bytes = cc in
       is
-      ∙ ap (λ (l : CallLine). report.Call number l) (one_call_line limits goes.bytes invocation how how' goes.goes (subst (λ (m : List ℕ). IsCallLine limits m invocation how') same goes'.goes))
+      ∙ ap (λ (l : CallLine). report.Call number l) (one_call_line limits goes.bytes retired invocation how how' goes.goes (subst (λ (m : List ℕ). IsCallLine limits m retired invocation how') same goes'.goes))
       ∙ sym is'
 
   pub one_report : (limits : Limits) (modules : List (List ℕ)) (requests : List Directive) (number : ℕ) (a b : List ReportLine)
@@ -76,22 +79,23 @@ module _ (one_load : LoadsOnce) (within : LoadsWithin) (one_answer : AnswersOnce
 
 next_count : (number : ℕ) (d : Directive) (ds : List Directive) → next_number number d + call_count ds ≡ number + call_count (d ∷ ds)
 next_count number (Module name bytes) ds = omega (arith, call_count-module name bytes ds)
-next_count number (Call tenant place invocation) ds = omega (arith, call_count-call tenant place invocation ds)
+next_count number (Call tenant place retired invocation) ds = omega (arith, call_count-call tenant place retired invocation ds)
+next_count number (Retire place name) ds = omega (arith, call_count-retire place name ds)
 
-module _ (limits : Limits) (modules : List (List ℕ)) (bytes : List ℕ) (invocation : Invocation) where
-  pub line_at : (ds : List Directive) (at number tenant place : ℕ) (lines : List ReportLine) → AreLines limits modules number ds lines → slice_get ds at ≡ Some (Call tenant place invocation)
+module _ (limits : Limits) (modules : List (List ℕ)) (bytes : List ℕ) (retired : Bool) (invocation : Invocation) where
+  pub line_at : (ds : List Directive) (at number tenant place : ℕ) (lines : List ReportLine) → AreLines limits modules number ds lines → slice_get ds at ≡ Some (Call tenant place retired invocation)
       → slice_get modules place ≡ Some bytes
-      → (how : CallLine) × IsCallLine limits bytes invocation how × (slice_get lines at ≡ Some (report.Call (number + call_count (take at ds)) how))
+      → (how : CallLine) × IsCallLine limits bytes retired invocation how × (slice_get lines at ≡ Some (report.Call (number + call_count (take at ds)) how))
   line_at [] at number tenant place lines h got there = cc
   line_at (d ∷ ds) at number tenant place [] h got there = absurd h
   line_at (d ∷ ds) zero number tenant place (line ∷ lines) h got there =
-      let call : d ≡ Call tenant place invocation = cc in
+      let call : d ≡ Call tenant place retired invocation = cc in
       let (how, goes, is) = subst (λ (x : Directive). IsLine limits modules number x line) call h.0 in
       let both : Some goes.bytes ≡ Some bytes = sym goes.there ∙ there in
       let same : goes.bytes ≡ bytes = cc in
       let none : number ≡ number + 0 = omega arith in (
         how,
-        subst (λ (b : List ℕ). IsCallLine limits b invocation how) same goes.goes,
+        subst (λ (b : List ℕ). IsCallLine limits b retired invocation how) same goes.goes,
         ap (λ (l : ReportLine). Some l) is ∙ ap (λ (n : ℕ). Some (report.Call n how)) none,
       )
   line_at (d ∷ ds) (suc at) number tenant place (line ∷ lines) h got there =

@@ -1,10 +1,9 @@
 -- The lines of a report, one after the other.
-use Rattle.std.proofs.Common.{◌≡◌, ℕ, zero, suc, ◌+◌, ◌<◌, ◌≤◌, List, [], ◌∷◌, ◌++◌, Option, None, Some, length, map, drop, refl, sym, ap, ◌∙◌, subst, arith, append_assoc, append-nil, drop-cons, length-drop}
-use Rattle.std.proofs.lemmas.Option.{get_or_from_slice_get, slice_get_within}
+use Rattle.std.proofs.Common.{◌≡◌, ℕ, zero, suc, ◌+◌, ◌<◌, ◌≤◌, Bool, List, [], ◌∷◌, ◌++◌, Option, None, Some, length, map, drop, refl, sym, ap, ◌∙◌, subst, arith, append_assoc, append-nil, length-drop}
 use Rattle.std.specs.Prelude.{slice_get}
 use Rattle.request_text.specs.declared.invocation.Invocation.{Invocation}
 use Rattle.request_text.specs.declared.request.Directive.{Directive}
-use Rattle.request_text.specs.declared.request.Directive.TheVariants.{Module, Call}
+use Rattle.request_text.specs.declared.request.Directive.TheVariants.{Module, Call, Retire}
 use Rattle.request_text.specs.declared.request.TheConstants.{MOST_CALLS}
 use Rattle.report_text.specs.declared.report.CallLine.{CallLine}
 use Rattle.report_text.specs.declared.report.ReportLine.{ReportLine}
@@ -12,18 +11,13 @@ use Rattle.request_text.specs.Text.{call_count, modules_of}
 use Rattle.host_report.specs.Answers.{AreAnswers}
 use Rattle.host_report.specs.Collected.{AreCollected}
 use Rattle.host_report.specs.Report.{AreLines, Limits}
-use Rattle.host_report.specs.Entries.{AreEntries, Entry, IsEntry, entry_line}
+use Rattle.host_report.specs.Entries.{AreEntries, Entry, entry_line}
 use Rattle.host_report.specs.Lines.{HasSource, ShowsNext, board_after, counts_after}
 use Rattle.host_report.specs.declared.reporting.Counts.{Counts}
 use Rattle.report_text.specs.declared.report.ReportLine.TheVariants as report
 use Rattle.host_report.proofs.BoardLemmas.{got_set_other}
-use Rattle.host_report.proofs.CallLemmas.{call_count-call, call_count-module}
+use Rattle.host_report.proofs.PlaceLemmas.{call_count-call, call_count-module, call_count-retire, drop_got}
 use Rattle.host_report.proofs.EntryLemmas.{entry_told}
-
-drop_got : {A : Type 0} (xs : List A) (n : ℕ) (x : A) → slice_get xs n ≡ Some x → drop n xs ≡ x ∷ drop (n + 1) xs
-drop_got {A = A} xs n x got =
-    let one : suc n ≡ n + 1 = omega arith in
-    drop-cons xs n x (slice_get_within xs n x got) ∙ ap (λ (y : A). y ∷ drop (suc n) xs) (get_or_from_slice_get xs n x x got) ∙ ap (λ (k : ℕ). x ∷ drop k xs) one
 
 within : {A : Type 0} (xs : List A) (n : ℕ) → 0 < length (drop n xs) → n < length xs
 within xs n some = omega (arith, length-drop n xs)
@@ -32,10 +26,10 @@ some_entries : (limits : Limits) (bytes : List ℕ) (modules : List (List ℕ)) 
 some_entries limits bytes modules [] h = absurd h
 some_entries limits bytes modules (e ∷ entries) h = omega arith
 
-some_answers : (limits : Limits) (modules : List (List ℕ)) (tenant place : ℕ) (invocation : Invocation) (ds : List Directive) (answers : List CallLine)
-    → AreAnswers limits modules (Call tenant place invocation ∷ ds) answers → 0 < length answers
-some_answers limits modules tenant place invocation ds [] h = absurd h
-some_answers limits modules tenant place invocation ds (how ∷ answers) h = omega arith
+some_answers : (limits : Limits) (modules : List (List ℕ)) (tenant place : ℕ) (retired : Bool) (invocation : Invocation) (ds : List Directive) (answers : List CallLine)
+    → AreAnswers limits modules (Call tenant place retired invocation ∷ ds) answers → 0 < length answers
+some_answers limits modules tenant place retired invocation ds [] h = absurd h
+some_answers limits modules tenant place retired invocation ds (how ∷ answers) h = omega arith
 
 -- each of these lines on a board that has all
 lines_at : (lines : List CallLine) (i : ℕ) → i < length lines → (line : CallLine) × (slice_get (map (λ (l : CallLine). Some l) lines) i ≡ Some (Some line)) × (slice_get lines i ≡ Some line)
@@ -73,18 +67,19 @@ module _ (limits : Limits) (whole : List Directive) (entries : List Entry) (answ
       rw append-nil at (k.completes [] refl)
 
   -- the line of the next call, on the board and among all
-  call_here : (tenant place : ℕ) (invocation : Invocation) (more : List Directive) (board : Lines) (counts : Counts) (lines : List ReportLine) → LinesLeft limits whole (Call tenant place invocation ∷ more) entries answers board counts lines
+  call_here : (tenant place : ℕ) (retired : Bool) (invocation : Invocation) (more : List Directive) (board : Lines) (counts : Counts) (lines : List ReportLine) → LinesLeft limits whole (Call tenant place retired invocation ∷ more) entries answers board counts lines
       → (how : CallLine) × (slice_get board counts.calls ≡ Some (Some how)) × (slice_get answers counts.calls ≡ Some how)
-  call_here tenant place invocation more board counts lines h =
-      let (how, on, among) = lines_at answers counts.calls (within answers counts.calls (some_answers limits (modules_of whole) tenant place invocation more (drop counts.calls answers) h.answers_left)) in
+  call_here tenant place retired invocation more board counts lines h =
+      let (how, on, among) = lines_at answers counts.calls (within answers counts.calls (some_answers limits (modules_of whole) tenant place retired invocation more (drop counts.calls answers) h.answers_left)) in
       (how, h.on_board counts.calls (omega arith) ∙ on, among)
 
   source_here : (d : Directive) (more : List Directive) (board : Lines) (counts : Counts) (lines : List ReportLine) → LinesLeft limits whole (d ∷ more) entries answers board counts lines
       → HasSource counts entries board d
   source_here (Module name bytes) more board counts lines h = within entries counts.modules (some_entries limits bytes (modules_of more) (drop counts.modules entries) h.entries_left)
-  source_here (Call tenant place invocation) more board counts lines h =
-      let (how, on, among) = call_here tenant place invocation more board counts lines h in
-      let f = h.few in ((how, on), omega (arith, call_count-call tenant place invocation more))
+  source_here (Retire place name) more board counts lines h = tt
+  source_here (Call tenant place retired invocation) more board counts lines h =
+      let (how, on, among) = call_here tenant place retired invocation more board counts lines h in
+      let f = h.few in ((how, on), omega (arith, call_count-call tenant place retired invocation more))
 
   line_here : (d : Directive) (more : List Directive) (board : Lines) (counts : Counts) (lines : List ReportLine) (line : ReportLine) → ShowsNext counts entries board d line
       → LinesLeft limits whole (d ∷ more) entries answers board counts lines → LinesLeft limits whole more entries answers (board_after counts board d) (counts_after counts d) (lines ++ line ∷ [])
@@ -98,18 +93,25 @@ module _ (limits : Limits) (whole : List Directive) (entries : List Entry) (answ
         few = (let f = h.few in omega (arith, call_count-module name bytes more));
         completes = λ others g. rw append_assoc (h.completes (line ∷ others) ((entry_line entry, entry_told limits bytes entry left.0, is), g));
       }
-  line_here (Call tenant place invocation) more board counts lines line (how, got, is) h =
-      let (how', on, among) = call_here tenant place invocation more board counts lines h in
+  line_here (Retire place name) more board counts lines line is h = record {
+    entries_left = h.entries_left;
+    answers_left = h.answers_left;
+    on_board = h.on_board;
+    few = (let f = h.few in omega (arith, call_count-retire place name more));
+    completes = λ others g. rw append_assoc (h.completes (line ∷ others) (is, g));
+  }
+  line_here (Call tenant place retired invocation) more board counts lines line (how, got, is) h =
+      let (how', on, among) = call_here tenant place retired invocation more board counts lines h in
       let both : Some (Some how') ≡ Some (Some how) = sym on ∙ got in
       let same : how' ≡ how = cc in
-      let left : AreAnswers limits (modules_of whole) (Call tenant place invocation ∷ more) (how' ∷ drop (counts.calls + 1) answers) =
-      subst (λ (hs : List CallLine). AreAnswers limits (modules_of whole) (Call tenant place invocation ∷ more) hs) (drop_got answers counts.calls how' among) h.answers_left in
+      let left : AreAnswers limits (modules_of whole) (Call tenant place retired invocation ∷ more) (how' ∷ drop (counts.calls + 1) answers) =
+      subst (λ (hs : List CallLine). AreAnswers limits (modules_of whole) (Call tenant place retired invocation ∷ more) hs) (drop_got answers counts.calls how' among) h.answers_left in
       let is' : line ≡ report.Call (counts.calls + 1) how' = is ∙ ap (λ (l : CallLine). report.Call (counts.calls + 1) l) (sym same) in
       record {
         entries_left = h.entries_left;
         answers_left = left.1;
         on_board = λ j above. got_set_other board counts.calls j None (λ (e : counts.calls ≡ j). absurd (omega arith)) ∙ h.on_board j (omega arith);
-        few = (let f = h.few in omega (arith, call_count-call tenant place invocation more));
+        few = (let f = h.few in omega (arith, call_count-call tenant place retired invocation more));
         completes = λ others g. rw append_assoc (h.completes (line ∷ others) ((how', left.0, is'), g));
       }
 

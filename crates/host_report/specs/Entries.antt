@@ -1,6 +1,6 @@
 -- What became of the module lines of a request file.
 use Rattle.wasm_types.specs.declared.outcome.NoMemory.{NoMemory}
-use Rattle.std.specs.Prelude.{◌≡◌, ℕ, List, [], ◌∷◌, Result, Ok, Err, IsErr}
+use Rattle.std.specs.Prelude.{◌≡◌, ◌<◌, ◌≤◌, ℕ, ◌+◌, length, slice_get, Some, List, [], ◌∷◌, ◌++◌, Result, Ok, Err, IsErr}
 use Rattle.module_store.specs.declared.fault.LoadFault.{LoadFault}
 use Rattle.module_store.specs.declared.fault.LoadFault.TheVariants as fault
 use Rattle.wasm_spec.specs.Loading.{Loads, Refusal}
@@ -39,3 +39,27 @@ AreEntries limits _ _ = ⊥
 abbrev pub entry_line : Entry → ModuleLine
 entry_line (Ok named) = module_line.Accepted
 entry_line (Err line) = line
+
+-- ---- the tags of accepted modules
+
+-- the tag that an entry took at the desk: an accepted module has the next one
+abbrev pub TakesTag : (before after : ℕ) → Entry → Type 0
+TakesTag before after (Ok named) = (named.tag ≡ before) × (after ≡ before + 1)
+TakesTag before after (Err line) = after ≡ before
+
+-- each accepted module has a tag of its own, of those that the desk gave
+pub record AreTagged (entries : List Entry) (desk : ℕ) : Type 0 where
+  pub few : desk ≤ length entries
+  pub given : (place : ℕ) (m : Named) → slice_get entries place ≡ Some (Ok m) → m.tag < desk
+  pub own : (i j : ℕ) (m n : Named) → slice_get entries i ≡ Some (Ok m) → slice_get entries j ≡ Some (Ok n) → m.tag ≡ n.tag → i ≡ j
+
+-- an entry more, for the module line of these bytes
+pub record IsEntered (limits : Limits) (bytes : List ℕ) (before : List Entry) (desk : ℕ) (after : List Entry) (desk_after : ℕ) : Type 0 where
+  pub entry : Entry
+  pub is_entry : IsEntry limits bytes entry
+  pub tag : TakesTag desk desk_after entry
+  pub after_is : after ≡ before ++ entry ∷ []
+
+-- entries stay where they are
+abbrev pub AreKept : (before after : List Entry) → Type 0
+AreKept before after = (place : ℕ) (entry : Entry) → slice_get before place ≡ Some entry → slice_get after place ≡ Some entry

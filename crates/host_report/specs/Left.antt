@@ -8,7 +8,7 @@ use Rattle.pool_host.specs.declared.passes.Passes.{Passes}
 use Rattle.pool_host.specs.CallWords.{host_answer}
 use Rattle.pool_host.specs.Trails.{AddsTrails}
 use Rattle.request_text.specs.declared.request.Directive.{Directive}
-use Rattle.request_text.specs.declared.request.Directive.TheVariants.{Module, Call}
+use Rattle.request_text.specs.declared.request.Directive.TheVariants.{Module, Call, Retire}
 use Rattle.report_text.specs.declared.report.CallLine.{CallLine}
 use Rattle.host_report.specs.Entries.{Entry}
 use Rattle.host_report.specs.Put.{module_at}
@@ -29,5 +29,6 @@ module _ {N : Type 0} (config : Numbers) (lane : Host N) where
   abbrev pub MadeLeft : List Entry → (board : List (Option CallLine)) → ℕ → List Directive → (before after : Passes N) → Type 0
   MadeLeft entries board at [] before after = after ≡ before
   MadeLeft entries board at (Module name bytes ∷ requests) before after = MadeLeft entries board at requests before after
-  MadeLeft entries board at (Call tenant place invocation ∷ requests) before after = (between : Passes N)
+  MadeLeft entries board at (Retire place name ∷ requests) before after = MadeLeft entries board at requests before after
+  MadeLeft entries board at (Call tenant place retired invocation ∷ requests) before after = (between : Passes N)
       × MadeIfLeft (slice_get board at) (module_at entries place) before between × MadeLeft entries board (at + 1) requests between after

@@ -6,3 +6,4 @@ pub mod Left
 pub mod Lines
 pub mod Put
 pub mod Report
+pub mod Rounds

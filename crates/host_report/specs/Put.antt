@@ -3,7 +3,7 @@ use Rattle.std.specs.Prelude.{◌≡◌, ℕ, ◌+◌, List, [], ◌∷◌, ◌+
 use Rattle.job_queue.specs.declared.accounts.Account.{Account}
 use Rattle.pool_worlds.specs.Contents.{Named}
 use Rattle.request_text.specs.declared.request.Directive.{Directive}
-use Rattle.request_text.specs.declared.request.Directive.TheVariants.{Module, Call}
+use Rattle.request_text.specs.declared.request.Directive.TheVariants.{Module, Call, Retire}
 use Rattle.due_calls.specs.Entries.{Pair}
 use Rattle.host_report.specs.Entries.{Entry}
 
@@ -20,11 +20,12 @@ module_at entries place = option_and_then module_of (slice_get entries place)
 abbrev pub pairs_from : List Entry → ℕ → List Directive → List Pair
 pairs_from entries number [] = []
 pairs_from entries number (Module name bytes ∷ requests) = pairs_from entries number requests
-pairs_from entries number (Call tenant place invocation ∷ requests) = (number, module_at entries place) ∷ pairs_from entries (number + 1) requests
+pairs_from entries number (Call tenant place retired invocation ∷ requests) = (number, module_at entries place) ∷ pairs_from entries (number + 1) requests
+pairs_from entries number (Retire place name ∷ requests) = pairs_from entries number requests
 
--- all calls, and then a 0 for each worker
-abbrev pub pairs_put : List Entry → List Directive → ℕ → List Pair
-pairs_put entries requests workers = pairs_from entries 1 requests ++ replicate workers (0, None)
+-- the calls among them, and then a 0 for each worker
+abbrev pub pairs_put : List Entry → (first : ℕ) → List Directive → (workers : ℕ) → List Pair
+pairs_put entries first requests workers = pairs_from entries first requests ++ replicate workers (0, None)
 
 -- a pass that had put nothing put these pairs, and was given nothing
 pub record HasPut (pairs : List Pair) (before after : Account (Option Named)) : Type 0 where

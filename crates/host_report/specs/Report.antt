@@ -1,7 +1,7 @@
 -- The report on a request file: one line for each directive, in file order.
 use Rattle.wasm_types.specs.declared.limits.RunLimits.{RunLimits}
 use Rattle.wasm_types.specs.declared.limits.LoadLimits.{LoadLimits}
-use Rattle.std.specs.Prelude.{◌≡◌, ℕ, ◌+◌, List, [], ◌∷◌, Option, Some, Result, Ok, Err, slice_get}
+use Rattle.std.specs.Prelude.{◌≡◌, ℕ, ◌+◌, Bool, true, false, List, [], ◌∷◌, Option, Some, Result, Ok, Err, slice_get}
 use Rattle.wasm_types.specs.declared.outcome.Outcome.TheVariants as outcome
 use Rattle.request_text.specs.declared.invocation.Invocation.{Invocation}
 use Rattle.wasm_types.specs.declared.profile.Profile.{Profile}
@@ -10,10 +10,10 @@ use Rattle.wasm_spec.specs.Loading as loading
 use Rattle.wasm_spec.specs.Loading.{Loads, Refusal}
 use Rattle.pool_host.specs.declared.lane.LaneAnswer.{LaneAnswer}
 use Rattle.pool_host.specs.declared.lane.LaneAnswer.TheVariants as answer
-use Rattle.pool_host.specs.CallWords.{IsAnswer}
+use Rattle.pool_host.specs.CallWords.{IsAnswer, is_retired}
 use Rattle.pool_limits.specs.declared.numbers.Numbers.{Numbers}
 use Rattle.request_text.specs.declared.request.Directive.{Directive}
-use Rattle.request_text.specs.declared.request.Directive.TheVariants.{Module, Call}
+use Rattle.request_text.specs.declared.request.Directive.TheVariants.{Module, Call, Retire}
 use Rattle.report_text.specs.declared.report.ModuleLine.{ModuleLine}
 use Rattle.report_text.specs.declared.report.ModuleLine.TheVariants as module_line
 use Rattle.report_text.specs.declared.report.CallLine.{CallLine}
@@ -64,40 +64,46 @@ answer_line (answer.Done (outcome.Done value)) (Some bytes) = call_line.Sent val
 answer_line (answer.Done end) shown = call_line.Done end
 answer_line answer.NoExport shown = call_line.NoExport
 answer_line answer.BadArgs shown = call_line.BadArgs
+answer_line answer.Retired shown = call_line.Retired
 
--- how a call goes whose module was loaded so
-abbrev pub ShowsCall : Limits → Result ModuleTree Refusal → Invocation → CallLine → Type 0
-ShowsCall limits (Err refusal) invocation line = line ≡ call_line.NoModule
-ShowsCall limits (Ok m) invocation line =
+-- How a call goes whose module was loaded so. Where the module is retired it is refused, whatever is asked of it, and else it is answered as
+-- a module that isn't retired answers.
+abbrev pub ShowsCall : Limits → (retired : Bool) → Result ModuleTree Refusal → Invocation → CallLine → Type 0
+ShowsCall limits retired (Err refusal) invocation line = line ≡ call_line.NoModule
+ShowsCall limits true (Ok m) invocation line = line ≡ call_line.Retired
+ShowsCall limits false (Ok m) invocation line =
     (a : LaneAnswer) × (bytes : List ℕ)
     × IsAnswer m (run_limits limits) invocation.export invocation.args (sent_by invocation) invocation.fuel a bytes
-    × (line ≡ answer_line a (shown_of invocation bytes))
+    × (is_retired a ≡ false) × (line ≡ answer_line a (shown_of invocation bytes))
 
--- how a call goes: this is fixed by the limits, its profile of WebAssembly, the bytes of its module, and what is asked of it
-pub record IsCallLine (limits : Limits) (bytes : List ℕ) (invocation : Invocation) (line : CallLine) : Type 0 where
+-- How a call goes: this is fixed by the limits, its profile of WebAssembly, the bytes of its module, whether the module is retired before it, and
+-- what is asked of it.
+pub record IsCallLine (limits : Limits) (bytes : List ℕ) (retired : Bool) (invocation : Invocation) (line : CallLine) : Type 0 where
   pub loaded : Result ModuleTree Refusal
   pub loads : Loads limits.profile bytes (load_limits limits) loaded
-  pub shows : ShowsCall limits loaded invocation line
+  pub shows : ShowsCall limits retired loaded invocation line
 
 -- ---- all lines
 
--- how the call of the module at this place among the module lines goes
-pub record GoesAs (limits : Limits) (modules : List (List ℕ)) (place : ℕ) (invocation : Invocation) (how : CallLine) : Type 0 where
+-- how the call of the module at this place among the module lines goes, where it is retired or not
+pub record GoesAs (limits : Limits) (modules : List (List ℕ)) (place : ℕ) (retired : Bool) (invocation : Invocation) (how : CallLine) : Type 0 where
   pub bytes : List ℕ
   pub there : slice_get modules place ≡ Some bytes
-  pub goes : IsCallLine limits bytes invocation how
+  pub goes : IsCallLine limits bytes retired invocation how
 
 -- the line of a directive, which has this number if it is a call
 abbrev pub IsLine : Limits → (modules : List (List ℕ)) → (number : ℕ) → Directive → ReportLine → Type 0
 IsLine limits modules number (Module name bytes) line =
     (how : ModuleLine) × IsModuleLine limits bytes how × (line ≡ report.Module name how)
-IsLine limits modules number (Call tenant place invocation) line =
-    (how : CallLine) × GoesAs limits modules place invocation how × (line ≡ report.Call number how)
+IsLine limits modules number (Call tenant place retired invocation) line =
+    (how : CallLine) × GoesAs limits modules place retired invocation how × (line ≡ report.Call number how)
+IsLine limits modules number (Retire place name) line = line ≡ report.Retired name
 
 -- the number of the first call after a directive
 abbrev pub next_number : ℕ → Directive → ℕ
 next_number number (Module name bytes) = number
-next_number number (Call tenant place invocation) = number + 1
+next_number number (Call tenant place retired invocation) = number + 1
+next_number number (Retire place name) = number
 
 -- the lines of these directives, one of each, the first call among which has this number
 abbrev pub AreLines : Limits → (modules : List (List ℕ)) → (number : ℕ) → List Directive → List ReportLine → Type 0

@@ -1,14 +1,16 @@
-//! The calls of a request file, and those of them that the lane makes.
-ghost use Rattle.std.specs.Prelude.{◌≡◌, ◌-◌, ◌<◌, ◌≤◌, ℕ, List, IfOk, IfSome, OnOk, Some, is_none, length, slice_get};
+//! The calls of a round, and those of them that the lane makes.
+ghost use Rattle.std.specs.Prelude.{◌≡◌, ◌-◌, ◌<◌, ◌≤◌, ℕ, List, false, IfOk, IfSome, OnOk, Some, is_none, length, slice_get};
 ghost use Rattle.wasm_types.specs.declared.profile.Profile.{Profile};
-ghost use Rattle.request_text.specs.Text.{modules_of};
-ghost use Rattle.host_report.specs.Answers.{AreAnswers};
-ghost use Rattle.host_report.specs.Collected.{AreCollected, IsBoard, lines_on};
-ghost use Rattle.host_report.specs.Entries.{AreEntries, IsEntry};
+ghost use Rattle.retired_tags.specs.Passes.{steps};
+ghost use Rattle.retired_tags.specs.Steps.{HasSet};
+ghost use Rattle.pool_worlds.specs.Contents.{Named};
+ghost use Rattle.host_report.specs.Entries.{IsEntry};
 ghost use Rattle.host_report.specs.Left.{MadeLeft, MadeOnLane};
 ghost use Rattle.host_report.specs.Put.{module_of};
 ghost use Rattle.host_report.specs.Report.{IsCallLine, answer_line, limits_in};
+ghost use Rattle.host_report.specs.Rounds.{AreEntered, AreRetired, HasLines, IsSpan, calls_to, directives_in};
 
+use crate::books::{Books, Span};
 use crate::collecting::collect;
 use crate::modules::Entry;
 use host_edge::Gate;
@@ -29,23 +31,27 @@ pub(crate) fn answer_line(answer: LaneAnswer, shown: Option<Items<u8>>) -> CallL
         (LaneAnswer::Done(outcome), _) => CallLine::Done(outcome),
         (LaneAnswer::NoExport, _) => CallLine::NoExport,
         (LaneAnswer::BadArgs, _) => CallLine::BadArgs,
+        (LaneAnswer::Retired, _) => CallLine::Retired,
     }
 }
 
-// How a call of the entry's module goes. The gate is told of it by its number.
+// How a call of the entry's module goes, where it is retired before it or not. The gate is told of it by its number.
 fn call_line<N: Naming, G: Gate>(
     alloc: Global,
     store: &ModuleStore<N>,
     entry: &Entry<N>,
+    retired: bool,
     asked: &Invocation,
     number: u64,
     lane: &mut LaneHost<N>,
     gate: &G,
 ) -> Result<CallLine, NoMemory>
+    requires { (m : Named) → module_of entry.now ≡ Some m → retired ≡ false → HasSet m.tag (steps lane.old.pass.retired) → ⊥ }
     ensures lane { lane.new.host ≡ lane.old.host }
+    ensures tags { (tag : ℕ) → HasSet tag (steps lane.new.pass.retired) → HasSet tag (steps lane.old.pass.retired) }
     ensures made { MadeOnLane N.config lane.old.host (module_of entry.now) lane.old.pass.passes lane.new.pass.passes }
     ensures line { (profile : Profile) (bytes : List ℕ) → IsEntry (limits_in profile N.config) bytes entry.now
-        → IfOk result (IsCallLine (limits_in profile N.config) bytes asked.now) }
+        → IfOk result (IsCallLine (limits_in profile N.config) bytes retired asked.now) }
 {
     match entry {
         Ok(module) => {
@@ -53,6 +59,9 @@ fn call_line<N: Naming, G: Gate>(
             let request = asked.sent();
             let fuel = asked.fuel as u64;
             let answer = lane.send(store, module, export, args, request, fuel, number, gate);
+            if retired {
+                return Ok(CallLine::Retired);
+            }
             let shown = asked.shown(alloc, lane.answer())?;
             Ok(answer_line(answer, shown))
         }
@@ -76,37 +85,53 @@ fn is_left(board: &Board, number: u32) -> bool
     board.lines()[number as usize - 1].is_none()
 }
 
-// Makes each call of which the board has no line on the lane, in file order, and no other. The board then has the line of each,
-// unless memory was refused.
+// Makes each call of a round of which the board has no line on the lane, in file order, and no other. The board then has the line of
+// each, unless memory was refused.
 pub(crate) fn make_left<N: Naming, G: Gate>(
     alloc: Global,
     store: &ModuleStore<N>,
     requests: &Requests,
-    entries: &[Entry<N>],
-    board: &mut Board,
+    span: Span,
+    books: &mut Books<N>,
     lane: &mut LaneHost<N>,
     gate: &G,
 ) -> Result<(), NoMemory>
-    requires entries { AreEntries (limits_in requests.now.profile N.config) (modules_of requests.now.directives) entries.now }
-    requires board { IsBoard (limits_in requests.now.profile N.config) requests.now.directives board.old }
-    ensures all { OnOk result (AreCollected board.new (lines_on board.new)) }
-    ensures right { OnOk result (AreAnswers (limits_in requests.now.profile N.config) (modules_of requests.now.directives) requests.now.directives (lines_on board.new)) }
+    requires span { IsSpan requests.now.directives span }
+    requires entered { AreEntered (limits_in requests.now.profile N.config) requests.now.directives span.to books.old.registry.entries.items books.old.registry.desk }
+    requires lines { HasLines (limits_in requests.now.profile N.config) requests.now.directives span.calls (calls_to requests.now.directives span) books.old.board }
+    requires tags { AreRetired books.old.registry.entries.items requests.now.directives span.from (steps lane.old.pass.retired) }
+    ensures registry { books.new.registry ≡ books.old.registry }
+    ensures lines { IfOk result (λ _. HasLines (limits_in requests.now.profile N.config) requests.now.directives
+        (calls_to requests.now.directives span) (calls_to requests.now.directives span) books.new.board) }
     ensures lane { lane.new.host ≡ lane.old.host }
-    ensures made { OnOk result (MadeLeft N.config lane.old.host entries.now board.old 0 requests.now.directives lane.old.pass.passes lane.new.pass.passes) }
+    ensures tags { (tag : ℕ) → HasSet tag (steps lane.new.pass.retired) → HasSet tag (steps lane.old.pass.retired) }
+    ensures made { OnOk result (MadeLeft N.config lane.old.host books.old.registry.entries.items books.old.board span.calls (directives_in requests.now.directives span)
+        lane.old.pass.passes lane.new.pass.passes) }
 {
     let directives = requests.directives();
-    let mut number = 0u32;
-    for directive in directives {
+    let Books { registry, board } = books;
+    let mut number = span.calls;
+    for at in span.from..span.to {
         if let Directive::Call {
             module,
+            retired,
             invocation,
             ..
-        } = directive
+        } = &directives[at]
         {
             number += 1;
-            let entry = entry_at(entries, *module);
+            let entry = entry_at(&registry.entries, *module);
             if is_left(board, number) {
-                let line = call_line(alloc, store, entry, invocation, number as u64, lane, gate)?;
+                let line = call_line(
+                    alloc,
+                    store,
+                    entry,
+                    *retired,
+                    invocation,
+                    number as u64,
+                    lane,
+                    gate,
+                )?;
                 collect(board, number, line);
             }
         }

@@ -1,26 +1,28 @@
 //! The board collects the lines of calls.
-ghost use Rattle.std.specs.Prelude.{◌≡◌, ◌-◌, ℕ, None, Some, MatchOption, length, replicate, slice_get, slice_set};
-ghost use Rattle.report_text.specs.declared.report.CallLine.{CallLine};
+ghost use Rattle.std.specs.Prelude.{◌≡◌, ◌-◌, ◌<◌, ◌≤◌, All, Some, MatchOption, length, slice_set};
 ghost use Rattle.job_queue.specs.Boards.{IsOpen};
-ghost use Rattle.host_report.specs.Collected.{AreOfCalls, HasLinesOf, IsOfWorked, line_of};
+ghost use Rattle.due_calls.specs.Entries.{AreNumbered};
+ghost use Rattle.host_report.specs.Collected.{AreToCollect, IsCollected, line_made, line_of};
 
 use crate::calls::answer_line;
-use due_calls::Worked;
+use due_calls::{Due, Worked, due_at};
 use job_queue::Board;
 use pool_host::{Answer, LaneAnswer};
 use report_text::CallLine;
 use wasm_types::Items;
 
-// The line of a call that a worker made, or none where it was answered Full.
-fn line_of(answer: Option<Answer>, shown: Option<Items<u8>>) -> Option<CallLine>
-    ensures { result ≡ line_of answer shown }
+// The line of a call that a worker made, whose module is retired before it or not. There is none where it was answered Full, or
+// Retired before a retire line of its module.
+fn line_of(retired: bool, answer: Option<Answer>, shown: Option<Items<u8>>) -> Option<CallLine>
+    ensures { result ≡ line_of retired answer shown }
 {
-    match answer {
-        None => Some(CallLine::NoModule),
-        Some(Answer::Done(outcome)) => Some(answer_line(LaneAnswer::Done(outcome), shown)),
-        Some(Answer::NoExport) => Some(CallLine::NoExport),
-        Some(Answer::BadArgs) => Some(CallLine::BadArgs),
-        Some(Answer::Full(_)) => None,
+    match (answer, retired) {
+        (None, _) => Some(CallLine::NoModule),
+        (Some(_), true) => Some(CallLine::Retired),
+        (Some(Answer::Done(outcome)), false) => Some(answer_line(LaneAnswer::Done(outcome), shown)),
+        (Some(Answer::NoExport), false) => Some(CallLine::NoExport),
+        (Some(Answer::BadArgs), false) => Some(CallLine::BadArgs),
+        (Some(Answer::Retired | Answer::Full(_)), false) => None,
     }
 }
 
@@ -34,29 +36,31 @@ pub(crate) fn collect(board: &mut Board, number: u32, line: CallLine)
 }
 
 // Collects the line of a call that a worker made, if it has one.
-fn collect_worked(board: &mut Board, worked: Worked)
-    requires { IsOpen board.old worked.number }
-    ensures { MatchOption (line_of worked.answer worked.bytes) (board.new ≡ board.old) (λ line. board.new ≡ slice_set board.old (worked.number - 1) (Some line)) }
+fn collect_worked(board: &mut Board, calls: &[Due], worked: Worked)
+    requires numbered { AreNumbered calls.now }
+    requires there { (0 < worked.number) × (worked.number ≤ length calls.now) }
+    requires open { IsOpen board.old worked.number }
+    ensures { MatchOption (line_made calls.now worked) (board.new ≡ board.old) (λ line. board.new ≡ slice_set board.old (worked.number - 1) (Some line)) }
 {
     let Worked {
         number,
         answer,
         bytes,
     } = worked;
-    if let Some(line) = line_of(answer, bytes) {
+    let retired = due_at(calls, number).retired;
+    if let Some(line) = line_of(retired, answer, bytes) {
         collect(board, number, line);
     }
 }
 
-// Collects the line of each call that workers made. Those that were answered Full have none.
-pub(crate) fn collect_all(board: &mut Board, worked: Vec<Worked>)
-    requires calls { AreOfCalls (length board.old) worked.items }
-    requires none { board.old ≡ replicate (length board.old) None }
-    ensures many { length board.new ≡ length board.old }
-    ensures lines { (at : ℕ) (line : CallLine) → slice_get board.new at ≡ Some (Some line) → IsOfWorked worked.items at line }
-    ensures all { HasLinesOf worked.items board.new }
+// Collects the line of each of these calls that workers made, if it has one.
+pub(crate) fn collect_all(board: &mut Board, calls: &[Due], worked: Vec<Worked>)
+    requires numbered { AreNumbered calls.now }
+    requires many { length board.old ≤ length calls.now }
+    requires worked { AreToCollect board.old worked.items }
+    ensures { IsCollected calls.now worked.items board.old board.new }
 {
     for one in worked {
-        collect_worked(board, one);
+        collect_worked(board, calls, one);
     }
 }

@@ -10,13 +10,20 @@ use std::alloc::Global;
 use wasm_types::NoMemory;
 
 // A call with a copy of what it asks.
-fn due(alloc: Global, number: u32, tenant: u32, asked: &Invocation) -> Result<Due, NoMemory>
-    ensures { IfOk result (λ due. due ≡ due_of number tenant asked.now) }
+fn due(
+    alloc: Global,
+    number: u32,
+    tenant: u32,
+    retired: bool,
+    asked: &Invocation,
+) -> Result<Due, NoMemory>
+    ensures { IfOk result (λ due. due ≡ due_of number tenant retired asked.now) }
 {
     let invocation = asked.copy(alloc)?;
     Ok(Due {
         number,
         tenant,
+        retired,
         invocation,
     })
 }
@@ -31,12 +38,13 @@ pub(crate) fn dues(alloc: Global, requests: &[Directive]) -> Result<Vec<Due>, No
     for directive in requests {
         if let Directive::Call {
             tenant,
+            retired,
             invocation,
             ..
         } = directive
         {
             number += 1;
-            let call = due(alloc, number, *tenant, invocation)?;
+            let call = due(alloc, number, *tenant, *retired, invocation)?;
             calls.push(call).map_err(|_| NoMemory)?;
         }
     }

@@ -1,5 +1,5 @@
 //! Laws of the definitions, as contracts of functions that do nothing.
-ghost use Rattle.std.specs.Prelude.{◌≡◌, ◌+◌, ℕ, List, Some, slice_get, take};
+ghost use Rattle.std.specs.Prelude.{◌≡◌, ◌+◌, ℕ, Bool, List, Some, slice_get, take};
 ghost use Rattle.request_text.specs.declared.invocation.Invocation.{Invocation};
 ghost use Rattle.pool_limits.specs.declared.numbers.Numbers.{Numbers};
 ghost use Rattle.report_text.specs.declared.report.CallLine.{CallLine};
@@ -22,11 +22,11 @@ pub fn same_module_line()
     loading_has_at_most_one_answer();
 }
 
-/// The line of a call is decided by the limits, its profile of WebAssembly, the bytes of its module, its export, its fuel
-/// and its arguments.
+/// The line of a call is decided by the limits, its profile of WebAssembly, the bytes of its module, whether that is retired
+/// before it, its export, its fuel, its arguments and what it is sent.
 pub fn a_call_has_one_line()
-    ensures { (limits : Limits) (bytes : List ℕ) (invocation : Invocation) (a b : CallLine)
-        → IsCallLine limits bytes invocation a → IsCallLine limits bytes invocation b → a ≡ b }
+    ensures { (limits : Limits) (bytes : List ℕ) (retired : Bool) (invocation : Invocation) (a b : CallLine)
+        → IsCallLine limits bytes retired invocation a → IsCallLine limits bytes retired invocation b → a ≡ b }
 {
     loading_has_at_most_one_answer();
     a_loaded_module_is_within_its_limits();
@@ -47,9 +47,9 @@ pub fn at_most_one_report()
 /// before it.
 pub fn each_call_has_its_line()
     ensures { (numbers : Numbers) (requests : Asked) (lines : List ReportLine)
-        (at tenant place : ℕ) (bytes : List ℕ) (invocation : Invocation)
-        → IsReport numbers requests lines → slice_get requests.directives at ≡ Some (Call tenant place invocation)
+        (at tenant place : ℕ) (retired : Bool) (bytes : List ℕ) (invocation : Invocation)
+        → IsReport numbers requests lines → slice_get requests.directives at ≡ Some (Call tenant place retired invocation)
         → slice_get (modules_of requests.directives) place ≡ Some bytes
-        → (how : CallLine) × IsCallLine (limits_in requests.profile numbers) bytes invocation how
+        → (how : CallLine) × IsCallLine (limits_in requests.profile numbers) bytes retired invocation how
         × (slice_get lines at ≡ Some (LineOfCall (1 + call_count (take at requests.directives)) how)) }
 {}

@@ -1,10 +1,11 @@
 //! The modules of a request file.
-ghost use Rattle.std.specs.Prelude.{◌≡◌, ◌+◌, ◌<◌, ◌≤◌, IfOk, IsErrOf, length};
-ghost use Rattle.request_text.specs.Text.{module_names, modules_of};
+ghost use Rattle.std.specs.Prelude.{◌≡◌, ◌<◌, IfOk, IsErrOf};
 ghost use Rattle.module_store.specs.declared.desk.TheConstants.{MOST_MODULES};
-ghost use Rattle.host_report.specs.Entries.{AreEntries, IsEntry, IsEntryOf, entry_line};
+ghost use Rattle.host_report.specs.Entries.{AreKept, IsEntered, IsEntry, IsEntryOf, TakesTag, entry_line};
 ghost use Rattle.host_report.specs.Report.{limits_in};
+ghost use Rattle.host_report.specs.Rounds.{AreEntered, IsSpan};
 
+use crate::books::{Registry, Span};
 use module_store::{Desk, LoadFault, ModuleRef, ModuleStore, Naming};
 use report_text::ModuleLine;
 use request_text::{Directive, Requests};
@@ -42,8 +43,8 @@ fn entry_of<N: Naming>(loaded: Result<ModuleRef<N>, LoadFault>) -> Result<Entry<
     }
 }
 
-// The entry of a module line.
-pub(crate) fn register<N: Naming, R: Wait>(
+// The entry of a module line. An accepted module takes the next tag.
+fn register<N: Naming, R: Wait>(
     rt: &R,
     alloc: Global,
     store: &ModuleStore<N>,
@@ -53,30 +54,50 @@ pub(crate) fn register<N: Naming, R: Wait>(
 ) -> Result<Entry<N>, NoMemory>
     requires { desk.old < MOST_MODULES }
     ensures entry { IfOk result (λ entry. IsEntry (limits_in profile N.config) bytes.now entry) }
-    ensures desk { desk.new ≤ desk.old + 1 }
+    ensures tag { IfOk result (TakesTag desk.old desk.new) }
 {
     entry_of(store.register(rt, alloc, desk, profile, bytes))
 }
 
-// The entries of all module lines, in their order.
-pub(crate) fn register_all<N: Naming, R: Wait>(
+// Enters a module line more.
+pub(crate) fn enter<N: Naming, R: Wait>(
     rt: &R,
     alloc: Global,
     store: &ModuleStore<N>,
-    desk: &mut Desk<N>,
+    profile: Profile,
+    bytes: &[u8],
+    registry: &mut Registry<N>,
+) -> Result<(), NoMemory>
+    requires { registry.old.desk < MOST_MODULES }
+    ensures { IfOk result (λ _. IsEntered (limits_in profile N.config) bytes.now registry.old.entries.items registry.old.desk registry.new.entries.items registry.new.desk) }
+{
+    let Registry { entries, desk } = registry;
+    entries.reserve(1).map_err(|_| NoMemory)?;
+    let entry = register(rt, alloc, store, desk, profile, bytes)?;
+    entries.push_reserved(entry);
+    Ok(())
+}
+
+// Enters the module lines of a round, of which no call is made yet.
+pub(crate) fn enter_round<N: Naming, R: Wait>(
+    rt: &R,
+    alloc: Global,
+    store: &ModuleStore<N>,
     requests: &Requests,
-) -> Result<Vec<Entry<N>>, NoMemory>
-    requires { desk.old + length (module_names requests.now.directives) ≤ MOST_MODULES }
-    ensures { IfOk result (λ entries. AreEntries (limits_in requests.now.profile N.config) (modules_of requests.now.directives) entries.items) }
+    span: Span,
+    registry: &mut Registry<N>,
+) -> Result<(), NoMemory>
+    requires span { IsSpan requests.now.directives span }
+    requires entered { AreEntered (limits_in requests.now.profile N.config) requests.now.directives span.from registry.old.entries.items registry.old.desk }
+    ensures entered { IfOk result (λ _. AreEntered (limits_in requests.now.profile N.config) requests.now.directives span.to registry.new.entries.items registry.new.desk) }
+    ensures kept { IfOk result (λ _. AreKept registry.old.entries.items registry.new.entries.items) }
 {
     let profile = requests.profile();
     let directives = requests.directives();
-    let mut entries = Vec::new(alloc);
-    for directive in directives {
-        if let Directive::Module { bytes, .. } = directive {
-            let entry = register(rt, alloc, store, desk, profile, bytes.as_slice())?;
-            entries.push(entry).map_err(|_| NoMemory)?;
+    for at in span.from..span.to {
+        if let Directive::Module { bytes, .. } = &directives[at] {
+            enter(rt, alloc, store, profile, bytes.as_slice(), registry)?;
         }
     }
-    Ok(entries)
+    Ok(())
 }

@@ -1,19 +1,20 @@
-//! The calls are put to the queue while modules are still registered.
+//! The calls of a round are put to its queue while its modules are still registered.
 ghost use Rattle.std.specs.Prelude.{◌≡◌, ◌+◌, ◌≤◌, List, [], ◌++◌, IfOk, None, length, replicate};
 ghost use Rattle.job_queue.specs.Accounts.{with_put};
-ghost use Rattle.job_queue.specs.Passes.{IsJobPass, IsPutter, account_of, capacity_of, count_of, put_by};
-ghost use Rattle.request_text.specs.Text.{call_count, modules_of};
+ghost use Rattle.job_queue.specs.Passes.{IsJobPass, IsPutter, account_of, capacity_of, count_of, first_of, put_by};
+ghost use Rattle.request_text.specs.Text.{call_count};
 ghost use Rattle.due_calls.specs.Entries.{Pair};
-ghost use Rattle.host_report.specs.Entries.{AreEntries};
+ghost use Rattle.host_report.specs.Entries.{AreKept};
 ghost use Rattle.host_report.specs.Put.{HasPut, module_of, pairs_from, pairs_put};
 ghost use Rattle.host_report.specs.Report.{limits_in};
+ghost use Rattle.host_report.specs.Rounds.{AreEntered, IsSpan, directives_in};
 
+use crate::books::{Registry, Span};
 use crate::calls::entry_at;
-use crate::modules::{Entry, register};
-use crate::shares::worker_count;
+use crate::modules::{Entry, enter};
 use due_calls::Item;
 use job_queue::{JobPass, Jobs};
-use module_store::{Desk, ModuleStore, Naming};
+use module_store::{ModuleStore, Naming};
 use request_text::{Directive, Requests};
 use std::alloc::Global;
 use std::sync::Wait;
@@ -29,47 +30,49 @@ fn item_of<N: Naming>(entry: &Entry<N>) -> Item<N>
     }
 }
 
-// Registers each module and puts each call, in file order.
+// Enters each module of a round and puts each of its calls, in file order.
 fn put_calls<N: Naming, R: Wait>(
     rt: &R,
     alloc: Global,
     store: &ModuleStore<N>,
-    desk: &mut Desk<N>,
+    requests: &Requests,
+    span: Span,
+    registry: &mut Registry<N>,
     jobs: &Jobs<Item<N>>,
     own: &mut JobPass<Item<N>>,
-    requests: &Requests,
-) -> Result<Vec<Entry<N>>, NoMemory>
-    requires desk { desk.old ≡ 0 }
+) -> Result<(), NoMemory>
+    requires span { IsSpan requests.now.directives span }
+    requires entered { AreEntered (limits_in requests.now.profile N.config) requests.now.directives span.from registry.old.entries.items registry.old.desk }
     requires own { IsJobPass jobs.now own.old }
     requires putter { IsPutter own.old }
     requires none { put_by own.old ≡ [] }
-    requires count { call_count requests.now.directives ≤ count_of jobs.now }
-    requires room { call_count requests.now.directives ≤ capacity_of jobs.now }
+    requires first { first_of jobs.now ≡ span.calls + 1 }
+    requires count { call_count (directives_in requests.now.directives span) ≤ count_of jobs.now }
+    requires room { call_count (directives_in requests.now.directives span) ≤ capacity_of jobs.now }
     ensures own { IsJobPass jobs.now own.new }
     ensures putter { IsPutter own.new }
-    ensures many { length (put_by own.new) ≤ call_count requests.now.directives }
-    ensures entries { IfOk result (λ entries. AreEntries (limits_in requests.now.profile N.config) (modules_of requests.now.directives) entries.items) }
-    ensures put { IfOk result (λ entries. HasPut (pairs_from entries.items 1 requests.now.directives) (account_of own.old) (account_of own.new)) }
+    ensures many { length (put_by own.new) ≤ call_count (directives_in requests.now.directives span) }
+    ensures entered { IfOk result (λ _. AreEntered (limits_in requests.now.profile N.config) requests.now.directives span.to registry.new.entries.items registry.new.desk) }
+    ensures kept { IfOk result (λ _. AreKept registry.old.entries.items registry.new.entries.items) }
+    ensures put { IfOk result (λ _. HasPut (pairs_from registry.new.entries.items (span.calls + 1) (directives_in requests.now.directives span)) (account_of own.old) (account_of own.new)) }
 {
     let profile = requests.profile();
     let directives = requests.directives();
-    let mut entries = Vec::new(alloc);
-    let mut number = 0u32;
-    for directive in directives {
-        match directive {
+    let mut number = span.calls;
+    for at in span.from..span.to {
+        match &directives[at] {
             Directive::Module { bytes, .. } => {
-                entries.reserve(1).map_err(|_| NoMemory)?;
-                let entry = register(rt, alloc, store, desk, profile, bytes.as_slice())?;
-                entries.push_reserved(entry);
+                enter(rt, alloc, store, profile, bytes.as_slice(), registry)?;
             }
             Directive::Call { module, .. } => {
                 number += 1;
-                let item = item_of(entry_at(&entries, *module));
+                let item = item_of(entry_at(&registry.entries, *module));
                 jobs.put(rt, own, number, item);
             }
+            Directive::Retire { .. } => {}
         }
     }
-    Ok(entries)
+    Ok(())
 }
 
 // Puts a 0 for each worker.
@@ -90,36 +93,63 @@ fn put_ends<N: Naming, R: Wait>(
     }
 }
 
-// What is left after all was put: the pass that put it, and the entries of the module lines.
+// What puts a round: the registry of its modules, and the pass of its queue.
+#[derive(Drop)]
+pub(crate) struct Putter<N: Naming> {
+    pub registry: Registry<N>,
+    pub own: JobPass<Item<N>>,
+}
+
+// What is left after all was put: the pass that put it, and the registry with the round's modules.
 #[derive(Drop)]
 pub(crate) struct Put<N: Naming> {
     pub own: JobPass<Item<N>>,
-    pub entries: Result<Vec<Entry<N>>, NoMemory>,
+    pub registry: Result<Registry<N>, NoMemory>,
 }
 
-// Registers each module and puts each call, in file order, and then, also where memory was refused, a 0 for each worker.
+// Enters each module and puts each call, in file order, and then, also where memory was refused, a 0 for each worker.
 pub(crate) fn put_all<N: Naming, R: Wait>(
     rt: &R,
     alloc: Global,
     store: &ModuleStore<N>,
-    mut desk: Desk<N>,
-    jobs: &Jobs<Item<N>>,
-    mut own: JobPass<Item<N>>,
     requests: &Requests,
+    span: Span,
+    jobs: &Jobs<Item<N>>,
+    putter: Putter<N>,
+    workers: u32,
 ) -> Put<N>
-    requires desk { desk ≡ 0 }
-    requires own { IsJobPass jobs.now own }
-    requires putter { IsPutter own }
-    requires none { put_by own ≡ [] }
-    requires count { call_count requests.now.directives ≤ count_of jobs.now }
-    requires room { call_count requests.now.directives + N.config.workers ≤ capacity_of jobs.now }
+    requires span { IsSpan requests.now.directives span }
+    requires entered { AreEntered (limits_in requests.now.profile N.config) requests.now.directives span.from putter.registry.entries.items putter.registry.desk }
+    requires own { IsJobPass jobs.now putter.own }
+    requires putter { IsPutter putter.own }
+    requires none { put_by putter.own ≡ [] }
+    requires first { first_of jobs.now ≡ span.calls + 1 }
+    requires count { call_count (directives_in requests.now.directives span) ≤ count_of jobs.now }
+    requires room { call_count (directives_in requests.now.directives span) + workers ≤ capacity_of jobs.now }
     ensures own { IsJobPass jobs.now result.own }
-    ensures ends { (pairs : List Pair) × (put_by result.own ≡ pairs ++ replicate N.config.workers (0, None)) }
-    ensures entries { IfOk result.entries (λ entries. AreEntries (limits_in requests.now.profile N.config) (modules_of requests.now.directives) entries.items) }
-    ensures put { IfOk result.entries (λ entries. HasPut (pairs_put entries.items requests.now.directives N.config.workers) (account_of own) (account_of result.own)) }
+    ensures ends { (pairs : List Pair) × (put_by result.own ≡ pairs ++ replicate workers (0, None)) }
+    ensures entered { IfOk result.registry (λ r. AreEntered (limits_in requests.now.profile N.config) requests.now.directives span.to r.entries.items r.desk) }
+    ensures kept { IfOk result.registry (λ r. AreKept putter.registry.entries.items r.entries.items) }
+    ensures put { IfOk result.registry (λ r. HasPut (pairs_put r.entries.items (span.calls + 1) (directives_in requests.now.directives span) workers) (account_of putter.own) (account_of result.own)) }
 {
-    let entries = put_calls(rt, alloc, store, &mut desk, jobs, &mut own, requests);
-    let workers = worker_count(store);
+    let Putter {
+        mut registry,
+        mut own,
+    } = putter;
+    let put = put_calls(
+        rt,
+        alloc,
+        store,
+        requests,
+        span,
+        &mut registry,
+        jobs,
+        &mut own,
+    );
     put_ends(rt, jobs, &mut own, workers);
-    Put { own, entries }
+    let registry = match put {
+        Ok(()) => Ok(registry),
+        Err(NoMemory) => Err(NoMemory),
+    };
+    Put { own, registry }
 }

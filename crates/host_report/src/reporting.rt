@@ -9,10 +9,9 @@ ghost use Rattle.host_report.specs.Entries.{AreEntries};
 ghost use Rattle.host_report.specs.Lines.{HasLine, HasSource, ShowsNext, board_after, counts_after};
 ghost use Rattle.host_report.specs.Report.{AreLines, IsReport, limits_in};
 
-use crate::calls::make_left;
+use crate::books::Books;
+use crate::making::make_all;
 use crate::modules::{Entry, entry_line};
-use crate::shares::open_lane;
-use crate::sharing::{Collected, gather};
 use host_edge::Gate;
 use module_store::{Naming, Opened};
 use pool_limits::PoolConfig;
@@ -70,6 +69,11 @@ fn next_line<N: Naming>(
             let number = counts.calls;
             Ok(ReportLine::Call { number, line })
         }
+        Directive::Retire { name, module: _ } => {
+            let name = name.as_slice().to_vec(alloc).map_err(|_| NoMemory)?;
+            let name = Items::new(name);
+            Ok(ReportLine::Retired { name })
+        }
     }
 }
 
@@ -98,8 +102,8 @@ fn lines<N: Naming>(
     Ok(lines)
 }
 
-// The report under the store's configuration: the modules are loaded, several workers make the calls meanwhile, the lane
-// makes those that are left, and then there is a line for each directive.
+// The report under the store's configuration: the modules are loaded and the calls are made, and then there is a line for each
+// directive.
 fn report_in<N: Naming + Send + Sync, R: Threads + Wait + Sync, G: Gate>(
     rt: &R,
     alloc: Global,
@@ -113,13 +117,9 @@ fn report_in<N: Naming + Send + Sync, R: Threads + Wait + Sync, G: Gate>(
     ensures { IfOk result (λ lines. AreLines (limits_in requests.now.profile N.config) (modules_of requests.now.directives) 1 requests.now.directives lines.items) }
 {
     let (store, desk) = opened.named::<N>();
-    let Collected { entries, mut board } = gather(rt, alloc, &store, desk, slice, requests, gate)?;
-    let mut lane = open_lane(alloc, &store)?;
-    make_left(
-        alloc, &store, requests, &entries, &mut board, &mut lane, gate,
-    )?;
+    let Books { registry, board } = make_all(rt, alloc, &store, desk, slice, requests, gate)?;
     let mut board = board.into_lines();
-    lines(alloc, requests, &entries, &mut board)
+    lines(alloc, requests, &registry.entries, &mut board)
 }
 
 /// The report on what a request file asks for that was read under this configuration. Several workers make calls in slices of so many

@@ -3,7 +3,7 @@ ghost use Rattle.std.specs.Prelude.{[], ◌≡◌, ◌≢◌, ◌+◌, ◌^◌, 
 ghost use Rattle.due_calls.specs.Entries.{AreNumbered, IsOfTenants};
 ghost use Rattle.call_workers.specs.Crews.{IsNewCrew};
 ghost use Rattle.slice_workers.specs.Crews.{IsNewSliceCrew};
-ghost use Rattle.pool_host.specs.Hosts.{HasShare, IsShare};
+ghost use Rattle.pool_host.specs.Hosts.{HasShare, IsNewHostPass, IsShare};
 ghost use Rattle.pool_limits.specs.Plans.{plan_fault};
 ghost use Rattle.tenant_share.specs.Shares.{shares};
 ghost use Rattle.pool_limits.specs.Shares.{lane_share as lane_slots, shared_share as shared_slots};
@@ -52,7 +52,8 @@ pub(crate) fn open_lane<N: Naming>(
     alloc: Global,
     store: &ModuleStore<N>,
 ) -> Result<LaneHost<N>, NoMemory>
-    ensures { IfOk result (λ lane. HasShare N.config.warm (lane_slots N.config) lane.host) }
+    ensures share { IfOk result (λ lane. HasShare N.config.warm (lane_slots N.config) lane.host) }
+    ensures new { IfOk result (λ lane. IsNewHostPass lane.host lane.pass) }
 {
     LaneHost::open(alloc, store, lane_share(store))
 }
@@ -84,9 +85,8 @@ pub(crate) fn open_workers<N: Naming>(
     requires plan { (plan_fault N.config [] ≡ None) → plan_fault N.config wants.now ≡ None }
     requires numbered { AreNumbered calls.items }
     requires tenants { All (IsOfTenants (1 + length wants.now)) calls.items }
-    requires few { length calls.items < 2 ^ 32 }
     ensures crew { IfOk result (IsNewCrew (shares N.config wants.now) calls.items N.config.workers) }
-    ensures some { 0 < N.config.workers }
+    ensures some { (0 < N.config.workers) × (N.config.workers ≤ 16) }
 {
     wants_are_met_or_one_is_at_fault();
     let workers = store.config().numbers().workers;

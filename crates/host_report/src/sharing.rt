@@ -1,207 +1,124 @@
-//! Workers make the calls on a host that they share, while the modules are registered.
-ghost use Rattle.std.specs.Prelude.{◌≡◌, ◌≢◌, ◌+◌, ◌^◌, ◌<◌, ◌≤◌, [], All, IfOk, None, length};
-ghost use Rattle.due_calls.specs.Entries.{AnswersAll, IsOfTenants};
-ghost use Rattle.call_workers.specs.Crews.{IsDone, IsNewWorker};
-ghost use Rattle.pool_limits.specs.Plans.{plan_fault};
-ghost use Rattle.job_queue.specs.Passes.{IsJobPass, IsPutter, account_of, capacity_of, count_of, passes_of, put_by};
-ghost use Rattle.request_text.specs.declared.request.TheConstants.{MOST_CALLS};
-ghost use Rattle.request_text.specs.Text.{call_count, is_call, modules_of};
-ghost use Rattle.host_report.specs.Collected.{IsBoard};
+//! Workers make the calls of a round on tenants' hosts that they share, while its modules are registered.
+ghost use Rattle.std.specs.Prelude.{◌≡◌, ◌+◌, ◌^◌, ◌<◌, ◌≤◌, [], All, IfOk, length, min};
+ghost use Rattle.due_calls.specs.Entries.{AnswersAll};
+ghost use Rattle.call_workers.specs.Crews.{HasEnded, IsNewWorker};
+ghost use Rattle.job_queue.specs.Passes.{IsJobPass, IsPutter, account_of, capacity_of, count_of, first_of, put_by};
+ghost use Rattle.request_text.specs.Text.{call_count};
 ghost use Rattle.host_report.specs.Due.{dues_from};
-ghost use Rattle.host_report.specs.Entries.{AreEntries};
-ghost use Rattle.host_report.specs.Put.{HasPut, IsUnused, pairs_put};
+ghost use Rattle.host_report.specs.Entries.{AreKept};
+ghost use Rattle.host_report.specs.Put.{HasPut, pairs_put};
 ghost use Rattle.host_report.specs.Report.{limits_in};
+ghost use Rattle.host_report.specs.Rounds.{AreBooks, AreEntered, IsReady, IsSpan, calls_to, directives_in};
 
+use crate::books::{Books, Registry, Span};
 use crate::collecting::collect_all;
-use crate::dues::dues;
-use crate::modules::{Entry, register_all};
-use crate::putting::{Put, put_all};
-use crate::shares::{open_slicers, open_workers};
-use crate::slicing::sliced_on;
-use call_workers::{Crew, Done, finish, work_all};
-use due_calls::{Due, Worked};
+use crate::counting::calls_in;
+use crate::modules::enter_round;
+use crate::putting::{Put, Putter, put_all};
+use call_workers::{Crew, Done, Round, finish, open_round, work_all};
+use due_calls::Worked;
 use host_edge::Gate;
-use job_queue::Board;
-use module_store::{Desk, ModuleStore, Naming};
-use request_text::{Directive, Requests};
+use module_store::{ModuleStore, Naming};
+use request_text::Requests;
 use std::alloc::Global;
 use std::sync::Wait;
 use std::thread::{self, Threads};
 use wasm_types::NoMemory;
 
-// The entries of the module lines, and the lines of the calls that were made so far.
-#[derive(Drop)]
-pub(crate) struct Collected<N: Naming> {
-    pub entries: Vec<Entry<N>>,
-    pub board: Board,
-}
-
-// What the workers made of all calls, and the entries of the modules that were registered beside them. Where no thread can be
-// made the first closure runs last: then all stands in the queue before the first worker asks.
-fn worked_on<N: Naming + Send + Sync, R: Threads + Wait + Sync, G: Gate>(
+// What the workers of a crew made of the calls of a round, and the registry with the modules that were entered beside them. Where no
+// thread can be made the first closure runs last: then all stands in the queue before the first worker asks.
+fn work_round<N: Naming + Send + Sync, R: Threads + Wait + Sync, G: Gate>(
     rt: &R,
     alloc: Global,
     store: &ModuleStore<N>,
-    desk: Desk<N>,
     requests: &Requests,
-    crew: Crew<N>,
+    span: Span,
+    crew: &mut Crew<N>,
+    registry: Registry<N>,
     gate: &G,
-) -> Result<(Vec<Entry<N>>, Vec<Worked>), NoMemory>
-    requires desk { desk ≡ 0 }
-    requires workers { All (IsNewWorker crew.shared.share crew.shared.jobs) crew.workers.items }
-    requires own { IsJobPass crew.shared.jobs crew.putter }
-    requires putter { IsPutter crew.putter }
-    requires none { put_by crew.putter ≡ [] }
-    requires count { call_count requests.now.directives ≤ count_of crew.shared.jobs }
-    requires room { call_count requests.now.directives + N.config.workers ≤ capacity_of crew.shared.jobs }
-    requires new { IsUnused (account_of crew.putter) }
-    requires calls { crew.shared.calls.items ≡ dues_from 1 requests.now.directives }
-    requires some { 0 < N.config.workers }
-    requires many { length crew.workers.items ≡ N.config.workers }
-    requires passes { passes_of crew.shared.jobs ≡ N.config.workers + 1 }
-    ensures entries { IfOk result (λ r. AreEntries (limits_in requests.now.profile N.config) (modules_of requests.now.directives) r.0.items) }
-    ensures answers { IfOk result (λ r. AnswersAll N.config (dues_from 1 requests.now.directives) (pairs_put r.0.items requests.now.directives N.config.workers) r.1.items) }
+) -> Result<(Registry<N>, Vec<Worked>), NoMemory>
+    requires span { IsSpan requests.now.directives span }
+    requires entered { AreEntered (limits_in requests.now.profile N.config) requests.now.directives span.from registry.entries.items registry.desk }
+    requires crew { IsReady (dues_from 1 requests.now.directives) crew.old }
+    requires some { 0 < call_count (directives_in requests.now.directives span) }
+    ensures crew { IfOk result (λ _. IsReady (dues_from 1 requests.now.directives) crew.new) }
+    ensures entered { IfOk result (λ r. AreEntered (limits_in requests.now.profile N.config) requests.now.directives span.to r.0.entries.items r.0.desk) }
+    ensures kept { IfOk result (λ r. AreKept registry.entries.items r.0.entries.items) }
+    ensures answers { IfOk result (λ r. AnswersAll N.config (dues_from 1 requests.now.directives) (pairs_put r.0.entries.items (span.calls + 1) (directives_in requests.now.directives span)
+        (min (call_count (directives_in requests.now.directives span)) (length crew.old.callers.items))) r.1.items) }
 {
-    let Crew {
-        shared,
+    let count = calls_in(requests, span);
+    let first = span.calls + 1;
+    let round = open_round(alloc, &crew.shared, &mut crew.callers, first, count)?;
+    let Round {
+        jobs,
         putter,
         workers,
-    } = crew;
-    let shared = &shared;
+    } = round;
+    let (shared, jobs) = (&crew.shared, &jobs);
+    let many = workers.len() as u32;
+    let putter = Putter {
+        registry,
+        own: putter,
+    };
     let (done, put) = thread::join(
         rt,
         move || -> Result<Vec<Done<N>>, NoMemory>
-            requires workers { All (IsNewWorker shared.now.share shared.now.jobs) workers.items }
+            requires workers { All (IsNewWorker shared.now.share jobs.now) workers.items }
+            requires numbers { first_of jobs.now + count_of jobs.now ≤ length shared.now.calls.items + 1 }
             ensures many { IfOk result (λ done. length done.items ≡ length workers.items) }
-            ensures done { IfOk result (λ done. All (IsDone N.config shared.entry.now) done.items) }
-        { work_all(rt, alloc, store, shared, workers, gate) },
+            ensures done { IfOk result (λ done. All (HasEnded N.config shared.entry.now jobs.entry.now) done.items) }
+        { work_all(rt, alloc, store, shared, jobs, workers, gate) },
         move || -> Put<N>
-            requires desk { desk ≡ 0 }
-            requires own { IsJobPass shared.now.jobs putter }
-            requires putter { IsPutter putter }
-            requires none { put_by putter ≡ [] }
-            requires count { call_count requests.now.directives ≤ count_of shared.now.jobs }
-            requires room { call_count requests.now.directives + N.config.workers ≤ capacity_of shared.now.jobs }
-            ensures own { IsJobPass shared.entry.now.jobs result.own }
-            ensures entries { IfOk result.entries (λ entries. AreEntries (limits_in requests.entry.now.profile N.config) (modules_of requests.entry.now.directives) entries.items) }
-            ensures put { IfOk result.entries (λ entries. HasPut (pairs_put entries.items requests.entry.now.directives N.config.workers) (account_of putter) (account_of result.own)) }
-        { put_all(rt, alloc, store, desk, &shared.jobs, putter, requests) },
+            requires span { IsSpan requests.now.directives span }
+            requires entered { AreEntered (limits_in requests.now.profile N.config) requests.now.directives span.from putter.registry.entries.items putter.registry.desk }
+            requires own { IsJobPass jobs.now putter.own }
+            requires putter { IsPutter putter.own }
+            requires none { put_by putter.own ≡ [] }
+            requires first { first_of jobs.now ≡ span.calls + 1 }
+            requires count { call_count (directives_in requests.now.directives span) ≤ count_of jobs.now }
+            requires room { call_count (directives_in requests.now.directives span) + many ≤ capacity_of jobs.now }
+            ensures own { IsJobPass jobs.entry.now result.own }
+            ensures entered { IfOk result.registry (λ r. AreEntered (limits_in requests.entry.now.profile N.config) requests.entry.now.directives span.to r.entries.items r.desk) }
+            ensures kept { IfOk result.registry (λ r. AreKept putter.registry.entries.items r.entries.items) }
+            ensures put { IfOk result.registry (λ r. HasPut (pairs_put r.entries.items (span.calls + 1) (directives_in requests.entry.now.directives span) many) (account_of putter.own) (account_of result.own)) }
+        { put_all(rt, alloc, store, requests, span, jobs, putter, many) },
     );
-    let Put { own, entries } = put;
-    let entries = entries?;
-    let worked = finish(rt, alloc, shared, own, done?)?;
-    Ok((entries, worked))
+    let Put { own, registry } = put;
+    let registry = registry?;
+    let callers = &mut crew.callers;
+    let worked = finish(rt, alloc, &crew.shared, jobs, own, callers, done?)?;
+    Ok((registry, worked))
 }
 
-// What several workers made of all calls, and the entries of the modules: in slices of so many instructions, unless that is 0 or the
-// file's calls run whole.
-fn worked<N: Naming + Send + Sync, R: Threads + Wait + Sync, G: Gate>(
+// The modules of a round are entered, and a crew makes its calls meanwhile, if it has any. Those that it was answered Full, or
+// Retired before a retire line of their module, have no line yet.
+pub(crate) fn by_crew<N: Naming + Send + Sync, R: Threads + Wait + Sync, G: Gate>(
     rt: &R,
     alloc: Global,
     store: &ModuleStore<N>,
-    desk: Desk<N>,
     requests: &Requests,
-    calls: Vec<Due>,
-    slice: u32,
+    span: Span,
+    crew: &mut Crew<N>,
+    books: Books<N>,
     gate: &G,
-) -> Result<(Vec<Entry<N>>, Vec<Worked>), NoMemory>
-    requires several { N.config.workers ≢ 1 }
-    requires plan { (plan_fault N.config [] ≡ None) → plan_fault N.config requests.now.wants ≡ None }
-    requires desk { desk ≡ 0 }
-    requires calls { calls.items ≡ dues_from 1 requests.now.directives }
-    requires tenants { All (IsOfTenants (1 + length requests.now.wants)) calls.items }
-    requires count { length calls.items ≡ call_count requests.now.directives }
-    requires few { length calls.items < 2 ^ 32 }
-    ensures entries { IfOk result (λ r. AreEntries (limits_in requests.now.profile N.config) (modules_of requests.now.directives) r.0.items) }
-    ensures answers { IfOk result (λ r. AnswersAll N.config (dues_from 1 requests.now.directives) (pairs_put r.0.items requests.now.directives N.config.workers) r.1.items) }
+) -> Result<Books<N>, NoMemory>
+    requires span { IsSpan requests.now.directives span }
+    requires crew { IsReady (dues_from 1 requests.now.directives) crew.old }
+    requires books { AreBooks (limits_in requests.now.profile N.config) requests.now.directives span.from span.calls span.calls books }
+    ensures crew { IfOk result (λ _. IsReady (dues_from 1 requests.now.directives) crew.new) }
+    ensures books { IfOk result (AreBooks (limits_in requests.now.profile N.config) requests.now.directives span.to span.calls (calls_to requests.now.directives span)) }
+    ensures kept { IfOk result (λ after. AreKept books.registry.entries.items after.registry.entries.items) }
 {
-    if slice == 0 || requests.runs_whole() {
-        let crew = open_workers(alloc, store, requests.wants(), calls)?;
-        worked_on(rt, alloc, store, desk, requests, crew, gate)
-    } else {
-        let crew = open_slicers(alloc, store, calls)?;
-        sliced_on(rt, alloc, store, desk, requests, crew, slice, gate)
+    let Books {
+        mut registry,
+        mut board,
+    } = books;
+    if calls_in(requests, span) == 0 {
+        enter_round(rt, alloc, store, requests, span, &mut registry)?;
+        return Ok(Books { registry, board });
     }
-}
-
-// Several workers make the calls. Those that they were answered Full have no line yet.
-fn by_workers<N: Naming + Send + Sync, R: Threads + Wait + Sync, G: Gate>(
-    rt: &R,
-    alloc: Global,
-    store: &ModuleStore<N>,
-    desk: Desk<N>,
-    slice: u32,
-    requests: &Requests,
-    gate: &G,
-) -> Result<Collected<N>, NoMemory>
-    requires several { N.config.workers ≢ 1 }
-    requires plan { (plan_fault N.config [] ≡ None) → plan_fault N.config requests.now.wants ≡ None }
-    requires desk { desk ≡ 0 }
-    ensures entries { IfOk result (λ c. AreEntries (limits_in requests.now.profile N.config) (modules_of requests.now.directives) c.entries.items) }
-    ensures board { IfOk result (λ c. IsBoard (limits_in requests.now.profile N.config) requests.now.directives c.board) }
-{
-    let directives = requests.directives();
-    let calls = dues(alloc, directives)?;
-    let mut board = Board::open(alloc, count_calls(directives))?;
-    let (entries, worked) = worked(rt, alloc, store, desk, requests, calls, slice, gate)?;
-    collect_all(&mut board, worked);
-    Ok(Collected { entries, board })
-}
-
-// The modules are registered, and no call is made yet.
-fn by_none<N: Naming, R: Wait>(
-    rt: &R,
-    alloc: Global,
-    store: &ModuleStore<N>,
-    mut desk: Desk<N>,
-    requests: &Requests,
-) -> Result<Collected<N>, NoMemory>
-    requires desk { desk ≡ 0 }
-    ensures entries { IfOk result (λ c. AreEntries (limits_in requests.now.profile N.config) (modules_of requests.now.directives) c.entries.items) }
-    ensures board { IfOk result (λ c. IsBoard (limits_in requests.now.profile N.config) requests.now.directives c.board) }
-{
-    let board = Board::open(alloc, count_calls(requests.directives()))?;
-    let entries = register_all(rt, alloc, store, &mut desk, requests)?;
-    Ok(Collected { entries, board })
-}
-
-// How many calls there are.
-fn count_calls(requests: &[Directive]) -> u32
-    requires { call_count requests.now ≤ MOST_CALLS }
-    ensures { result ≡ call_count requests.now }
-{
-    let calls = requests.iter().filter(|directive| is_call(directive));
-    calls.count() as u32
-}
-
-fn is_call(directive: &Directive) -> bool
-    ensures { result ≡ is_call directive.now }
-{
-    match directive {
-        Directive::Module { .. } => false,
-        Directive::Call { .. } => true,
-    }
-}
-
-// The entries of the module lines, and the lines of those calls that several workers made. One worker makes none: all its calls
-// are the lane's.
-pub(crate) fn gather<N: Naming + Send + Sync, R: Threads + Wait + Sync, G: Gate>(
-    rt: &R,
-    alloc: Global,
-    store: &ModuleStore<N>,
-    desk: Desk<N>,
-    slice: u32,
-    requests: &Requests,
-    gate: &G,
-) -> Result<Collected<N>, NoMemory>
-    requires plan { (plan_fault N.config [] ≡ None) → plan_fault N.config requests.now.wants ≡ None }
-    requires desk { desk ≡ 0 }
-    ensures entries { IfOk result (λ c. AreEntries (limits_in requests.now.profile N.config) (modules_of requests.now.directives) c.entries.items) }
-    ensures board { IfOk result (λ c. IsBoard (limits_in requests.now.profile N.config) requests.now.directives c.board) }
-{
-    if store.config().numbers().workers == 1 {
-        by_none(rt, alloc, store, desk, requests)
-    } else {
-        by_workers(rt, alloc, store, desk, slice, requests, gate)
-    }
+    let (registry, worked) = work_round(rt, alloc, store, requests, span, crew, registry, gate)?;
+    collect_all(&mut board, &crew.shared.calls, worked);
+    Ok(Books { registry, board })
 }

@@ -1,5 +1,5 @@
 -- The line of a call in two reports.
-use Rattle.std.proofs.Common.{◌≡◌, ◌∙◌, ◌++◌, ℕ, zero, suc, List, [], ◌∷◌, Some, ap, subst, take, drop, append_assoc, add-one, arith}
+use Rattle.std.proofs.Common.{◌≡◌, ◌∙◌, ◌++◌, ℕ, Bool, zero, suc, List, [], ◌∷◌, Some, ap, subst, take, drop, append_assoc, add-one, arith}
 use Rattle.std.specs.Prelude.{slice_get}
 use Rattle.std.specs.List.{flat_map}
 use Rattle.request_text.specs.declared.invocation.Invocation.{Invocation}
@@ -14,24 +14,24 @@ use Rattle.host_run.specs.Tenants.{CallsAt, HasReport, TellsAt, WritesAt}
 
 -- a call has its line in a report, and one line only
 abbrev pub CallsTold : Type 0
-CallsTold = (numbers : Numbers) (requests : Asked) (lines : List ReportLine) (at tenant place : ℕ) (bytes : List ℕ) (invocation : Invocation)
-    → IsReport numbers requests lines → slice_get requests.directives at ≡ Some (Call tenant place invocation) → slice_get (modules_of requests.directives) place ≡ Some bytes
-    → (how : CallLine) × IsCallLine (limits_in requests.profile numbers) bytes invocation how × TellsAt requests lines at how
+CallsTold = (numbers : Numbers) (requests : Asked) (lines : List ReportLine) (at tenant place : ℕ) (retired : Bool) (bytes : List ℕ) (invocation : Invocation)
+    → IsReport numbers requests lines → slice_get requests.directives at ≡ Some (Call tenant place retired invocation) → slice_get (modules_of requests.directives) place ≡ Some bytes
+    → (how : CallLine) × IsCallLine (limits_in requests.profile numbers) bytes retired invocation how × TellsAt requests lines at how
 
 abbrev pub CallsOnce : Type 0
-CallsOnce = (limits : Limits) (bytes : List ℕ) (invocation : Invocation) (a b : CallLine)
-    → IsCallLine limits bytes invocation a → IsCallLine limits bytes invocation b → a ≡ b
+CallsOnce = (limits : Limits) (bytes : List ℕ) (retired : Bool) (invocation : Invocation) (a b : CallLine)
+    → IsCallLine limits bytes retired invocation a → IsCallLine limits bytes retired invocation b → a ≡ b
 
 pub same_told : CallsTold → CallsOnce → (words words' : List (List ℕ)) (numbers numbers' : Numbers) (bytes bytes' : List ℕ) (requests requests' : Asked) (lines lines' : List ReportLine)
-    (at at' : ℕ) (module_bytes : List ℕ) (invocation : Invocation) → limits_in requests.profile numbers ≡ limits_in requests'.profile numbers'
+    (at at' : ℕ) (module_bytes : List ℕ) (retired : Bool) (invocation : Invocation) → limits_in requests.profile numbers ≡ limits_in requests'.profile numbers'
     → HasReport words numbers bytes requests lines → HasReport words' numbers' bytes' requests' lines'
-    → CallsAt requests at module_bytes invocation → CallsAt requests' at' module_bytes invocation
+    → CallsAt requests at module_bytes retired invocation → CallsAt requests' at' module_bytes retired invocation
     → (how : CallLine) × TellsAt requests lines at how × TellsAt requests' lines' at' how
-same_told call_told one_call words words' numbers numbers' bytes bytes' requests requests' lines lines' at at' module_bytes invocation limits r r' c c' =
-    let (how, told, is) = call_told numbers requests lines at c.tenant c.place module_bytes invocation r.report c.call c.module_bytes in
-    let (how', told', is') = call_told numbers' requests' lines' at' c'.tenant c'.place module_bytes invocation r'.report c'.call c'.module_bytes in
-    let same : how' ≡ how = one_call (limits_in requests'.profile numbers') module_bytes invocation how' how told'
-    (subst (λ (l : Limits). IsCallLine l module_bytes invocation how) limits told) in
+same_told call_told one_call words words' numbers numbers' bytes bytes' requests requests' lines lines' at at' module_bytes retired invocation limits r r' c c' =
+    let (how, told, is) = call_told numbers requests lines at c.tenant c.place retired module_bytes invocation r.report c.call c.module_bytes in
+    let (how', told', is') = call_told numbers' requests' lines' at' c'.tenant c'.place retired module_bytes invocation r'.report c'.call c'.module_bytes in
+    let same : how' ≡ how = one_call (limits_in requests'.profile numbers') module_bytes retired invocation how' how told'
+    (subst (λ (l : Limits). IsCallLine l module_bytes retired invocation how) limits told) in
     (how, is, subst (λ (l : CallLine). TellsAt requests' lines' at' l) same is')
 
 -- ---- the bytes of a line
@@ -50,10 +50,10 @@ unfolding call_line
 written requests lines at how is = rw (add-one at) (texts-at line_text lines at _ is)
 
 pub same_written : CallsTold → CallsOnce → (words words' : List (List ℕ)) (numbers numbers' : Numbers) (bytes bytes' : List ℕ) (requests requests' : Asked) (lines lines' : List ReportLine)
-    (at at' : ℕ) (module_bytes : List ℕ) (invocation : Invocation) → limits_in requests.profile numbers ≡ limits_in requests'.profile numbers'
+    (at at' : ℕ) (module_bytes : List ℕ) (retired : Bool) (invocation : Invocation) → limits_in requests.profile numbers ≡ limits_in requests'.profile numbers'
     → HasReport words numbers bytes requests lines → HasReport words' numbers' bytes' requests' lines'
-    → CallsAt requests at module_bytes invocation → CallsAt requests' at' module_bytes invocation
+    → CallsAt requests at module_bytes retired invocation → CallsAt requests' at' module_bytes retired invocation
     → (told : List ℕ) × WritesAt requests lines at told × WritesAt requests' lines' at' told
-same_written call_told one_call words words' numbers numbers' bytes bytes' requests requests' lines lines' at at' module_bytes invocation limits r r' c c' =
-    let (how, is, is') = same_told call_told one_call words words' numbers numbers' bytes bytes' requests requests' lines lines' at at' module_bytes invocation limits r r' c c' in
+same_written call_told one_call words words' numbers numbers' bytes bytes' requests requests' lines lines' at at' module_bytes retired invocation limits r r' c c' =
+    let (how, is, is') = same_told call_told one_call words words' numbers numbers' bytes bytes' requests requests' lines lines' at at' module_bytes retired invocation limits r r' c c' in
     (call_text how, written requests lines at how is, written requests' lines' at' how is')

@@ -1,5 +1,5 @@
 -- Request files that have a call in common, and differ in anything else.
-use Rattle.std.specs.Prelude.{◌≡◌, ℕ, ◌+◌, ◌++◌, false, List, Ok, Some, codes, drop, slice_get, take}
+use Rattle.std.specs.Prelude.{◌≡◌, ℕ, ◌+◌, ◌++◌, Bool, false, List, Ok, Some, codes, drop, slice_get, take}
 use Rattle.std.specs.Fmt.{decimal}
 use Rattle.request_text.specs.declared.invocation.Invocation.{Invocation}
 use Rattle.request_text.specs.declared.request.Directive.TheVariants.{Call}
@@ -22,11 +22,11 @@ pub record HasReport (words : List (List ℕ)) (numbers : Numbers) (bytes : List
   pub asked : requests_of numbers bytes ≡ Ok requests
   pub report : IsReport numbers requests lines
 
--- the directive at this place is a call whose name stands for a module of these bytes
-pub record CallsAt (requests : Asked) (at : ℕ) (bytes : List ℕ) (invocation : Invocation) : Type 0 where
+-- the directive at this place is a call whose name stands for a module of these bytes; `retired` is whether a line before it retires that name
+pub record CallsAt (requests : Asked) (at : ℕ) (bytes : List ℕ) (retired : Bool) (invocation : Invocation) : Type 0 where
   pub tenant : ℕ
   pub place : ℕ
-  pub call : slice_get requests.directives at ≡ Some (Call tenant place invocation)
+  pub call : slice_get requests.directives at ≡ Some (Call tenant place retired invocation)
   pub module_bytes : slice_get (modules_of requests.directives) place ≡ Some bytes
 
 -- the line at this place tells how the call went, after the call's number: one more than the calls before it

@@ -1,5 +1,5 @@
 //! Laws of the definitions, as contracts of functions that do nothing.
-ghost use Rattle.std.specs.Prelude.{◌≡◌, ℕ, List};
+ghost use Rattle.std.specs.Prelude.{◌≡◌, ℕ, Bool, List};
 ghost use Rattle.request_text.specs.declared.invocation.Invocation.{Invocation};
 ghost use Rattle.report_text.specs.declared.report.CallLine.{CallLine};
 ghost use Rattle.report_text.specs.declared.report.ReportLine.{ReportLine};
@@ -12,14 +12,15 @@ ghost use Rattle.host_run.specs.Serving.{Answer, IsDue};
 use host_report::laws::{a_call_has_one_line, at_most_one_report, each_call_has_its_line};
 
 /// Two request files of the same profile that were reported on, without `--summary`, under the same pages, elements, depth
-/// and frame, and in each a call of the same export of a module of the same bytes, on the same fuel and arguments: after the
-/// call's number its line tells the same in both reports, whatever else the files ask for.
+/// and frame, and in each a call of the same export of a module of the same bytes, on the same fuel and arguments, and retired
+/// before the call in both or in neither: after the call's number its line tells the same in both reports, whatever else the
+/// files ask for.
 pub fn same_line()
     ensures { (words words' : List (List ℕ)) (numbers numbers' : Numbers) (bytes bytes' : List ℕ) (requests requests' : Asked)
-        (lines lines' : List ReportLine) (at at' : ℕ) (module_bytes : List ℕ) (invocation : Invocation)
+        (lines lines' : List ReportLine) (at at' : ℕ) (module_bytes : List ℕ) (retired : Bool) (invocation : Invocation)
         → limits_in requests.profile numbers ≡ limits_in requests'.profile numbers'
         → HasReport words numbers bytes requests lines → HasReport words' numbers' bytes' requests' lines'
-        → CallsAt requests at module_bytes invocation → CallsAt requests' at' module_bytes invocation
+        → CallsAt requests at module_bytes retired invocation → CallsAt requests' at' module_bytes retired invocation
         → (how : CallLine) × TellsAt requests lines at how × TellsAt requests' lines' at' how }
 {
     each_call_has_its_line();
@@ -30,10 +31,10 @@ pub fn same_line()
 /// LF. It stands behind the text of the lines before it.
 pub fn same_bytes()
     ensures { (words words' : List (List ℕ)) (numbers numbers' : Numbers) (bytes bytes' : List ℕ) (requests requests' : Asked)
-        (lines lines' : List ReportLine) (at at' : ℕ) (module_bytes : List ℕ) (invocation : Invocation)
+        (lines lines' : List ReportLine) (at at' : ℕ) (module_bytes : List ℕ) (retired : Bool) (invocation : Invocation)
         → limits_in requests.profile numbers ≡ limits_in requests'.profile numbers'
         → HasReport words numbers bytes requests lines → HasReport words' numbers' bytes' requests' lines'
-        → CallsAt requests at module_bytes invocation → CallsAt requests' at' module_bytes invocation
+        → CallsAt requests at module_bytes retired invocation → CallsAt requests' at' module_bytes retired invocation
         → (told : List ℕ) × WritesAt requests lines at told × WritesAt requests' lines' at' told }
 {
     each_call_has_its_line();

@@ -12,4 +12,6 @@ pub use serving::{refuse_words, serve};
 pub use status::Status;
 
 #[cfg(test)]
+mod retirements;
+#[cfg(test)]
 mod tests;

@@ -786,7 +786,7 @@ fn the_gate_is_told_of_each_call_and_of_each_that_begins(rt: HostRuntime) -> Res
 // The most turns for which a gate holds a call.
 const MOST_TURNS: u64 = 2_000_000_000;
 
-const BUMPS: &str =
+pub(crate) const BUMPS: &str =
     "module bump 0061736d010000000105016000017f0302010005030100010708010462756d7000000a160114004100410028020041016a36020041002802000b
 call bump bump 100
 call bump bump 100
@@ -830,7 +830,7 @@ impl Gate for HoldingGate {
 }
 
 // How many calls were answered in a run over a file, while one of them was held until `until` others were.
-fn answered_beside_a_held_call<R: Abort + Threads + Wait + Sync>(
+pub(crate) fn answered_beside_a_held_call<R: Abort + Threads + Wait + Sync>(
     rt: &R,
     alloc: Global,
     words: &[&str],

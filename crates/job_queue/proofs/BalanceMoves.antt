@@ -11,7 +11,7 @@ use mathlib.Core.Option.{some, some-ne-none}
 use lib.ListN.{get_elem?}
 use Rattle.job_queue.specs.declared.accounts.Account.{Account}
 use Rattle.job_queue.specs.declared.accounts.Terms.{Terms}
-use Rattle.job_queue.specs.Accounts.{first_terms, new_account, spent_account, told, parted, with_put, with_given, joined, IsGiven, IsSettledBy}
+use Rattle.job_queue.specs.Accounts.{first_terms, new_account, spent_account, told, parted, with_put, with_given, joined, IsGiven, IsSettledBy, MayBePut}
 use Rattle.job_queue.specs.Balance.{one_if, Fits, IsBalanced, Kept}
 use Rattle.job_queue.proofs.AccountLists.{All-middle, sum_by-set_at, others_have_none, sum_by-alone, flat_map-alone, flat_map-same, flat_map-push_none, flat_map-grown, flat_map-moved}
 
@@ -82,17 +82,17 @@ module _ {M : Type 0} where
       given_out = IsPermutation-refl [];
       each = each_push (Fits first_terms []) [] (new_account first_terms true) (λ port a e. absurd (some-ne-none a (sym e)))
           (record { putter = λ _. refl; taker = λ _. refl; never_puts = λ p. absurd (omega arith); never_given = λ p. absurd (omega arith); told_so = λ _. refl });
-      numbers = All-nil (λ (x : ℕ × M). x.0 ≤ 0);
+      numbers = All-nil (λ (x : ℕ × M). MayBePut first_terms x.0);
     };
   }
 
-  pub puts : (n port : ℕ) (a : Account M) (x : ℕ × M) → 0 < a.share → a.puts ≡ true → x.0 ≤ a.terms.count → Pushes Kept n port a x (λ b. b ≡ with_put a (x ∷ []))
-  puts n port a x live may small items accounts room kept at =
+  pub puts : (n port : ℕ) (a : Account M) (x : ℕ × M) → 0 < a.share → a.puts ≡ true → MayBePut a.terms x.0 → Pushes Kept n port a x (λ b. b ≡ with_put a (x ∷ []))
+  puts n port a x live may number items accounts room kept at =
       let b : Account M = with_put a (x ∷ []) in
       let k = kept.balance in
       let mine : Fits kept.terms (kept.gone ++ items) a = k.each port a at in
       let longer : (kept.gone ++ items) ++ x ∷ [] ≡ kept.gone ++ (items ++ x ∷ []) = append_assoc kept.gone items (x ∷ []) in
-      let known : a.terms.count ≡ kept.terms.count = ap (λ (t : Terms). t.count) (mine.told_so live) in
+      let known : a.terms ≡ kept.terms = mine.told_so live in
       let sums = λ (f : Account M → ℕ) (s : f b ≡ f a). let t = sum_by-set_at f accounts port a b at in let r : sum_by f (set accounts port b) ≡ sum_by f accounts = omega arith in r in (
         b,
         record {
@@ -105,7 +105,7 @@ module _ {M : Type 0} where
             each = each_set (Fits kept.terms (kept.gone ++ (items ++ x ∷ []))) accounts port b
                 (record { putter = λ _. ap (λ l. l ++ x ∷ []) (mine.putter may) ∙ longer; taker = λ p. absurd (true≢false (sym may ∙ p)); never_puts = λ p. absurd (omega arith); never_given = λ p. absurd (omega arith); told_so = mine.told_so })
                 (λ j u apart e. fits_taker kept.terms (kept.gone ++ items) (kept.gone ++ (items ++ x ∷ [])) u (others_take kept.terms kept.gone items accounts port a k at may j u apart e) (k.each j u e));
-            numbers = All-same (λ (y : ℕ × M). y.0 ≤ kept.terms.count) (kept.gone ++ (items ++ x ∷ [])) ((kept.gone ++ items) ++ x ∷ []) (sym longer) (All-push (λ (y : ℕ × M). y.0 ≤ kept.terms.count) (kept.gone ++ items) x k.numbers (omega arith));
+            numbers = All-same (λ (y : ℕ × M). MayBePut kept.terms y.0) (kept.gone ++ (items ++ x ∷ [])) ((kept.gone ++ items) ++ x ∷ []) (sym longer) (All-push (λ (y : ℕ × M). MayBePut kept.terms y.0) (kept.gone ++ items) x k.numbers (subst (λ (t : Terms). MayBePut t x.0) known number));
           };
         },
         refl,
@@ -134,8 +134,8 @@ module _ {M : Type 0} where
       let gone : List (ℕ × M) = kept.gone ++ x ∷ [] in
       let mine : Fits kept.terms (kept.gone ++ x ∷ items) a = k.each port a at in
       let moved : kept.gone ++ x ∷ items ≡ gone ++ items = sym (append_assoc kept.gone (x ∷ []) items) in
-      let known : a.terms.count ≡ kept.terms.count = ap (λ (t : Terms). t.count) (mine.told_so live) in
-      let small : x.0 ≤ kept.terms.count = All-middle (λ (y : ℕ × M). y.0 ≤ kept.terms.count) kept.gone x items k.numbers in
+      let known : a.terms ≡ kept.terms = mine.told_so live in
+      let number : MayBePut kept.terms x.0 = All-middle (λ (y : ℕ × M). MayBePut kept.terms y.0) kept.gone x items k.numbers in
       let sums = λ (f : Account M → ℕ) (s : f b ≡ f a). let t = sum_by-set_at f accounts port a b at in let r : sum_by f (set accounts port b) ≡ sum_by f accounts = omega arith in r in
       let given : List (Account M) → List (ℕ × M) = flat_map (λ u. u.given) in (
         b,
@@ -149,11 +149,11 @@ module _ {M : Type 0} where
             each = subst (λ l. Each (Fits kept.terms l) (set accounts port b)) moved (each_set (Fits kept.terms (kept.gone ++ x ∷ items)) accounts port b
                 (record { putter = mine.putter; taker = mine.taker; never_puts = mine.never_puts; never_given = λ p. absurd (omega arith); told_so = mine.told_so })
                 (λ j u apart e. k.each j u e));
-            numbers = All-same (λ (y : ℕ × M). y.0 ≤ kept.terms.count) (gone ++ items) (kept.gone ++ x ∷ items) (sym moved) k.numbers;
+            numbers = All-same (λ (y : ℕ × M). MayBePut kept.terms y.0) (gone ++ items) (kept.gone ++ x ∷ items) (sym moved) k.numbers;
           };
         },
         record {
-          number_is = omega arith;
+          number_is = subst (λ (t : Terms). MayBePut t x.0) (sym known) number;
           account_is = refl;
           next = λ whole. let alone = all_alone kept.terms kept.gone (x ∷ items) accounts port a k at live whole in record { gone = kept.gone; rest = items; order = alone.0; given_out = alone.1 };
         },
@@ -211,7 +211,7 @@ module _ {M : Type 0} where
           one_puts = let t = sum_by-set_at (λ u. one_if u.puts) accounts port a left at in let p = k.one_puts in omega (arith, sum_by_push (λ (u : Account M). one_if u.puts) lefts right);
           given_out = subst (IsPermutation kept.gone) (sym (flat_map-push_none (λ (u : Account M). u.given) lefts right refl ∙ flat_map-same (λ u. u.given) accounts port a left at refl)) k.given_out;
           each = each_push F lefts right old (fits_spent terms first_terms (kept.gone ++ items));
-          numbers = All-same (λ (y : ℕ × M). y.0 ≤ terms.count) (kept.gone ++ items) [] (sym nothing) (All-nil (λ (y : ℕ × M). y.0 ≤ terms.count));
+          numbers = All-same (λ (y : ℕ × M). MayBePut terms y.0) (kept.gone ++ items) [] (sym nothing) (All-nil (λ (y : ℕ × M). MayBePut terms y.0));
         };
       }
 

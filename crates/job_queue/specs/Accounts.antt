@@ -1,12 +1,20 @@
 -- What a pass put and was given, and what each step makes of it.
-use Rattle.std.specs.Prelude.{◌≡◌, ℕ, ◌+◌, ◌-◌, ◌≤◌, Bool, false, ◌||◌, List, [], ◌∷◌, ◌++◌}
+use Rattle.std.specs.Prelude.{◌≡◌, ℕ, ◌+◌, ◌-◌, ◌<◌, ◌≤◌, ◌⊎◌, Bool, false, ◌||◌, List, [], ◌∷◌, ◌++◌}
 use Rattle.std.specs.List.Sorted.{IsPermutation}
 use Rattle.job_queue.specs.declared.accounts.Account.{Account}
 use Rattle.job_queue.specs.declared.accounts.Terms.{Terms}
 
 -- before a queue is told what it was opened with
 abbrev pub first_terms : Terms
-first_terms = record { count = 0; passes = 1 }
+first_terms = record { first = 1; count = 0; passes = 1 }
+
+-- the number of one of the calls
+abbrev pub IsCallNumber : Terms → ℕ → Type 0
+IsCallNumber terms number = (terms.first ≤ number) × (number < terms.first + terms.count)
+
+-- a number that may be put: 0, which tells a worker to end, or that of a call
+abbrev pub MayBePut : Terms → ℕ → Type 0
+MayBePut terms number = (number ≡ 0) ⊎ IsCallNumber terms number
 
 module _ {M : Type 0} where
   -- a pass as it is handed out: it stands for itself, and put and was given nothing
@@ -46,7 +54,7 @@ module _ {M : Type 0} where
 
   -- a pass was given the pair, whose number is one that may be put; a pass that stands for all knows that it came next
   pub record IsGiven (a : Account M) (x : ℕ × M) (b : Account M) : Type 0 where
-    pub number_is : x.0 ≤ a.terms.count
+    pub number_is : MayBePut a.terms x.0
     pub account_is : b ≡ with_given a (x ∷ [])
     pub next : a.share ≡ a.terms.passes → IsNextOf a.put a.given x
 

@@ -1,10 +1,11 @@
 -- The rule of the queue, over what it holds and the accounts of all passes.
-use Rattle.std.specs.Prelude.{◌≡◌, ℕ, ◌<◌, ◌≤◌, Bool, true, false, List, [], ◌++◌, All, sum_by, flat_map}
+use Rattle.std.specs.Prelude.{◌≡◌, ℕ, ◌<◌, Bool, true, false, List, [], ◌++◌, All, sum_by, flat_map}
 use Rattle.std.specs.List.Sorted.{IsPermutation}
 use mathlib.Core.Option.{some}
 use lib.ListN.{get_elem?}
 use Rattle.job_queue.specs.declared.accounts.Account.{Account}
 use Rattle.job_queue.specs.declared.accounts.Terms.{Terms}
+use Rattle.job_queue.specs.Accounts.{MayBePut}
 
 -- 1 for the pass that puts
 abbrev pub one_if : Bool → ℕ
@@ -26,7 +27,7 @@ module _ {M : Type 0} where
     pub one_puts : sum_by (λ a. one_if a.puts) accounts ≡ 1
     pub given_out : IsPermutation gone (flat_map (λ a. a.given) accounts)
     pub each : (port : ℕ) (a : Account M) → get_elem? accounts port ≡ some a → Fits terms (gone ++ items) a
-    pub numbers : All (λ x. x.0 ≤ terms.count) (gone ++ items)
+    pub numbers : All (λ x. MayBePut terms x.0) (gone ++ items)
 
   -- what the queue holds, and what every pass knows, are in balance
   pub record Kept (items : List (ℕ × M)) (accounts : List (Account M)) : Type 0 where

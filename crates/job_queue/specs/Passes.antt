@@ -3,16 +3,24 @@ use Rattle.std.specs.Prelude.{◌≡◌, ℕ, ◌<◌, Bool, true, false, List}
 use Rattle.crossbeam_queue.specs.Passes.{Pass, view, IsPassOf, ruled_capacity}
 use Rattle.job_queue.specs.declared.accounts.Account.{Account}
 use Rattle.job_queue.specs.declared.jobs.Jobs.{Jobs}
-use Rattle.job_queue.specs.Accounts.{new_account}
+use Rattle.job_queue.specs.Accounts.{MayBePut, new_account}
 
 -- a pass of a queue of items of this type; antt has no name for a Rust alias
 abbrev pub JobPass : Type 0 → Type 0
 JobPass M = Pass (ℕ × M) (Account M)
 
 module _ {M : Type 0} where
-  -- the greatest number that may be put
+  -- the number of its first call
+  abbrev pub first_of : Jobs M → ℕ
+  first_of jobs = jobs.terms.first
+
+  -- how many calls it has, numbered from the first on
   abbrev pub count_of : Jobs M → ℕ
   count_of jobs = jobs.terms.count
+
+  -- 0, which tells a worker to end, or the number of one of its calls
+  abbrev pub IsNumberOf : Jobs M → ℕ → Type 0
+  IsNumberOf jobs number = MayBePut jobs.terms number
 
   -- how many passes were handed out
   abbrev pub passes_of : Jobs M → ℕ

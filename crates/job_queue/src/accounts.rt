@@ -2,9 +2,10 @@
 
 use std::collections::LinkedList;
 
-/// What a queue was opened with: the greatest number that may be put, and how many passes were handed out.
+/// What a queue was opened with: the number of its first call, how many calls it has, and how many passes were handed out.
 #[derive(Clone, Copy, Debug)]
 pub struct Terms {
+    pub first: u32,
     pub count: u32,
     pub passes: u64,
 }

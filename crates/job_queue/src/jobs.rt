@@ -1,9 +1,9 @@
 //! The queue that hands numbers and items to workers.
-ghost use Rattle.std.specs.Prelude.{◌≡◌, ◌+◌, ◌-◌, ◌<◌, ◌≤◌, ◌∷◌, [], true, All, length, IfOk, IfSome, IfNone};
+ghost use Rattle.std.specs.Prelude.{◌≡◌, ◌+◌, ◌-◌, ◌^◌, ◌<◌, ◌≤◌, ◌∷◌, [], true, All, length, IfOk, IfSome, IfNone};
 ghost use Rattle.std.specs.List.Sorted.{IsPermutation};
 ghost use Rattle.crossbeam_queue.specs.Passes.{IsPassOf, IsSamePass, view};
 ghost use Rattle.job_queue.specs.Accounts.{IsNextOf, first_terms, joined, new_account, parted, told, with_given, with_put};
-ghost use Rattle.job_queue.specs.Passes.{IsJobPass, IsNewPutterOf, IsNewTakerOf, IsPutter, StandsForAll, account_of, capacity_of, count_of, given_to, passes_of, put_by, share_of};
+ghost use Rattle.job_queue.specs.Passes.{IsJobPass, IsNewPutterOf, IsNewTakerOf, IsNumberOf, IsPutter, StandsForAll, account_of, capacity_of, count_of, first_of, given_to, passes_of, put_by, share_of};
 
 use crate::accounts::{Account, Terms};
 use crate::rules::{Balance, Opening, Puts, Shares, Takes, Tells};
@@ -24,18 +24,22 @@ pub struct Jobs<M> {
 }
 
 impl<M: Drop> Jobs<M> {
-    /// A queue for the calls 1 to `count`, the pass that puts, and a pass for each worker. It has room for `count` pairs and
-    /// one more for each worker.
+    /// A queue for `count` calls, which are numbered from `first` on, the pass that puts, and a pass for each worker. It has room
+    /// for `count` pairs and one more for each worker.
     ///
     /// # Errors
     ///
     /// [`NoMemory`] where memory is refused.
     pub fn open(
         alloc: Global,
+        first: u32,
         count: u32,
         workers: u32,
     ) -> Result<(Jobs<M>, JobPass<M>, Vec<JobPass<M>>), NoMemory>
-        requires { 0 < workers }
+        requires first { 1 ≤ first }
+        requires numbers { first + count ≤ 2 ^ 32 }
+        requires workers { 0 < workers }
+        ensures first { IfOk result (λ o. first_of o.0 ≡ first) }
         ensures count { IfOk result (λ o. count_of o.0 ≡ count) }
         ensures passes { IfOk result (λ o. passes_of o.0 ≡ workers + 1) }
         ensures capacity { IfOk result (λ o. capacity_of o.0 ≡ count + workers) }
@@ -44,6 +48,7 @@ impl<M: Drop> Jobs<M> {
         ensures takers { IfOk result (λ o. All (IsNewTakerOf o.0) o.2.items) }
     {
         let terms = Terms {
+            first,
             count,
             passes: workers as u64 + 1,
         };
@@ -94,7 +99,7 @@ impl<M: Drop> Jobs<M> {
         requires own { IsJobPass self.now pass.old }
         requires putter { IsPutter pass.old }
         requires room { length (put_by pass.old) < capacity_of self.now }
-        requires number { number ≤ count_of self.now }
+        requires number { IsNumberOf self.now number }
         ensures own { IsJobPass self.now pass.new }
         ensures put { account_of pass.new ≡ with_put (account_of pass.old) ((number, item) ∷ []) }
     {
@@ -108,7 +113,7 @@ impl<M: Drop> Jobs<M> {
     pub fn next<R: Wait>(&self, rt: &R, pass: &mut JobPass<M>) -> Option<(u32, M)>
         requires { IsJobPass self.now pass.old }
         ensures own { IsJobPass self.now pass.new }
-        ensures number { IfSome result (λ x. x.0 ≤ count_of self.now) }
+        ensures number { IfSome result (λ x. IsNumberOf self.now x.0) }
         ensures given { IfSome result (λ x. account_of pass.new ≡ with_given (account_of pass.old) (x ∷ [])) }
         ensures order { IfSome result (λ x. StandsForAll self.now pass.old → IsNextOf (put_by pass.old) (given_to pass.old) x) }
         ensures none { IfNone result (account_of pass.new ≡ account_of pass.old) }

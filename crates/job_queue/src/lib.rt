@@ -5,6 +5,7 @@ mod accounts;
 mod admits;
 mod board;
 mod jobs;
+pub mod laws;
 mod rules;
 mod run_queue;
 mod run_rules;

@@ -1,6 +1,6 @@
 //! The rows of the board, and the queue between threads.
-ghost use Rattle.std.specs.Prelude.{◌≡◌, ◌+◌, ◌<◌, All, IfOk};
-ghost use Rattle.job_queue.specs.Passes.{IsJobPass, IsNewPutterOf, IsNewTakerOf, capacity_of, count_of};
+ghost use Rattle.std.specs.Prelude.{◌≡◌, ◌+◌, ◌^◌, ◌<◌, ◌≤◌, All, IfOk};
+ghost use Rattle.job_queue.specs.Passes.{IsJobPass, IsNewPutterOf, IsNewTakerOf, capacity_of, count_of, first_of};
 
 use crate::{Board, JobPass, Jobs, Stray};
 use report_text::CallLine;
@@ -50,23 +50,26 @@ struct Given {
     pairs: Result<Vec<(u32, u64)>, AllocError>,
 }
 
-// Puts as many numbers as there are calls, each `each` times, with its place as the item, and a 0 for each worker.
+// Puts as many numbers as there are calls, from `first` on, each `each` times, with its place as the item, and a 0 for each worker.
 fn put_calls<R: Wait>(
     rt: &R,
     jobs: &Jobs<u64>,
     mut putter: JobPass<u64>,
+    first: u32,
     count: u32,
     each: u32,
     workers: u32,
 ) -> JobPass<u64>
     requires own { IsNewPutterOf jobs.now putter }
+    requires first { first_of jobs.now ≡ first }
+    requires numbers { first + count ≤ 2 ^ 32 }
     requires count { count_of jobs.now ≡ count }
     requires room { capacity_of jobs.now ≡ count + workers }
     requires each { 0 < each }
     ensures { IsJobPass jobs.now result }
 {
     for place in 0..count {
-        jobs.put(rt, &mut putter, place / each + 1, u64::from(place));
+        jobs.put(rt, &mut putter, first + place / each, u64::from(place));
     }
     for _ in 0..workers {
         jobs.put(rt, &mut putter, 0, 0);
@@ -104,21 +107,24 @@ fn given_with(pass: JobPass<u64>, pairs: Result<Vec<(u32, u64)>, AllocError>) ->
 fn handed_out<R: Threads + Wait + Sync>(
     rt: &R,
     alloc: Global,
+    first: u32,
     count: u32,
     each: u32,
     workers: u32,
 ) -> Result<(Vec<(u32, u64)>, bool), NoMemory>
+    requires first { 1 ≤ first }
+    requires numbers { first + count ≤ 2 ^ 32 }
     requires workers { 0 < workers }
     requires each { 0 < each }
 {
-    let (jobs, putter, takers) = Jobs::open(alloc, count, workers)?;
+    let (jobs, putter, takers) = Jobs::open(alloc, first, count, workers)?;
     let jobs = &jobs;
     let (mut all, taken) = thread::join(
         rt,
         move || -> JobPass<u64>
-            requires { IsNewPutterOf jobs.now putter × (count_of jobs.now ≡ count) × (capacity_of jobs.now ≡ count + workers) × (0 < each) }
+            requires { IsNewPutterOf jobs.now putter × (first_of jobs.now ≡ first) × (first + count ≤ 2 ^ 32) × (count_of jobs.now ≡ count) × (capacity_of jobs.now ≡ count + workers) × (0 < each) }
             ensures { IsJobPass jobs.entry.now result }
-        { put_calls(rt, jobs, putter, count, each, workers) },
+        { put_calls(rt, jobs, putter, first, count, each, workers) },
         move || -> Result<Vec<Given>, AllocError>
             requires { All (IsNewTakerOf jobs.now) takers.items }
             ensures { IfOk result (λ taken. All (λ t. IsJobPass jobs.entry.now t.pass) taken.items) }
@@ -156,14 +162,23 @@ fn take_all<R: Threads + Wait + Sync>(
 
 #[test]
 fn each_number_is_given_as_often_as_it_was_put(rt: HostRuntime) -> Result<(), Fail> {
-    for (count, each, workers) in [(100, 1, 1), (100, 1, 3), (100, 1, 16), (4, 2, 1), (4, 2, 3)] {
-        let (mut pairs, left) = handed_out(&rt, rt.alloc(), count, each, workers)?;
+    let rows = [
+        (1, 100, 1, 1),
+        (1, 100, 1, 3),
+        (999_901, 100, 1, 16),
+        (1, 4, 2, 1),
+        (7, 4, 2, 3),
+        (4_294_967_292, 4, 1, 2),
+        (5, 0, 1, 2),
+    ];
+    for (first, count, each, workers) in rows {
+        let (mut pairs, left) = handed_out(&rt, rt.alloc(), first, count, each, workers)?;
         pairs.sort_by_key(|pair| pair.1)?;
         let mut wanted = Vec::new(rt.alloc());
         for place in 0..count {
-            wanted.push((place / each + 1, u64::from(place)))?;
+            wanted.push((first + place / each, u64::from(place)))?;
         }
-        assert_eq!(rt; pairs, wanted, "{workers} workers");
+        assert_eq!(rt; pairs, wanted, "{workers} workers, from {first} on");
         assert!(rt; !left);
     }
     Ok(())

@@ -58,6 +58,7 @@ fn a_load_of_1000_calls_is_a_request_file(rt: HostRuntime) -> Result<(), Fail> {
         match directive {
             Directive::Module { .. } => modules = modules.saturating_add(1),
             Directive::Call { .. } => calls = calls.saturating_add(1),
+            Directive::Retire { .. } => panic!(rt; "a load retires no module"),
         }
     }
     assert_eq!(rt; (modules, calls), (3, 1000));

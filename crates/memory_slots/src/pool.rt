@@ -9,6 +9,7 @@ ghost use Rattle.slot_words.specs.Owned.{slots_of, limit_of, passes_of};
 ghost use Rattle.slot_words.specs.Parts.{Grew};
 ghost use Rattle.slot_words.specs.Passes.{Holds, IsIdle, IsSamePass, joined_trails, operations, seat_number, share_of, trail, trails};
 ghost use Rattle.decommit_batch.specs.HandIn.{IsHandIn};
+ghost use Rattle.decommit_batch.specs.Sweep.{IsSweep};
 ghost use Rattle.slot_pools.specs.Takes.{IsBatchedTake, IsFullBatchedTake};
 ghost use Rattle.wasm_spec.specs.Instances.{room_for};
 ghost use Rattle.wasm_spec.specs.Store.{fresh_store};
@@ -20,7 +21,7 @@ ghost use Rattle.memory_slots.specs.Lent.{IsReady};
 ghost use Rattle.memory_slots.specs.Pools.{IsMemoryPass, IsNewMemoryPass, words_of};
 
 use crate::slot::MemSlot;
-use decommit_batch::hand_in;
+use decommit_batch::{hand_in, sweep};
 use module_store::{ModuleRef, ModuleStore, Naming};
 use slot_pools::{Full, take_batched};
 use slot_words::{KindCounts, Lease, Pass, Words};
@@ -131,6 +132,19 @@ impl<N: Naming> MemoryPool<N> {
         lease.value.is_used();
         let batch = store.config().numbers().batch;
         hand_in(&self.words, pass, lease, store, batch);
+    }
+
+    /// Clears each memory that it sees free and of the module, warm or awaiting, and that it wins while it is so: it is cold then. Tells
+    /// how many. A memory that a pass holds meanwhile stays as it is. It allocates nothing and waits for nobody.
+    pub fn sweep(&self, pass: &mut Pass<MemSlot<N>>, module: &ModuleRef<N>) -> u32
+        requires own { IsMemoryPass self.now pass.old }
+        requires idle { IsIdle pass.old }
+        ensures same { IsSamePass pass.old pass.new }
+        ensures idle { IsIdle pass.new }
+        ensures few { result ≤ MOST_SLOTS }
+        ensures trail { Grew (IsSweep «module».now.tag (slots_of (words_of self.now)) result) (trail pass.old) (trail pass.new) }
+    {
+        sweep(&self.words, pass, module.tag())
     }
 
     /// Joins another pass of this pool into this one, which then stands for both. It allocates nothing.

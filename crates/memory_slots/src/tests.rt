@@ -320,6 +320,108 @@ fn a_memory_is_written_over_in_a_flush_and_not_as_it_is_given(rt: HostRuntime) -
     Ok(())
 }
 
+// The memories that visits of one module, of another and of the first again get, how many a sweep cleans then, and what is left.
+fn swept<N: Naming>(
+    pool: MemoryPool<N>,
+    mut pass: Pass<MemSlot<N>>,
+    store: &ModuleStore<N>,
+    first: &ModuleRef<N>,
+    second: &ModuleRef<N>,
+    module: &ModuleRef<N>,
+) -> ([Option<u32>; 3], u32, KindCounts)
+    requires { IsNewMemoryPass pool pass }
+{
+    let visits = [
+        visit(&pool, &mut pass, store, first),
+        visit(&pool, &mut pass, store, second),
+        visit(&pool, &mut pass, store, first),
+    ];
+    let cleaned = pool.sweep(&mut pass, module);
+    (visits, cleaned, pool.close(pass))
+}
+
+// How many memories a sweep cleans of a pool that has one of the first module awaiting and one of the second warm, and what is left.
+fn check_sweep<N: Naming, R: Abort + Wait>(
+    rt: &R,
+    alloc: Global,
+    opened: Opened,
+    row: (usize, u32, KindCounts),
+)
+    requires { Bears opened N.shelves N.config }
+{
+    let (store, mut desk) = opened.named::<N>();
+    let letters = registered(rt, alloc, &store, &mut desk, &LETTERS);
+    let zeros = registered(rt, alloc, &store, &mut desk, &ZEROS);
+    let unused = registered(rt, alloc, &store, &mut desk, &LETTERS);
+    let modules = [&letters, &zeros, &unused];
+    let (pool, mut passes) = MemoryPool::open(alloc, &store, 3, 3, 1).expect(rt, "opened");
+    let pass = passes.pop().unwrap();
+    let (module, cleaned, left) = row;
+    assert!(rt; module < 3);
+    let got = swept(pool, pass, &store, &letters, &zeros, modules[module]);
+    assert_eq!(rt; got, ([Some(0), Some(1), Some(0)], cleaned, left));
+}
+
+#[test]
+fn a_sweep_cleans_the_memories_of_its_module(rt: HostRuntime) -> Result<(), Fail> {
+    // the module, how many are cleaned, and cold, warm and awaiting memories after it
+    let rows = [(0, 1, 2, 1, 0), (1, 1, 2, 0, 1), (2, 0, 1, 1, 1)];
+    for (module, cleaned, cold, warm, awaiting) in rows {
+        let left = KindCounts {
+            cold,
+            warm,
+            awaiting,
+            held: 0,
+        };
+        let opened = opened(rt.alloc(), 2)?;
+        check_sweep::<Brand, HostRuntime>(&rt, rt.alloc(), opened, (module, cleaned, left));
+    }
+    Ok(())
+}
+
+// How many memories a sweep cleans after one was given back dirty, and how many of its bytes are not zero then.
+fn filled_after_sweep<N: Naming>(
+    pool: &MemoryPool<N>,
+    mut pass: Pass<MemSlot<N>>,
+    store: &ModuleStore<N>,
+    module: &ModuleRef<N>,
+) -> Option<(u32, usize)>
+    requires { IsNewMemoryPass pool.now pass }
+{
+    let Ok(mut lease) = pool.take(&mut pass, store, module) else {
+        return None;
+    };
+    let number = lease.number();
+    let _scribbled = scribble(&mut lease.value);
+    pool.give(&mut pass, lease, store);
+    let cleaned = pool.sweep(&mut pass, module);
+    let Ok(lease) = pool.words.claim(&mut pass, number) else {
+        return None;
+    };
+    let slot = lease.keep();
+    Some((cleaned, filled(&slot)))
+}
+
+fn check_filled_after_sweep<N: Naming, R: Abort + Wait>(rt: &R, alloc: Global, opened: Opened)
+    requires { Bears opened N.shelves N.config }
+{
+    let (store, mut desk) = opened.named::<N>();
+    let module = registered(rt, alloc, &store, &mut desk, &LETTERS);
+    let (pool, mut passes) = MemoryPool::open(alloc, &store, 1, 1, 1).expect(rt, "opened");
+    let pass = passes.pop().unwrap();
+    let got = filled_after_sweep(&pool, pass, &store, &module);
+    assert_eq!(rt; got, Some((1, 0)));
+}
+
+#[test]
+fn a_sweep_leaves_nothing_of_a_warm_or_awaiting_memory(rt: HostRuntime) -> Result<(), Fail> {
+    for batch in [1, 2] {
+        let opened = opened(rt.alloc(), batch)?;
+        check_filled_after_sweep::<Brand, HostRuntime>(&rt, rt.alloc(), opened);
+    }
+    Ok(())
+}
+
 fn visit_often<N: Naming>(
     pool: &MemoryPool<N>,
     mut pass: Pass<MemSlot<N>>,

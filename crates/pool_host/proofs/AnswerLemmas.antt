@@ -1,5 +1,5 @@
 -- A call has one answer.
-use Rattle.std.proofs.Common.{◌≡◌, ℕ, ◌<◌, List, Some, refl, sym, ap, ◌∙◌, subst, arith, inl, inr}
+use Rattle.std.proofs.Common.{◌≡◌, ℕ, ◌<◌, false, true≢false, List, Some, refl, sym, ap, ◌∙◌, subst, arith, inl, inr}
 use Rattle.std.specs.Prelude.{slice_get}
 use Rattle.std.proofs.lemmas.Bool.{cases_lt}
 use Rattle.std.proofs.lemmas.Option.{get_or_from_slice_get, slice_get_within}
@@ -12,9 +12,9 @@ use Rattle.wasm_types.specs.declared.limits.RunLimits.{RunLimits}
 use Rattle.wasm_spec.specs.Result.{answer_of}
 use Rattle.wasm_spec.specs.Validity.{Exports, IsValid}
 use Rattle.instance_calls.specs.CallWords.{IsExported}
-use Rattle.pool_host.specs.CallWords.{IsAnswer}
+use Rattle.pool_host.specs.CallWords.{is_retired, IsAnswer}
 use Rattle.pool_host.specs.declared.lane.LaneAnswer.{LaneAnswer}
-use Rattle.pool_host.specs.declared.lane.LaneAnswer.TheVariants.{Done, NoExport, BadArgs}
+use Rattle.pool_host.specs.declared.lane.LaneAnswer.TheVariants.{Done, NoExport, BadArgs, Retired}
 
 differ : (m : ModuleTree) (name : List ℕ) (i j : ℕ) (e f : Export) → IsValid m → slice_get m.exports i ≡ Some e → slice_get m.exports j ≡ Some f
     → e.name ≡ name → f.name ≡ name → i < j → ⊥
@@ -45,19 +45,31 @@ module _ (m : ModuleTree) (limits : RunLimits) (export : List ℕ) (args : List 
       let typed : Some t ≡ Some u = sym (rw same at h.typed) ∙ g.typed in
       (same, cc)
 
-  pub one_answer : (a b : LaneAnswer) (x y : List ℕ) → IsAnswer m limits export args request fuel a x → IsAnswer m limits export args request fuel b y → (a ≡ b) × (x ≡ y)
-  one_answer NoExport NoExport x y h g = (refl, h.1 ∙ sym g.1)
-  one_answer NoExport BadArgs x y h g = absurd (h.0 g.0.function g.0.exported.exported)
-  one_answer NoExport (Done o) x y h g = absurd (h.0 g.function g.exported.exported)
-  one_answer BadArgs NoExport x y h g = absurd (g.0 h.0.function h.0.exported.exported)
-  one_answer BadArgs BadArgs x y h g = (refl, h.1 ∙ sym g.1)
-  one_answer BadArgs (Done o) x y h g =
+  -- of a module that is not retired
+  made_once : (a b : LaneAnswer) (x y : List ℕ) → is_retired a ≡ false → is_retired b ≡ false → IsAnswer m limits export args request fuel a x → IsAnswer m limits export args request fuel b y → (a ≡ b) × (x ≡ y)
+  made_once NoExport NoExport x y r q h g = (refl, h.1 ∙ sym g.1)
+  made_once NoExport BadArgs x y r q h g = absurd (h.0 g.0.function g.0.exported.exported)
+  made_once NoExport (Done o) x y r q h g = absurd (h.0 g.function g.exported.exported)
+  made_once BadArgs NoExport x y r q h g = absurd (g.0 h.0.function h.0.exported.exported)
+  made_once BadArgs BadArgs x y r q h g = (refl, h.1 ∙ sym g.1)
+  made_once BadArgs (Done o) x y r q h g =
       let (same, types) = one_type h.0.function g.function h.0.type g.type h.0.exported g.exported in absurd (h.0.differ (rw types g.fit))
-  one_answer (Done p) NoExport x y h g = absurd (g.0 h.function h.exported.exported)
-  one_answer (Done p) BadArgs x y h g =
+  made_once (Done p) NoExport x y r q h g = absurd (g.0 h.function h.exported.exported)
+  made_once (Done p) BadArgs x y r q h g =
       let (same, types) = one_type h.function g.0.function h.type g.0.type h.exported g.0.exported in absurd (g.0.differ (rw (← types) h.fit))
-  one_answer (Done p) (Done o) x y h g =
+  made_once (Done p) (Done o) x y r q h g =
       let (same, types) = one_type h.function g.function h.type g.type h.exported g.exported in
       let ends : Some h.result ≡ Some g.result = sym (rw same at h.ends) ∙ g.ends in
       let one : h.result ≡ g.result = cc in
       (ap Done (h.shows ∙ ap (λ k. k.outcome) one ∙ sym g.shows), h.answers ∙ ap answer_of one ∙ sym g.answers)
+  made_once Retired b x y r q h g = absurd (true≢false r)
+  made_once a Retired x y r q h g = absurd (true≢false q)
+
+  pub one_answer : (a b : LaneAnswer) (x y : List ℕ) → is_retired a ≡ is_retired b → IsAnswer m limits export args request fuel a x → IsAnswer m limits export args request fuel b y → (a ≡ b) × (x ≡ y)
+  one_answer Retired Retired x y same h g = (refl, h.2 ∙ sym g.2)
+  one_answer Retired NoExport x y same h g = absurd (true≢false same)
+  one_answer Retired BadArgs x y same h g = absurd (true≢false same)
+  one_answer Retired (Done o) x y same h g = absurd (true≢false same)
+  one_answer NoExport b x y same h g = made_once NoExport b x y refl (sym same) h g
+  one_answer BadArgs b x y same h g = made_once BadArgs b x y refl (sym same) h g
+  one_answer (Done o) b x y same h g = made_once (Done o) b x y refl (sym same) h g

@@ -1,8 +1,10 @@
 pub mod AnswerLemmas
 pub mod ClosingLemmas
+mod Examples
 pub mod IdleLemmas
 pub mod OutLemmas
 pub mod PausedLemmas
 pub mod PreferringLemmas
+pub mod RetirementLemmas
 pub mod SlotLemmas
 pub mod VisitLemmas

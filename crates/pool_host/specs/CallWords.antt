@@ -1,5 +1,5 @@
 -- What a call of a loaded module is answered.
-use Rattle.std.specs.Prelude.{◌≡◌, ℕ, List, []}
+use Rattle.std.specs.Prelude.{◌≡◌, ℕ, Bool, true, false, List, []}
 use Rattle.wasm_types.specs.declared.outcome.Val.{Val}
 use Rattle.wasm_types.specs.declared.limits.RunLimits.{RunLimits}
 use Rattle.wasm_types.specs.Tree.{ModuleTree}
@@ -7,26 +7,42 @@ use Rattle.instance_calls.specs.CallWords.{EndsWith, LacksExport, LacksTypes, Ma
 use Rattle.pool_host.specs.declared.answers.Answer.{Answer}
 use Rattle.pool_host.specs.declared.answers.Answer.TheVariants as answer
 use Rattle.pool_host.specs.declared.answers.Kind.{Kind}
+use Rattle.pool_host.specs.declared.finding.Refused.{Refused}
+use Rattle.pool_host.specs.declared.finding.Refused.TheVariants as refused
 use Rattle.pool_host.specs.declared.lane.LaneAnswer.{LaneAnswer}
-use Rattle.pool_host.specs.declared.lane.LaneAnswer.TheVariants.{Done, NoExport, BadArgs}
+use Rattle.pool_host.specs.declared.lane.LaneAnswer.TheVariants.{Done, NoExport, BadArgs, Retired}
 
--- What a call of one caller is answered, and with which bytes. There are none where it was not made.
+-- What a call of one caller is answered, and with which bytes. There are none where it was not made. Where the module is retired it could have been made.
 abbrev pub IsAnswer : ModuleTree → RunLimits → (export : List ℕ) → (args : List Val) → (request : List ℕ) → (fuel : ℕ) → LaneAnswer → (bytes : List ℕ) → Type 0
 IsAnswer m limits export args request fuel NoExport bytes = LacksExport m export × (bytes ≡ [])
 IsAnswer m limits export args request fuel BadArgs bytes = LacksTypes m export args × (bytes ≡ [])
+IsAnswer m limits export args request fuel Retired bytes = (function : ℕ) × MayCall m export function args × (bytes ≡ [])
 IsAnswer m limits export args request fuel (Done outcome) bytes = EndsWith m limits export args request fuel outcome bytes
 
--- What one of several callers is answered. Where a kind is full the call could have been made.
+-- What one of several callers is answered. Where the module is retired or a kind is full the call could have been made.
 abbrev pub IsHostAnswer : ModuleTree → RunLimits → (export : List ℕ) → (args : List Val) → (request : List ℕ) → (fuel : ℕ) → Answer → (bytes : List ℕ) → Type 0
 IsHostAnswer m limits export args request fuel answer.NoExport bytes = LacksExport m export × (bytes ≡ [])
 IsHostAnswer m limits export args request fuel answer.BadArgs bytes = LacksTypes m export args × (bytes ≡ [])
+IsHostAnswer m limits export args request fuel answer.Retired bytes = (function : ℕ) × MayCall m export function args × (bytes ≡ [])
 IsHostAnswer m limits export args request fuel (answer.Done outcome) bytes = EndsWith m limits export args request fuel outcome bytes
 IsHostAnswer m limits export args request fuel (answer.Full kind) bytes = (function : ℕ) × MayCall m export function args × (bytes ≡ [])
+
+-- why a call takes no slots
+abbrev pub IsRefused : ModuleTree → (export : List ℕ) → (args : List Val) → Refused → Type 0
+IsRefused m export args refused.NoExport = LacksExport m export
+IsRefused m export args refused.BadArgs = LacksTypes m export args
+IsRefused m export args refused.Retired = (function : ℕ) × MayCall m export function args
+
+-- the module was retired
+abbrev pub is_retired : LaneAnswer → Bool
+is_retired Retired = true
+is_retired _ = false
 
 -- it as a host's
 abbrev pub host_answer : LaneAnswer → Answer
 host_answer NoExport = answer.NoExport
 host_answer BadArgs = answer.BadArgs
+host_answer Retired = answer.Retired
 host_answer (Done outcome) = answer.Done outcome
 
 -- a fact of the kind, where it was full

@@ -8,6 +8,7 @@ use Rattle.module_store.specs.declared.naming.Naming.{Ghosts}
 use Rattle.instance_slots.specs.Pools as tickets
 use Rattle.memory_slots.specs.Pools as memories
 use Rattle.table_slots.specs.Pools as tables
+use Rattle.retired_tags.specs.Passes as retired
 use Rattle.pool_host.specs.declared.host.Host.{Host}
 use Rattle.pool_host.specs.declared.passes.HostPass.{HostPass}
 use Rattle.pool_host.specs.declared.passes.Passes.{Passes}
@@ -43,11 +44,12 @@ module _ {N : Type 0} where
     pub memory : memories.IsNewMemoryPass host.memories p.memory
     pub table : tables.IsNewTablePass host.tables p.table
 
-  -- so many passes of each of its pools were handed out
+  -- so many passes of each of its pools, and of its retired tags, were handed out
   pub record HandedOut (host : Host N) (passes : ℕ) : Type 0 where
     pub of_tickets : passes_of (tickets.words_of host.tickets) ≡ passes
     pub of_memories : passes_of (memories.words_of host.memories) ≡ passes
     pub of_tables : passes_of (tables.words_of host.tables) ≡ passes
+    pub of_retired : retired.passes_of host.retired.tags ≡ passes
 
   -- it has as many slots as its share says, of which of each kind at most so many are warm while no call has them
   pub record HasShare (warm : ℕ) (share : Share) (host : Host N) : Type 0 where
@@ -59,14 +61,17 @@ module _ {N : Type 0} where
     pub warm_tables : limit_of (tables.words_of host.tables) ≡ warm
 
 module _ {N : Type 0} {G : Ghosts N} where
-  -- the pass is one of this host's
-  abbrev pub IsHostPass : Host N → HostPass N G → Type 0
-  IsHostPass host pass = ArePassesOf host pass.passes
+  -- the pass is one of this host's: at its pools, and at its retired tags
+  pub record IsHostPass (host : Host N) (pass : HostPass N G) : Type 0 where
+    pub pools : ArePassesOf host pass.passes
+    pub tags : retired.IsTagPass host.retired.tags pass.retired
 
   -- it stays that pass of that host
-  abbrev pub IsSameHostPass : HostPass N G → HostPass N G → Type 0
-  IsSameHostPass p q = AreSamePasses p.passes q.passes
+  pub record IsSameHostPass (p q : HostPass N G) : Type 0 where
+    pub pools : AreSamePasses p.passes q.passes
+    pub tags : retired.IsSameTagPass p.retired q.retired
 
   -- and as it is handed out
-  abbrev pub IsNewHostPass : Host N → HostPass N G → Type 0
-  IsNewHostPass host pass = AreNewPassesOf host pass.passes
+  pub record IsNewHostPass (host : Host N) (pass : HostPass N G) : Type 0 where
+    pub pools : AreNewPassesOf host pass.passes
+    pub tags : retired.IsNewTagPass host.retired.tags pass.retired

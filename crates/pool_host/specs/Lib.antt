@@ -3,9 +3,12 @@ pub mod Closing
 pub mod Hosts
 pub mod Idle
 pub mod Leases
+pub mod Looks
 pub mod Outs
 pub mod Pausing
 pub mod Preferring
+pub mod Retirements
+pub mod Retiring
 pub mod Taking
 pub mod Trails
 pub mod Visits

@@ -5,6 +5,7 @@ use Rattle.wasm_types.specs.declared.outcome.Val.{Val}
 use Rattle.slot_words.specs.Owned.{slots_of}
 use Rattle.slot_words.specs.Parts.{Grew}
 use Rattle.slot_words.specs.Passes.{trail}
+use Rattle.retired_tags.specs.Passes.{IsTagPass, TagPass}
 use Rattle.module_store.specs.declared.naming.Naming.{Ghosts}
 use Rattle.pool_limits.specs.declared.numbers.Numbers.{Numbers}
 use Rattle.pool_worlds.specs.Contents.{Named}
@@ -18,6 +19,8 @@ use Rattle.instance_calls.specs.PausedViews.{PausedView}
 use Rattle.instance_calls.specs.Resumed.{EndsAs, HasMore, IsBegun}
 use Rattle.pool_host.specs.declared.answers.Answer.TheVariants as answer
 use Rattle.pool_host.specs.declared.answers.Kind.{Kind}
+use Rattle.pool_host.specs.declared.finding.Refused.{Refused}
+use Rattle.pool_host.specs.declared.finding.Refused.TheVariants as refused
 use Rattle.pool_host.specs.declared.host.Host.{Host}
 use Rattle.pool_host.specs.declared.passes.HostPass.{HostPass}
 use Rattle.pool_host.specs.declared.passes.Passes.{Passes}
@@ -52,9 +55,10 @@ module _ {N : Type 0} where
     pub table : IsWithin (slots_of (tables.words_of host.tables)) v.table
 
 module _ {N : Type 0} {G : Ghosts N} where
-  -- the call is paused on this host
-  abbrev pub IsOfHost : Host N → Paused N G → Type 0
-  IsOfHost host paused = AreOfHost host paused.passes paused.running
+  -- the call is paused on this host: at its pools, and with a pass at its retired tags
+  pub record IsOfHost (host : Host N) (paused : Paused N G) : Type 0 where
+    pub pools : AreOfHost host paused.passes paused.running
+    pub tags : IsTagPass host.retired.tags paused.retired
 
   -- a call that has begun with this pass
   pub record IsReady (config : Numbers) (host : Host N) (m : Named) (export : List ℕ) (args : List Val) (fuel number : ℕ) (before : Passes N) (paused : Paused N G) : Type 0 where
@@ -66,11 +70,17 @@ module _ {N : Type 0} {G : Ghosts N} where
     pub begun : IsBegun m function args fuel paused.running
     pub took : TookThose config host m before paused.passes paused.running
 
-  -- it was refused, and the pass did nothing; it keeps no answer
+  -- it was refused, and the pass did nothing at the pools; it keeps no answer
   pub record IsUntouched (host : Host N) (before : Passes N) (pass : HostPass N G) : Type 0 where
     pub own : IsHostPass host pass
     pub passes_are : pass.passes ≡ before
     pub no_answer : pass.answer ≡ []
+
+  -- its module was retired, and it could have been made
+  pub record WasRetired (host : Host N) (m : Named) (export : List ℕ) (args : List Val) (before : Passes N) (pass : HostPass N G) : Type 0 where
+    pub untouched : IsUntouched host before pass
+    pub function : ℕ
+    pub may : MayCall m.tree export function args
 
   -- a kind was full; it keeps no answer
   pub record WasFull (config : Numbers) (host : Host N) (m : Named) (export : List ℕ) (args : List Val) (before : Passes N) (pass : HostPass N G) (kind : Kind) : Type 0 where
@@ -86,19 +96,36 @@ module _ {N : Type 0} {G : Ghosts N} where
   HasBegun config host m export args fuel number before (begun.Ready paused) = IsReady config host m export args fuel number before paused
   HasBegun config host m export args fuel number before (begun.NoExport pass) = IsUntouched host before pass × LacksExport m.tree export
   HasBegun config host m export args fuel number before (begun.BadArgs pass) = IsUntouched host before pass × LacksTypes m.tree export args
+  HasBegun config host m export args fuel number before (begun.Retired pass) = WasRetired host m export args before pass
   HasBegun config host m export args fuel number before (begun.Full pass kind) = WasFull config host m export args before pass kind
+
+  -- its pass at the retired tags, with whom it is now
+  abbrev pub begun_tags : Begun N G → TagPass
+  begun_tags (begun.Ready paused) = paused.retired
+  begun_tags (begun.NoExport pass) = pass.retired
+  begun_tags (begun.BadArgs pass) = pass.retired
+  begun_tags (begun.Retired pass) = pass.retired
+  begun_tags (begun.Full pass kind) = pass.retired
+
+  -- how a call began that was refused so
+  abbrev pub refused_begun : Refused → HostPass N G → Begun N G
+  refused_begun refused.NoExport pass = begun.NoExport pass
+  refused_begun refused.BadArgs pass = begun.BadArgs pass
+  refused_begun refused.Retired pass = begun.Retired pass
 
   -- it goes on with the same passes, which did nothing
   pub record IsPausedAgain (config : Numbers) (host : Host N) (before : Paused N G) (slice : ℕ) (paused : Paused N G) : Type 0 where
     pub own : IsOfHost host paused
     pub passes_are : paused.passes ≡ before.passes
+    pub tags_are : paused.retired ≡ before.retired
     pub number_is : paused.number ≡ before.number
     pub more : HasMore config before.running slice paused.running
 
-  -- all that it had is given back
+  -- all that it had is given back, and its pass at the retired tags is as it was
   pub record HasGivenBack (config : Numbers) (host : Host N) (before : Paused N G) (pass : HostPass N G) : Type 0 where
     pub own : IsHostPass host pass
     pub same : AreSamePasses before.passes pass.passes
+    pub tags_are : pass.retired ≡ before.retired
     pub gave : GaveThose config host before.running.named before.passes pass.passes before.running
 
   -- it is given up, and keeps no answer

@@ -13,7 +13,7 @@ use Rattle.instance_slots.specs.Pools as tickets
 use Rattle.memory_slots.specs.Pools as memories
 use Rattle.table_slots.specs.Pools as tables
 use Rattle.pool_host.specs.declared.answers.Answer.{Answer}
-use Rattle.pool_host.specs.declared.answers.Answer.TheVariants.{Done, NoExport, BadArgs, Full}
+use Rattle.pool_host.specs.declared.answers.Answer.TheVariants.{Done, NoExport, BadArgs, Retired, Full}
 use Rattle.pool_host.specs.declared.answers.Kind.{Kind as AnyKind}
 use Rattle.pool_host.specs.declared.answers.Kind.TheVariants as kind
 use Rattle.pool_host.specs.declared.host.Host.{Host}
@@ -25,6 +25,7 @@ use Rattle.pool_host.specs.Visits.{Adds, IsTurnedAway, None, Served, TurnedAway,
 abbrev pub visit : Answer → Kind → Visit
 visit NoExport k = None
 visit BadArgs k = None
+visit Retired k = None
 visit (Done outcome) k = Served
 visit (Full kind.Instance) Ticket = TurnedAway
 visit (Full kind.Instance) Memory = None

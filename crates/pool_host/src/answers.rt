@@ -18,6 +18,8 @@ pub enum Answer {
     NoExport,
     /// The arguments aren't of the function's types.
     BadArgs,
+    /// It could be made, but the module is retired on this host.
+    Retired,
     /// Other calls had every slot of this kind.
     Full(Kind),
 }

@@ -34,6 +34,7 @@ impl<N: Naming> Host<N> {
             tickets,
             memories,
             tables,
+            ..
         } = self;
         let instance = tickets.close(ticket);
         let memory = memories.close(memory);

@@ -4,6 +4,7 @@ ghost use Rattle.std.specs.List.{All};
 ghost use Rattle.instance_slots.specs.Pools.{IsNewTicketPass};
 ghost use Rattle.memory_slots.specs.Pools.{IsNewMemoryPass};
 ghost use Rattle.table_slots.specs.Pools.{IsNewTablePass};
+ghost use Rattle.retired_tags.specs.Passes.{IsNewTagPass};
 ghost use Rattle.pool_host.specs.Hosts.{IsNewHostPass};
 
 use crate::host::Host;
@@ -12,6 +13,7 @@ use call_payload::AnswerBuf;
 use instance_slots::Ticket;
 use memory_slots::MemSlot;
 use module_store::Naming;
+use retired_tags::TagPass;
 use slot_words::Pass;
 use std::alloc::Global;
 use table_slots::TableSlot;
@@ -24,10 +26,12 @@ pub(crate) fn deal<N: Naming>(
     mut tickets: Vec<Pass<Ticket<N>>>,
     mut memories: Vec<Pass<MemSlot<N>>>,
     mut tables: Vec<Pass<TableSlot<N>>>,
+    mut tags: Vec<TagPass>,
 ) -> Result<Vec<HostPass<N>>, NoMemory>
     requires tickets { All (IsNewTicketPass host.now.tickets) tickets.items }
     requires memories { (length memories.items ≡ length tickets.items) × All (IsNewMemoryPass host.now.memories) memories.items }
     requires tables { (length tables.items ≡ length tickets.items) × All (IsNewTablePass host.now.tables) tables.items }
+    requires tags { (length tags.items ≡ length tickets.items) × All (IsNewTagPass host.now.retired.tags) tags.items }
     ensures count { IfOk result (λ all. length all.items ≡ length tickets.items) }
     ensures passes { IfOk result (λ all. All (IsNewHostPass host.now) all.items) }
 {
@@ -38,8 +42,13 @@ pub(crate) fn deal<N: Naming>(
             memory: memories.pop().unwrap(),
             table: tables.pop().unwrap(),
         };
+        let retired = tags.pop().unwrap();
         let answer = AnswerBuf::open(alloc)?;
-        all.push_reserved(HostPass { passes, answer });
+        all.push_reserved(HostPass {
+            passes,
+            retired,
+            answer,
+        });
     }
     Ok(all)
 }

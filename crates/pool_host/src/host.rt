@@ -4,20 +4,23 @@ ghost use Rattle.std.specs.List.{All};
 ghost use Rattle.instance_calls.specs.CallWords.{run_limits};
 ghost use Rattle.pool_host.specs.CallWords.{IfFull, IsHostAnswer};
 ghost use Rattle.pool_host.specs.Hosts.{AreIdle, ArePassesOf, AreSamePasses, HandedOut, HasShare, IsHostPass, IsNewHostPass, IsSameHostPass, IsShare};
+ghost use Rattle.pool_host.specs.Looks.{look_of, Looked};
 ghost use Rattle.pool_host.specs.Trails.{AddsTrails, HasCause};
+ghost use Rattle.retired_tags.specs.Passes.{IsTagPass};
 
 use crate::answers::Answer;
 use crate::dealing::deal;
-use crate::finding::find;
+use crate::finding::{Refused, find};
 use crate::passes::{HostPass, Passes};
+use crate::retired::Retired;
 use crate::slots::{give_slots, take_slots};
 use call_payload::AnswerBuf;
 use host_edge::Gate;
-use instance_calls::Refusal;
 use instance_slots::TicketPool;
 use memory_slots::MemoryPool;
-use module_store::{ModuleRef, ModuleStore, Naming};
+use module_store::{MOST_MODULES, ModuleRef, ModuleStore, Naming};
 use pool_limits::Share;
+use retired_tags::{RetiredTags, TagPass};
 use std::alloc::Global;
 use table_slots::TablePool;
 use wasm_types::{NoMemory, Val};
@@ -25,17 +28,19 @@ use wasm_types::{NoMemory, Val};
 /// The most passes of a host.
 pub const MOST_PASSES: u32 = 32;
 
-/// Pools of tickets, memories and tables, on which callers make calls at the same time, each with a pass of its own.
+/// Pools of tickets, memories and tables, on which callers make calls at the same time, each with a pass of its own. A module that
+/// is retired on a host is called on it no more.
 #[derive(Drop)]
 pub struct Host<N: Naming> {
     pub(crate) tickets: TicketPool<N>,
     pub(crate) memories: MemoryPool<N>,
     pub(crate) tables: TablePool<N>,
+    pub(crate) retired: Retired,
 }
 
 impl<N: Naming> Host<N> {
     /// A host with so many slots of each kind, and as many passes as are asked for. There are no others. Of the memories, and of
-    /// the tables, at most as many as the store's configuration says are warm while no call has them.
+    /// the tables, at most as many as the store's configuration says are warm while no call has them. No module is retired.
     ///
     /// # Errors
     ///
@@ -82,12 +87,14 @@ impl<N: Naming> Host<N> {
         let (tickets, of_tickets) = TicketPool::open(alloc, store, share.instances, warm, passes)?;
         let (memories, of_memories) = MemoryPool::open(alloc, store, share.memories, warm, passes)?;
         let (tables, of_tables) = TablePool::open(alloc, store, share.tables, warm, passes)?;
+        let (tags, of_tags) = RetiredTags::open(alloc, MOST_MODULES, passes).map_err(|_| NoMemory)?;
         let host = Host {
             tickets,
             memories,
             tables,
+            retired: Retired { tags },
         };
-        let all = deal(alloc, &host, of_tickets, of_memories, of_tables)?;
+        let all = deal(alloc, &host, of_tickets, of_memories, of_tables, of_tags)?;
         Ok((host, all))
     }
 
@@ -95,6 +102,7 @@ impl<N: Naming> Host<N> {
     fn answer<G: Gate>(
         &self,
         passes: &mut Passes<N>,
+        retired: &mut TagPass,
         store: &ModuleStore<N>,
         module: &ModuleRef<N>,
         export: &[u8],
@@ -106,18 +114,22 @@ impl<N: Naming> Host<N> {
         said: &mut AnswerBuf,
     ) -> Answer
         requires own { ArePassesOf self.now passes.old }
+        requires tags { IsTagPass self.now.retired.tags retired.old }
         requires request { length request.now ≤ 65536 }
         requires idle { AreIdle passes.old }
         ensures same { AreSamePasses passes.old passes.new }
         ensures idle { AreIdle passes.new }
+        ensures tags { IsTagPass self.now.retired.tags retired.new }
         ensures answer { IsHostAnswer «module».now.tree (run_limits N.config) export.now args.now request.now fuel result said.new }
         ensures trails { AddsTrails N.config self.now «module».now result passes.old passes.new }
         ensures full { IfFull result (HasCause N.config self.now «module».now passes.old passes.new) }
+        ensures looked { Looked self.now.retired.tags «module».now.tag retired.old retired.new (look_of result) }
     {
-        let function = match find(store, module, export, args, said) {
+        let function = match find(&self.retired, retired, store, module, export, args, said) {
             Ok(function) => function,
-            Err(Refusal::NoExport) => return Answer::NoExport,
-            Err(Refusal::BadArgs) => return Answer::BadArgs,
+            Err(Refused::NoExport) => return Answer::NoExport,
+            Err(Refused::BadArgs) => return Answer::BadArgs,
+            Err(Refused::Retired) => return Answer::Retired,
         };
         match take_slots(self, passes, store, module) {
             Ok(mut instance) => {
@@ -137,7 +149,8 @@ impl<N: Naming> Host<N> {
     /// The module may read the request and append to an answer, which [`HostPass::answer`] shows afterwards where the call is done.
     ///
     /// The call takes a ticket, then a memory and a table where the module has them, and gives all back. The first kind of which
-    /// other calls have every slot is its answer. Whatever they do, it is otherwise answered as if it were alone.
+    /// other calls have every slot is its answer. Where the module is retired on this host it takes none. Whatever others do, it is
+    /// otherwise answered as if it were alone.
     ///
     /// The gate is told of the call by its number: when all is taken and nothing has run, and after every answer.
     pub fn send<G: Gate>(
@@ -161,9 +174,13 @@ impl<N: Naming> Host<N> {
         // to each pass of the kinds that it asked: one take and its give, or a take that won nothing
         ensures trails { AddsTrails N.config self.now «module».now result pass.old.passes pass.new.passes }
         ensures full { IfFull result (HasCause N.config self.now «module».now pass.old.passes pass.new.passes) }
+
+        // one look at the retired tags, after the checks and before any slot: retired is exactly what it read
+        ensures looked { Looked self.now.retired.tags «module».now.tag pass.old.retired pass.new.retired (look_of result) }
     {
         let answer = self.answer(
             &mut pass.passes,
+            &mut pass.retired,
             store,
             module,
             export,
@@ -198,6 +215,9 @@ impl<N: Naming> Host<N> {
         // to each pass of the kinds that it asked: one take and its give, or a take that won nothing
         ensures trails { AddsTrails N.config self.now «module».now result pass.old.passes pass.new.passes }
         ensures full { IfFull result (HasCause N.config self.now «module».now pass.old.passes pass.new.passes) }
+
+        // one look at the retired tags, after the checks and before any slot: retired is exactly what it read
+        ensures looked { Looked self.now.retired.tags «module».now.tag pass.old.retired pass.new.retired (look_of result) }
     {
         self.send(pass, store, module, export, args, &[], fuel, number, gate)
     }

@@ -1,13 +1,18 @@
 //! Calls of one caller.
-ghost use Rattle.std.specs.Prelude.{◌≡◌, ◌≤◌, [], length, IfOk};
+ghost use Rattle.std.specs.Prelude.{◌≡◌, ◌↔◌, ◌≤◌, [], length, IfOk};
 ghost use Rattle.instance_calls.specs.CallWords.{run_limits};
 ghost use Rattle.pool_host.specs.CallWords.{IsAnswer, host_answer};
-ghost use Rattle.pool_host.specs.Hosts.{HandedOut, HasShare, IsHostPass, IsSameHostPass, IsShare};
+ghost use Rattle.pool_host.specs.Hosts.{HandedOut, HasShare, IsHostPass, IsNewHostPass, IsSameHostPass, IsShare};
+ghost use Rattle.pool_host.specs.Looks.{look_of, IsDecidedBy, Looked, SetsBit};
+ghost use Rattle.pool_host.specs.Retiring.{is_already, Sweeps};
 ghost use Rattle.pool_host.specs.Trails.{AddsTrails};
+ghost use Rattle.retired_tags.specs.Passes.{steps};
+ghost use Rattle.retired_tags.specs.Steps.{HasSet, Knows};
 
 use crate::answers::Answer;
 use crate::host::Host;
 use crate::passes::HostPass;
+use crate::retiring::Retire;
 use host_edge::Gate;
 use module_store::{ModuleRef, ModuleStore, Naming};
 use pool_limits::Share;
@@ -23,6 +28,8 @@ pub enum LaneAnswer {
     NoExport,
     /// The arguments aren't of the function's types.
     BadArgs,
+    /// It could be made, but the module is retired on this lane.
+    Retired,
 }
 
 /// A host with one caller, whose pass is its only one.
@@ -46,7 +53,8 @@ impl<N: Naming> LaneHost<N> {
         share: Share,
     ) -> Result<LaneHost<N>, NoMemory>
         requires { IsShare share }
-        ensures { IfOk result (λ lane. HasShare N.config.warm share lane.host) }
+        ensures share { IfOk result (λ lane. HasShare N.config.warm share lane.host) }
+        ensures new { IfOk result (λ lane. IsNewHostPass lane.host lane.pass) }
     {
         let (host, mut passes) = Host::open(alloc, store, share, 1)?;
         let pass = passes.pop().unwrap();
@@ -55,7 +63,7 @@ impl<N: Naming> LaneHost<N> {
 
     /// Calls a module's export on a fresh instance, whose start function runs first, on so much fuel in all: one for each
     /// plain instruction. Its memory has at most the configured pages, and its calls are at most the configured depth deep.
-    /// It takes no memory of the program's, and always has its slots.
+    /// It takes no memory of the program's, and always has its slots. Where the module is retired on this lane it takes none.
     ///
     /// The module may read the request and append to an answer, which [`LaneHost::answer`] shows afterwards where the call is done.
     ///
@@ -75,6 +83,10 @@ impl<N: Naming> LaneHost<N> {
         ensures same { (self.new.host ≡ self.old.host) × IsSameHostPass self.old.pass self.new.pass }
         ensures answer { IsAnswer «module».now.tree (run_limits N.config) export.now args.now request.now fuel result self.new.pass.answer }
         ensures trails { AddsTrails N.config self.old.host «module».now (host_answer result) self.old.pass.passes self.new.pass.passes }
+
+        // one look at the retired tags, after the checks and before any slot: retired is exactly what this lane retired
+        ensures looked { Looked self.old.host.retired.tags «module».now.tag self.old.pass.retired self.new.pass.retired (look_of (host_answer result)) }
+        ensures own_steps { IsDecidedBy «module».now.tag (steps self.old.pass.retired) (look_of (host_answer result)) }
     {
         let pass = &mut self.pass;
         match self.host.send(
@@ -83,6 +95,7 @@ impl<N: Naming> LaneHost<N> {
             Answer::Done(outcome) => LaneAnswer::Done(outcome),
             Answer::NoExport => LaneAnswer::NoExport,
             Answer::BadArgs => LaneAnswer::BadArgs,
+            Answer::Retired => LaneAnswer::Retired,
             Answer::Full(_) => unreachable!(),
         }
     }
@@ -101,8 +114,30 @@ impl<N: Naming> LaneHost<N> {
         ensures same { (self.new.host ≡ self.old.host) × IsSameHostPass self.old.pass self.new.pass }
         ensures answer { IsAnswer «module».now.tree (run_limits N.config) export.now args.now [] fuel result self.new.pass.answer }
         ensures trails { AddsTrails N.config self.old.host «module».now (host_answer result) self.old.pass.passes self.new.pass.passes }
+
+        // one look at the retired tags, after the checks and before any slot: retired is exactly what this lane retired
+        ensures looked { Looked self.old.host.retired.tags «module».now.tag self.old.pass.retired self.new.pass.retired (look_of (host_answer result)) }
+        ensures own_steps { IsDecidedBy «module».now.tag (steps self.old.pass.retired) (look_of (host_answer result)) }
     {
         self.send(store, module, export, args, &[], fuel, number, gate)
+    }
+
+    /// Retires a module on this lane: no later call of it is made. The first time, each memory and table that is still the module's is
+    /// made cold. It takes no memory.
+    pub fn retire(&mut self, store: &ModuleStore<N>, module: &ModuleRef<N>) -> Retire
+        ensures same { (self.new.host ≡ self.old.host) × IsSameHostPass self.old.pass self.new.pass }
+        ensures bytes { self.new.pass.answer ≡ self.old.pass.answer }
+
+        // one step at the retired tags, and it was retired before exactly where this lane had retired it
+        ensures bit { SetsBit self.old.host.retired.tags «module».now.tag self.old.pass.retired self.new.pass.retired (is_already result) }
+        ensures known { Knows «module».now.tag (steps self.new.pass.retired) }
+        ensures before { Knows «module».now.tag (steps self.old.pass.retired) → result ≡ Retire.Already }
+        ensures own_steps { (result ≡ Retire.Already) ↔ HasSet «module».now.tag (steps self.old.pass.retired) }
+
+        // the first time a sweep of the memories and one of the tables, else nothing
+        ensures sweeps { Sweeps self.old.host «module».now result self.old.pass.passes self.new.pass.passes }
+    {
+        self.host.retire(&mut self.pass, store, module)
     }
 
     /// The bytes that the last call answered: none unless it was done. Takes no memory.

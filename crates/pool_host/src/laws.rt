@@ -17,22 +17,26 @@ ghost use Rattle.instance_calls.specs.CallWords.{EndsWith, MayCall, run_limits};
 ghost use Rattle.instance_calls.specs.PausedInstances.{comes_to};
 ghost use Rattle.instance_calls.specs.PausedViews.{PausedView};
 ghost use Rattle.instance_calls.specs.Resumed.{EndsAs, IsCallOf};
-ghost use Rattle.pool_host.specs.CallWords.{IsAnswer};
+ghost use Rattle.pool_host.specs.CallWords.{is_retired, IsAnswer};
 ghost use Rattle.pool_host.specs.Preferring.{CallsPreferOwn, FullHasCause};
+ghost use Rattle.pool_host.specs.Retirements.{NeverBegunAgain, NeverCalledAgain};
 ghost use Rattle.pool_host.specs.declared.lane.LaneAnswer.{LaneAnswer};
+ghost use Rattle.retired_tags.specs.Rule.{SetByOne, SetForGood};
 
 use instance_slots::Ticket as AnyTicket;
 use memory_slots::MemSlot;
 use module_store::Naming;
 use pool_worlds::laws as worlds;
+use retired_tags::laws as tags;
 use slot_pools::laws as pools;
 use table_slots::TableSlot;
 
-/// A call of a valid module has one answer, and one sequence of bytes with it: nothing but the module, the limits, the export,
-/// the arguments, the request and the fuel decides them.
+/// A call of a valid module has one answer where the module is retired and one where it is not, and one sequence of bytes with each:
+/// nothing else but the module, the limits, the export, the arguments, the request and the fuel decides them.
 pub fn a_call_has_one_answer()
     ensures { (m : ModuleTree) (limits : RunLimits) (export : List ℕ) (args : List Val) (request : List ℕ) (fuel : ℕ) (a b : LaneAnswer) (x y : List ℕ)
-        → IsValid m → IsAnswer m limits export args request fuel a x → IsAnswer m limits export args request fuel b y → (a ≡ b) × (x ≡ y) }
+        → IsValid m → IsAnswer m limits export args request fuel a x → IsAnswer m limits export args request fuel b y
+        → is_retired a ≡ is_retired b → (a ≡ b) × (x ≡ y) }
 {}
 
 /// A call that was paused, and is over after whatever slices, ended as a call of the export on a fresh instance ends, and answered the
@@ -122,4 +126,21 @@ pub fn lost_claims_are_lost_to_another<N: Naming>()
     pools::lost_claims_are_lost_to_another::<AnyTicket<N>>();
     pools::lost_claims_are_lost_to_another::<MemSlot<N>>();
     pools::lost_claims_are_lost_to_another::<TableSlot<N>>();
+}
+
+/// Of the calls that a pass makes one after another on a host, at once or in slices, none is made of a module that one before it
+/// retired: it is answered that the module is retired, or as a call that could not be made anyway.
+pub fn a_retired_module_is_never_called_again<N: Naming>()
+    ensures calls { NeverCalledAgain }
+    ensures begun { NeverBegunAgain N.Naming }
+{}
+
+/// Of the retirements of one module that any two passes of a host made at most one was told that it was the first, and what a pass
+/// knows to be retired is retired for good: what the rule says of a host's retired tags at each moment.
+pub fn a_module_is_retired_once_and_for_good()
+    ensures once { SetByOne }
+    ensures stays { SetForGood }
+{
+    tags::one_step_sets_a_bit_first();
+    tags::a_set_bit_stays_set();
 }

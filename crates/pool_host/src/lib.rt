@@ -10,9 +10,12 @@ mod host;
 mod kinds;
 mod lane;
 pub mod laws;
+mod looking;
 mod passes;
 mod paused;
 mod pausing;
+mod retired;
+mod retiring;
 mod slots;
 
 pub use answers::{Answer, Kind};
@@ -22,6 +25,7 @@ pub use lane::{LaneAnswer, LaneHost};
 pub use passes::HostPass;
 pub use paused::Paused;
 pub use pausing::{Begun, Turned};
+pub use retiring::Retire;
 
 #[cfg(test)]
 mod tests;

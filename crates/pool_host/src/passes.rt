@@ -1,12 +1,14 @@
 //! A caller's passes.
 ghost use Rattle.std.specs.Prelude.{◌≡◌};
 ghost use Rattle.slot_words.specs.Passes.{share_of};
+ghost use Rattle.retired_tags.specs.Passes as tags;
 ghost use Rattle.pool_host.specs.Idle.{Rests};
 
 use call_payload::AnswerBuf;
 use instance_slots::Ticket;
 use memory_slots::MemSlot;
 use module_store::Naming;
+use retired_tags::TagPass;
 use slot_words::Pass;
 use table_slots::TableSlot;
 
@@ -23,6 +25,7 @@ pub(crate) struct Passes<N: Naming> {
 #[derive(Drop)]
 pub struct HostPass<N: Naming> {
     pub(crate) passes: Passes<N>,
+    pub(crate) retired: TagPass,
     pub(crate) answer: AnswerBuf,
     ghost rests_ticket: { Rests passes.ticket },
     ghost rests_memory: { Rests passes.memory },
@@ -30,6 +33,7 @@ pub struct HostPass<N: Naming> {
     ghost one_ticket: { share_of passes.ticket ≡ 1 },
     ghost one_memory: { share_of passes.memory ≡ 1 },
     ghost one_table: { share_of passes.table ≡ 1 },
+    ghost one_retired: { tags.share_of retired ≡ 1 },
 }
 
 impl<N: Naming> HostPass<N> {

@@ -1,15 +1,17 @@
 //! Calls go on in slices, from thread to thread.
+ghost use Rattle.std.specs.Prelude.{◌≡◌};
 ghost use Rattle.pool_host.specs.Hosts.{IsHostPass};
-ghost use Rattle.pool_host.specs.Pausing.{HasBegun, HasTurnedTo, IsGivenUp, IsOfHost};
+ghost use Rattle.pool_host.specs.Looks.{begun_look, refused_look, Looked};
+ghost use Rattle.pool_host.specs.Pausing.{begun_tags, refused_begun, HasBegun, HasTurnedTo, IsGivenUp, IsOfHost};
 
 use crate::answers::Kind;
-use crate::finding::find;
+use crate::finding::{Refused, find};
 use crate::host::Host;
 use crate::passes::HostPass;
 use crate::paused::Paused;
 use crate::slots::{give_slots, take_slots};
 use host_edge::Gate;
-use instance_calls::{PausedInstance, Refusal, Resumed};
+use instance_calls::{PausedInstance, Resumed};
 use module_store::{ModuleRef, ModuleStore, Naming};
 use wasm_types::{Outcome, Val};
 
@@ -22,6 +24,8 @@ pub enum Begun<N: Naming> {
     NoExport(HostPass<N>),
     /// The arguments aren't of the function's types.
     BadArgs(HostPass<N>),
+    /// It could be made, but the module is retired on this host.
+    Retired(HostPass<N>),
     /// Other calls had every slot of this kind.
     Full(HostPass<N>, Kind),
 }
@@ -33,6 +37,21 @@ pub enum Turned<N: Naming> {
     Again(Paused<N>),
     /// It ended so, and its slots are given back.
     Done(Outcome, HostPass<N>),
+}
+
+impl Refused {
+    // How a call that is refused so began.
+    fn begun<N: Naming>(self, pass: HostPass<N>) -> Begun<N>
+        ensures begun { result ≡ refused_begun self pass }
+        ensures tags { begun_tags result ≡ pass.retired }
+        ensures look { begun_look result ≡ refused_look self }
+    {
+        match self {
+            Refused::NoExport => Begun::NoExport(pass),
+            Refused::BadArgs => Begun::BadArgs(pass),
+            Refused::Retired => Begun::Retired(pass),
+        }
+    }
 }
 
 impl<N: Naming> Host<N> {
@@ -53,20 +72,32 @@ impl<N: Naming> Host<N> {
     ) -> Begun<N>
         requires own { IsHostPass self.now pass }
         ensures begun { HasBegun N.config self.now «module».now export.now args.now fuel number pass.passes result }
+
+        // one look at the retired tags, after the checks and before any slot: retired is exactly what it read
+        ensures looked { Looked self.now.retired.tags «module».now.tag pass.retired (begun_tags result) (begun_look result) }
     {
         let HostPass {
             mut passes,
+            mut retired,
             mut answer,
         } = pass;
-        let function = match find(store, module, export, args, &mut answer) {
+        let function = match find(
+            &self.retired,
+            &mut retired,
+            store,
+            module,
+            export,
+            args,
+            &mut answer,
+        ) {
             Ok(function) => function,
-            Err(Refusal::NoExport) => {
+            Err(refused) => {
                 gate.answered(number);
-                return Begun::NoExport(HostPass { passes, answer });
-            }
-            Err(Refusal::BadArgs) => {
-                gate.answered(number);
-                return Begun::BadArgs(HostPass { passes, answer });
+                return refused.begun(HostPass {
+                    passes,
+                    retired,
+                    answer,
+                });
             }
         };
         match take_slots(self, &mut passes, store, module) {
@@ -77,13 +108,19 @@ impl<N: Naming> Host<N> {
                 gate.entered(number);
                 Begun::Ready(Paused {
                     passes,
+                    retired,
                     running,
                     number,
                 })
             }
             Err(kind) => {
                 gate.answered(number);
-                Begun::Full(HostPass { passes, answer }, kind)
+                let pass = HostPass {
+                    passes,
+                    retired,
+                    answer,
+                };
+                Begun::Full(pass, kind)
             }
         }
     }
@@ -91,8 +128,8 @@ impl<N: Naming> Host<N> {
 
 impl<N: Naming> Paused<N> {
     /// Makes at most so many turns more, on the host and the store with which it began. In whatever slices and on whatever threads it
-    /// is made, it ends as if it ran at once. A call of an import makes no turn: its effect comes with the first slice, which is its
-    /// last. It takes no memory. The gate is told when it is answered.
+    /// is made, it ends as if it ran at once, also where its module is retired meanwhile. A call of an import makes no turn: its effect
+    /// comes with the first slice, which is its last. It takes no memory. The gate is told when it is answered.
     pub fn resume<G: Gate>(
         self,
         host: &Host<N>,
@@ -105,19 +142,26 @@ impl<N: Naming> Paused<N> {
     {
         let Paused {
             mut passes,
+            retired,
             running,
             number,
         } = self;
         match running.resume(store, slice) {
             Resumed::Again(running) => Turned::Again(Paused {
                 passes,
+                retired,
                 running,
                 number,
             }),
             Resumed::Done(outcome, instance, answer) => {
                 give_slots(host, &mut passes, store, instance);
                 gate.answered(number);
-                Turned::Done(outcome, HostPass { passes, answer })
+                let pass = HostPass {
+                    passes,
+                    retired,
+                    answer,
+                };
+                Turned::Done(outcome, pass)
             }
         }
     }
@@ -129,12 +173,17 @@ impl<N: Naming> Paused<N> {
     {
         let Paused {
             mut passes,
+            retired,
             running,
             number,
         } = self;
         let (instance, answer) = running.give_up();
         give_slots(host, &mut passes, store, instance);
         gate.answered(number);
-        HostPass { passes, answer }
+        HostPass {
+            passes,
+            retired,
+            answer,
+        }
     }
 }

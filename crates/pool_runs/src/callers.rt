@@ -4,7 +4,7 @@ ghost use Rattle.pool_host.specs.Hosts.{IsHostPass};
 
 use host_edge::Gate;
 use module_store::{Desk, ModuleRef, ModuleStore, Naming, Opened};
-use pool_host::{Answer, Host, HostPass};
+use pool_host::{Answer, Host, HostPass, PoolCounts};
 use pool_limits::{Numbers, PoolConfig, Share};
 use std::alloc::Global;
 use std::process::Abort;
@@ -85,6 +85,22 @@ pub(crate) fn two_callers<N: Naming, R: Abort>(
     let first = passes.pop().unwrap();
     let second = passes.pop().unwrap();
     (host, first, second)
+}
+
+// The slots of a host that is closed with two passes.
+pub(crate) fn close_two<N: Naming, R: Abort>(
+    rt: &R,
+    alloc: Global,
+    host: Host<N>,
+    first: HostPass<N>,
+    second: HostPass<N>,
+) -> PoolCounts
+    requires { IsHostPass host first × IsHostPass host second }
+{
+    let mut passes = Vec::new(alloc);
+    passes.push(first).expect(rt, "room");
+    passes.push(second).expect(rt, "room");
+    host.close(passes)
 }
 
 // Calls `bump` with a pass of the host, and gives the pass back.

@@ -3,7 +3,7 @@ ghost use Rattle.module_store.specs.Names.{Bears};
 ghost use Rattle.pool_host.specs.Hosts.{IsHostPass};
 ghost use Rattle.pool_host.specs.Pausing.{IsOfHost};
 
-use crate::callers::{BUMP, ONE, open, register, two_callers};
+use crate::callers::{BUMP, ONE, close_two, open, register, two_callers};
 use crate::slices::{begun, ended, paused_again};
 use module_store::{ModuleStore, Naming, Opened};
 use pool_host::{Host, HostPass, Paused};
@@ -81,10 +81,8 @@ fn check_handed_on<N: Naming + Send + Sync, R: Abort + Threads + Wait + Sync>(
     let (one, two) = both_again(rt, &host, &store, one, two);
     let ((second_end, second), (first_end, first)) = both_ended(rt, &host, &store, two, one);
     assert_eq!(rt; (first_end, second_end), (ONE, ONE));
-    let mut passes = Vec::new(alloc);
-    passes.push(first).expect(rt, "room");
-    passes.push(second).expect(rt, "room");
-    assert_eq!(rt; host.close(passes).memory.held, 0);
+    let counts = close_two(rt, alloc, host, first, second);
+    assert_eq!(rt; counts.memory.held, 0);
 }
 
 #[test]

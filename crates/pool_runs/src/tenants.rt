@@ -21,7 +21,7 @@ use tenant_share::{Asked, Caller, Plan, ShareHost, TenantPass};
 use wasm_types::Profile;
 
 // A store for tenants 0 and 1, and their plan: tenant 1 has two tickets, and one memory and one table, as tenant 0 has.
-fn open<R: Abort>(rt: &R, alloc: Global) -> (Opened, Plan)
+pub(crate) fn open<R: Abort>(rt: &R, alloc: Global) -> (Opened, Plan)
     ensures plan { result.1.0 ≡ result.0.config }
     ensures tenants { length result.1.1 ≡ 2 }
 {
@@ -50,7 +50,7 @@ fn open<R: Abort>(rt: &R, alloc: Global) -> (Opened, Plan)
 }
 
 // Opens the tenants' hosts, and gives two callers.
-fn two_callers<N: Naming, R: Abort>(
+pub(crate) fn two_callers<N: Naming, R: Abort>(
     rt: &R,
     alloc: Global,
     store: &ModuleStore<N>,
@@ -106,6 +106,23 @@ fn call_for<N: Naming, G: Gate>(
         fuel: 100,
     };
     share.send_for(caller, tenant, store, module, &asked, number, gate)
+}
+
+// The same of `bump`.
+pub(crate) fn bump_for<N: Naming>(
+    share: &ShareHost<N>,
+    caller: &mut Caller<N>,
+    tenant: u32,
+    store: &ModuleStore<N>,
+    module: &ModuleRef<N>,
+) -> Answer
+    requires caller { IsCaller share.now caller.old }
+    requires tenant { tenant < tenants_of share.now }
+    ensures { IsCaller share.now caller.new }
+{
+    call_for(
+        share, caller, tenant, store, module, "bump", "", 1, &OpenGate,
+    )
 }
 
 // What a call of tenant 1 is answered that is held until another of this tenant was answered; and meanwhile that one, and one of

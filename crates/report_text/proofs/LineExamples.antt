@@ -9,7 +9,7 @@ use Rattle.wasm_types.specs.declared.outcome.TrapKind.TheVariants as trap
 use Rattle.report_text.specs.declared.report.ModuleLine.TheVariants as loading
 use Rattle.report_text.specs.declared.report.CallLine.TheVariants as call
 use Rattle.report_text.specs.declared.report.ReportLine.TheVariants as report
-use Rattle.report_text.specs.Lines.{call_line, module_line, report_text}
+use Rattle.report_text.specs.Lines.{call_line, module_line, report_text, retire_line}
 use Rattle.report_text.specs.Summary.{count_line, summary_text}
 
 modules_are : report_text (report.Module (codes "a") loading.Accepted ∷ report.Module (codes "b") loading.Malformed ∷ report.Module (codes "c") loading.Unsupported ∷ [])
@@ -27,8 +27,13 @@ results_are : report_text (report.Call 1 (call.Done (outcome.Done None)) ∷ rep
 unfolding call_line digits
 results_are = refl
 
-other_ends_are : report_text (report.Call 1 (call.Done outcome.Fuel) ∷ report.Call 2 call.NoModule ∷ report.Call 3 call.NoExport ∷ report.Call 4 call.BadArgs ∷ [])
-    ≡ codes "1 fuel\n2 refused module\n3 refused export\n4 refused args\n"
+retirements_are : report_text (report.Retired (codes "a") ∷ report.Retired (codes "bc") ∷ [])
+    ≡ codes "retire a done\nretire bc done\n"
+unfolding retire_line
+retirements_are = refl
+
+other_ends_are : report_text (report.Call 1 (call.Done outcome.Fuel) ∷ report.Call 2 call.NoModule ∷ report.Call 3 call.Retired ∷ report.Call 4 call.NoExport ∷ report.Call 5 call.BadArgs ∷ [])
+    ≡ codes "1 fuel\n2 refused module\n3 refused retired\n4 refused export\n5 refused args\n"
 unfolding call_line digits
 other_ends_are = refl
 
@@ -48,7 +53,7 @@ traps_are = refl
 -- a report with a line of each kind
 some_report : summary_text (report.Module [] loading.Accepted ∷ report.Module [] loading.Limit ∷ report.Module [] loading.Segment ∷ report.Call 1 (call.Done (outcome.Done None))
     ∷ report.Call 2 (call.Done (outcome.Trap trap.Divide)) ∷ report.Call 3 (call.Done outcome.Fuel) ∷ report.Call 4 call.NoModule ∷ report.Call 5 call.BadArgs
-    ∷ report.Call 6 (call.Sent None (7 ∷ [])) ∷ [])
-    ≡ codes "modules ok 1\nmodules refused 2\ncalls ok 2\ncalls trap 1\ncalls fuel 1\ncalls refused 2\n"
+    ∷ report.Call 6 (call.Sent None (7 ∷ [])) ∷ report.Retired [] ∷ report.Call 7 call.Retired ∷ report.Retired (codes "calls ok") ∷ [])
+    ≡ codes "modules ok 1\nmodules refused 2\ncalls ok 2\ncalls trap 1\ncalls fuel 1\ncalls refused 3\n"
 unfolding count_line digits
 some_report = refl

@@ -1,16 +1,15 @@
 -- The lines of a summary in turn, and what their counts add to.
 use Rattle.std.proofs.Common.{◌≡◌, ℕ, suc, ◌+◌, List, [], ◌∷◌, ◌++◌, ◌∙◌, append_assoc, length, refl, arith, cond, Result, Ok, Err}
-use Rattle.std.specs.Prelude.{OnOk}
+use Rattle.std.specs.Prelude.{OnOk, count_by}
 use Rattle.std.proofs.lemmas.List.{append-nil}
 use Rattle.std.proofs.lemmas.List.Sums.{sum_by-cons}
 use Rattle.std.specs.List.{flat_map, sum_by}
-use Rattle.std.specs.Str.{bytes_eq}
 use Rattle.wasm_types.specs.declared.outcome.Outcome.TheVariants as outcome
 use Rattle.report_text.specs.declared.report.ModuleLine.TheVariants as loading
 use Rattle.report_text.specs.declared.report.CallLine.TheVariants as call
 use Rattle.report_text.specs.declared.report.ReportLine.{ReportLine}
 use Rattle.report_text.specs.declared.report.ReportLine.TheVariants as report
-use Rattle.report_text.specs.Summary.{count_of, label_of, labels}
+use Rattle.report_text.specs.Summary.{count_of, counts_under, is_retirement, labels}
 
 -- six texts, each appended to those before, the last if memory lasts
 pub six_in_turn : {E : Type 0} (text : List ℕ → List ℕ) (a b c d e f : List ℕ) (t0 t1 t2 t3 t4 t5 t6 : List ℕ) (r : Result (Unit {0}) E) → t1 ≡ t0 ++ text a → t2 ≡ t1 ++ text b
@@ -21,21 +20,27 @@ six_in_turn text a b c d e f t0 t1 t2 t3 t4 t5 t6 (Ok u) e1 e2 e3 e4 e5 e6 =
 six_in_turn text a b c d e f t0 t1 t2 t3 t4 t5 t6 (Err x) e1 e2 e3 e4 e5 e6 = tt
 
 -- 1 for the label under which the line counts, and 0 for another
-abbrev counts_under : ReportLine → List ℕ → ℕ
-counts_under line label = cond (bytes_eq (label_of line) label) 1 0
+abbrev one_under : ReportLine → List ℕ → ℕ
+one_under line label = cond (counts_under label line) 1 0
 
-one_label : (line : ReportLine) → sum_by (counts_under line) labels ≡ 1
+-- 1 for the line of a retirement
+abbrev one_retired : ReportLine → ℕ
+one_retired line = cond (is_retirement line) 1 0
+
+one_label : (line : ReportLine) → sum_by (one_under line) labels + one_retired line ≡ 1
 one_label (report.Module name loading.Accepted) = refl
 one_label (report.Module name loading.Malformed) = refl
 one_label (report.Module name loading.Unsupported) = refl
 one_label (report.Module name loading.Invalid) = refl
 one_label (report.Module name loading.Limit) = refl
 one_label (report.Module name loading.Segment) = refl
+one_label (report.Retired name) = refl
 one_label (report.Call number (call.Done (outcome.Done value))) = refl
 one_label (report.Call number (call.Done (outcome.Trap kind))) = refl
 one_label (report.Call number (call.Done outcome.Fuel)) = refl
 one_label (report.Call number (call.Sent value bytes)) = refl
 one_label (report.Call number call.NoModule) = refl
+one_label (report.Call number call.Retired) = refl
 one_label (report.Call number call.NoExport) = refl
 one_label (report.Call number call.BadArgs) = refl
 
@@ -47,11 +52,12 @@ sum_of_sums f g h is [] = refl
 sum_of_sums f g h is (l ∷ ls) =
     regrouped _ (f l) (g l) (h l) (sum_by h ls) (sum_by f ls) (sum_by g ls) _ _ (sum_by-cons h l ls) (is l) (sum_of_sums f g h is ls) (sum_by-cons f l ls) (sum_by-cons g l ls)
 
-one_more : (n ones all len : ℕ) → n ≡ ones + all → ones ≡ 1 → all ≡ len → n ≡ suc len
-one_more n ones all len e one same = omega arith
+one_more : (counted ones others retired one others_retired len : ℕ) → counted ≡ ones + others → retired ≡ one + others_retired → ones + one ≡ 1 → others + others_retired ≡ len → counted + retired ≡ suc len
+one_more counted ones others retired one others_retired len counts retires once same = omega arith
 
-pub all_counted : (lines : List ReportLine) → sum_by (λ label. count_of lines label) labels ≡ length lines
+pub all_counted : (lines : List ReportLine) → sum_by (λ label. count_of lines label) labels + count_by is_retirement lines ≡ length lines
 all_counted [] = refl
 all_counted (line ∷ lines) =
-    let counted = λ (label : List ℕ). sum_by-cons (λ (r : ReportLine). cond (bytes_eq (label_of r) label) 1 0) line lines in
-    one_more _ _ _ _ (sum_of_sums (counts_under line) (λ label. count_of lines label) (λ label. count_of (line ∷ lines) label) counted labels) (one_label line) (all_counted lines)
+    let counted = λ (label : List ℕ). sum_by-cons (λ (r : ReportLine). one_under r label) line lines in
+    one_more _ (sum_by (one_under line) labels) _ _ (one_retired line) _ _ (sum_of_sums (one_under line) (λ label. count_of lines label) (λ label. count_of (line ∷ lines) label) counted labels) (sum_by-cons one_retired line lines)
+    (one_label line) (all_counted lines)

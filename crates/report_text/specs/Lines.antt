@@ -30,6 +30,12 @@ loading_text loading.Segment = codes "refused segment"
 unfoldable pub module_line : List ℕ → ModuleLine → List ℕ
 module_line name line = codes "module " ++ name ++ codes " " ++ loading_text line ++ codes "\n"
 
+-- ---- the line of a retirement
+
+-- `retire NAME done`
+unfoldable pub retire_line : List ℕ → List ℕ
+retire_line name = codes "retire " ++ name ++ codes " done\n"
+
 -- ---- the line of a call
 
 -- a value with its type, in signed decimal
@@ -62,6 +68,7 @@ abbrev pub call_text : CallLine → List ℕ
 call_text (call.Done end) = outcome_text end
 call_text (call.Sent value bytes) = outcome_text (outcome.Done value) ++ codes " out:" ++ bytes_text bytes
 call_text call.NoModule = codes "refused module"
+call_text call.Retired = codes "refused retired"
 call_text call.NoExport = codes "refused export"
 call_text call.BadArgs = codes "refused args"
 
@@ -73,6 +80,7 @@ call_line number line = decimal number ++ codes " " ++ call_text line ++ codes "
 
 abbrev pub line_text : ReportLine → List ℕ
 line_text (report.Module name line) = module_line name line
+line_text (report.Retired name) = retire_line name
 line_text (report.Call number line) = call_line number line
 
 -- the text of a report: its lines one after the other

@@ -1,5 +1,5 @@
 -- The summary of a report: for each of six labels, how many lines of the report count under it.
-use Rattle.std.specs.Prelude.{ℕ, List, [], ◌∷◌, ◌++◌, codes, count_by, flat_map}
+use Rattle.std.specs.Prelude.{ℕ, Bool, true, false, List, [], ◌∷◌, ◌++◌, codes, count_by, flat_map}
 use Rattle.std.specs.Fmt.{decimal}
 use Rattle.std.specs.Str.{bytes_eq}
 use Rattle.wasm_types.specs.declared.outcome.Outcome.TheVariants as outcome
@@ -23,10 +23,11 @@ call_label (call.Done (outcome.Trap kind)) = codes "calls trap"
 call_label (call.Done outcome.Fuel) = codes "calls fuel"
 call_label _ = codes "calls refused"
 
--- the label under which a line of a report counts
-abbrev pub label_of : ReportLine → List ℕ
-label_of (report.Module name line) = module_label line
-label_of (report.Call number line) = call_label line
+-- whether a line of a report counts under a label; that of a retirement counts under none
+abbrev pub counts_under : (label : List ℕ) → ReportLine → Bool
+counts_under label (report.Module name line) = bytes_eq (module_label line) label
+counts_under label (report.Retired name) = false
+counts_under label (report.Call number line) = bytes_eq (call_label line) label
 
 -- the labels, in the order of their lines
 abbrev pub labels : List (List ℕ)
@@ -34,7 +35,7 @@ labels = codes "modules ok" ∷ codes "modules refused" ∷ codes "calls ok" ∷
 
 -- how many of the report's lines count under a label
 abbrev pub count_of : List ReportLine → List ℕ → ℕ
-count_of lines label = count_by (λ line. bytes_eq (label_of line) label) lines
+count_of lines label = count_by (counts_under label) lines
 
 -- a label, a space, and how many lines count under it
 unfoldable pub count_line : List ReportLine → List ℕ → List ℕ
@@ -43,3 +44,9 @@ count_line lines label = label ++ codes " " ++ decimal (count_of lines label) ++
 -- a line for each label
 abbrev pub summary_text : List ReportLine → List ℕ
 summary_text lines = flat_map (λ label. count_line lines label) labels
+
+-- the line tells of a retirement
+abbrev pub is_retirement : ReportLine → Bool
+is_retirement (report.Module name line) = false
+is_retirement (report.Retired name) = true
+is_retirement (report.Call number line) = false

@@ -1,6 +1,6 @@
 //! The lines of a report.
 ghost use Rattle.std.specs.Prelude.{◌≡◌, ◌++◌, OnOk, OnErr, IfOk, IsOk};
-ghost use Rattle.report_text.specs.Lines.{bytes_text, call_line, call_text, line_text, loading_text, module_line, outcome_text, report_text, trap_text, value_text};
+ghost use Rattle.report_text.specs.Lines.{bytes_text, call_line, call_text, line_text, loading_text, module_line, outcome_text, report_text, retire_line, trap_text, value_text};
 
 use itoa::Buffer;
 use std::alloc::{AllocError, Global};
@@ -26,6 +26,8 @@ pub enum CallLine {
     Sent(Option<Val>, Items<u8>),
     /// Its module was refused.
     NoModule,
+    /// Its module was retired before.
+    Retired,
     /// No function is exported under its name.
     NoExport,
     /// The arguments aren't of the function's types.
@@ -37,6 +39,8 @@ pub enum CallLine {
 pub enum ReportLine {
     /// How the loading of the module of this name went.
     Module { name: Items<u8>, line: ModuleLine },
+    /// The module of this name was retired.
+    Retired { name: Items<u8> },
     /// How the call of this number went. Calls are numbered from 1.
     Call { number: u32, line: CallLine },
 }
@@ -127,6 +131,7 @@ fn push_call(alloc: Global, line: &mut Vec<u8>, call: &CallLine) -> Result<(), A
             push_bytes(alloc, line, bytes.as_slice())
         }
         CallLine::NoModule => line.extend_from_slice(b"refused module"),
+        CallLine::Retired => line.extend_from_slice(b"refused retired"),
         CallLine::NoExport => line.extend_from_slice(b"refused export"),
         CallLine::BadArgs => line.extend_from_slice(b"refused args"),
     }
@@ -142,6 +147,16 @@ fn push_module_line(text: &mut Vec<u8>, name: &[u8], line: ModuleLine) -> Result
     text.extend_from_slice(b" ")?;
     text.extend_from_slice(loading_text(line))?;
     text.extend_from_slice(b"\n")
+}
+
+// Appends the line of the retirement of the module of this name.
+#[tactic(auto, unfolding(crate::specs::Lines::retire_line))]
+fn push_retire_line(text: &mut Vec<u8>, name: &[u8]) -> Result<(), AllocError>
+    ensures { OnOk result (text.new.items ≡ text.old.items ++ retire_line name.now) }
+{
+    text.extend_from_slice(b"retire ")?;
+    text.extend_from_slice(name)?;
+    text.extend_from_slice(b" done\n")
 }
 
 // Appends the line of the `k`-th call.
@@ -167,6 +182,7 @@ fn push_line(alloc: Global, text: &mut Vec<u8>, line: &ReportLine) -> Result<(),
 {
     match line {
         ReportLine::Module { name, line } => push_module_line(text, name.as_slice(), *line),
+        ReportLine::Retired { name } => push_retire_line(text, name.as_slice()),
         ReportLine::Call { number, line } => push_call_line(alloc, text, *number, line),
     }
 }
@@ -200,6 +216,20 @@ pub fn write_module(
 {
     let mut text = Vec::new(alloc);
     let made = push_module_line(&mut text, name, line);
+    append(out, &text, made)
+}
+
+/// Appends the report's line of the retirement of the module of this name. Source: `specs/Lines.antt`, `retire_line`.
+///
+/// # Errors
+///
+/// `NoMemory` where memory is refused: `out` stays as it was.
+pub fn write_retire(alloc: Global, out: &mut Vec<u8>, name: &[u8]) -> Result<(), NoMemory>
+    ensures line { OnOk result (out.new.items ≡ out.old.items ++ retire_line name.now) }
+    ensures memory { OnErr result (out.new.items ≡ out.old.items) }
+{
+    let mut text = Vec::new(alloc);
+    let made = push_retire_line(&mut text, name);
     append(out, &text, made)
 }
 

@@ -1,6 +1,6 @@
 //! The summary of a report: how many of its lines tell of each end.
 ghost use Rattle.std.specs.Prelude.{◌≡◌, ◌++◌, OnErr, OnOk};
-ghost use Rattle.report_text.specs.Summary.{call_label, count_line, count_of, label_of, module_label, summary_text};
+ghost use Rattle.report_text.specs.Summary.{call_label, count_line, count_of, counts_under, module_label, summary_text};
 
 use crate::report::{CallLine, ModuleLine, ReportLine, append};
 use itoa::Buffer;
@@ -29,17 +29,20 @@ fn call_label(line: &CallLine) -> &'static [u8]
         CallLine::Done(Outcome::Done(_)) | CallLine::Sent(..) => b"calls ok",
         CallLine::Done(Outcome::Trap(_)) => b"calls trap",
         CallLine::Done(Outcome::Fuel) => b"calls fuel",
-        CallLine::NoModule | CallLine::NoExport | CallLine::BadArgs => b"calls refused",
+        CallLine::NoModule | CallLine::Retired | CallLine::NoExport | CallLine::BadArgs => {
+            b"calls refused"
+        }
     }
 }
 
-// The label under which a line of a report counts.
-fn label_of(line: &ReportLine) -> &'static [u8]
-    ensures { result.now ≡ label_of line.now }
+// Whether a line of a report counts under a label.
+fn counts_under(label: &[u8], line: &ReportLine) -> bool
+    ensures { result ≡ counts_under label.now line.now }
 {
     match line {
-        ReportLine::Module { line, .. } => module_label(*line),
-        ReportLine::Call { line, .. } => call_label(line),
+        ReportLine::Module { line, .. } => module_label(*line) == label,
+        ReportLine::Retired { .. } => false,
+        ReportLine::Call { line, .. } => call_label(line) == label,
     }
 }
 
@@ -47,7 +50,10 @@ fn label_of(line: &ReportLine) -> &'static [u8]
 fn count_of(lines: &[ReportLine], label: &[u8]) -> usize
     ensures { result ≡ count_of lines.now label.now }
 {
-    lines.iter().filter(|line| label_of(line) == label).count()
+    lines
+        .iter()
+        .filter(|line| counts_under(label, line))
+        .count()
 }
 
 // Appends a label and how many of the lines count under it.

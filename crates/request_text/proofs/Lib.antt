@@ -8,4 +8,5 @@ pub mod PlanLemmas
 pub mod TextExamples
 pub mod ProfileExamples
 pub mod TenantExamples
+pub mod RetireExamples
 pub mod RefusalExamples

@@ -1,5 +1,5 @@
 -- The places of names, as a map has them.
-use Rattle.std.proofs.Common.{Vec, not, subst, ◌≡◌, ℕ, ◌+◌, ◌<◌, ◌≤◌, Bool, true, false, cond, nat_lt, List, [], ◌∷◌, ◌++◌, length, Option, Some, None, refl, sym, ap, ◌∙◌, arith, ⊎_elim}
+use Rattle.std.proofs.Common.{Vec, get_or, not, subst, ◌≡◌, ℕ, ◌+◌, ◌<◌, ◌≤◌, Bool, true, false, cond, nat_lt, List, [], ◌∷◌, ◌++◌, length, Option, Some, None, refl, sym, ap, ◌∙◌, arith, ⊎_elim}
 use Rattle.std.specs.Global.{Global}
 use Rattle.std.specs.Prelude.{IfSome}
 use Rattle.std.specs.Ordering.{is_eq, nat_cmp}
@@ -7,11 +7,14 @@ use Rattle.std.specs.Cmp.{eq_by_cmp_equiv}
 use Rattle.std.specs.Cmp.Lexicographic.{slice_cmp, bytes_decides, nat_list_cmp_total, nat_list_eq_equiv}
 use Rattle.std.specs.BTreeMap.{BTreeMap, UpdatesBy, get_by}
 use Rattle.std.specs.Map.{lookup, IsKeyTest, AreApart, KeepsOthers}
-use Rattle.std.specs.List.{position_or_len}
+use Rattle.std.specs.List.{position_or_len, slice_get}
 use Rattle.std.specs.Str.{bytes_eq}
 use Rattle.std.proofs.Math.Dec.{eqb}
 use Rattle.std.proofs.lemmas.Bool.Decides.{nat_tests}
+use Rattle.std.proofs.Math.ListN.{get_or-append}
 use Rattle.std.proofs.lemmas.List.{length-append}
+use Rattle.std.proofs.lemmas.List.Quantifiers.{position-Some}
+use Rattle.std.proofs.lemmas.Option.{get_or_from_slice_get, slice_get-get_or, slice_get_within}
 use Rattle.std.proofs.lemmas.List.Sums.{prefix_len-le-length}
 use Rattle.std.proofs.lemmas.List.Folds.{position_or_len_push}
 use Rattle.std.proofs.lemmas.Slice.Eq.{bytes_eq-Decides}
@@ -55,6 +58,20 @@ within_at k n = split (nat_lt k n) refl where
 pub place_within : (names : List (List ℕ)) (name : List ℕ) → IfSome (place_of names name) (λ place. place < length names)
 unfolding place_of
 place_within names name = within_at (position_or_len (λ other. bytes_eq other name) names) (length names)
+
+-- the name at its place
+pub name_at : (names : List (List ℕ)) (name : List ℕ) (place : ℕ) → place_of names name ≡ Some place → slice_get names place ≡ Some name
+unfolding place_of
+name_at names name place found =
+    let at = position-Some (λ (other : List ℕ). bytes_eq other name) names place [] found in
+    slice_get-get_or names place [] at.0 ∙ ap (λ (n : List ℕ). Some n) ((bytes_eq-Decides (get_or names place []) name).0 at.1)
+
+-- what stands at a place stays there where more follows
+pub slice_get-append : {A : Type 0} (xs ys : List A) (k : ℕ) (x : A) → slice_get xs k ≡ Some x → slice_get (xs ++ ys) k ≡ Some x
+slice_get-append {A = A} xs ys k x at =
+    let within : k < length xs = slice_get_within xs k x at in
+    let longer : k < length (xs ++ ys) = omega (arith, within, length-append xs ys) in
+    slice_get-get_or (xs ++ ys) k x longer ∙ ap (λ (y : A). Some y) (get_or-append xs ys x k within ∙ get_or_from_slice_get xs k x x at)
 
 -- ---- a map with keys of bytes
 

@@ -40,14 +40,18 @@ profile_3 : (n : Numbers) → requests_of n (codes "profile 3") ≡ asks Three [
 unfolding requests_of requests_after words_after profile_after profile_of line_words
 profile_3 n = refl
 
--- its modules are read in profile 3
+-- the modules of profiles 4 and 5 are read in profile 3
 profile_4 : (n : Numbers) → requests_of n (codes "profile 4") ≡ Ok (record { profile = Three; whole = true; wants = []; directives = [] })
 unfolding requests_of requests_after words_after profile_after profile_of line_words
 profile_4 n = refl
 
-profile_5 : (n : Numbers) → requests_of n (codes "profile 5") ≡ refused 1 BadProfile
+profile_5 : (n : Numbers) → requests_of n (codes "profile 5") ≡ Ok (record { profile = Three; whole = true; wants = []; directives = [] })
 unfolding requests_of requests_after words_after profile_after profile_of line_words
 profile_5 n = refl
+
+profile_6 : (n : Numbers) → requests_of n (codes "profile 6") ≡ refused 1 BadProfile
+unfolding requests_of requests_after words_after profile_after profile_of line_words
+profile_6 n = refl
 
 no_number : (n : Numbers) → requests_of n (codes "profile") ≡ refused 1 BadProfile
 unfolding requests_of requests_after words_after profile_after profile_of line_words
@@ -105,6 +109,10 @@ sends_in_profile_3 n = refl
 sends_in_profile_4 : (n : Numbers) → requests_of n (codes "profile 4\nsend") ≡ refused 2 BadWords
 unfolding requests_of requests_after words_after profile_after profile_of line_words directive_of send_directive_of
 sends_in_profile_4 n = refl
+
+sends_in_profile_5 : (n : Numbers) → requests_of n (codes "profile 5\nsend") ≡ refused 2 BadWords
+unfolding requests_of requests_after words_after profile_after profile_of line_words directive_of send_directive_of
+sends_in_profile_5 n = refl
 
 sends_without_a_profile : (n : Numbers) → requests_of n (codes "send") ≡ refused 1 UnknownDirective
 unfolding requests_of requests_after words_after line_words directive_of

@@ -14,7 +14,7 @@ reasons_are : refused_for why.BadByte ++ refused_for why.UnknownDirective ++ ref
 unfolding digits
 reasons_are = refl
 
-other_reasons_are : refused_for why.TooManyModules ++ refused_for why.TooManyTenants ++ refused_for why.ShareTooLarge ++ refused_for why.UnknownModule ++ refused_for why.UnknownTenant ++ refused_for why.BadFuel ++ refused_for why.BadRequest ++ refused_for why.RequestTooLong ++ refused_for why.BadArgument ++ refused_for why.TooManyCalls ++ refusal_line FileTooLong
-    ≡ codes "line 12: too many modules\nline 12: too many tenants\nline 12: share too large\nline 12: unknown module\nline 12: unknown tenant\nline 12: bad fuel\nline 12: bad request\nline 12: request too long\nline 12: bad argument\nline 12: too many calls\nfile too long\n"
+other_reasons_are : refused_for why.TooManyModules ++ refused_for why.TooManyTenants ++ refused_for why.ShareTooLarge ++ refused_for why.UnknownModule ++ refused_for why.UnknownTenant ++ refused_for why.RetiredTwice ++ refused_for why.BadFuel ++ refused_for why.BadRequest ++ refused_for why.RequestTooLong ++ refused_for why.BadArgument ++ refused_for why.TooManyCalls ++ refusal_line FileTooLong
+    ≡ codes "line 12: too many modules\nline 12: too many tenants\nline 12: share too large\nline 12: unknown module\nline 12: unknown tenant\nline 12: retired twice\nline 12: bad fuel\nline 12: bad request\nline 12: request too long\nline 12: bad argument\nline 12: too many calls\nfile too long\n"
 unfolding digits
 other_reasons_are = refl

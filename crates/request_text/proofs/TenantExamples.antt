@@ -212,7 +212,7 @@ refused line reason = Err (BadLine line reason)
 
 -- a call of the function `f` of the first module, on this fuel
 abbrev call : (tenant fuel : ℕ) → Directive
-call tenant fuel = Call tenant 0 (record { export = codes "f"; fuel = fuel; request = None; args = [] })
+call tenant fuel = Call tenant 0 false (record { export = codes "f"; fuel = fuel; request = None; args = [] })
 
 abbrev module_m : Directive
 module_m = Module (codes "m") (0 ∷ [])
@@ -237,6 +237,14 @@ tenant_in_profile_4 = refl
 for_in_profile_4 : requests_of pools (codes "profile 4\nfor") ≡ refused 2 BadWords
 unfolding requests_of requests_after words_after profile_after profile_of line_words for_after
 for_in_profile_4 = refl
+
+tenant_in_profile_5 : requests_of pools (codes "profile 5\ntenant") ≡ refused 2 BadWords
+unfolding requests_of requests_after words_after profile_after profile_of line_words tenant_after
+tenant_in_profile_5 = refl
+
+for_in_profile_5 : requests_of pools (codes "profile 5\nfor") ≡ refused 2 BadWords
+unfolding requests_of requests_after words_after profile_after profile_of line_words for_after
+for_in_profile_5 = refl
 
 byte_before_words_of_tenant : requests_of pools (codes "profile 4\ntenant\t") ≡ refused 2 BadByte
 unfolding requests_of requests_after words_after profile_after profile_of line_words

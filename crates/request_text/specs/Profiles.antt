@@ -4,7 +4,7 @@ use Rattle.std.specs.Str.{bytes_eq}
 use Rattle.wasm_types.specs.declared.profile.Profile.{Profile}
 use Rattle.wasm_types.specs.declared.profile.Profile.TheVariants as modules
 use Rattle.request_text.specs.declared.file_profile.FileProfile.{FileProfile}
-use Rattle.request_text.specs.declared.file_profile.FileProfile.TheVariants.{One, Two, Three, Four}
+use Rattle.request_text.specs.declared.file_profile.FileProfile.TheVariants.{One, Two, Three, Four, Five}
 use Rattle.request_text.specs.declared.request.Reason.{Reason}
 use Rattle.request_text.specs.declared.request.Reason.TheVariants.{BadProfile}
 
@@ -15,6 +15,7 @@ profile_named word =
     else if bytes_eq word (codes "2") then Ok Two
     else if bytes_eq word (codes "3") then Ok Three
     else if bytes_eq word (codes "4") then Ok Four
+    else if bytes_eq word (codes "5") then Ok Five
     else Err BadProfile
 
 -- the profile that the words after `profile` name
@@ -28,19 +29,28 @@ modules_profile One = modules.One
 modules_profile Two = modules.Two
 modules_profile Three = modules.Three
 modules_profile Four = modules.Three
+modules_profile Five = modules.Three
 
 -- lines send from profile 3 on
 abbrev pub sends : FileProfile → Bool
 sends Three = true
 sends Four = true
+sends Five = true
 sends profile = false
 
 -- lines name tenants from profile 4 on
 abbrev pub has_tenants : FileProfile → Bool
 has_tenants Four = true
+has_tenants Five = true
 has_tenants profile = false
+
+-- lines retire modules from profile 5 on
+abbrev pub retires : FileProfile → Bool
+retires Five = true
+retires profile = false
 
 -- each call is made whole from profile 4 on
 abbrev pub runs_whole : FileProfile → Bool
 runs_whole Four = true
+runs_whole Five = true
 runs_whole profile = false

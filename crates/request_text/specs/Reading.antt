@@ -1,9 +1,9 @@
 -- How the reader's answers agree with the definition of the request text.
 use Rattle.std.specs.Global.{Global}
-use Rattle.std.specs.Prelude.{None, Vec, ◌≡◌, ◌<◌, ◌≤◌, ℕ, List, length, Result, Ok, Err, MatchResult, ⊤}
+use Rattle.std.specs.Prelude.{None, Some, Vec, ◌≡◌, ◌<◌, ◌≤◌, ℕ, Bool, false, List, length, Result, Ok, Err, MatchResult, ⊤}
 use Rattle.std.specs.List.{All}
 use Rattle.request_text.specs.declared.request.Directive.{Directive}
-use Rattle.request_text.specs.declared.request.Directive.TheVariants.{Module, Call}
+use Rattle.request_text.specs.declared.request.Directive.TheVariants.{Module, Call, Retire}
 use Rattle.request_text.specs.declared.request.Reason.{Reason}
 use Rattle.hex.specs.declared.error.FromHexError.{FromHexError}
 use Rattle.hex.specs.declared.error.FromHexError.TheVariants.{OutOfMemory}
@@ -14,8 +14,9 @@ use Rattle.request_text.specs.declared.fault.LineFault.TheVariants as judged
 use Rattle.pool_limits.specs.Plans.{HasSlots}
 use Rattle.request_text.specs.Words.{place_of}
 use Rattle.request_text.specs.Tenants.{Tenants}
-use Rattle.request_text.specs.Text.{BadLine, Declared, FileRefusal, most_calls, most_modules}
+use Rattle.request_text.specs.Text.{BadLine, Declared, FileRefusal, is_retired, most_calls, most_modules}
 use Rattle.std.specs.BTreeMap.{BTreeMap, get_by}
+use Rattle.std.specs.BTreeSet.{BTreeSet, contains}
 use Rattle.std.specs.Cmp.Lexicographic.{slice_cmp}
 use Rattle.std.specs.Ordering.{nat_cmp}
 
@@ -55,16 +56,27 @@ pub record AreTenants (tenants : Tenants) : Type 0 where
   pub each : All HasSlots tenants.wants
   pub current : tenants.current ≤ length tenants.wants
 
--- one more call keeps within their number, and is of one of the modules and by one of the tenants
-pub record TakesCall (before : Declared) (tenant place : ℕ) : Type 0 where
+-- the set has the places of the modules that are retired, and no other place
+abbrev pub AreRetired : BTreeSet ℕ → (retired : List ℕ) → Type 0
+AreRetired places retired = (place : ℕ) → contains nat_cmp places place ≡ is_retired retired place
+
+-- one more call keeps within their number, is of one of the modules, flagged where it is retired, and by one of the tenants
+pub record TakesCall (before : Declared) (tenant place : ℕ) (retired : Bool) : Type 0 where
   pub few : before.calls < most_calls
   pub placed : place < length before.names
+  pub flagged : retired ≡ is_retired before.retired place
   pub by_tenant : tenant ≤ length before.tenants.wants
 
--- one more directive keeps within the numbers of modules and calls; a module's name is new
+-- a retire line is of one of the modules, by its name, which no line before retired
+pub record TakesRetirement (before : Declared) (place : ℕ) (name : List ℕ) : Type 0 where
+  pub placed : place_of before.names name ≡ Some place
+  pub first : is_retired before.retired place ≡ false
+
+-- one more directive keeps within the numbers of modules and calls; a module's name is new, and a module is retired once
 abbrev pub HasRoom : Declared → Directive → Type 0
 HasRoom before (Module name bytes) = (length before.names < most_modules) × (place_of before.names name ≡ None)
-HasRoom before (Call tenant place invocation) = TakesCall before tenant place
+HasRoom before (Call tenant place retired invocation) = TakesCall before tenant place retired
+HasRoom before (Retire place name) = TakesRetirement before place name
 
 -- what is declared with these tenants, or the reason for which there are none
 abbrev pub declared_with : Declared → Result Tenants Reason → Result Declared Reason

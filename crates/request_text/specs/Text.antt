@@ -1,6 +1,6 @@
 -- The request text: what each line of a file asks for, and the ladder of reasons for which it is refused.
-use Rattle.std.specs.Prelude.{◌<◌, ◌≤◌, ℕ, ◌+◌, ◌&&◌, nat_lt, nat_le, Bool, true, false, if◌then◌else◌, List, [], ◌∷◌, ◌++◌, length, codes, filter_map, count_by, Option, Some, None, is_none, unwrap_or, Result, Ok, Err}
-use Rattle.std.specs.List.{All, list_all}
+use Rattle.std.specs.Prelude.{◌≡◌, ◌↔◌, ◌<◌, ◌≤◌, ℕ, ◌+◌, ◌==◌, ◌&&◌, not, nat_lt, nat_le, Bool, true, false, if◌then◌else◌, List, [], ◌∷◌, ◌++◌, length, codes, filter_map, count_by, Option, Some, None, is_none, unwrap_or, Result, Ok, Err}
+use Rattle.std.specs.List.{All, Contains, IsDistinct, list_all, list_any, slice_get}
 use Rattle.std.specs.Option.{ok_or}
 use Rattle.std.specs.Str.{bytes_eq}
 use Rattle.wasm_types.specs.declared.profile.Profile.{Profile}
@@ -9,13 +9,13 @@ use Rattle.pool_limits.specs.declared.wants.Want.{Want}
 use Rattle.request_text.specs.declared.file_profile.FileProfile.{FileProfile}
 use Rattle.request_text.specs.declared.file_profile.FileProfile.TheVariants.{One}
 use Rattle.request_text.specs.declared.request.Directive.{Directive}
-use Rattle.request_text.specs.declared.request.Directive.TheVariants.{Module, Call}
+use Rattle.request_text.specs.declared.request.Directive.TheVariants.{Module, Call, Retire}
 use Rattle.request_text.specs.declared.request.Reason.{Reason}
-use Rattle.request_text.specs.declared.request.Reason.TheVariants.{BadByte, UnknownDirective, LateProfile, BadWords, BadName, BadHex, NameUsedTwice, TooManyModules, UnknownModule, BadFuel, BadRequest, RequestTooLong, BadArgument, TooManyCalls}
+use Rattle.request_text.specs.declared.request.Reason.TheVariants.{BadByte, UnknownDirective, LateProfile, BadWords, BadName, BadHex, NameUsedTwice, TooManyModules, UnknownModule, RetiredTwice, BadFuel, BadRequest, RequestTooLong, BadArgument, TooManyCalls}
 use Rattle.request_text.specs.declared.request.ParseFault.{ParseFault}
 use Rattle.request_text.specs.declared.request.ParseFault.TheVariants.{TextFault, TooLong, NoMemory}
 use Rattle.request_text.specs.Words.{◌>>=◌, arguments_of, demand, fuel_of, hex_bytes, is_comment, is_empty, is_printable, line_words, place_of, text_lines}
-use Rattle.request_text.specs.Profiles.{has_tenants, modules_profile, profile_of, runs_whole, sends}
+use Rattle.request_text.specs.Profiles.{has_tenants, modules_profile, profile_of, retires, runs_whole, sends}
 use Rattle.request_text.specs.Tenants.{Tenants, for_after, no_tenants, tenant_after}
 
 -- ---- directives: the lines that are answered by a line of the report
@@ -30,11 +30,17 @@ most_modules = 1048576
 abbrev pub most_calls : ℕ
 most_calls = 1000000
 
--- what the lines before have declared: the names of their modules, how many calls, and the tenants
+-- what the lines before have declared: the names of their modules, the places of those that are retired, in the order of the retire
+-- lines, how many calls, and the tenants
 pub record Declared : Type 0 where
   pub names : List (List ℕ)
+  pub retired : List ℕ
   pub calls : ℕ
   pub tenants : Tenants
+
+-- the module at this place is among those that are retired
+abbrev pub is_retired : (retired : List ℕ) → (place : ℕ) → Bool
+is_retired retired place = list_any (λ other. place == other) retired
 
 -- what the words after `module` ask for
 unfoldable pub module_directive_of : Declared → List (List ℕ) → Result Directive Reason
@@ -53,12 +59,12 @@ request_of word = if bytes_eq word (codes "-") then Ok [] else do
   _ ← demand (nat_le (length bytes) 65536) RequestTooLong
   Ok bytes
 
--- a call of the module at this place, with the arguments that the words are, by the tenant whose calls follow
+-- a call of the module at this place, which may be retired, with the arguments that the words are, by the tenant whose calls follow
 unfoldable pub call_of : Declared → (place : ℕ) (export : List ℕ) (fuel : ℕ) (request : Option (List ℕ)) → List (List ℕ) → Result Directive Reason
 call_of before place export fuel request words = do
   args ← ok_or (arguments_of words) BadArgument
   _ ← demand (nat_lt before.calls most_calls) TooManyCalls
-  Ok (Call before.tenants.current place (record { export = export; fuel = fuel; request = request; args = args }))
+  Ok (Call before.tenants.current place (is_retired before.retired place) (record { export = export; fuel = fuel; request = request; args = args }))
 
 -- what the words after `call` ask for
 unfoldable pub call_directive_of : Declared → List (List ℕ) → Result Directive Reason
@@ -77,12 +83,21 @@ send_directive_of before (name ∷ export ∷ fuel_word ∷ digits ∷ words) = 
   call_of before place export fuel (Some request) words
 send_directive_of before words = Err BadWords
 
+-- what the words after `retire` ask for
+unfoldable pub retire_directive_of : Declared → List (List ℕ) → Result Directive Reason
+retire_directive_of before (name ∷ []) = do
+  place ← ok_or (place_of before.names name) UnknownModule
+  _ ← demand (not (is_retired before.retired place)) RetiredTwice
+  Ok (Retire place name)
+retire_directive_of before words = Err BadWords
+
 -- what a line asks for whose first word is this one, with these behind it
 unfoldable pub directive_of : FileProfile → Declared → (word : List ℕ) (words : List (List ℕ)) → Result Directive Reason
 directive_of profile before word words =
     if bytes_eq word (codes "module") then module_directive_of before words
     else if bytes_eq word (codes "call") then call_directive_of before words
     else if sends profile && bytes_eq word (codes "send") then send_directive_of before words
+    else if retires profile && bytes_eq word (codes "retire") then retire_directive_of before words
     else Err UnknownDirective
 
 -- ---- the directives of a file
@@ -90,7 +105,8 @@ directive_of profile before word words =
 -- the name of a module line
 abbrev pub module_name : Directive → Option (List ℕ)
 module_name (Module name bytes) = Some name
-module_name (Call tenant place invocation) = None
+module_name (Call tenant place retired invocation) = None
+module_name (Retire place name) = None
 
 abbrev pub module_names : List Directive → List (List ℕ)
 module_names directives = filter_map module_name directives
@@ -98,7 +114,8 @@ module_names directives = filter_map module_name directives
 -- the bytes of a module line
 abbrev pub module_bytes : Directive → Option (List ℕ)
 module_bytes (Module name bytes) = Some bytes
-module_bytes (Call tenant place invocation) = None
+module_bytes (Call tenant place retired invocation) = None
+module_bytes (Retire place name) = None
 
 -- the modules of a request file, in the order of their lines
 abbrev pub modules_of : List Directive → List (List ℕ)
@@ -106,25 +123,54 @@ modules_of directives = filter_map module_bytes directives
 
 abbrev pub is_call : Directive → Bool
 is_call (Module name bytes) = false
-is_call (Call tenant place invocation) = true
+is_call (Call tenant place retired invocation) = true
+is_call (Retire place name) = false
 
 abbrev pub call_count : List Directive → ℕ
 call_count directives = count_by is_call directives
 
--- each call's module is among the module lines before it, of which so many stand before these directives
+-- the place of the module of a retire line
+abbrev pub retired_place : Directive → Option ℕ
+retired_place (Module name bytes) = None
+retired_place (Call tenant place retired invocation) = None
+retired_place (Retire place name) = Some place
+
+-- the places of the modules that are retired, in the order of the retire lines
+abbrev pub retired_places : List Directive → List ℕ
+retired_places directives = filter_map retired_place directives
+
+-- the module of each call and of each retire line is among the module lines before it, of which so many stand before these directives
 abbrev pub IsPlacedFrom : ℕ → List Directive → Type 0
 IsPlacedFrom modules [] = Unit {0}
 IsPlacedFrom modules (Module name bytes ∷ rest) = IsPlacedFrom (modules + 1) rest
-IsPlacedFrom modules (Call tenant place invocation ∷ rest) = (place < modules) × IsPlacedFrom modules rest
+IsPlacedFrom modules (Call tenant place retired invocation ∷ rest) = (place < modules) × IsPlacedFrom modules rest
+IsPlacedFrom modules (Retire place name ∷ rest) = (place < modules) × IsPlacedFrom modules rest
+
+-- the name on a retire line is that of the module at its place, among these names of modules
+abbrev pub IsNamed : (names : List (List ℕ)) → Directive → Type 0
+IsNamed names (Module name bytes) = Unit {0}
+IsNamed names (Call tenant place retired invocation) = Unit {0}
+IsNamed names (Retire place name) = slice_get names place ≡ Some name
+
+-- each call is flagged exactly where a retire line before it names its module, with the modules at these places retired before
+abbrev pub AreFlagged : (retired : List ℕ) → List Directive → Type 0
+AreFlagged retired [] = Unit {0}
+AreFlagged retired (Module name bytes ∷ rest) = AreFlagged retired rest
+AreFlagged retired (Call tenant place flag invocation ∷ rest) = ((flag ≡ true) ↔ Contains retired place) × AreFlagged retired rest
+AreFlagged retired (Retire place name ∷ rest) = AreFlagged (place ∷ retired) rest
 
 -- a call is tenant 0's, or that of one of so many others
 abbrev pub IsOfTenant : ℕ → Directive → Type 0
 IsOfTenant tenants (Module name bytes) = Unit {0}
-IsOfTenant tenants (Call tenant place invocation) = tenant ≤ tenants
+IsOfTenant tenants (Call tenant place retired invocation) = tenant ≤ tenants
+IsOfTenant tenants (Retire place name) = Unit {0}
 
 -- what holds of the wants and the directives of each file that is read
 pub record AreRequests (wants : List Want) (directives : List Directive) : Type 0 where
   pub placed : IsPlacedFrom 0 directives
+  pub named : All (IsNamed (module_names directives)) directives
+  pub retired_once : IsDistinct (λ place other. place == other) (retired_places directives)
+  pub flagged : AreFlagged [] directives
   pub by_tenants : All (IsOfTenant (length wants)) directives
   pub few_modules : length (module_names directives) ≤ most_modules
   pub few_calls : call_count directives ≤ most_calls
@@ -143,12 +189,19 @@ nothing_read = record { profile = None; tenants = no_tenants; directives = [] }
 
 -- what they declare
 abbrev pub declared_by : ReadLines → Declared
-declared_by before = record { names = module_names before.directives; calls = call_count before.directives; tenants = before.tenants }
+declared_by before =
+    record {
+      names = module_names before.directives;
+      retired = retired_places before.directives;
+      calls = call_count before.directives;
+      tenants = before.tenants;
+    }
 
 -- what is declared once this directive is read too
 abbrev pub declared_after : Declared → Directive → Declared
 declared_after before (Module name bytes) = record before { names = before.names ++ name ∷ [] }
-declared_after before (Call tenant place invocation) = record before { calls = before.calls + 1 }
+declared_after before (Call tenant place retired invocation) = record before { calls = before.calls + 1 }
+declared_after before (Retire place name) = record before { retired = before.retired ++ place ∷ [] }
 
 abbrev pub with_directive : ReadLines → Directive → ReadLines
 with_directive before directive = record before { directives = before.directives ++ directive ∷ [] }

@@ -2,7 +2,7 @@
 ghost use Rattle.std.specs.Prelude.{◌≡◌, ◌<◌, IfOk, length};
 ghost use Rattle.std.specs.Option.{ok_or};
 ghost use Rattle.request_text.specs.Words.{arguments_of, hex_bytes, line_words};
-ghost use Rattle.request_text.specs.Text.{call_directive_of, call_of, directive_of, module_directive_of, request_of, send_directive_of};
+ghost use Rattle.request_text.specs.Text.{call_directive_of, call_of, directive_of, module_directive_of, request_of, retire_directive_of, send_directive_of};
 ghost use Rattle.request_text.specs.Reading.{Agrees, HasRoom, hex_fault};
 
 use crate::fault::LineFault;
@@ -100,7 +100,7 @@ fn request(alloc: Global, word: &[u8]) -> Result<Payload, LineFault>
     Ok(request)
 }
 
-// A call of the module at this place, with the arguments that the words are, by the tenant whose calls follow.
+// A call of the module at this place, which may be retired, with the arguments that the words are, by the tenant whose calls follow.
 #[tactic(auto, unfolding(crate::specs::Text::call_of))]
 fn call(
     alloc: Global,
@@ -128,6 +128,7 @@ fn call(
     Ok(Directive::Call {
         tenant: scope.tenant(),
         module: place,
+        retired: scope.is_retired(place),
         invocation,
     })
 }
@@ -162,6 +163,24 @@ fn send_directive(alloc: Global, scope: &Scope, words: &[u8]) -> Result<Directiv
     call(alloc, scope, module, export, fuel, Some(request), rest)
 }
 
+// What the words after `retire` ask for.
+#[tactic(auto, unfolding(crate::specs::Text::retire_directive_of))]
+fn retire_directive(alloc: Global, scope: &Scope, words: &[u8]) -> Result<Directive, LineFault>
+    ensures meaning { Agrees result (retire_directive_of scope.now (line_words words.now)) }
+    ensures room { IfOk result (HasRoom scope.now) }
+{
+    let (name, rest) = next_word(words).ok_or(Reason::BadWords)?;
+    if next_word(rest).is_some() {
+        return Err(LineFault::Refused(Reason::BadWords));
+    }
+    let module = scope.place(name).ok_or(Reason::UnknownModule)?;
+    if scope.is_retired(module) {
+        return Err(LineFault::Refused(Reason::RetiredTwice));
+    }
+    let name = copied(alloc, name)?;
+    Ok(Directive::Retire { module, name })
+}
+
 // What a line asks for whose first word is this one, with these behind it.
 #[tactic(auto, unfolding(crate::specs::Text::directive_of))]
 pub(crate) fn line_directive(
@@ -180,6 +199,8 @@ pub(crate) fn line_directive(
         call_directive(alloc, scope, words)
     } else if profile.sends() && word == b"send".as_slice() {
         send_directive(alloc, scope, words)
+    } else if profile.retires() && word == b"retire".as_slice() {
+        retire_directive(alloc, scope, words)
     } else {
         Err(LineFault::Refused(Reason::UnknownDirective))
     }

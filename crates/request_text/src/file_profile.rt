@@ -1,7 +1,7 @@
 //! The profile of a request file.
 ghost use Rattle.std.specs.Prelude.{◌≡◌};
 ghost use Rattle.request_text.specs.Words.{line_words};
-ghost use Rattle.request_text.specs.Profiles.{has_tenants, modules_profile, profile_named, profile_of, runs_whole, sends};
+ghost use Rattle.request_text.specs.Profiles.{has_tenants, modules_profile, profile_named, profile_of, retires, runs_whole, sends};
 
 use crate::request::Reason;
 use crate::words::next_word;
@@ -14,6 +14,7 @@ pub(crate) enum FileProfile {
     Two,
     Three,
     Four,
+    Five,
 }
 
 impl FileProfile {
@@ -29,6 +30,8 @@ impl FileProfile {
             Ok(FileProfile::Three)
         } else if word == b"4".as_slice() {
             Ok(FileProfile::Four)
+        } else if word == b"5".as_slice() {
+            Ok(FileProfile::Five)
         } else {
             Err(Reason::BadProfile)
         }
@@ -53,7 +56,7 @@ impl FileProfile {
         match self {
             FileProfile::One => Profile::One,
             FileProfile::Two => Profile::Two,
-            FileProfile::Three | FileProfile::Four => Profile::Three,
+            FileProfile::Three | FileProfile::Four | FileProfile::Five => Profile::Three,
         }
     }
 
@@ -63,7 +66,7 @@ impl FileProfile {
     {
         match self {
             FileProfile::One | FileProfile::Two => false,
-            FileProfile::Three | FileProfile::Four => true,
+            FileProfile::Three | FileProfile::Four | FileProfile::Five => true,
         }
     }
 
@@ -73,7 +76,17 @@ impl FileProfile {
     {
         match self {
             FileProfile::One | FileProfile::Two | FileProfile::Three => false,
-            FileProfile::Four => true,
+            FileProfile::Four | FileProfile::Five => true,
+        }
+    }
+
+    // Whether lines retire modules.
+    pub(crate) fn retires(self) -> bool
+        ensures { result ≡ retires self }
+    {
+        match self {
+            FileProfile::One | FileProfile::Two | FileProfile::Three | FileProfile::Four => false,
+            FileProfile::Five => true,
         }
     }
 
@@ -83,7 +96,7 @@ impl FileProfile {
     {
         match self {
             FileProfile::One | FileProfile::Two | FileProfile::Three => false,
-            FileProfile::Four => true,
+            FileProfile::Four | FileProfile::Five => true,
         }
     }
 }

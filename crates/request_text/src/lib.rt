@@ -11,6 +11,7 @@ mod parser;
 mod reading;
 mod refusal;
 mod request;
+mod retired;
 mod scope;
 mod tenants;
 mod words;

@@ -34,11 +34,18 @@ pub enum Directive {
     },
     /// A call, by a `call` or a `send` line. `tenant` is the number of the tenant whose slots it has where workers share them:
     /// that of its `tenant` line among these, from 1, or 0. `module` is the place of its module line among the module lines,
-    /// from 0.
+    /// from 0, and `retired` whether a retire line of its module stands before it.
     Call {
         tenant: u32,
         module: u32,
+        retired: bool,
         invocation: Invocation,
+    },
+    /// The retirement of a module: each call of it that stands behind is refused. `module` is the place of its module line among
+    /// the module lines, from 0, and `name` its name.
+    Retire {
+        module: u32,
+        name: Items<u8>,
     },
 }
 
@@ -85,7 +92,7 @@ impl Requests {
         self.profile.of_modules()
     }
 
-    /// Whether each call is made whole, and not in slices, as those of a file of profile 4 are.
+    /// Whether each call is made whole, and not in slices, as those of a file are from profile 4 on.
     pub fn runs_whole(&self) -> bool
         ensures { result ≡ self.now.whole }
     {
@@ -100,8 +107,9 @@ impl Requests {
         self.wants.as_slice()
     }
 
-    /// The directives: at most `MOST_MODULES` module lines and `MOST_CALLS` call lines. The module of each call is a
-    /// module line before it, and its tenant is 0 or one of those that want a share.
+    /// The directives: at most `MOST_MODULES` module lines and `MOST_CALLS` call lines. The module of each call and of each
+    /// retire line is a module line before it, a call is `retired` exactly where a retire line before it has its module, its tenant
+    /// is 0 or one of those that want a share, and no module is retired twice.
     pub fn directives(&self) -> &[Directive]
         ensures all { result.now ≡ self.now.directives }
         ensures lawful { AreRequests self.now.wants self.now.directives }
@@ -117,16 +125,16 @@ pub enum Reason {
     /// A byte is outside 0x20 to 0x7E.
     BadByte,
     /// The first word is none of `profile`, `module` and `call`, nor, from profile 3 on, `send`, nor, from profile 4 on, `tenant`
-    /// or `for`.
+    /// or `for`, nor, from profile 5 on, `retire`.
     UnknownDirective,
     /// `profile` where a line that isn't skipped stands before.
     LateProfile,
-    /// `profile` without exactly one more word, which is `1`, `2`, `3` or `4`.
+    /// `profile` without exactly one more word, which is `1`, `2`, `3`, `4` or `5`.
     BadProfile,
     /// `module` without exactly two more words, `call` with fewer than three, `send` with fewer than four, `tenant` without
-    /// exactly five, or `for` without exactly one.
+    /// exactly five, or `for` or `retire` without exactly one.
     BadWords,
-    /// The name of a module or a tenant has more than 64 bytes.
+    /// The name on a module line, a tenant line or a `for` line has more than 64 bytes.
     BadName,
     /// A module's bytes have an odd number of digits, or a byte that is no hex digit.
     BadHex,
@@ -144,6 +152,8 @@ pub enum Reason {
     UnknownModule,
     /// No earlier tenant line has this name.
     UnknownTenant,
+    /// An earlier retire line has the name of this retire line.
+    RetiredTwice,
     /// The fuel isn't digits alone, or is above 4,294,967,295.
     BadFuel,
     /// A request is neither `-` nor an even number of hex digits.
@@ -176,6 +186,7 @@ impl Reason {
             Reason::ShareTooLarge => "share too large",
             Reason::UnknownModule => "unknown module",
             Reason::UnknownTenant => "unknown tenant",
+            Reason::RetiredTwice => "retired twice",
             Reason::BadFuel => "bad fuel",
             Reason::BadRequest => "bad request",
             Reason::RequestTooLong => "request too long",

@@ -2,11 +2,12 @@
 ghost use Rattle.std.specs.Prelude.{◌≡◌, ◌↔◌, ◌<◌, ◌≤◌, [], ◌∷◌, ◌++◌, None, length, IsTrue, IfOk, IfSome};
 ghost use Rattle.request_text.specs.Words.{line_words, place_of};
 ghost use Rattle.request_text.specs.Tenants.{for_after, tenant_after};
-ghost use Rattle.request_text.specs.Text.{declared_after, declared_by, nothing_read};
+ghost use Rattle.request_text.specs.Text.{declared_after, declared_by, is_retired, nothing_read};
 ghost use Rattle.request_text.specs.Reading.{Agrees, ArePlaces, HasRoom, declared_with};
 
 use crate::fault::LineFault;
 use crate::request::{Directive, MOST_CALLS, MOST_MODULES, Reason};
+use crate::retired::Retired;
 use crate::tenants::TenantScope;
 use pool_limits::{PoolConfig, Want};
 use std::alloc::{AllocError, Global};
@@ -14,11 +15,12 @@ use std::collections::BTreeMap;
 use std::marker::Model;
 use wasm_types::Items;
 
-// The names of the modules of the lines before, the place of each, how many calls stood there, and the tenants.
+// The names of the modules of the lines before, the place of each, those that are retired, how many calls stood there, and the tenants.
 #[derive(Drop)]
 pub(crate) struct Scope {
     names: Vec<Items<u8>>,
     places: BTreeMap<Vec<u8>, u32>,
+    retired: Retired,
     calls: usize,
     tenants: TenantScope,
 }
@@ -28,7 +30,7 @@ impl Model for Scope {
 
     ghost Value = { Declared };
 
-    ghost view = { λ s. record { names = s.names.items; calls = s.calls; tenants = s.tenants } };
+    ghost view = { λ s. record { names = s.names.items; retired = s.retired; calls = s.calls; tenants = s.tenants } };
 
     ghost use Rattle.request_text.specs.Reading.{ArePlaces};
 
@@ -64,6 +66,7 @@ impl Scope {
         Scope {
             names: Vec::new(alloc),
             places: BTreeMap::new(alloc),
+            retired: Retired::new(alloc),
             calls: 0,
             tenants: TenantScope::new(alloc),
         }
@@ -75,6 +78,13 @@ impl Scope {
         ensures within { IfSome result (λ place. place < length self.now.names) }
     {
         self.places.get(name).copied()
+    }
+
+    // Whether the module at this place is retired.
+    pub(crate) fn is_retired(&self, place: u32) -> bool
+        ensures { result ≡ is_retired self.now.retired place }
+    {
+        self.retired.contains(place)
     }
 
     // Whether one more module may be declared.
@@ -114,6 +124,7 @@ impl Scope {
         let Scope {
             mut names,
             mut places,
+            mut retired,
             mut calls,
             tenants,
         } = self;
@@ -122,10 +133,12 @@ impl Scope {
                 declare(alloc, &mut names, &mut places, name.as_slice())?;
             }
             Directive::Call { .. } => calls += 1,
+            Directive::Retire { module, name: _ } => retired = retired.with(*module)?,
         }
         Ok(Scope {
             names,
             places,
+            retired,
             calls,
             tenants,
         })
@@ -143,6 +156,7 @@ impl Scope {
         let Scope {
             names,
             places,
+            retired,
             calls,
             tenants,
         } = self;
@@ -150,6 +164,7 @@ impl Scope {
         Ok(Scope {
             names,
             places,
+            retired,
             calls,
             tenants,
         })
@@ -162,6 +177,7 @@ impl Scope {
         let Scope {
             names,
             places,
+            retired,
             calls,
             tenants,
         } = self;
@@ -169,6 +185,7 @@ impl Scope {
         Ok(Scope {
             names,
             places,
+            retired,
             calls,
             tenants,
         })

@@ -59,7 +59,8 @@ fn push_invocation(
     Ok(())
 }
 
-// Pushes a directive as one line: a module's name and bytes, or a call, behind its tenant's number if that isn't 0.
+// Pushes a directive as one line: a module's name and bytes, a call, behind its tenant's number if that isn't 0 and `retired` if its
+// module is, or a retired module's place and name.
 fn push_directive(text: &mut String, directive: &Directive) -> Result<(), AllocError> {
     match directive {
         Directive::Module { name, bytes } => {
@@ -75,12 +76,22 @@ fn push_directive(text: &mut String, directive: &Directive) -> Result<(), AllocE
         Directive::Call {
             tenant,
             module,
+            retired,
             invocation,
         } => {
             if *tenant != 0 {
                 write!(text, "for {tenant}: ")?;
             }
+            if *retired {
+                text.push_str("retired: ")?;
+            }
             push_invocation(text, *module, invocation)?;
+        }
+        Directive::Retire { module, name } => {
+            write!(text, "retire {module} ")?;
+            for byte in name.as_slice() {
+                text.push(char::from(*byte))?;
+            }
         }
     }
     text.push_str("\n")
@@ -311,6 +322,7 @@ fn a_large_module_and_many_arguments_are_read(rt: HostRuntime) -> Result<(), Fai
         match directive {
             Directive::Module { bytes, .. } => sizes.0 = bytes.len(),
             Directive::Call { invocation, .. } => sizes.1 = invocation.args.len(),
+            Directive::Retire { .. } => panic!(rt; "no line retires a module"),
         }
     }
     assert_eq!(rt; sizes, (1_000_000, 20_000));
@@ -386,7 +398,7 @@ fn tenants_are_refused_at_the_first_bad_line(rt: HostRuntime) -> Result<(), Fail
             "profile 4\ntenant a 1 1 1 0\nprofile 4",
             "line 3: late profile",
         ),
-        ("profile 5\ntenant a 1 1 1 0", "line 1: bad profile"),
+        ("profile 6\ntenant a 1 1 1 0", "line 1: bad profile"),
         ("profile 4\n\ntenant a 1 1 1", "line 3: bad words"),
         ("profile 4\ntenant a 1 1 1 0 0", "line 2: bad words"),
         ("profile 4\nfor", "line 2: bad words"),
@@ -490,6 +502,102 @@ fn at_most_15_tenants_share(rt: HostRuntime) -> Result<(), Fail> {
         }
     }
     assert_eq!(rt; tenants, 15);
+    Ok(())
+}
+
+#[test]
+fn modules_are_retired_from_profile_5_on(rt: HostRuntime) -> Result<(), Fail> {
+    let alloc = rt.alloc();
+    let config = PoolConfig::new(NUMBERS)?;
+    let rows = [
+        (
+            "module a 00\ncall a f 1\nretire a\ncall a f 2\n retire  b ",
+            "line 6: unknown module",
+        ),
+        (
+            "module a 00\nmodule b 01\ncall a f 1\n retire  b \ncall a f 2\ncall b f 3\nretire a\ncall b f 4\ncall a f 5\nmodule c 02\ncall c f 6\nretire c",
+            "profile 3\nwhole\nmodule a 00\nmodule b 01\ncall 0 f 1\nretire 1 b\ncall 0 f 2\nretired: call 1 f 3\nretire 0 a\nretired: call 1 f 4\nretired: call 0 f 5\nmodule c 02\ncall 2 f 6\nretire 2 c\n",
+        ),
+        (
+            "tenant t 1 1 1 0\nmodule a 00\nfor t\nretire a\nsend a f 1 0a",
+            "profile 3\nwhole\nwants 1 1 1 0\nmodule a 00\nretire 0 a\nfor 1: retired: send 0 f 1 =0a\n",
+        ),
+        ("tenant t 1 1 1 0\nretire t", "line 3: unknown module"),
+        ("retire a\nmodule a 00", "line 2: unknown module"),
+        ("module a 00\nretire A", "line 3: unknown module"),
+        ("module a 00\nretire a\nretire a", "line 4: retired twice"),
+        (
+            "module a 00\nmodule b 00\nretire b\nretire a\n#\nretire b",
+            "line 7: retired twice",
+        ),
+        ("module a 00\nretire a\nretire a a", "line 4: bad words"),
+        ("retire", "line 2: bad words"),
+        ("retire b b", "line 2: bad words"),
+        ("retire a\t", "line 2: bad byte"),
+        ("Retire a", "line 2: unknown directive"),
+        (
+            "module a 00\nretire a\nmodule a 00",
+            "line 4: name used twice",
+        ),
+        ("module a 00\nretire a\nprofile 5", "line 4: late profile"),
+    ];
+    for (lines, want) in rows {
+        let text = format!(in alloc; "profile 5\n{lines}")?;
+        let got = described(alloc, &parse(alloc, &config, text.as_bytes()))?;
+        assert_eq!(rt; got.as_str(), want, "of {lines}");
+    }
+    for before in ["", "profile 1", "profile 2", "profile 3", "profile 4"] {
+        let text = format!(in alloc; "{before}\nmodule a 00\nretire a")?;
+        let got = described(alloc, &parse(alloc, &config, text.as_bytes()))?;
+        assert_eq!(rt; got.as_str(), "line 3: unknown directive", "in {before}");
+    }
+    Ok(())
+}
+
+#[test]
+fn a_retire_line_has_the_name_of_a_module(rt: HostRuntime) -> Result<(), Fail> {
+    let alloc = rt.alloc();
+    let config = PoolConfig::new(NUMBERS)?;
+    let long = "n".repeat(alloc, 64)?;
+    let text = format!(in alloc; "profile 5\nmodule {long} 00\nretire {long}")?;
+    assert!(rt;
+        parse(alloc, &config, text.as_bytes()).is_ok(),
+        "a name of 64 bytes"
+    );
+    let text = format!(in alloc; "{text}n")?;
+    let got = described(alloc, &parse(alloc, &config, text.as_bytes()))?;
+    assert_eq!(rt; got.as_str(), "line 3: unknown module");
+    Ok(())
+}
+
+#[test]
+fn each_of_many_modules_is_retired(rt: HostRuntime) -> Result<(), Fail> {
+    let alloc = rt.alloc();
+    let config = PoolConfig::new(NUMBERS)?;
+    let mut text = String::from_str(alloc, "profile 5\n")?;
+    for k in 0..20_000 {
+        write!(text, "module m{k} 00\ncall m{k} f 1\n")?;
+    }
+    for k in 0..20_000 {
+        write!(text, "retire m{k}\ncall m{k} f 1\n")?;
+    }
+    let mut places = 0u64;
+    let mut calls = (0u32, 0u32);
+    for directive in parse(alloc, &config, text.as_bytes())?.directives() {
+        match directive {
+            Directive::Module { .. } => {}
+            Directive::Call { retired: false, .. } => calls.0 = calls.0.saturating_add(1),
+            Directive::Call { retired: true, .. } => calls.1 = calls.1.saturating_add(1),
+            Directive::Retire { module, .. } => {
+                places = places.saturating_add(u64::from(*module));
+            }
+        }
+    }
+    assert_eq!(rt; places, 199_990_000);
+    assert_eq!(rt; calls, (20_000, 20_000));
+    text.push_str("retire m19999")?;
+    let got = described(alloc, &parse(alloc, &config, text.as_bytes()))?;
+    assert_eq!(rt; got.as_str(), "line 80002: retired twice");
     Ok(())
 }
 

@@ -1,18 +1,13 @@
 -- What workers did in slices is put together, and the calls that still go round are made to their end.
-use Rattle.std.proofs.Common.{◌≡◌, ◌==◌, ℕ, zero, suc, ◌+◌, ◌<◌, ◌≤◌, Bool, true, false, not, List, [], ◌∷◌, ◌++◌, Option, None, Some, Ok, Err, filter, length, refl, sym, ap, ◌∙◌, subst, arith, append_assoc, append-nil}
+use Rattle.std.proofs.Common.{◌≡◌, ℕ, ◌+◌, false, List, [], ◌∷◌, ◌++◌, Option, Ok, Err, ap, ◌∙◌, subst, arith, append_assoc, append-nil}
 use Rattle.std.specs.Prelude.{Result, OnOk}
-use Rattle.std.specs.List.{All, AllZip}
 use Rattle.std.specs.List.Sorted.{IsPermutation}
-use Rattle.std.proofs.lemmas.Bool.Decides.{nat_tests}
-use Rattle.std.proofs.lemmas.List.Elements.{All-head, All-tail}
-use Rattle.std.proofs.lemmas.List.Sorted.{All-permutation, IsPermutation-append_comm, IsPermutation-append_left, IsPermutation-append_right, IsPermutation-filter_both, IsPermutation-sym, IsPermutation-trans}
+use Rattle.std.proofs.lemmas.List.Sorted.{IsPermutation-append_comm, IsPermutation-append_left, IsPermutation-trans}
 use Rattle.job_queue.specs.declared.accounts.Account.{Account}
-use Rattle.job_queue.specs.declared.accounts.Terms.{Terms}
 use Rattle.job_queue.specs.declared.jobs.Jobs.{Jobs}
 use Rattle.job_queue.specs.declared.run_queue.RunAccount.{RunAccount}
 use Rattle.job_queue.specs.declared.run_queue.RunQueue.{RunQueue}
-use Rattle.job_queue.specs.declared.run_queue.RunTerms.{RunTerms}
-use Rattle.job_queue.specs.Accounts.{joined, new_account, with_given}
+use Rattle.job_queue.specs.Accounts.{joined, new_account}
 use Rattle.job_queue.specs.Passes.{IsJobPass, JobPass, account_of, given_to, put_by, share_of}
 use Rattle.job_queue.specs.RunAccounts.{new_run_account, run_joined, with_run_given, with_run_put}
 use Rattle.job_queue.specs.RunPasses.{IsFirstRunPass, IsRunPass, RunPass, run_account_of, run_given_to, run_put_by, run_share}
@@ -25,14 +20,13 @@ use Rattle.due_calls.specs.declared.calls.Due.{Due}
 use Rattle.due_calls.specs.declared.entries.Worked.{Worked}
 use Rattle.slice_workers.specs.declared.queued.Queued.{Queued}
 use Rattle.slice_workers.specs.declared.queued.Queued.TheVariants as queued
-use Rattle.due_calls.specs.Entries.{AnswersAll}
 use Rattle.due_calls.specs.Entries.{IsEntry, Pair, called, zeros}
 use Rattle.slice_workers.specs.Queued.{pair_of, paused_pair, pairs_of}
 use Rattle.slice_workers.specs.Crews.{HasIdle}
 use Rattle.slice_workers.specs.Slices.{DidSlices, HasSlicedAll, HaveSliced}
 use Rattle.slice_workers.proofs.Cancelling.{flat_map_same, without}
 use Rattle.due_calls.proofs.EndLemmas.{zeros-append}
-use Rattle.due_calls.proofs.EntryLemmas.{all_zip_append, called-append, called_counted}
+use Rattle.due_calls.proofs.EntryLemmas.{all_zip_append, called-append}
 use Rattle.slice_workers.proofs.SliceLemmas.{both_even, pairs_of-append}
 
 abbrev Given : Type 0

@@ -9,7 +9,9 @@ use Rattle.job_queue.specs.declared.accounts.Account.{Account}
 use Rattle.job_queue.specs.declared.run_queue.RunAccount.{RunAccount}
 use Rattle.job_queue.specs.Accounts.{with_given}
 use Rattle.job_queue.specs.RunAccounts.{with_run_given, with_run_put}
+use Rattle.job_queue.specs.RunPasses.{FitsWhere}
 use Rattle.module_store.specs.declared.naming.Naming.{Ghosts}
+use Rattle.retired_tags.specs.Passes.{TagPass}
 use Rattle.instance_calls.specs.PausedViews.{PausedView}
 use Rattle.pool_limits.specs.declared.numbers.Numbers.{Numbers}
 use Rattle.pool_worlds.specs.Contents.{Named}
@@ -25,7 +27,7 @@ use Rattle.pool_host.specs.Hosts.{IsHostPass}
 use Rattle.slice_workers.specs.declared.slices.Slice.{Slice}
 use Rattle.slice_workers.specs.declared.steps.Step.{Step}
 use Rattle.due_calls.specs.Entries.{IsEntry, Pair, called}
-use Rattle.slice_workers.specs.Queued.{IsOfRun, NamesRun, goes_round, pair_of, paused_pair, pairs_of}
+use Rattle.slice_workers.specs.Queued.{AreIdleOn, IsOfRun, NamesRun, goes_round, pair_of, paused_pair, pairs_of}
 use Rattle.slice_workers.specs.Slices.{DidSlices, GoesRound, HelpedWith, IsSliceOf, PutBack, TookCall, ends_of, entries_of, roomless, step_of}
 use Rattle.due_calls.proofs.EndLemmas.{no_zeros_in, one_zero_in, zeros-append}
 use Rattle.job_queue.proofs.AccountLemmas.{given_none, given_twice}
@@ -79,16 +81,34 @@ module _ {N : Type 0} {G : Ghosts N} where
   pair_alone : (item : Queued N G) → pairs_of (item ∷ []) ≡ pair_of item
   pair_alone item = append-nil (pair_of item)
 
+  -- a pass of the host is one at its pools and at its retired tags
+  idle_on : (host : Host N) (pass : HostPass N G) → AreIdleOn host pass.passes pass.retired ↔ IsHostPass host pass
+  idle_on host pass = (λ (h : AreIdleOn host pass.passes pass.retired). record { pools = h.pools; tags = h.tags }, λ (h : IsHostPass host pass). record { pools = h.pools; tags = h.tags })
+
   -- what the name of a run admits is what is of the run
-  pub names_fit : (host : Host N) (calls : List Due) (idle : Passes N → Type 0) (paused : Passes N → PausedView → ℕ → Type 0) → NamesRun host calls idle paused
+  pub names_fit : (host : Host N) (calls : List Due) (idle : Passes N → TagPass → Type 0) (paused : Passes N → TagPass → PausedView → ℕ → Type 0) → NamesRun host calls idle paused
       → (item : Queued N G) → goes_round idle paused item ↔ IsOfRun host calls item
-  names_fit host calls idle paused named (queued.Idle pass) = named.idle_are pass.passes
-  names_fit host calls idle paused named (queued.Paused p) = named.paused_are p.passes p.running p.number
+  names_fit host calls idle paused named (queued.Idle pass) =
+      let known = named.idle_are pass.passes pass.retired in
+      let own = idle_on host pass in
+      (λ h. own.0 (known.0 h), λ h. known.1 (own.1 h))
+  names_fit host calls idle paused named (queued.Paused p) = named.paused_are p.passes p.retired p.running p.number
 
   -- a call that is answered, whose pass goes round idle
   pub answered_slice : (config : Numbers) (host : Host N) (calls : List Due) (pair : Pair) (slice : Slice N G) (pass : HostPass N G) (worked : Worked) → slice.queued ≡ queued.Idle pass
       → slice.entry ≡ Ok (Some worked) → IsHostPass host pass → IsEntry config calls pair worked → IsSliceOf config host calls pair slice
   answered_slice config host calls pair slice pass worked idle entry own is = record { fits = rw idle own; goes = rw (idle, entry) (refl, is) }
+
+  -- a call that was made whole, whose pass goes round idle; its entry is made unless memory is refused
+  pub whole_slice : (config : Numbers) (host : Host N) (calls : List Due) (pair : Pair) (pass : HostPass N G) (entry : Result (Option Worked) NoMemory) (worked : Worked)
+      → IfOk entry (λ made. made ≡ Some worked) → IsHostPass host pass → IsEntry config calls pair worked → IsSliceOf config host calls pair (record { queued = queued.Idle pass; entry = entry })
+  whole_slice config host calls pair pass (Ok made) worked is own entry = record { fits = own; goes = rw is (refl, entry) }
+  whole_slice config host calls pair pass (Err wanting) worked is own entry = record { fits = own; goes = refl }
+
+  -- an idle pass that came round is one of the host
+  pub idle_of_host : (fits : Queued N G → Type 0) (host : Host N) (calls : List Due) (item : Queued N G) (pass : HostPass N G) → FitsWhere fits (IsOfRun host calls) → item ≡ queued.Idle pass
+      → fits item → IsHostPass host pass
+  idle_of_host fits host calls item pass same idle h = (same (queued.Idle pass)).0 (subst fits idle h)
 
   module _ (config : Numbers) (calls : List Due) where
     pub did_nothing : (a : Given) (was : RunAccount (Queued N G)) → DidSlices config calls 0 a a was was []

@@ -1,9 +1,9 @@
 -- Workers that make calls in slices, before and after their work.
-use Rattle.std.specs.Prelude.{◌≡◌, ℕ, ◌+◌, ◌*◌, false, true, List, [], Option, All, IfOk, length, replicate}
+use Rattle.std.specs.Prelude.{◌≡◌, ℕ, ◌+◌, ◌*◌, false, true, List, [], Option, All, IfOk, length}
 use Rattle.job_queue.specs.declared.jobs.Jobs.{Jobs}
 use Rattle.job_queue.specs.declared.run_queue.RunQueue.{RunQueue}
 use Rattle.job_queue.specs.Accounts.{new_account}
-use Rattle.job_queue.specs.Passes.{IsJobPass, IsNewPassOf, account_of, capacity_of, count_of, passes_of}
+use Rattle.job_queue.specs.Passes.{IsJobPass, IsNewPassOf, account_of, capacity_of, count_of, first_of, passes_of}
 use Rattle.job_queue.specs.RunAccounts.{new_run_account}
 use Rattle.job_queue.specs.RunPasses.{FitsWhere, IsNewRunPass, IsRunPass, RunPass, run_account_of, run_given_to, run_put_by, run_share}
 use Rattle.module_store.specs.declared.naming.Naming.{Ghosts}
@@ -26,6 +26,7 @@ module _ {N : Type 0} {G : Ghosts N} where
   pub record IsNewSliceCrew (config : Numbers) (share : Share) (calls : List Due) (count : ℕ) (crew : SliceCrew N G) : Type 0 where
     pub host : HasShare config.warm share crew.shared.host
     pub calls_are : crew.shared.calls.items ≡ calls
+    pub first : first_of crew.shared.jobs ≡ 1
     pub numbers : count_of crew.shared.jobs ≡ length calls
     pub room : capacity_of crew.shared.jobs ≡ length calls + count
     pub passes : passes_of crew.shared.jobs ≡ count + 1

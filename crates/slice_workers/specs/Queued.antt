@@ -1,6 +1,7 @@
 -- What goes round among workers that make calls in slices.
 use Rattle.std.specs.Prelude.{◌≡◌, ◌↔◌, ℕ, ◌-◌, ◌<◌, List, [], ◌∷◌, flat_map, None, Some, slice_get}
 use Rattle.module_store.specs.declared.naming.Naming.{Ghosts}
+use Rattle.retired_tags.specs.Passes.{IsTagPass, TagPass}
 use Rattle.pool_host.specs.declared.host.Host.{Host}
 use Rattle.pool_host.specs.declared.passes.Passes.{Passes}
 use Rattle.pool_host.specs.declared.paused.Paused.{Paused}
@@ -26,26 +27,32 @@ pub record IsCallIn (calls : List Due) (number : ℕ) (v : PausedView) : Type 0 
   pub small : (number < 4294967296) × (v.call.fuel < 4294967296)
 
 module _ {N : Type 0} where
-  -- and it is paused on this host, with these passes
-  pub record IsPausedIn (host : Host N) (calls : List Due) (passes : Passes N) (v : PausedView) (number : ℕ) : Type 0 where
-    pub own : AreOfHost host passes v
+  -- these are passes of the host: at its pools, and at its retired tags
+  pub record AreIdleOn (host : Host N) (p : Passes N) (t : TagPass) : Type 0 where
+    pub pools : ArePassesOf host p
+    pub tags : IsTagPass host.retired.tags t
+
+  -- the call is paused on this host, with these passes
+  pub record IsPausedIn (host : Host N) (calls : List Due) (p : Passes N) (t : TagPass) (v : PausedView) (number : ℕ) : Type 0 where
+    pub pools : AreOfHost host p v
+    pub tags : IsTagPass host.retired.tags t
     pub call : IsCallIn calls number v
 
   -- what is known of idle passes, and of calls that are paused, is that they are of this host and of these calls
-  pub record NamesRun (host : Host N) (calls : List Due) (idle : Passes N → Type 0) (paused : Passes N → PausedView → ℕ → Type 0) : Type 0 where
-    pub idle_are : (p : Passes N) → idle p ↔ ArePassesOf host p
-    pub paused_are : (p : Passes N) (v : PausedView) (number : ℕ) → paused p v number ↔ IsPausedIn host calls p v number
+  pub record NamesRun (host : Host N) (calls : List Due) (idle : Passes N → TagPass → Type 0) (paused : Passes N → TagPass → PausedView → ℕ → Type 0) : Type 0 where
+    pub idle_are : (p : Passes N) (t : TagPass) → idle p t ↔ AreIdleOn host p t
+    pub paused_are : (p : Passes N) (t : TagPass) (v : PausedView) (number : ℕ) → paused p t v number ↔ IsPausedIn host calls p t v number
 
 module _ {N : Type 0} {G : Ghosts N} where
   -- what is known of idle passes, or of calls that are paused, is so of this
-  abbrev pub goes_round : (Passes N → Type 0) → (Passes N → PausedView → ℕ → Type 0) → Queued N G → Type 0
-  goes_round idle paused (queued.Idle pass) = idle pass.passes
-  goes_round idle paused (queued.Paused p) = paused p.passes p.running p.number
+  abbrev pub goes_round : (Passes N → TagPass → Type 0) → (Passes N → TagPass → PausedView → ℕ → Type 0) → Queued N G → Type 0
+  goes_round idle paused (queued.Idle pass) = idle pass.passes pass.retired
+  goes_round idle paused (queued.Paused p) = paused p.passes p.retired p.running p.number
 
   -- a pass of the host, or a call of these that is paused there
   abbrev pub IsOfRun : Host N → List Due → Queued N G → Type 0
   IsOfRun host calls (queued.Idle pass) = IsHostPass host pass
-  IsOfRun host calls (queued.Paused p) = IsPausedIn host calls p.passes p.running p.number
+  IsOfRun host calls (queued.Paused p) = IsPausedIn host calls p.passes p.retired p.running p.number
 
   -- the pair of a call that is paused: its number, and its module
   abbrev pub paused_pair : Paused N G → Pair

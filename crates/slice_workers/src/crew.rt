@@ -69,7 +69,7 @@ pub fn open_slice_crew<N: Naming>(
     ensures { IfOk result (IsNewSliceCrew N.config share calls.items count) }
 {
     let (host, passes) = Host::open(alloc, store, share, 2 * count)?;
-    let (jobs, putter, takers) = Jobs::open(alloc, calls.len() as u32, count)?;
+    let (jobs, putter, takers) = Jobs::open(alloc, 1, calls.len() as u32, count)?;
     let shared = SliceShared { host, jobs, calls };
     Ok(SliceCrew {
         shared,

@@ -86,7 +86,7 @@ fn end_call<N: Naming, G: Gate>(
     paused: Paused<N>,
     gate: &G,
 ) -> Worked
-    requires paused { IsPausedIn shared.now.host shared.now.calls.items paused.passes paused.running paused.number }
+    requires paused { IsPausedIn shared.now.host shared.now.calls.items paused.passes paused.retired paused.running paused.number }
     ensures { IsEntry N.config shared.now.calls.items (paused_pair paused) result }
 {
     let Slice {

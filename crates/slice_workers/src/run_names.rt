@@ -4,24 +4,25 @@ use job_queue::Admits;
 use module_store::Naming;
 use std::marker::{Brand, PhantomData};
 
-/// What is known in one run of the passes of its host that are idle, and of its calls that are paused: of their passes, of what they show,
-/// and of their numbers. It is picked by the proof of the function in which the run queue is opened.
+/// What is known in one run of the passes of its host that are idle, and of its calls that are paused: of their passes at the pools and at
+/// the retired tags, of what they show, and of their numbers. It is picked by the proof of the function in which the run queue is opened.
 pub(crate) trait RunNaming<N> {
     ghost use Rattle.std.specs.Prelude.{ℕ};
+    ghost use Rattle.retired_tags.specs.Passes.{TagPass};
     ghost use Rattle.pool_host.specs.declared.passes.Passes.{Passes};
     ghost use Rattle.instance_calls.specs.PausedViews.{PausedView};
 
-    ghost idle: { Passes N → Type 0 };
+    ghost idle: { Passes N → TagPass → Type 0 };
 
-    ghost paused: { Passes N → PausedView → ℕ → Type 0 };
+    ghost paused: { Passes N → TagPass → PausedView → ℕ → Type 0 };
 }
 
 impl<N> RunNaming<N> for Brand {
     ghost use Rattle.std.specs.Prelude.{⊤};
 
-    ghost idle = { λ p. ⊤ };
+    ghost idle = { λ p t. ⊤ };
 
-    ghost paused = { λ p v n. ⊤ };
+    ghost paused = { λ p t v n. ⊤ };
 }
 
 /// What goes round in one run.

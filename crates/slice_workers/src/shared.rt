@@ -1,6 +1,6 @@
 //! What workers share.
-ghost use Rattle.std.specs.Prelude.{◌≤◌, length};
-ghost use Rattle.job_queue.specs.Passes.{count_of};
+ghost use Rattle.std.specs.Prelude.{◌≡◌, ◌≤◌, length};
+ghost use Rattle.job_queue.specs.Passes.{count_of, first_of};
 ghost use Rattle.due_calls.specs.Entries.{AreNumbered};
 
 use due_calls::{Due, Item};
@@ -16,5 +16,6 @@ pub struct SliceShared<N: Naming> {
     pub jobs: Jobs<Item<N>>,
     pub calls: Vec<Due>,
     ghost numbered: { AreNumbered calls.items },
+    ghost first: { first_of jobs ≡ 1 },
     ghost enough: { count_of jobs ≤ length calls.items },
 }

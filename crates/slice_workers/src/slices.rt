@@ -1,5 +1,6 @@
 //! The slices of calls.
-ghost use Rattle.std.specs.Prelude.{◌≡◌, ◌-◌, ◌^◌, ◌<◌, ◌≤◌, None, Some, Ok, length, slice_get};
+ghost use Rattle.std.specs.Prelude.{◌≡◌, ◌-◌, ◌^◌, ◌<◌, ◌≤◌, None, Some, Ok, IfOk, length, slice_get};
+ghost use Rattle.request_text.specs.Invocations.{shown_of};
 ghost use Rattle.pool_host.specs.Hosts.{IsHostPass};
 ghost use Rattle.slice_workers.specs.Queued.{IsPausedIn, paused_pair};
 ghost use Rattle.slice_workers.specs.Slices.{IsSliceOf};
@@ -70,8 +71,26 @@ fn begin<N: Naming, G: Gate>(
         },
         Begun::NoExport(pass) => answered(pass, number, Some(Answer::NoExport)),
         Begun::BadArgs(pass) => answered(pass, number, Some(Answer::BadArgs)),
+        Begun::Retired(pass) => answered(pass, number, Some(Answer::Retired)),
         Begun::Full(pass, kind) => answered(pass, number, Some(Answer::Full(kind))),
     }
+}
+
+// What is made of a call that is answered so, with what its line shows of these bytes.
+fn entry_of(
+    alloc: Global,
+    due: &Due,
+    answer: Answer,
+    bytes: &[u8],
+) -> Result<Option<Worked>, NoMemory>
+    ensures { IfOk result (λ entry. entry ≡ Some (record { number = due.now.number; answer = Some answer; bytes = shown_of due.now.invocation bytes.now })) }
+{
+    let bytes = due.invocation.shown(alloc, bytes)?;
+    Ok(Some(Worked {
+        number: due.number,
+        answer: Some(answer),
+        bytes,
+    }))
 }
 
 // Makes a call whole.
@@ -90,7 +109,6 @@ fn send<N: Naming, G: Gate>(
     ensures { IsSliceOf N.config shared.now.host shared.now.calls.items (due.now.number, Some called.now) result }
 {
     let asked = &due.invocation;
-    let number = due.number;
     let answer = shared.host.send(
         &mut pass,
         store,
@@ -99,14 +117,10 @@ fn send<N: Naming, G: Gate>(
         asked.args.as_slice(),
         asked.sent(),
         asked.fuel as u64,
-        number as u64,
+        due.number as u64,
         gate,
     );
-    let entry = asked.shown(alloc, pass.answer()).map(|bytes| Some(Worked {
-        number,
-        answer: Some(answer),
-        bytes,
-    }));
+    let entry = entry_of(alloc, due, answer, pass.answer());
     Slice {
         queued: Queued::Idle(pass),
         entry,
@@ -146,7 +160,7 @@ pub(crate) fn resume<N: Naming, G: Gate>(
     slice: u64,
     gate: &G,
 ) -> Slice<N>
-    requires paused { IsPausedIn shared.now.host shared.now.calls.items paused.passes paused.running paused.number }
+    requires paused { IsPausedIn shared.now.host shared.now.calls.items paused.passes paused.retired paused.running paused.number }
     ensures slice { IsSliceOf N.config shared.now.host shared.now.calls.items (paused_pair paused) result }
     ensures over { 2 ^ 32 ≤ slice → (worked : Worked) × (result.entry ≡ Ok (Some worked)) }
 {

@@ -129,7 +129,7 @@ fn resume_call<N: Naming, A: Admits<Queued<N>>, R: Wait, G: Gate>(
     paused: Paused<N>,
     gate: &G,
 ) -> Result<Step, NoMemory>
-    requires paused { IsPausedIn shared.now.host shared.now.calls.items paused.passes paused.running paused.number }
+    requires paused { IsPausedIn shared.now.host shared.now.calls.items paused.passes paused.retired paused.running paused.number }
     requires place { IsRunPass queue.now worker.old.place }
     requires room { 0 < run_room worker.old.place }
     requires fits { FitsWhere A.fits (IsOfRun shared.now.host shared.now.calls.items) }

@@ -7,7 +7,8 @@ use Rattle.pool_core.specs.declared.words.State.TheVariants.{Cold, Warm, Awaitin
 use Rattle.slot_words.specs.declared.views.Operation.{Operation}
 use Rattle.slot_words.specs.declared.views.Operation.TheVariants.{Claim, WarmDown, AwaitDown}
 use Rattle.slot_words.specs.Parts.{Then}
-use Rattle.slot_pools.specs.Rows.{IsWonAlong, IsSettled, IsSettledFrom}
+use Rattle.decommit_batch.specs.Settle.{IsSettled, IsSettledFrom}
+use Rattle.slot_pools.specs.Rows.{IsWonAlong}
 use Rattle.slot_pools.specs.Wins.{IsFlushWin, IsDirectWin}
 use Rattle.slot_pools.specs.Takes.{IsBatchedTake, IsAffineTake, IsAnyTake}
 use Rattle.slot_pools.specs.LastClaims.{is_claim, EndsWithClaim}

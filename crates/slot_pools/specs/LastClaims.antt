@@ -3,7 +3,7 @@ use Rattle.std.specs.Prelude.{◌≡◌, ℕ, Bool, true, false, List, ◌∷◌
 use Rattle.std.specs.List.{All}
 use Rattle.slot_words.specs.declared.views.Operation.{Operation}
 use Rattle.slot_words.specs.declared.views.Operation.TheVariants.{Claim}
-use Rattle.slot_pools.specs.Rows.{IsSettled}
+use Rattle.decommit_batch.specs.Settle.{IsSettled}
 
 abbrev pub is_claim : Operation → Bool
 is_claim (Claim n read) = true

@@ -1,11 +1,7 @@
--- Claims of some numbers, one after another, and what then settles the slot that was won.
+-- Claims of some numbers, one after another.
 use Rattle.std.specs.Prelude.{◌≡◌, ℕ, ◌<◌, List, [], ◌∷◌, ◌++◌, length, take, slice_index_or}
-use Rattle.pool_core.specs.declared.words.State.{State}
-use Rattle.pool_core.specs.declared.words.State.TheVariants.{Cold, Warm, Awaiting}
-use Rattle.pool_core.specs.declared.words.StateWord.{StateWord}
-use Rattle.pool_core.specs.StateWords.{IsWordOf}
 use Rattle.slot_words.specs.declared.views.Operation.{Operation}
-use Rattle.slot_words.specs.declared.views.Operation.TheVariants.{Claim, WarmDown, AwaitDown}
+use Rattle.slot_words.specs.declared.views.Operation.TheVariants.{Claim}
 use Rattle.slot_words.specs.Parts.{Parts}
 use Rattle.slot_words.specs.Rows.{IsLost}
 
@@ -21,12 +17,3 @@ pub record IsWonAlong (ns : List ℕ) (n read : ℕ) (done : List Operation) : T
   pub lost : List Operation
   pub are_lost : AreLost (take place ns) lost
   pub done_is : done ≡ lost ++ Claim n read ∷ []
-
-abbrev pub IsSettledFrom : State → List Operation → Type 0
-IsSettledFrom Cold done = done ≡ []
-IsSettledFrom Warm done = (r : ℕ) × (done ≡ WarmDown r ∷ [])
-IsSettledFrom Awaiting done = (r : ℕ) × (done ≡ AwaitDown r ∷ [])
-
--- A slot that was won warm gives its permit back, and one that was won awaiting its mark.
-abbrev pub IsSettled : ℕ → List Operation → Type 0
-IsSettled read done = (w : StateWord) × IsWordOf read w × IsSettledFrom w.target.state done

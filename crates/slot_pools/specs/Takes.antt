@@ -2,7 +2,7 @@
 use Rattle.std.specs.Prelude.{ℕ, List}
 use Rattle.slot_words.specs.declared.views.Operation.{Operation}
 use Rattle.slot_words.specs.Parts.{Then}
-use Rattle.slot_pools.specs.Rows.{IsSettled}
+use Rattle.decommit_batch.specs.Settle.{IsSettled}
 use Rattle.slot_pools.specs.Looks.{IsLook, IsScan}
 use Rattle.slot_pools.specs.Wins.{IsFlushWin, IsFlushLoss, IsDirectWin, IsDirectLoss}
 

@@ -10,8 +10,8 @@ ghost use Rattle.slot_pools.specs.Takes.{IsBatchedTake, IsFullBatchedTake, IsAff
 
 use crate::answers::Full;
 use crate::looking::look;
-use crate::rows::settle;
 use crate::winning::{win, win_after_flush, win_any};
+use decommit_batch::settle;
 use pool_core::MOST_SLOTS;
 use slot_words::{Lease, Pass, Pooled, Words};
 

@@ -5,10 +5,9 @@ ghost use Rattle.slot_words.specs.Leases.{lease_number, lease_word};
 ghost use Rattle.slot_words.specs.Parts.{Grew};
 ghost use Rattle.slot_words.specs.Passes.{IsIdle, IsSamePass, share_of, trail};
 ghost use Rattle.slot_words.specs.Owned.{IsPassOf, slots_of, passes_of};
-ghost use Rattle.slot_words.specs.Rows.{HasWon, HasTaken};
-ghost use Rattle.slot_pools.specs.Rows.{AreLost, IsWonAlong, IsSettled};
+ghost use Rattle.slot_words.specs.Rows.{HasWon};
+ghost use Rattle.slot_pools.specs.Rows.{AreLost, IsWonAlong};
 
-use pool_core::{State, unpack};
 use slot_words::{Lease, Pass, Pooled, Words};
 
 // Each slot was held as it was claimed.
@@ -34,20 +33,4 @@ pub(crate) fn claim_any<V: Pooled>(
         }
     }
     Err(AllHeld)
-}
-
-// Gives back the permit or the mark that came with a slot that was won.
-pub(crate) fn settle<V: Pooled>(words: &Words<V>, pass: &mut Pass<V>, lease: &Lease<V>)
-    requires own { IsPassOf V.room words.now pass.old }
-    requires won { HasWon V.fits V.room words.now pass.old lease.now }
-    ensures same { IsSamePass pass.old pass.new }
-    ensures taken { HasTaken V.fits V.room words.now pass.new lease.now }
-    ensures trail { Grew (IsSettled (lease_word lease.now)) (trail pass.old) (trail pass.new) }
-{
-    let (found, _) = unpack(lease.word());
-    match found.state {
-        State::Cold => {}
-        State::Warm => words.warm_down(pass),
-        State::Awaiting => words.await_down(pass),
-    }
 }

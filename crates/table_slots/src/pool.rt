@@ -8,6 +8,7 @@ ghost use Rattle.slot_words.specs.Leases.{lease_number, lease_word};
 ghost use Rattle.slot_words.specs.Owned.{slots_of, limit_of, passes_of};
 ghost use Rattle.slot_words.specs.Parts.{Grew};
 ghost use Rattle.slot_words.specs.Passes.{Holds, IsIdle, IsSamePass, joined_trails, operations, seat_number, share_of, trail, trails};
+ghost use Rattle.decommit_batch.specs.Sweep.{IsSweep};
 ghost use Rattle.slot_pools.specs.Gives.{IsWarmGive};
 ghost use Rattle.slot_pools.specs.Takes.{IsAffineTake, IsFullAffineTake};
 ghost use Rattle.pool_worlds.specs.Contents.{Table, IsCold, IsTableOf, Matches};
@@ -16,6 +17,7 @@ ghost use Rattle.table_slots.specs.Handed.{IsHandedOut};
 ghost use Rattle.table_slots.specs.Pools.{IsTablePass, IsNewTablePass, words_of};
 
 use crate::slot::TableSlot;
+use decommit_batch::sweep;
 use module_store::{ModuleRef, ModuleStore, Naming};
 use slot_pools::{Full, give_warm, take_affine};
 use slot_words::{KindCounts, Lease, Pass, Words};
@@ -26,7 +28,7 @@ use wasm_types::NoMemory;
 /// of its module.
 #[derive(Drop)]
 pub struct TablePool<N: Naming> {
-    words: Words<TableSlot<N>>,
+    pub(crate) words: Words<TableSlot<N>>,
 }
 
 // So many cold tables.
@@ -122,6 +124,19 @@ impl<N: Naming> TablePool<N> {
     {
         lease.value.is_its_modules();
         give_warm(&self.words, pass, lease, store);
+    }
+
+    /// Clears each table that it sees free and of the module, and that it wins while it is so: it is cold then. Tells
+    /// how many. A table that a pass holds meanwhile stays as it is. It allocates nothing and waits for nobody.
+    pub fn sweep(&self, pass: &mut Pass<TableSlot<N>>, module: &ModuleRef<N>) -> u32
+        requires own { IsTablePass self.now pass.old }
+        requires idle { IsIdle pass.old }
+        ensures same { IsSamePass pass.old pass.new }
+        ensures idle { IsIdle pass.new }
+        ensures few { result ≤ MOST_SLOTS }
+        ensures trail { Grew (IsSweep «module».now.tag (slots_of (words_of self.now)) result) (trail pass.old) (trail pass.new) }
+    {
+        sweep(&self.words, pass, module.tag())
     }
 
     /// Joins another pass of this pool into this one, which then stands for both. It allocates nothing.

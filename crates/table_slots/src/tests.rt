@@ -200,6 +200,103 @@ fn a_pool_is_full_until_its_table_is_given_back(rt: HostRuntime) -> Result<(), F
     Ok(())
 }
 
+// The tables that visits of two modules get, how many a sweep cleans then, and what is left.
+fn swept<N: Naming>(
+    pool: TablePool<N>,
+    mut pass: Pass<TableSlot<N>>,
+    store: &ModuleStore<N>,
+    first: &ModuleRef<N>,
+    second: &ModuleRef<N>,
+    module: &ModuleRef<N>,
+) -> ([Option<u32>; 2], u32, KindCounts)
+    requires { IsNewTablePass pool pass }
+{
+    let visits = [
+        visit(&pool, &mut pass, store, first),
+        visit(&pool, &mut pass, store, second),
+    ];
+    let cleaned = pool.sweep(&mut pass, module);
+    (visits, cleaned, pool.close(pass))
+}
+
+// How many tables a sweep cleans of a pool that has one of each of two modules warm, and what is left.
+fn check_sweep<N: Naming, R: Abort + Wait>(
+    rt: &R,
+    alloc: Global,
+    opened: Opened,
+    row: (usize, u32, KindCounts),
+)
+    requires { Bears opened N.shelves N.config }
+{
+    let (store, mut desk) = opened.named::<N>();
+    let three = registered(rt, alloc, &store, &mut desk, &THREE);
+    let one = registered(rt, alloc, &store, &mut desk, &ONE);
+    let unused = registered(rt, alloc, &store, &mut desk, &THREE);
+    let modules = [&three, &one, &unused];
+    let (pool, mut passes) = TablePool::open(alloc, &store, 3, 3, 1).expect(rt, "opened");
+    let pass = passes.pop().unwrap();
+    let (module, cleaned, left) = row;
+    assert!(rt; module < 3);
+    let got = swept(pool, pass, &store, &three, &one, modules[module]);
+    assert_eq!(rt; got, ([Some(0), Some(1)], cleaned, left));
+}
+
+#[test]
+fn a_sweep_cleans_the_tables_of_its_module(rt: HostRuntime) -> Result<(), Fail> {
+    // the module, how many are cleaned, and cold and warm tables after it
+    let rows = [(0, 1, 2, 1), (1, 1, 2, 1), (2, 0, 1, 2)];
+    for (module, cleaned, cold, warm) in rows {
+        let left = KindCounts {
+            cold,
+            warm,
+            awaiting: 0,
+            held: 0,
+        };
+        let opened = opened(rt.alloc())?;
+        check_sweep::<Brand, HostRuntime>(&rt, rt.alloc(), opened, (module, cleaned, left));
+    }
+    Ok(())
+}
+
+// How many tables a sweep cleans after one was given back, and how many entries it has then.
+fn entries_after_sweep<N: Naming>(
+    pool: &TablePool<N>,
+    mut pass: Pass<TableSlot<N>>,
+    store: &ModuleStore<N>,
+    module: &ModuleRef<N>,
+) -> Option<(u32, usize)>
+    requires { IsNewTablePass pool.now pass }
+{
+    let Ok(lease) = pool.take(&mut pass, store, module) else {
+        return None;
+    };
+    let number = lease.number();
+    pool.give(&mut pass, lease, store);
+    let cleaned = pool.sweep(&mut pass, module);
+    let Ok(lease) = pool.words.claim(&mut pass, number) else {
+        return None;
+    };
+    let slot = lease.keep();
+    Some((cleaned, slot.entries().len()))
+}
+
+fn check_entries_after_sweep<N: Naming, R: Abort + Wait>(rt: &R, alloc: Global, opened: Opened)
+    requires { Bears opened N.shelves N.config }
+{
+    let (store, mut desk) = opened.named::<N>();
+    let module = registered(rt, alloc, &store, &mut desk, &THREE);
+    let (pool, mut passes) = TablePool::open(alloc, &store, 1, 1, 1).expect(rt, "opened");
+    let pass = passes.pop().unwrap();
+    let got = entries_after_sweep(&pool, pass, &store, &module);
+    assert_eq!(rt; got, Some((1, 0)));
+}
+
+#[test]
+fn a_sweep_leaves_nothing_of_a_table(rt: HostRuntime) -> Result<(), Fail> {
+    check_entries_after_sweep::<Brand, HostRuntime>(&rt, rt.alloc(), opened(rt.alloc())?);
+    Ok(())
+}
+
 fn visit_often<N: Naming>(
     pool: &TablePool<N>,
     mut pass: Pass<TableSlot<N>>,

@@ -1,5 +1,7 @@
 -- A caller's passes, and what a call leaves of them.
 use Rattle.std.proofs.Common.{◌≡◌, ◌≢◌, ℕ, ◌<◌, ◌∙◌, List, [], length, get_or, set, slice_get, Option, Some, option_map, refl, sym, ap, subst, inl, inr, arith}
+use mathlib.Core.Logic.{dite}
+use native.Mathlib.Decide.{ℕ_discrete}
 use Rattle.std.specs.Option.{option_map_or}
 use Rattle.std.proofs.lemmas.List.{length-set}
 use Rattle.std.proofs.lemmas.Option.{same_Some, slice_get_read, slice_get_within}
@@ -27,7 +29,7 @@ module _ {N : Type 0} {G : Ghosts N} where
       let each = is.each tenant found.0 found.1 in
       let own = each.1 in
       let host_is : own.host ≡ host = same_Some own.host host (sym (rw each.0 at own.there) ∙ there) in
-      (found.0.pass.passes, ap (λ (o : Option (TenantPass N G)). option_map (λ (pass : TenantPass N G). pass.pass.passes) o) found.1, subst (λ (h : Host N). ArePassesOf h found.0.pass.passes) host_is own.own)
+      (found.0.pass.passes, ap (λ (o : Option (TenantPass N G)). option_map (λ (pass : TenantPass N G). pass.pass.passes) o) found.1, subst (λ (h : Host N). ArePassesOf h found.0.pass.passes) host_is own.own.pools)
 
   -- the pass that is read of a tenant
   module _ (share : ShareHost N) (old : Caller N G) (is : IsCaller share old) (tenant : ℕ) (within : tenant < tenants_of share) (before : TenantPass N G) (read : before ≡ get_or old.passes.items tenant before) where
@@ -69,13 +71,29 @@ module _ {N : Type 0} {G : Ghosts N} where
       pub answer_elsewhere : (t : ℕ) → t ≢ tenant → answer_of now t ≡ answer_of old t
       answer_elsewhere t other = ap (λ (o : Option (TenantPass N G)). option_map_or (λ (p : TenantPass N G). p.pass.answer) o []) (pass_elsewhere t other)
 
-      pub passes_elsewhere : (t : ℕ) → t ≢ tenant → passes_at now t ≡ passes_at old t
-      passes_elsewhere t other = ap (option_map (λ (p : TenantPass N G). p.pass.passes)) (pass_elsewhere t other)
+      -- a part of each of its other passes is as it was
+      pub part_elsewhere : {A : Type 0} (part : TenantPass N G → A) (t : ℕ) → t ≢ tenant → option_map part (slice_get now.passes.items t) ≡ option_map part (slice_get old.passes.items t)
+      part_elsewhere part t other = ap (option_map part) (pass_elsewhere t other)
 
-      -- what holds of the pass and of what it became holds of the caller's passes of the tenant
-      pub at_both : (R : Passes N → Passes N → Type 0) → R before.pass.passes pass.pass.passes → (p q : Passes N) → passes_at old tenant ≡ Some p → passes_at now tenant ≡ Some q → R p q
-      at_both R holds p q was now_is =
-          let passes : TenantPass N G → Passes N = λ x. x.pass.passes in
-          let first : before.pass.passes ≡ p = same_Some before.pass.passes p (sym (ap (option_map passes) read_there) ∙ was) in
-          let second : pass.pass.passes ≡ q = same_Some pass.pass.passes q (sym (ap (option_map passes) pass_there) ∙ now_is) in
-          subst (λ (x : Passes N). R x q) first (subst (λ (y : Passes N). R before.pass.passes y) second holds)
+      -- what holds of a part of the pass and of what it became holds of that part of the caller's pass of the tenant
+      pub at_both : {A : Type 0} (part : TenantPass N G → A) (R : A → A → Type 0) → R (part before) (part pass) → (p q : A)
+          → option_map part (slice_get old.passes.items tenant) ≡ Some p → option_map part (slice_get now.passes.items tenant) ≡ Some q → R p q
+      at_both part R holds p q was now_is =
+          let first = same_Some (part before) p (sym (ap (option_map part) read_there) ∙ was) in
+          let second = same_Some (part pass) q (sym (ap (option_map part) pass_there) ∙ now_is) in
+          subst (λ x. R x q) first (subst (λ y. R (part before) y) second holds)
+
+      -- and what holds of all of it
+      pub at_tenant : (R : TenantPass N G → TenantPass N G → Type 0) → R before pass → (x y : TenantPass N G)
+          → slice_get old.passes.items tenant ≡ Some x → slice_get now.passes.items tenant ≡ Some y → R x y
+      at_tenant R holds x y was now_is =
+          let first : before ≡ x = same_Some before x (sym read_there ∙ was) in
+          let second : pass ≡ y = same_Some pass y (sym pass_there ∙ now_is) in
+          subst (λ (z : TenantPass N G). R z y) first (subst (λ (z : TenantPass N G). R before z) second holds)
+
+      -- where it kept its bytes, the caller did
+      pub bytes_stay : pass.pass.answer ≡ before.pass.answer → (t : ℕ) → answer_of now t ≡ answer_of old t
+      bytes_stay kept t = dite (ℕ_discrete t tenant)
+          (λ same. let was : answer_of old tenant ≡ before.pass.answer = ap (λ (o : Option (TenantPass N G)). option_map_or (λ (p : TenantPass N G). p.pass.answer) o []) read_there in
+          subst (λ (u : ℕ). answer_of now u ≡ answer_of old u) (sym same) (answer_there ∙ (kept ∙ sym was)))
+          (λ other. answer_elsewhere t other)

@@ -6,6 +6,7 @@ use Rattle.std.proofs.lemmas.List.Elements.{All-map, All-weaker}
 use Rattle.std.proofs.lemmas.Nat.{same_from_place}
 use Rattle.std.proofs.lemmas.Option.{none-some, same_Some, slice_get_within}
 use Rattle.pool_limits.specs.declared.wants.Want.{Want}
+use Rattle.retired_tags.specs.Passes.{IsNewTagPass, TagPass}
 use Rattle.module_store.specs.declared.naming.Naming.{Ghosts}
 use Rattle.pool_host.specs.declared.host.Host.{Host}
 use Rattle.pool_host.specs.declared.passes.HostPass.{HostPass}
@@ -55,7 +56,11 @@ module _ {N : Type 0} {G : Ghosts N} where
   -- ---- passes of one tenant behind others
 
   pub new_is_own : (share : ShareHost N) (tenant : ℕ) (pass : TenantPass N G) → IsNewTenantPass share tenant pass → IsTenantPass share pass
-  new_is_own share tenant pass new = record { host = new.host; there = rw new.tenant_is new.there; own = new_passes new.host pass.pass.passes new.new }
+  new_is_own share tenant pass new = record {
+    host = new.host;
+    there = rw new.tenant_is new.there;
+    own = record { pools = new_passes new.host pass.pass.passes new.new.pools; tags = new.new.tags.own };
+  }
 
   module _ (before after : ShareHost N) (host : Host N) (hosts_are : after.hosts.items ≡ before.hosts.items ++ host ∷ []) where
     pub still_new : (tenant : ℕ) (pass : TenantPass N G) → IsNewTenantPass before tenant pass → IsNewTenantPass after tenant pass
@@ -118,8 +123,15 @@ module _ {N : Type 0} {G : Ghosts N} where
   }
 
   pub fresh_new : (share : ShareHost N) (caller : Caller N G) → IsFresh share caller → IsNewCaller share caller
-  fresh_new share caller fresh = λ tenant host p there at.
-      let found = option_map_some (λ (pass : TenantPass N G). pass.pass.passes) (slice_get caller.passes.items tenant) p at in
-      let new = fresh.each tenant found.0 found.1 in
-      let host_is : new.host ≡ host = same_Some new.host host (sym new.there ∙ there) in
-      subst (λ (q : Passes N). AreNewPassesOf host q) found.2 (subst (λ (h : Host N). AreNewPassesOf h found.0.pass.passes) host_is new.new)
+  fresh_new share caller fresh = record {
+    pools = λ tenant host p there at.
+        let found = option_map_some (λ (pass : TenantPass N G). pass.pass.passes) (slice_get caller.passes.items tenant) p at in
+        let new = fresh.each tenant found.0 found.1 in
+        let host_is : new.host ≡ host = same_Some new.host host (sym new.there ∙ there) in
+        subst (λ (q : Passes N). AreNewPassesOf host q) found.2 (subst (λ (h : Host N). AreNewPassesOf h found.0.pass.passes) host_is new.new.pools);
+    tags = λ tenant host p there at.
+        let found = option_map_some (λ (pass : TenantPass N G). pass.pass.retired) (slice_get caller.passes.items tenant) p at in
+        let new = fresh.each tenant found.0 found.1 in
+        let host_is : new.host ≡ host = same_Some new.host host (sym new.there ∙ there) in
+        subst (λ (q : TagPass). IsNewTagPass host.retired.tags q) found.2 (subst (λ (h : Host N). IsNewTagPass h.retired.tags found.0.pass.retired) host_is new.new.tags);
+  }

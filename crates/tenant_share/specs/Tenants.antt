@@ -3,6 +3,7 @@ use Rattle.std.specs.Prelude.{◌≡◌, ℕ, ◌+◌, ◌*◌, ◌<◌, List, [
 use Rattle.std.specs.Option.{option_map_or}
 use Rattle.pool_limits.specs.declared.share.Share.{Share}
 use Rattle.pool_limits.specs.declared.wants.Want.{Want}
+use Rattle.retired_tags.specs.Passes.{IsNewTagPass, TagPass}
 use Rattle.module_store.specs.declared.naming.Naming.{Ghosts}
 use Rattle.pool_host.specs.declared.host.Host.{Host}
 use Rattle.pool_host.specs.declared.passes.Passes.{Passes}
@@ -65,6 +66,10 @@ module _ {N : Type 0} {G : Ghosts N} where
   abbrev pub passes_at : Caller N G → ℕ → Option (Passes N)
   passes_at caller tenant = option_map (λ pass. pass.pass.passes) (slice_get caller.passes.items tenant)
 
+  -- its pass at the retired tags of a tenant's host
+  abbrev pub tags_at : Caller N G → ℕ → Option TagPass
+  tags_at caller tenant = option_map (λ pass. pass.pass.retired) (slice_get caller.passes.items tenant)
+
   -- the bytes that its last call for a tenant answered
   abbrev pub answer_of : Caller N G → ℕ → List ℕ
   answer_of caller tenant = option_map_or (λ pass. pass.pass.answer) (slice_get caller.passes.items tenant) []
@@ -75,5 +80,6 @@ module _ {N : Type 0} {G : Ghosts N} where
     pub each : (tenant : ℕ) (pass : TenantPass N G) → slice_get caller.passes.items tenant ≡ Some pass → (pass.tenant ≡ tenant) × IsTenantPass share pass
 
   -- and each of its passes is as it is handed out
-  abbrev pub IsNewCaller : ShareHost N → Caller N G → Type 0
-  IsNewCaller share caller = (tenant : ℕ) (host : Host N) (p : Passes N) → IsHostOf share tenant host → passes_at caller tenant ≡ Some p → AreNewPassesOf host p
+  pub record IsNewCaller (share : ShareHost N) (caller : Caller N G) : Type 0 where
+    pub pools : (tenant : ℕ) (host : Host N) (p : Passes N) → IsHostOf share tenant host → passes_at caller tenant ≡ Some p → AreNewPassesOf host p
+    pub tags : (tenant : ℕ) (host : Host N) (p : TagPass) → IsHostOf share tenant host → tags_at caller tenant ≡ Some p → IsNewTagPass host.retired.tags p

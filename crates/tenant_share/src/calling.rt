@@ -5,8 +5,10 @@ ghost use Rattle.pool_host.specs.declared.host.Host.{Host};
 ghost use Rattle.pool_host.specs.declared.passes.Passes.{Passes};
 ghost use Rattle.pool_host.specs.CallWords.{IfFull, IsHostAnswer};
 ghost use Rattle.pool_host.specs.Hosts.{AreSamePasses};
+ghost use Rattle.pool_host.specs.Looks.{look_of, Looked};
 ghost use Rattle.pool_host.specs.Trails.{AddsTrails, HasCause};
-ghost use Rattle.tenant_share.specs.Tenants.{answer_of, passes_at, tenants_of, IsCaller, IsHostOf, IsSameTenantPass, IsTenantPass};
+ghost use Rattle.retired_tags.specs.Passes.{TagPass};
+ghost use Rattle.tenant_share.specs.Tenants.{answer_of, passes_at, tags_at, tenants_of, IsCaller, IsHostOf, IsSameTenantPass, IsTenantPass};
 
 use crate::passes::{Caller, TenantPass};
 use crate::share_host::ShareHost;
@@ -44,9 +46,13 @@ impl<N: Naming> ShareHost<N> {
         ensures same { IsSameTenantPass pass.old pass.new }
         ensures answer { IsHostAnswer «module».now.tree (run_limits N.config) export.now args.now request.now fuel result pass.new.pass.answer }
 
-        // all of it on the tenant's own host: where a kind is full, other passes of the tenant held its slots
-        ensures trails { (host : Host N) → IsHostOf self.now pass.old.tenant host → AddsTrails N.config host «module».now result pass.old.pass.passes pass.new.pass.passes }
-        ensures full { (host : Host N) → IsHostOf self.now pass.old.tenant host → IfFull result (HasCause N.config host «module».now pass.old.pass.passes pass.new.pass.passes) }
+        // all of it on the tenant's own host: where a kind is full, other passes of the tenant held its slots; a module is retired there
+        ensures trails { (host : Host N) → IsHostOf self.now pass.old.tenant host
+            → AddsTrails N.config host «module».now result pass.old.pass.passes pass.new.pass.passes }
+        ensures full { (host : Host N) → IsHostOf self.now pass.old.tenant host
+            → IfFull result (HasCause N.config host «module».now pass.old.pass.passes pass.new.pass.passes) }
+        ensures looked { (host : Host N) → IsHostOf self.now pass.old.tenant host
+            → Looked host.retired.tags «module».now.tag pass.old.pass.retired pass.new.pass.retired (look_of result) }
     {
         let host = &self.hosts[pass.tenant];
         host.send(
@@ -79,9 +85,13 @@ impl<N: Naming> ShareHost<N> {
         ensures same { IsSameTenantPass pass.old pass.new }
         ensures answer { IsHostAnswer «module».now.tree (run_limits N.config) export.now args.now [] fuel result pass.new.pass.answer }
 
-        // all of it on the tenant's own host: where a kind is full, other passes of the tenant held its slots
-        ensures trails { (host : Host N) → IsHostOf self.now pass.old.tenant host → AddsTrails N.config host «module».now result pass.old.pass.passes pass.new.pass.passes }
-        ensures full { (host : Host N) → IsHostOf self.now pass.old.tenant host → IfFull result (HasCause N.config host «module».now pass.old.pass.passes pass.new.pass.passes) }
+        // all of it on the tenant's own host: where a kind is full, other passes of the tenant held its slots; a module is retired there
+        ensures trails { (host : Host N) → IsHostOf self.now pass.old.tenant host
+            → AddsTrails N.config host «module».now result pass.old.pass.passes pass.new.pass.passes }
+        ensures full { (host : Host N) → IsHostOf self.now pass.old.tenant host
+            → IfFull result (HasCause N.config host «module».now pass.old.pass.passes pass.new.pass.passes) }
+        ensures looked { (host : Host N) → IsHostOf self.now pass.old.tenant host
+            → Looked host.retired.tags «module».now.tag pass.old.pass.retired pass.new.pass.retired (look_of result) }
     {
         self.send(pass, store, module, export, args, &[], fuel, number, gate)
     }
@@ -101,13 +111,19 @@ impl<N: Naming> ShareHost<N> {
         requires tenant { tenant < tenants_of self.now }
         requires request { length asked.now.request.now ≤ 65536 }
         ensures own { IsCaller self.now caller.new }
-        ensures answer { IsHostAnswer «module».now.tree (run_limits N.config) asked.now.export.now asked.now.args.now asked.now.request.now asked.now.fuel result (answer_of caller.new tenant) }
+        ensures answer { IsHostAnswer «module».now.tree (run_limits N.config) asked.now.export.now asked.now.args.now asked.now.request.now asked.now.fuel
+            result (answer_of caller.new tenant) }
 
         // to the caller's passes of this tenant, on this tenant's host; those of other tenants stay, with their bytes
         ensures same { (p q : Passes N) → passes_at caller.old tenant ≡ Some p → passes_at caller.new tenant ≡ Some q → AreSamePasses p q }
-        ensures trails { (host : Host N) (p q : Passes N) → IsHostOf self.now tenant host → passes_at caller.old tenant ≡ Some p → passes_at caller.new tenant ≡ Some q → AddsTrails N.config host «module».now result p q }
-        ensures full { (host : Host N) (p q : Passes N) → IsHostOf self.now tenant host → passes_at caller.old tenant ≡ Some p → passes_at caller.new tenant ≡ Some q → IfFull result (HasCause N.config host «module».now p q) }
+        ensures trails { (host : Host N) (p q : Passes N) → IsHostOf self.now tenant host → passes_at caller.old tenant ≡ Some p → passes_at caller.new tenant ≡ Some q
+            → AddsTrails N.config host «module».now result p q }
+        ensures full { (host : Host N) (p q : Passes N) → IsHostOf self.now tenant host → passes_at caller.old tenant ≡ Some p → passes_at caller.new tenant ≡ Some q
+            → IfFull result (HasCause N.config host «module».now p q) }
+        ensures looked { (host : Host N) (p q : TagPass) → IsHostOf self.now tenant host → tags_at caller.old tenant ≡ Some p → tags_at caller.new tenant ≡ Some q
+            → Looked host.retired.tags «module».now.tag p q (look_of result) }
         ensures others { (t : ℕ) → t ≢ tenant → passes_at caller.new t ≡ passes_at caller.old t }
+        ensures tags { (t : ℕ) → t ≢ tenant → tags_at caller.new t ≡ tags_at caller.old t }
         ensures bytes { (t : ℕ) → t ≢ tenant → answer_of caller.new t ≡ answer_of caller.old t }
     {
         let pass = &mut caller.passes[tenant as usize];

@@ -6,6 +6,7 @@ pub mod laws;
 mod opening;
 mod passes;
 mod plan;
+mod retiring;
 mod share_host;
 #[cfg(test)]
 mod tests;

@@ -2,6 +2,7 @@ use Rattle.std.proofs.Common.{◌∙◌, List, ℕ, ap, sym}
 use Rattle.std.proofs.lemmas.Option.{same_Some}
 use Rattle.request_text.specs.Invocations.{shown_of}
 use Rattle.tenant_share.specs.Tenants.{answer_of}
+use Rattle.call_workers.proofs.PassLemmas.{pools_at, same_at_host, tags_there}
 use Rattle.call_workers.proofs.calls.made.Goals as goal
 
 pub returns-clause-answered : goal.returns-clause-answered
@@ -10,7 +11,14 @@ returns-clause-answered g c =
     (answer_of c.send_for-answer.new.caller c.args.due.now.tenant, rw (c.as_slice.ensures, c.as_slice-2.ensures, c.sent.ensures.bytes) at c.send_for-answer.ensures.answer, shown)
 
 pub returns-clause-call : goal.returns-clause-call
-returns-clause-call g c = λ tenant host before after there had has. record {
-  own = λ is. (c.send_for-answer.ensures.trails host before after (rw is there) (rw is had) (rw is has), c.send_for-answer.ensures.full host before after (rw is there) (rw is had) (rw is has));
-  others = λ apart. same_Some after before (sym has ∙ (c.send_for-answer.ensures.others tenant (λ same. apart (sym same)) ∙ had));
-}
+returns-clause-call g c = λ tenant host before after there had has.
+    let e = c.send_for-answer.ensures in
+    let was = c.args.caller.now in
+    let now = c.send_for-answer.new.caller in record {
+      own = λ is. record {
+        trails = e.trails host before.pools after.pools (rw is there) (rw is (pools_at was tenant before had)) (rw is (pools_at now tenant after has));
+        full = e.full host before.pools after.pools (rw is there) (rw is (pools_at was tenant before had)) (rw is (pools_at now tenant after has));
+        looked = e.looked host before.tags after.tags (rw is there) (rw is (tags_there was tenant before had)) (rw is (tags_there now tenant after has));
+      };
+      others = λ apart. same_Some after before (sym has ∙ (same_at_host was now tenant (e.others tenant (λ same. apart (sym same))) (e.tags tenant (λ same. apart (sym same))) ∙ had));
+    }

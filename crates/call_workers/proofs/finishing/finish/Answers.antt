@@ -4,7 +4,7 @@ use Rattle.call_workers.proofs.finishing.finish.Goals as goal
 
 pub unreachable-requires : goal.unreachable-requires
 unreachable-requires g c =
-    let joined = c.in_ok-entries.ensures in
+    let joined = c.in_ok-entries.ensures.entries in
     let next = rw c.in-Some.is at c.next.ensures.order in
     let w = c.requires.whole in
     let s = joined.share in

@@ -1,5 +1,5 @@
 use Rattle.std.proofs.Common.{arith}
-use Rattle.call_workers.proofs.TakenLemmas.{begins, gave_then_failed, goes_on}
+use Rattle.call_workers.proofs.TakenLemmas.{begins, ends, gave_then_failed, goes_on}
 use Rattle.call_workers.proofs.working.work.Goals as goal
 
 pub loop-init : goal.loop-init
@@ -13,6 +13,10 @@ pub returns-in_err-worked-in-Some-next-clause-spent : goal.returns-in_err-worked
 returns-in_err-worked-in-Some-next-clause-spent g c =
     let h = c.loop.invariant.working in
     gave_then_failed c.from_residual.result _ _ _ h.taken (c.in-Some-next.number, c.in-Some-next.item) h.account_is c.in-Some-next.ensures.given
+
+pub returns-then-number-eq0-clause-made : goal.returns-then-number-eq0-clause-made
+returns-then-number-eq0-clause-made g c =
+    rw c.reserve.ensures.items (ends _ _ _ _ _ _ _ _ c.loop.invariant.working _ (c.in-Some-next.number, c.in-Some-next.item) c.if-number-eq0.true c.in-Some-next.ensures.given)
 
 pub loop-preserved : goal.loop-preserved
 loop-preserved g c =

@@ -1,12 +1,20 @@
-use Rattle.std.proofs.Common.{◌≡◌, drop}
+use Rattle.std.proofs.Common.{◌≡◌, ◌≤◌, ℕ, drop, take}
+use Rattle.retired_tags.specs.Passes.{steps}
+use Rattle.retired_tags.specs.Steps.{HasSet}
+use Rattle.request_text.specs.Text.{call_count}
 use Rattle.host_report.specs.Report.{limits_in}
-use Rattle.host_report.proofs.BoardLemmas.{SettledLeft}
+use Rattle.host_report.specs.Rounds.{HasLines, calls_to, directives_in}
 use Rattle.host_report.proofs.LeftLemmas.{LeftSoFar}
 use Rattle.host_report.proofs.calls.make_left.Given as goal
 
-abbrev pub invariant-loop-directive : goal.invariant-loop-directive
-invariant-loop-directive g l = record {
-  settled : SettledLeft (limits_in l.fn.requests.profile g.N.Naming.config) l.fn.requests.directives (drop l.directive-index l.fn.requests.directives) l.number l.board;
+abbrev pub invariant-loop-at : goal.invariant-loop-at
+invariant-loop-at g l = record {
+  above : l.fn.span.from ≤ l.at;
+  within : l.at ≤ l.fn.span.to;
+  number_is : l.number ≡ call_count (take l.at l.fn.requests.directives);
+  lines : HasLines (limits_in l.fn.requests.profile g.N.Naming.config) l.fn.requests.directives l.number (calls_to l.fn.requests.directives l.fn.span) l.board;
   lane : l.lane.host ≡ l.initial.lane.host;
-  left : LeftSoFar g.N.Naming.config l.initial.lane.host l.entries l.fn.requests.directives (drop l.directive-index l.fn.requests.directives) l.number l.initial.board l.board l.initial.lane.pass.passes l.lane.pass.passes;
+  tags : (tag : ℕ) → HasSet tag (steps l.lane.pass.retired) → HasSet tag (steps l.initial.lane.pass.retired);
+  left : LeftSoFar g.N.Naming.config l.initial.lane.host l.registry.entries.items l.fn.span.calls (directives_in l.fn.requests.directives l.fn.span)
+      (drop l.at (take l.fn.span.to l.fn.requests.directives)) l.number l.initial.board l.board l.initial.lane.pass.passes l.lane.pass.passes;
 }

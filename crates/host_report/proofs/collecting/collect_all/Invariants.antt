@@ -7,5 +7,5 @@ abbrev pub invariant-loop-one : goal.invariant-loop-one
 invariant-loop-one l = record {
   in_turn : l.yielded ++ into_iter_items l.one-iterator ≡ l.fn.worked.items;
   len : into_iter_len l.one-iterator ≡ length (into_iter_items l.one-iterator);
-  collected : CollectedLeft l.fn.worked.items (into_iter_items l.one-iterator) (length l.fn.board) l.board;
+  collected : CollectedLeft l.fn.calls l.fn.worked.items (into_iter_items l.one-iterator) l.initial.board l.board;
 }

@@ -1,7 +1,10 @@
 use Rattle.host_report.specs.Report.{limits_in}
-use Rattle.host_report.proofs.EntryLemmas.{entry_of_loaded}
+use Rattle.host_report.proofs.EntryLemmas.{entry_of_loaded, tag_taken}
 use Rattle.host_report.proofs.modules.register.Goals as goal
 
 pub returns-clause-entry : goal.returns-clause-entry
 returns-clause-entry g c =
     entry_of_loaded (limits_in c.args.profile g.N.Naming.config) c.args.bytes.now c.register.result c.entry_of.result c.register.ensures.loaded c.register.ensures.refused c.entry_of.ensures
+
+pub returns-clause-tag : goal.returns-clause-tag
+returns-clause-tag g c = tag_taken _ _ c.register.result c.entry_of.result c.register.ensures.tag c.register.ensures.desk c.entry_of.ensures

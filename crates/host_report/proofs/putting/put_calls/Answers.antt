@@ -1,46 +1,109 @@
-use Rattle.std.proofs.Common.{arith}
-use Rattle.std.proofs.lemmas.List.{drop_all}
+use Rattle.std.proofs.Common.{◌∙◌, Some, ap, arith, inr}
+use Rattle.request_text.specs.declared.request.Directive.{Directive}
 use Rattle.host_report.specs.Report.{limits_in}
-use Rattle.host_report.proofs.CallLemmas.{next_directive}
-use Rattle.host_report.proofs.EntryLemmas.{all_entries}
-use Rattle.host_report.proofs.PutLemmas.{module_there, puts_begin, puts_call, puts_end, puts_module}
+use Rattle.host_report.proofs.EntryLemmas.{entered_module, entered_other, kept_all, kept_more, many_entries, room_for_module}
+use Rattle.host_report.proofs.PlaceLemmas.{got_item, placed_call}
+use Rattle.host_report.proofs.PutLemmas.{module_there, puts_begin, puts_call, puts_end, puts_many, puts_module, puts_retire, room_for_call}
 use Rattle.host_report.proofs.putting.put_calls.Goals as goal
-use Rattle.host_report.proofs.putting.put_calls.Goals.{in-Module+in_ok-map_err-in-Module+in_ok-entry-in-Module, in-Call}
+use Rattle.host_report.proofs.putting.put_calls.Goals.{in-Module+in_ok-enter-in-Module, in-Call, in-Retire}
 
-pub loop-directive-init : goal.loop-directive-init
-loop-directive-init g c =
-    let few = c.directives-directives.ensures.lawful.few_modules in
-    let none = c.requires.desk in record {
-      own = c.requires.own;
-      left = rw c.new-entries.ensures.items (puts_begin (limits_in c.args.requests.now.profile g.N.Naming.config) c.args.requests.now.directives _ _ c.directives-directives.ensures.lawful.placed (omega arith) c.requires.putter c.requires.none);
-    }
+pub loop-at-init : goal.loop-at-init
+loop-at-init g c = record {
+  within = c.requires.span.order;
+  own = c.requires.own;
+  entered = c.requires.entered;
+  kept = kept_all _;
+  left = puts_begin c.args.requests.now.directives c.args.span c.requires.span _ _ c.requires.putter c.requires.none;
+}
 
-pub loop-directive-preserved : goal.loop-directive-preserved
-loop-directive-preserved g c =
+pub enter-requires : goal.enter-requires
+enter-requires g c =
+    let all = c.args.requests.now.directives in
+    let within = c.requires.span.within in
+    let test = c.loop-at-test.true in
+    let here = got_item all c.loop-at.at _ (omega arith) (rw c.directives-directives.ensures.all at c.index-directives-at.is) ∙ ap (λ (d : Directive). Some d) c.in-Module.is in
+    room_for_module (limits_in c.args.requests.now.profile g.N.Naming.config) all c.loop-at.at _ _ c.loop-at.invariant.entered _ _ _ c.directives-directives.ensures.lawful here
+
+pub returns-in_err-enter-in-Module-clause-many : goal.returns-in_err-enter-in-Module-clause-many
+returns-in_err-enter-in-Module-clause-many g c = puts_many c.args.requests.now.directives c.args.span c.requires.span _ _ _ _ _ c.loop-at.invariant.left c.loop-at.invariant.within
+
+pub entry_at-requires : goal.entry_at-requires
+entry_at-requires g c =
+    let all = c.args.requests.now.directives in
+    let within = c.requires.span.within in
+    let test = c.loop-at-test.true in
+    let here = got_item all c.loop-at.at _ (omega arith) (rw c.directives-directives.ensures.all at c.index-directives-at.is) ∙ ap (λ (d : Directive). Some d) c.in-Call.is in
+    let placed = placed_call all 0 c.loop-at.at _ _ _ _ c.directives-directives.ensures.lawful.placed here in
+    let many = many_entries (limits_in c.args.requests.now.profile g.N.Naming.config) all c.loop-at.at _ _ c.loop-at.invariant.entered in
+    rw c.deref.ensures.value (omega arith)
+
+pub put-requires-clause-room : goal.put-requires-clause-room
+put-requires-clause-room g c =
+    let all = c.args.requests.now.directives in
+    let within = c.requires.span.within in
+    let test = c.loop-at-test.true in
+    let here = got_item all c.loop-at.at _ (omega arith) (rw c.directives-directives.ensures.all at c.index-directives-at.is) ∙ ap (λ (d : Directive). Some d) c.in-Call.is in
+    let left = c.loop-at.invariant.left in
+    let few = room_for_call all c.args.span c.requires.span c.loop-at.at _ _ _ _ left test _ _ _ _ here in
+    let room = c.requires.room in
+    let many = left.many in omega arith
+
+pub put-requires-clause-number : goal.put-requires-clause-number
+put-requires-clause-number g c =
+    let all = c.args.requests.now.directives in
+    let within = c.requires.span.within in
+    let test = c.loop-at-test.true in
+    let here = got_item all c.loop-at.at _ (omega arith) (rw c.directives-directives.ensures.all at c.index-directives-at.is) ∙ ap (λ (d : Directive). Some d) c.in-Call.is in
+    let left = c.loop-at.invariant.left in
+    let few = room_for_call all c.args.span c.requires.span c.loop-at.at _ _ _ _ left test _ _ _ _ here in
+    let first = c.requires.first in
+    let count = c.requires.count in
+    let many = left.many in inr (omega arith, omega arith)
+
+pub loop-at-preserved : goal.loop-at-preserved
+loop-at-preserved g c =
     let limits = limits_in c.args.requests.now.profile g.N.Naming.config in
-    let whole = c.args.requests.now.directives in
-    let first = next_directive _ _ _ (rw c.directives-directives.ensures.all at c.loop-directive-test.true) (rw c.directives-directives.ensures.all at c.directive-item.is) in
-    let left = c.loop-directive.invariant.left in
-    elim c.match-directive.branch [
-      | in-Module+in_ok-map_err-in-Module+in_ok-entry-in-Module w ↦ (
-          let entry = rw (w.as_slice.ensures, c.profile-profile.ensures) at w.in_ok-entry-in-Module.ensures.entry in
-          let pushed = rw w.reserve.ensures.items at w.push_reserved.ensures.items in
-          let next = puts_module limits whole _ _ _ _ _ _ _ _ first left _ _ w.in-Module.is _ _ _ w.in_ok-entry-in-Module.ensures.desk entry pushed in
-          record { own = rw w.own-is c.loop-directive.invariant.own; left = rw (w.own-is, w.desk-is, w.entries-is, w.number-is) next }
+    let all = c.args.requests.now.directives in
+    let within = c.requires.span.within in
+    let test = c.loop-at-test.true in
+    let here = got_item all c.loop-at.at _ (omega arith) (rw c.directives-directives.ensures.all at c.index-directives-at.is) in
+    let i = c.loop-at.invariant in
+    elim c.match-directives-at.branch [
+      | in-Module+in_ok-enter-in-Module w ↦ (
+          let entered = rw (w.as_slice.ensures, c.profile-profile.ensures) at w.in_ok-enter-in-Module.ensures in
+          let got = here ∙ ap (λ (d : Directive). Some d) w.in-Module.is in record {
+            within = omega arith;
+            own = rw w.own-is i.own;
+            entered = rw w.registry-is (entered_module limits all c.loop-at.at _ _ i.entered _ _ _ _ got entered);
+            kept = rw w.registry-is (kept_more limits _ _ _ _ _ _ i.kept entered);
+            left = rw (w.own-is, w.registry-is, w.number-is) (puts_module all c.args.span c.requires.span c.loop-at.at _ _ _ _ i.left test _ _ _ _ got entered.after_is);
+          }
           )
       | in-Call w ↦ (
-          let there = module_there c.loop-directive.entries.items w.in-Call.module _ _ (rw w.deref.ensures.value at w.entry_at.ensures) w.item_of-item.ensures in
-          let next = puts_call limits whole _ _ _ _ _ _ _ _ first left _ _ _ w.in-Call.is _ _ there w.put.ensures.put in
-          record { own = rw w.own-is w.put.ensures.own; left = rw (w.own-is, w.desk-is, w.entries-is, w.number-is) next }
+          let got = here ∙ ap (λ (d : Directive). Some d) w.in-Call.is in
+          let placed = placed_call all 0 c.loop-at.at _ _ _ _ c.directives-directives.ensures.lawful.placed got in
+          let many = many_entries limits all c.loop-at.at _ _ i.entered in
+          let there = module_there c.loop-at.registry.entries.items w.in-Call.module _ _ (rw w.deref.ensures.value at w.entry_at.ensures) w.item_of-item.ensures in record {
+            within = omega arith;
+            own = rw w.own-is w.put.ensures.own;
+            entered = rw w.registry-is (entered_other limits all c.loop-at.at _ _ i.entered _ got (λ name bytes is. cc));
+            kept = rw w.registry-is i.kept;
+            left = rw (w.own-is, w.registry-is, w.number-is) (puts_call all c.args.span c.requires.span c.loop-at.at _ _ _ _ i.left test _ _ _ _ got _ _ (omega arith) there w.put.ensures.put);
+          }
+          )
+      | in-Retire w ↦ (
+          let got = here ∙ ap (λ (d : Directive). Some d) w.in-Retire.is in record {
+            within = omega arith;
+            own = rw w.own-is i.own;
+            entered = rw w.registry-is (entered_other limits all c.loop-at.at _ _ i.entered _ got (λ name bytes is. cc));
+            kept = rw w.registry-is i.kept;
+            left = rw (w.own-is, w.registry-is, w.number-is) (puts_retire all c.args.span c.requires.span c.loop-at.at _ _ _ _ i.left test _ _ got);
+          }
           )
     ]
 
-pub returns-clause-entries : goal.returns-clause-entries
-returns-clause-entries g c =
-    all_entries (limits_in c.args.requests.now.profile g.N.Naming.config) c.args.requests.now.directives _ _ _
-    (drop_all c.loop-directive.directive-index c.args.requests.now.directives (rw c.directives-directives.ensures.all at c.loop-directive-test.false)) c.loop-directive.invariant.left.entered
+pub returns-clause-many : goal.returns-clause-many
+returns-clause-many g c = puts_many c.args.requests.now.directives c.args.span c.requires.span _ _ _ _ _ c.loop-at.invariant.left c.loop-at.invariant.within
 
 pub returns-clause-put : goal.returns-clause-put
-returns-clause-put g c =
-    puts_end (limits_in c.args.requests.now.profile g.N.Naming.config) c.args.requests.now.directives _ _ _ _ _ _
-    (drop_all c.loop-directive.directive-index c.args.requests.now.directives (rw c.directives-directives.ensures.all at c.loop-directive-test.false)) c.loop-directive.invariant.left
+returns-clause-put g c = puts_end c.args.requests.now.directives c.args.span c.requires.span _ _ _ _ _ c.loop-at.invariant.left c.loop-at-test.false

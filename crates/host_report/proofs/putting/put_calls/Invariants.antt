@@ -1,11 +1,16 @@
-use Rattle.std.proofs.Common.{drop}
+use Rattle.std.proofs.Common.{◌≤◌}
 use Rattle.job_queue.specs.Passes.{IsJobPass, account_of}
+use Rattle.host_report.specs.Entries.{AreKept}
 use Rattle.host_report.specs.Report.{limits_in}
+use Rattle.host_report.specs.Rounds.{AreEntered}
 use Rattle.host_report.proofs.PutLemmas.{PutsLeft}
 use Rattle.host_report.proofs.putting.put_calls.Given as goal
 
-abbrev pub invariant-loop-directive : goal.invariant-loop-directive
-invariant-loop-directive g l = record {
+abbrev pub invariant-loop-at : goal.invariant-loop-at
+invariant-loop-at g l = record {
+  within : l.at ≤ l.fn.span.to;
   own : IsJobPass l.jobs l.own;
-  left : PutsLeft (limits_in l.fn.requests.profile g.N.Naming.config) l.fn.requests.directives (drop l.directive-index l.fn.requests.directives) l.desk l.entries.items l.number (account_of l.initial.own) (account_of l.own);
+  entered : AreEntered (limits_in l.fn.requests.profile g.N.Naming.config) l.fn.requests.directives l.at l.registry.entries.items l.registry.desk;
+  kept : AreKept l.initial.registry.entries.items l.registry.entries.items;
+  left : PutsLeft l.fn.requests.directives l.fn.span l.at l.registry.entries.items l.number (account_of l.initial.own) (account_of l.own);
 }

@@ -15,7 +15,7 @@ loop-other-init g c =
     let popped = All-pop (IsHostPass c.args.host.now) items left c.pop.result c.pop.ensures.items c.requires.own in
     let last : items ≡ left ++ first ∷ [] = rw c.unwrap-joined.ensures at c.pop.ensures.items in
     record {
-      own = rw c.unwrap-joined.ensures at popped.1;
+      own = (rw c.unwrap-joined.ensures at popped.1).pools;
       idle = record {
         ticket = rests_idle first.passes.ticket first.rests_ticket;
         memory = rests_idle first.passes.memory first.rests_memory;

@@ -3,6 +3,7 @@ use Rattle.std.specs.List.{All}
 use Rattle.instance_slots.specs.Pools.{IsNewTicketPass}
 use Rattle.memory_slots.specs.Pools.{IsNewMemoryPass}
 use Rattle.table_slots.specs.Pools.{IsNewTablePass}
+use Rattle.retired_tags.specs.Passes.{IsNewTagPass}
 use Rattle.pool_host.specs.Hosts.{IsNewHostPass}
 use Rattle.pool_host.proofs.dealing.deal.Given as goal
 
@@ -11,10 +12,12 @@ invariant-loop g l = record {
   tickets : All (IsNewTicketPass l.host.tickets) l.tickets.items;
   memories : All (IsNewMemoryPass l.host.memories) l.memories.items;
   tables : All (IsNewTablePass l.host.tables) l.tables.items;
+  tags : All (IsNewTagPass l.host.retired.tags) l.tags.items;
   passes : All (IsNewHostPass l.host) l.all.items;
   tickets_left : vec_len l.tickets + l.counter ≡ l.end;
   memories_left : vec_len l.memories + l.counter ≡ l.end;
   tables_left : vec_len l.tables + l.counter ≡ l.end;
+  tags_left : vec_len l.tags + l.counter ≡ l.end;
   dealt : vec_len l.all ≡ l.counter;
   room : l.end ≤ vec_capacity l.all;
   end_is : l.end ≡ vec_len l.fn.tickets;

@@ -1,6 +1,6 @@
-use Rattle.std.proofs.Common.{◌≡◌, ◌+◌, ◌≤◌, [], length}
+use Rattle.std.proofs.Common.{◌≤◌, length}
 use Rattle.std.specs.List.{All}
-use Rattle.job_queue.specs.RunPasses.{run_capacity, run_room}
+use Rattle.job_queue.specs.RunPasses.{run_room}
 use Rattle.pool_host.specs.Hosts.{IsHostPass}
 use Rattle.slice_workers.specs.Crews.{HasIdle}
 use Rattle.slice_workers.proofs.crew.put_passes.Given as goal

@@ -1,5 +1,4 @@
-use Rattle.std.proofs.Common.{◌∙◌, ap, arith, refl}
-use Rattle.slice_workers.proofs.EndLemmas.{joined_next, one_more}
+use Rattle.slice_workers.proofs.EndLemmas.{one_more}
 use Rattle.slice_workers.proofs.ends.join_next.Goals as goal
 
 pub returns-clause-sliced : goal.returns-clause-sliced

@@ -1,4 +1,4 @@
-use Rattle.std.proofs.Common.{arith, subst, sym}
+use Rattle.std.proofs.Common.{arith}
 use Rattle.std.proofs.lemmas.List.Elements.{All-pop}
 use Rattle.slice_workers.specs.Crews.{IsSliceDone}
 use Rattle.slice_workers.proofs.ends.join_slicers.Goals as goal

@@ -1,4 +1,3 @@
-use Rattle.std.proofs.Common.{◌∙◌, ap}
 use Rattle.slice_workers.proofs.SliceLemmas.{did_more, did_nothing, did_quiet}
 use Rattle.slice_workers.proofs.slicing.work_until_end.Goals as goal
 

@@ -1,4 +1,5 @@
 use Rattle.std.proofs.Common.{arith, refl}
+use Rattle.job_queue.proofs.NumberLemmas.{numbers_from_1}
 use Rattle.slice_workers.proofs.SliceLemmas.{took_end, took_none, took_slice}
 use Rattle.slice_workers.proofs.steps.take_call.Goals as goal
 
@@ -10,6 +11,13 @@ returns-then-number-eq0-clause-took g c =
 pub returns-in-None-clause-took : goal.returns-in-None-clause-took
 returns-in-None-clause-took g c =
     took_none g.N.Naming.config c.args.shared.now.calls.items _ _ _ _ c.args.pass _ c.in-None.ensures.none refl refl c.put_idle.ensures.put
+
+pub begin_call-slice-requires-clause-enough : goal.begin_call-slice-requires-clause-enough
+begin_call-slice-requires-clause-enough g c =
+    let shared = c.args.shared.now in
+    let enough = shared.enough in
+    let within = (numbers_from_1 shared.jobs.terms c.in-Some.number shared.first).0 c.in-Some.ensures.number in
+    omega arith
 
 pub returns-else-number-eq0-clause-took : goal.returns-else-number-eq0-clause-took
 returns-else-number-eq0-clause-took g c =

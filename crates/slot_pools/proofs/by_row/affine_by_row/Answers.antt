@@ -1,6 +1,6 @@
 use Rattle.std.proofs.Common.{take}
 use Rattle.slot_words.specs.Owned.{slots_of, limit_of}
-use Rattle.slot_pools.specs.Rows.{IsSettled}
+use Rattle.decommit_batch.specs.Settle.{IsSettled}
 use Rattle.slot_pools.specs.Wins.{IsDirectLoss}
 use Rattle.slot_pools.specs.LookWins.{WinsDirectly}
 use Rattle.slot_pools.proofs.Filling.{full_by_look, won_by_look}

@@ -2,7 +2,7 @@ use Rattle.std.proofs.Common.{arith, take}
 use Rattle.std.proofs.lemmas.List.{length-take-le}
 use Rattle.slot_words.specs.Owned.{slots_of}
 use Rattle.affinity_index.specs.Unheld.{unheld}
-use Rattle.slot_pools.specs.Rows.{IsSettled}
+use Rattle.decommit_batch.specs.Settle.{IsSettled}
 use Rattle.slot_pools.specs.Looks.{IsScan}
 use Rattle.slot_pools.specs.Wins.{IsDirectLoss}
 use Rattle.slot_pools.specs.LookWins.{WinsDirectly}

@@ -2,6 +2,7 @@ use Rattle.std.proofs.Common.{◌≡◌, ◌∙◌, subst}
 use Rattle.std.proofs.lemmas.Option.{get_or_from_slice_get}
 use Rattle.pool_host.specs.declared.host.Host.{Host}
 use Rattle.pool_host.specs.Hosts.{IsHostPass}
+use Rattle.pool_host.specs.Looks.{look_of, Looked}
 use Rattle.pool_host.specs.Trails.{AddsTrails}
 use Rattle.tenant_share.proofs.share_host.ShareHost.send.Goals as goal
 
@@ -17,3 +18,9 @@ returns-clause-trails g c = λ host there.
     let called = c.index-host.result.now in
     let is : called ≡ host = c.index-host.ensures ∙ get_or_from_slice_get c.args.self.now.hosts.items c.args.pass.now.tenant host called there in
     subst (λ (h : Host _). AddsTrails g.N.Naming.config h c.args.module.now c.send.result c.args.pass.now.pass.passes c.send.new.pass.passes) is c.send.ensures.trails
+
+pub returns-clause-looked : goal.returns-clause-looked
+returns-clause-looked g c = λ host there.
+    let called = c.index-host.result.now in
+    let is : called ≡ host = c.index-host.ensures ∙ get_or_from_slice_get c.args.self.now.hosts.items c.args.pass.now.tenant host called there in
+    subst (λ (h : Host _). Looked h.retired.tags c.args.module.now.tag c.args.pass.now.pass.retired c.send.new.pass.retired (look_of c.send.result)) is c.send.ensures.looked

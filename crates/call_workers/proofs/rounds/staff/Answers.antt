@@ -1,0 +1,22 @@
+use Rattle.std.proofs.Common.{false, rules}
+use Rattle.std.proofs.lemmas.List.Elements.{All-pop, All-push}
+use Rattle.job_queue.specs.Passes.{IsNewPassOf}
+use Rattle.tenant_share.specs.Tenants.{IsCaller}
+use Rattle.call_workers.specs.Crews.{IsNewWorker}
+use Rattle.call_workers.proofs.rounds.staff.Goals as goal
+
+pub loop-own-preserved : goal.loop-own-preserved
+loop-own-preserved g c =
+    let i = c.loop-own.invariant in
+    let owns = All-pop (IsNewPassOf false c.args.jobs.now) _ _ _ c.pop.ensures.items i.takers in
+    let callers = All-pop (IsCaller c.args.shared.now.share) _ _ _ c.pop-in-Some.ensures.items i.callers in
+    let own = rw c.in-Some.is at owns.1 in
+    let caller = rw c.unwrap-caller.ensures at callers.1 in record {
+      takers = owns.0;
+      callers = callers.0;
+      enough = search rules;
+      count = search rules;
+      rest = search rules;
+      room = search rules;
+      workers = rw c.push_reserved.ensures.items (All-push (IsNewWorker c.args.shared.now.share c.args.jobs.now) _ _ i.workers (record { caller = caller; own = own }));
+    }

@@ -1,0 +1,20 @@
+use Rattle.std.proofs.Common.{refl}
+use Rattle.request_text.specs.Text.{modules_of}
+use Rattle.host_report.specs.Report.{limits_in}
+use Rattle.host_report.proofs.BoardLemmas.{lines_all}
+use Rattle.host_report.proofs.CallLemmas.{all_told}
+use Rattle.host_report.proofs.reporting.report_in.Goals as goal
+
+pub lines-requires-clause-all : goal.lines-requires-clause-all
+lines-requires-clause-all g c =
+    let limits = limits_in c.args.requests.now.profile g.N.Naming.config in
+    let all = c.args.requests.now.directives in
+    let told = all_told limits (modules_of all) all _ (lines_all limits all _ _ _ refl c.in_ok-registry.ensures.lines) in
+    rw (c.deref_mut.ensures.value, c.into_lines-board.ensures) told.all
+
+pub lines-requires-clause-right : goal.lines-requires-clause-right
+lines-requires-clause-right g c =
+    let limits = limits_in c.args.requests.now.profile g.N.Naming.config in
+    let all = c.args.requests.now.directives in
+    let told = all_told limits (modules_of all) all _ (lines_all limits all _ _ _ refl c.in_ok-registry.ensures.lines) in
+    rw (c.deref_mut.ensures.value, c.into_lines-board.ensures) told.right

@@ -1,0 +1,96 @@
+-- What a run has between its rounds, and within one.
+use Rattle.std.specs.Prelude.{◌≡◌, ℕ, ◌<◌, ◌≤◌, List, All, drop, length, slice_get, take, Option, Some, None, IfSome, Ok}
+use Rattle.std.specs.List.{AllZip}
+use Rattle.retired_tags.specs.declared.views.TagStep.{TagStep}
+use Rattle.retired_tags.specs.Passes.{steps}
+use Rattle.retired_tags.specs.Steps.{HasSet}
+use Rattle.module_store.specs.declared.naming.Naming.{Ghosts}
+use Rattle.pool_limits.specs.declared.numbers.Numbers.{Numbers}
+use Rattle.pool_worlds.specs.Contents.{Named}
+use Rattle.request_text.specs.declared.request.Directive.{Directive}
+use Rattle.request_text.specs.declared.request.Directive.TheVariants.{Retire}
+use Rattle.request_text.specs.Text.{Asked, call_count, modules_of}
+use Rattle.report_text.specs.declared.report.CallLine.{CallLine}
+use Rattle.due_calls.specs.declared.calls.Due.{Due}
+use Rattle.tenant_share.specs.Retiring.{IsRetirement, RetiredForAll}
+use Rattle.tenant_share.specs.Tenants.{IsCaller}
+use Rattle.call_workers.specs.declared.members.Crew.{Crew}
+use Rattle.host_report.specs.declared.books.Books.{Books}
+use Rattle.host_report.specs.declared.books.Span.{Span}
+use Rattle.host_report.specs.declared.rounds.Run.{Run}
+use Rattle.host_report.specs.Collected.{IsBoard}
+use Rattle.host_report.specs.Due.{dues_from}
+use Rattle.host_report.specs.Entries.{AreEntries, AreTagged, Entry}
+use Rattle.host_report.specs.Lines.{HasLine}
+use Rattle.host_report.specs.Report.{Limits, limits_in}
+
+-- a round's directives among all, and how many calls stand before them
+pub record IsSpan (all : List Directive) (span : Span) : Type 0 where
+  pub order : span.from ≤ span.to
+  pub within : span.to ≤ length all
+  pub calls_are : span.calls ≡ call_count (take span.from all)
+
+abbrev pub directives_in : List Directive → Span → List Directive
+directives_in all span = drop span.from (take span.to all)
+
+-- how many calls stand before its end
+abbrev pub calls_to : List Directive → Span → ℕ
+calls_to all span = call_count (take span.to all)
+
+module _ (limits : Limits) (all : List Directive) where
+  -- the entries of the modules among so many directives, the first, each accepted one with a tag of its own
+  pub record AreEntered (place : ℕ) (entries : List Entry) (desk : ℕ) : Type 0 where
+    pub are : AreEntries limits (modules_of (take place all)) entries
+    pub tagged : AreTagged entries desk
+
+  -- a board that has the lines of so many calls, the first, some of those of the calls behind them, and from the last number on none
+  pub record HasLines (made last : ℕ) (board : List (Option CallLine)) : Type 0 where
+    pub board_is : IsBoard limits all board
+    pub done : (at : ℕ) → at < made → HasLine board at
+    pub free : (at : ℕ) → last ≤ at → at < length board → slice_get board at ≡ Some None
+
+  -- the entries of so many directives, the first, and such a board
+  pub record AreBooks {N : Type 0} (place made last : ℕ) (books : Books N) : Type 0 where
+    pub entered : AreEntered place books.registry.entries.items books.registry.desk
+    pub lines : HasLines made last books.board
+
+-- one of so many directives, the first, retires the accepted module that has this tag
+pub record IsRetired (entries : List Entry) (all : List Directive) (place tag : ℕ) : Type 0 where
+  pub line : ℕ
+  pub earlier : line < place
+  pub of_module : ℕ
+  pub name : List ℕ
+  pub line_is : slice_get all line ≡ Some (Retire of_module name)
+  pub m : Named
+  pub accepted : slice_get entries of_module ≡ Some (Ok m)
+  pub tag_is : m.tag ≡ tag
+
+-- each tag that these steps set is that of a module that is retired so
+abbrev pub AreRetired : List Entry → (all : List Directive) → (place : ℕ) → List TagStep → Type 0
+AreRetired entries all place done = (tag : ℕ) → HasSet tag done → IsRetired entries all place tag
+
+module _ {N : Type 0} {G : Ghosts N} where
+  -- a crew of these calls that can make a round
+  pub record IsReady (calls : List Due) (crew : Crew N G) : Type 0 where
+    pub calls_are : crew.shared.calls.items ≡ calls
+    pub callers : All (IsCaller crew.shared.share) crew.callers.items
+    pub few : (1 ≤ length crew.callers.items) × (length crew.callers.items ≤ 32)
+
+  -- a run of this file behind one of its rounds: it has the entries and the lines of the directives so far, its lane retired their retired modules alone, and its crew is ready
+  pub record IsRun (config : Numbers) (asked : Asked) (run : Run N G) : Type 0 where
+    pub within : run.done ≤ length asked.directives
+    pub calls_are : run.calls ≡ call_count (take run.done asked.directives)
+    pub books : AreBooks (limits_in asked.profile config) asked.directives run.done run.calls run.calls run.books
+    pub lane : AreRetired run.books.registry.entries.items asked.directives run.done (steps run.lane.pass.retired)
+    pub crew : IfSome run.crew (IsReady (dues_from 1 asked.directives))
+
+  -- each caller of a crew retired the module with its pass of each tenant
+  abbrev pub CrewRetired : Named → (before after : Option (Crew N G)) → Type 0
+  CrewRetired m None None = Unit {0}
+  CrewRetired m (Some before) (Some after) = AllZip (RetiredForAll before.shared.share m) before.callers.items after.callers.items
+  CrewRetired m _ _ = ⊥
+
+  -- a run whose lane and whose crew retired the module
+  pub record HasRetired (m : Named) (before after : Run N G) : Type 0 where
+    pub lane : IsRetirement before.lane.host m before.lane.pass after.lane.pass
+    pub crew : CrewRetired m before.crew after.crew

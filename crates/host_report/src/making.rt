@@ -1,0 +1,132 @@
+//! All calls of a request file are made.
+ghost use Rattle.std.specs.Prelude.{◌≡◌, ◌≢◌, [], IfOk, None, length};
+ghost use Rattle.pool_limits.specs.Plans.{plan_fault};
+ghost use Rattle.request_text.specs.Text.{call_count};
+ghost use Rattle.host_report.specs.Due.{dues_from};
+ghost use Rattle.host_report.specs.Report.{limits_in};
+ghost use Rattle.host_report.specs.Rounds.{AreBooks, IsReady};
+
+use crate::books::{Books, Registry, Span};
+use crate::calls::make_left;
+use crate::counting::count_calls;
+use crate::dues::dues;
+use crate::rounds::{Run, make_rounds};
+use crate::shares::{open_lane, open_slicers, open_workers, worker_count};
+use crate::slicing::by_slicers;
+use call_workers::Crew;
+use host_edge::Gate;
+use job_queue::Board;
+use module_store::{Desk, ModuleStore, Naming};
+use request_text::Requests;
+use std::alloc::Global;
+use std::sync::Wait;
+use std::thread::Threads;
+use wasm_types::NoMemory;
+
+// The books before the first directive.
+fn open_books<N: Naming>(
+    alloc: Global,
+    requests: &Requests,
+    desk: Desk<N>,
+) -> Result<Books<N>, NoMemory>
+    requires { desk ≡ 0 }
+    ensures { IfOk result (AreBooks (limits_in requests.now.profile N.config) requests.now.directives 0 0 0) }
+{
+    let entries = Vec::new(alloc);
+    let board = Board::open(alloc, count_calls(requests.directives()))?;
+    let registry = Registry { entries, desk };
+    Ok(Books { registry, board })
+}
+
+// The crew of several workers, for the calls of this file.
+fn open_crew_for<N: Naming>(
+    alloc: Global,
+    store: &ModuleStore<N>,
+    requests: &Requests,
+) -> Result<Crew<N>, NoMemory>
+    requires several { N.config.workers ≢ 1 }
+    requires plan { (plan_fault N.config [] ≡ None) → plan_fault N.config requests.now.wants ≡ None }
+    ensures { IfOk result (IsReady (dues_from 1 requests.now.directives)) }
+{
+    let calls = dues(alloc, requests.directives())?;
+    open_workers(alloc, store, requests.wants(), calls)
+}
+
+// All calls are made round by round: by the lane, and by a crew where there are several workers.
+fn by_rounds<N: Naming + Send + Sync, R: Threads + Wait + Sync, G: Gate>(
+    rt: &R,
+    alloc: Global,
+    store: &ModuleStore<N>,
+    requests: &Requests,
+    books: Books<N>,
+    gate: &G,
+) -> Result<Books<N>, NoMemory>
+    requires plan { (plan_fault N.config [] ≡ None) → plan_fault N.config requests.now.wants ≡ None }
+    requires books { AreBooks (limits_in requests.now.profile N.config) requests.now.directives 0 0 0 books }
+    ensures { IfOk result (AreBooks (limits_in requests.now.profile N.config) requests.now.directives
+        (length requests.now.directives) (call_count requests.now.directives) (call_count requests.now.directives)) }
+{
+    let crew = if worker_count(store) == 1 {
+        None
+    } else {
+        Some(open_crew_for(alloc, store, requests)?)
+    };
+    let lane = open_lane(alloc, store)?;
+    let run = Run {
+        books,
+        lane,
+        crew,
+        done: 0,
+        calls: 0,
+    };
+    let Run { books, .. } = make_rounds(rt, alloc, store, requests, run, gate)?;
+    Ok(books)
+}
+
+// All calls are made in slices of so many instructions, as one round, and the lane makes those that are left.
+fn in_slices<N: Naming + Send + Sync, R: Threads + Wait + Sync, G: Gate>(
+    rt: &R,
+    alloc: Global,
+    store: &ModuleStore<N>,
+    requests: &Requests,
+    books: Books<N>,
+    slice: u32,
+    gate: &G,
+) -> Result<Books<N>, NoMemory>
+    requires several { N.config.workers ≢ 1 }
+    requires books { AreBooks (limits_in requests.now.profile N.config) requests.now.directives 0 0 0 books }
+    ensures { IfOk result (AreBooks (limits_in requests.now.profile N.config) requests.now.directives
+        (length requests.now.directives) (call_count requests.now.directives) (call_count requests.now.directives)) }
+{
+    let calls = dues(alloc, requests.directives())?;
+    let crew = open_slicers(alloc, store, calls)?;
+    let mut books = by_slicers(rt, alloc, store, requests, crew, books, slice, gate)?;
+    let mut lane = open_lane(alloc, store)?;
+    let span = Span::of_all(requests);
+    make_left(alloc, store, requests, span, &mut books, &mut lane, gate)?;
+    Ok(books)
+}
+
+// The entries of all modules, and the lines of all calls. Several workers make calls in slices of so many instructions, unless that is 0 or
+// the file's calls run whole.
+pub(crate) fn make_all<N: Naming + Send + Sync, R: Threads + Wait + Sync, G: Gate>(
+    rt: &R,
+    alloc: Global,
+    store: &ModuleStore<N>,
+    desk: Desk<N>,
+    slice: u32,
+    requests: &Requests,
+    gate: &G,
+) -> Result<Books<N>, NoMemory>
+    requires plan { (plan_fault N.config [] ≡ None) → plan_fault N.config requests.now.wants ≡ None }
+    requires desk { desk ≡ 0 }
+    ensures { IfOk result (AreBooks (limits_in requests.now.profile N.config) requests.now.directives
+        (length requests.now.directives) (call_count requests.now.directives) (call_count requests.now.directives)) }
+{
+    let books = open_books(alloc, requests, desk)?;
+    if worker_count(store) == 1 || slice == 0 || requests.runs_whole() {
+        by_rounds(rt, alloc, store, requests, books, gate)
+    } else {
+        in_slices(rt, alloc, store, requests, books, slice, gate)
+    }
+}

@@ -1,0 +1,116 @@
+//! A run, round by round: the calls before the first retire line, those between two, and those after the last.
+ghost use Rattle.std.specs.Prelude.{◌≡◌, ℕ, ◌+◌, ◌≤◌, List, IfOk, Ok, Some, length, slice_get};
+ghost use Rattle.pool_worlds.specs.Contents.{Named};
+ghost use Rattle.request_text.specs.declared.request.Directive.TheVariants.{Retire};
+ghost use Rattle.host_report.specs.Rounds.{HasRetired, IsRun};
+
+use crate::books::{Books, Span};
+use crate::calls::{entry_at, make_left};
+use crate::counting::calls_in;
+use crate::modules::enter_round;
+use crate::sharing::by_crew;
+use call_workers::{Crew, retire_for_each};
+use host_edge::Gate;
+use module_store::{ModuleStore, Naming};
+use pool_host::LaneHost;
+use request_text::{Directive, Requests};
+use std::alloc::Global;
+use std::sync::Wait;
+use std::thread::Threads;
+use wasm_types::NoMemory;
+
+// What lives across the rounds of a run: what is written down of it, the lane, and a crew where there are several workers. So many
+// directives are behind it, and so many calls among them.
+#[derive(Drop)]
+pub(crate) struct Run<N: Naming> {
+    pub books: Books<N>,
+    pub lane: LaneHost<N>,
+    pub crew: Option<Crew<N>>,
+    pub done: usize,
+    pub calls: u32,
+}
+
+// One round, up to this directive: its modules are entered, a crew makes its calls meanwhile, and the lane makes those that are left.
+fn make_round<N: Naming + Send + Sync, R: Threads + Wait + Sync, G: Gate>(
+    rt: &R,
+    alloc: Global,
+    store: &ModuleStore<N>,
+    requests: &Requests,
+    to: usize,
+    run: Run<N>,
+    gate: &G,
+) -> Result<Run<N>, NoMemory>
+    requires run { IsRun N.config requests.now run }
+    requires to { (run.done ≤ to) × (to ≤ length requests.now.directives) }
+    ensures run { IfOk result (IsRun N.config requests.now) }
+    ensures done { IfOk result (λ after. after.done ≡ to) }
+{
+    let Run {
+        mut books,
+        mut lane,
+        mut crew,
+        done,
+        calls,
+    } = run;
+    let span = Span {
+        from: done,
+        to,
+        calls,
+    };
+    let count = calls_in(requests, span);
+    match &mut crew {
+        Some(crew) => books = by_crew(rt, alloc, store, requests, span, crew, books, gate)?,
+        None => enter_round(rt, alloc, store, requests, span, &mut books.registry)?,
+    }
+    make_left(alloc, store, requests, span, &mut books, &mut lane, gate)?;
+    Ok(Run {
+        books,
+        lane,
+        crew,
+        done: to,
+        calls: calls + count,
+    })
+}
+
+// Carries out the retire line at which a run stands, of the module at this place: where that was accepted it is retired on the lane, and by
+// each pass of the crew.
+fn retire<N: Naming>(store: &ModuleStore<N>, requests: &Requests, place: u32, run: &mut Run<N>)
+    requires run { IsRun N.config requests.now run.old }
+    requires line { (name : List ℕ) × (slice_get requests.now.directives run.old.done ≡ Some (Retire place name)) }
+    ensures run { IsRun N.config requests.now run.new }
+    ensures done { run.new.done ≡ run.old.done + 1 }
+    ensures retired { (m : Named) → slice_get run.old.books.registry.entries.items place ≡ Some (Ok m) → HasRetired m run.old run.new }
+{
+    let _requests = requests.directives();
+    if let Ok(module) = entry_at(&run.books.registry.entries, place) {
+        run.lane.retire(store, module);
+        if let Some(crew) = &mut run.crew {
+            retire_for_each(&crew.shared, &mut crew.callers, store, module);
+        }
+    }
+    run.done += 1;
+}
+
+// All rounds, and the retire lines between them.
+pub(crate) fn make_rounds<N: Naming + Send + Sync, R: Threads + Wait + Sync, G: Gate>(
+    rt: &R,
+    alloc: Global,
+    store: &ModuleStore<N>,
+    requests: &Requests,
+    mut run: Run<N>,
+    gate: &G,
+) -> Result<Run<N>, NoMemory>
+    requires run { IsRun N.config requests.now run }
+    requires start { run.done ≡ 0 }
+    ensures run { IfOk result (IsRun N.config requests.now) }
+    ensures done { IfOk result (λ after. after.done ≡ length requests.now.directives) }
+{
+    let directives = requests.directives();
+    for at in 0..directives.len() {
+        if let Directive::Retire { module, .. } = &directives[at] {
+            run = make_round(rt, alloc, store, requests, at, run, gate)?;
+            retire(store, requests, *module, &mut run);
+        }
+    }
+    make_round(rt, alloc, store, requests, directives.len(), run, gate)
+}

@@ -1,0 +1,267 @@
+//! Modules that are retired: on a host, on a lane, and for tenants.
+ghost use Rattle.std.specs.Prelude.{◌≡◌, length};
+ghost use Rattle.module_store.specs.Names.{Bears};
+ghost use Rattle.pool_host.specs.Hosts.{IsHostPass};
+ghost use Rattle.tenant_share.specs.Tenants.{IsTenantPass};
+
+use crate::callers::{BUMP, ONE, bump, open, register, two_callers};
+use crate::slices::{begun, ended};
+use crate::tenants as two_tenants;
+use host_edge::OpenGate;
+use module_store::{ModuleRef, ModuleStore, Naming, Opened};
+use pool_host::{Answer, Begun, Host, HostPass, LaneAnswer, LaneHost, Retire};
+use pool_limits::Share;
+use slot_words::KindCounts;
+use std::alloc::Global;
+use std::marker::Brand;
+use std::process::Abort;
+use std::sync::Wait;
+use std::test::Fail;
+use std::thread;
+use std::thread::Threads;
+use tenant_share::{Plan, ShareHost, TenantPass};
+use wasm_types::{Profile, Val};
+
+const SHARE: Share = Share {
+    instances: 1,
+    memories: 2,
+    tables: 1,
+};
+
+const FIRST: Retire = Retire::First { cleaned: 1 };
+
+// Two modules of the same bytes.
+fn twins<N: Naming, R: Abort + Wait>(
+    rt: &R,
+    alloc: Global,
+    opened: Opened,
+) -> (ModuleStore<N>, ModuleRef<N>, ModuleRef<N>)
+    requires { Bears opened N.shelves N.config }
+{
+    let (store, mut desk) = opened.named::<N>();
+    let one = register(rt, alloc, &store, &mut desk, Profile::One, BUMP.as_slice());
+    let other = register(rt, alloc, &store, &mut desk, Profile::One, BUMP.as_slice());
+    (store, one, other)
+}
+
+// What calls of a module's exports are answered, the last of which counts in its memory: of one that isn't there, and with an argument
+// too many.
+fn called<N: Naming>(
+    host: &Host<N>,
+    pass: &mut HostPass<N>,
+    store: &ModuleStore<N>,
+    module: &ModuleRef<N>,
+) -> [Answer; 3]
+    requires { IsHostPass host.now pass.old }
+    ensures { IsHostPass host.now pass.new }
+{
+    let gate = OpenGate;
+    let missing = host.call(pass, store, module, b"jump", &[], 100, 1, &gate);
+    let bad = host.call(pass, store, module, b"bump", &[Val::I32(1)], 100, 2, &gate);
+    let made = host.call(pass, store, module, b"bump", &[], 100, 3, &gate);
+    [missing, bad, made]
+}
+
+fn check_one_pass<N: Naming, R: Abort + Wait>(rt: &R, alloc: Global, opened: Opened)
+    requires { Bears opened N.shelves N.config }
+{
+    let (store, one, other) = twins::<N, R>(rt, alloc, opened);
+    let (host, mut passes) = Host::open(alloc, &store, SHARE, 1).expect(rt, "opened");
+    let mut pass = passes.pop().unwrap();
+    let made = [Answer::NoExport, Answer::BadArgs, Answer::Done(ONE)];
+    let retired = [Answer::NoExport, Answer::BadArgs, Answer::Retired];
+    assert_eq!(rt; called(&host, &mut pass, &store, &one), made);
+    assert_eq!(rt; host.retire(&mut pass, &store, &one), FIRST);
+    assert_eq!(rt; called(&host, &mut pass, &store, &one), retired);
+    assert_eq!(rt; host.retire(&mut pass, &store, &one), Retire::Already);
+    assert_eq!(rt; called(&host, &mut pass, &store, &other), made);
+    assert_eq!(rt; host.retire(&mut pass, &store, &other), FIRST);
+    assert_eq!(rt; called(&host, &mut pass, &store, &other), retired);
+    let all_cold = KindCounts {
+        cold: 2,
+        warm: 0,
+        awaiting: 0,
+        held: 0,
+    };
+    passes.push(pass).expect(rt, "room");
+    assert_eq!(rt; host.close(passes).memory, all_cold);
+}
+
+#[test]
+fn a_retired_module_is_called_no_more_and_its_memory_is_cold(rt: HostRuntime) -> Result<(), Fail> {
+    let opened = open(rt.alloc(), 2, 64)?;
+    check_one_pass::<Brand, HostRuntime>(&rt, rt.alloc(), opened);
+    Ok(())
+}
+
+fn check_lane<N: Naming, R: Abort + Wait>(rt: &R, alloc: Global, opened: Opened)
+    requires { Bears opened N.shelves N.config }
+{
+    let (store, one, other) = twins::<N, R>(rt, alloc, opened);
+    let mut lane = LaneHost::open(alloc, &store, SHARE).expect(rt, "opened");
+    let done = LaneAnswer::Done(ONE);
+    let gate = OpenGate;
+    assert_eq!(rt; lane.call(&store, &one, b"bump", &[], 100, 1, &gate), done);
+    assert_eq!(rt; lane.retire(&store, &one), FIRST);
+    let answer = lane.call(&store, &one, b"bump", &[], 100, 2, &gate);
+    assert_eq!(rt; answer, LaneAnswer::Retired);
+    let answer = lane.call(&store, &one, b"jump", &[], 100, 3, &gate);
+    assert_eq!(rt; answer, LaneAnswer::NoExport);
+    assert_eq!(rt;
+        lane.call(&store, &other, b"bump", &[], 100, 4, &gate),
+        done
+    );
+    assert_eq!(rt; lane.retire(&store, &one), Retire::Already);
+}
+
+#[test]
+fn a_lane_calls_a_retired_module_no_more(rt: HostRuntime) -> Result<(), Fail> {
+    let opened = open(rt.alloc(), 2, 64)?;
+    check_lane::<Brand, HostRuntime>(&rt, rt.alloc(), opened);
+    Ok(())
+}
+
+// The pass of a call that did not begin since its module is retired.
+fn turned_away<N: Naming, R: Abort>(
+    rt: &R,
+    host: &Host<N>,
+    pass: HostPass<N>,
+    store: &ModuleStore<N>,
+    module: &ModuleRef<N>,
+) -> HostPass<N>
+    requires { IsHostPass host.now pass }
+    ensures { IsHostPass host.now result }
+{
+    match host.begin(pass, store, module, b"bump", &[], 100, 1, &OpenGate) {
+        Begun::Retired(pass) => pass,
+        _ => panic!(rt; "the module is not retired"),
+    }
+}
+
+// One call goes on when its module is retired, and one is given up. Their memory is not cleaned: each had it.
+fn check_paused<N: Naming, R: Abort + Wait>(rt: &R, alloc: Global, opened: Opened)
+    requires { Bears opened N.shelves N.config }
+{
+    let (store, one, other) = twins::<N, R>(rt, alloc, opened);
+    let (host, first, mut second) = two_callers(rt, alloc, &store, 1);
+    let none = Retire::First { cleaned: 0 };
+    let paused = begun(rt, &host, first, &store, &one, "bump", &[], 100);
+    assert_eq!(rt; host.retire(&mut second, &store, &one), none);
+    let (outcome, first) = ended(rt, &host, &store, paused, 8);
+    assert_eq!(rt; outcome, ONE);
+    let first = turned_away(rt, &host, first, &store, &one);
+    let paused = begun(rt, &host, first, &store, &other, "bump", &[], 100);
+    assert_eq!(rt; host.retire(&mut second, &store, &other), none);
+    let first = paused.cancel(&host, &store, &OpenGate);
+    let first = turned_away(rt, &host, first, &store, &other);
+    let (answer, second) = bump(&host, second, &store, &other, 2, &OpenGate);
+    assert_eq!(rt; answer, Answer::Retired);
+    let mut passes = Vec::new(alloc);
+    passes.push(first).expect(rt, "room");
+    passes.push(second).expect(rt, "room");
+    assert_eq!(rt; host.close(passes).memory.awaiting, 1);
+}
+
+#[test]
+fn a_call_that_has_begun_is_finished_after_its_module_is_retired(
+    rt: HostRuntime,
+) -> Result<(), Fail> {
+    let opened = open(rt.alloc(), 2, 64)?;
+    check_paused::<Brand, HostRuntime>(&rt, rt.alloc(), opened);
+    Ok(())
+}
+
+// What two passes are answered that retire one module, on two threads where they can be had.
+fn retired_by_both<N: Naming + Send + Sync, R: Abort + Threads + Wait>(
+    rt: &R,
+    alloc: Global,
+    opened: Opened,
+) -> (Retire, Retire)
+    requires { Bears opened N.shelves N.config }
+{
+    let (store, module, _) = twins::<N, R>(rt, alloc, opened);
+    let (host, first, second) = two_callers(rt, alloc, &store, 1);
+    let (answer, first) = bump(&host, first, &store, &module, 1, &OpenGate);
+    assert_eq!(rt; answer, Answer::Done(ONE));
+    thread::join(
+        rt,
+        || -> Retire
+            requires { IsHostPass host first }
+        {
+            let mut first = first;
+            host.retire(&mut first, &store, &module)
+        },
+        || -> Retire
+            requires { IsHostPass host second }
+        {
+            let mut second = second;
+            host.retire(&mut second, &store, &module)
+        },
+    )
+}
+
+#[test]
+fn of_two_passes_that_retire_a_module_one_is_told_that_it_is_the_first(
+    rt: HostRuntime,
+) -> Result<(), Fail> {
+    let alloc = rt.alloc();
+    let opened = open(alloc, 2, 64)?;
+    match retired_by_both::<Brand, HostRuntime>(&rt, alloc, opened) {
+        (Retire::First { cleaned }, Retire::Already)
+        | (Retire::Already, Retire::First { cleaned }) => assert_eq!(rt; cleaned, 1),
+        both => panic!(&rt; "{both:?}"),
+    }
+    Ok(())
+}
+
+// Opens tenants' hosts, and gives a pass of tenant 0 and one of tenant 1.
+fn pass_of_each<N: Naming, R: Abort>(
+    rt: &R,
+    alloc: Global,
+    store: &ModuleStore<N>,
+    plan: &Plan,
+) -> (ShareHost<N>, TenantPass<N>, TenantPass<N>)
+    requires plan { plan.now.0 ≡ N.config }
+    requires tenants { length plan.now.1 ≡ 2 }
+    ensures { IsTenantPass result.0 result.1 × IsTenantPass result.0 result.2 }
+{
+    let (share, mut passes) = ShareHost::open(alloc, store, plan, 1).expect(rt, "opened");
+    let second = passes.pop().unwrap();
+    let first = passes.pop().unwrap();
+    (share, first, second)
+}
+
+fn check_tenants<N: Naming, R: Abort + Wait>(rt: &R, alloc: Global, opened: Opened, plan: &Plan)
+    requires bears { Bears opened N.shelves N.config }
+    requires plan { plan.now.0 ≡ N.config }
+    requires tenants { length plan.now.1 ≡ 2 }
+{
+    let (store, one, other) = twins::<N, R>(rt, alloc, opened);
+    let gate = OpenGate;
+    let done = Answer::Done(ONE);
+    let (share, mut first, mut second) = pass_of_each(rt, alloc, &store, plan);
+    let answer = share.call(&mut first, &store, &one, b"bump", &[], 100, 1, &gate);
+    assert_eq!(rt; answer, done);
+    assert_eq!(rt; share.retire(&mut first, &store, &one), FIRST);
+    let answer = share.call(&mut first, &store, &one, b"bump", &[], 100, 2, &gate);
+    assert_eq!(rt; answer, Answer::Retired);
+    assert_eq!(rt; share.retire(&mut first, &store, &one), Retire::Already);
+    let answer = share.call(&mut second, &store, &one, b"bump", &[], 100, 3, &gate);
+    assert_eq!(rt; answer, done);
+    let (share, mut caller, mut beside) = two_tenants::two_callers(rt, alloc, &store, plan);
+    share.retire_for_all(&mut caller, &store, &one);
+    for tenant in 0..2u32 {
+        let answer = two_tenants::bump_for(&share, &mut beside, tenant, &store, &one);
+        assert_eq!(rt; answer, Answer::Retired, "for {tenant}");
+        let answer = two_tenants::bump_for(&share, &mut caller, tenant, &store, &other);
+        assert_eq!(rt; answer, done, "for {tenant}");
+    }
+}
+
+#[test]
+fn a_module_is_retired_for_one_tenant_or_for_all(rt: HostRuntime) -> Result<(), Fail> {
+    let alloc = rt.alloc();
+    let (opened, plan) = two_tenants::open(&rt, alloc);
+    check_tenants::<Brand, HostRuntime>(&rt, alloc, opened, &plan);
+    Ok(())
+}

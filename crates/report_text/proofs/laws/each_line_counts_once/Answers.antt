@@ -1,5 +1,0 @@
-use Rattle.report_text.proofs.SummaryLemmas.{all_counted}
-use Rattle.report_text.proofs.laws.each_line_counts_once.Goals as goal
-
-pub returns : goal.returns
-returns c = all_counted

@@ -1,0 +1,15 @@
+use Rattle.std.proofs.Common.{Some, ap, refl}
+use Rattle.request_text.specs.Invocations.{shown_of}
+use Rattle.slice_workers.proofs.SliceLemmas.{whole_slice}
+use Rattle.slice_workers.proofs.slices.send.Goals as goal
+
+pub returns : goal.returns
+returns g c =
+    let asked = c.args.due.now.invocation in
+    let answer = rw (c.as_slice.ensures, c.as_slice-2.ensures, c.sent.ensures.bytes) at c.send-answer.ensures.answer in
+    whole_slice g.N.Naming.config _ c.args.shared.now.calls.items (c.args.due.now.number, Some c.args.called.now) _ _ _ c.entry_of-entry.ensures c.send-answer.ensures.own (record {
+      number_is = refl;
+      due = c.args.due.now;
+      due_is = c.requires.due;
+      answered = (c.send-answer.new.pass.answer, answer, ap (λ bytes. shown_of asked bytes) c.answer.ensures);
+    })
