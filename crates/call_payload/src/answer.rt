@@ -3,7 +3,7 @@ ghost use Rattle.std.specs.Prelude.{◌≡◌, ◌+◌, ◌≤◌, [], ◌++◌,
 
 use std::alloc::Global;
 use std::marker::Model;
-use wasm_types::NoMemory;
+use wasm_values::NoMemory;
 
 /// How many bytes an answer may have.
 pub const MOST_ANSWER: usize = 65536;

@@ -3,7 +3,7 @@ ghost use Rattle.std.specs.Prelude.{◌≡◌, ◌<◌, ◌≤◌, IfNone, IfOk,
 
 use std::alloc::Global;
 use std::marker::Model;
-use wasm_types::{Items, NoMemory};
+use wasm_values::{Items, NoMemory};
 
 /// How many bytes a call may be sent.
 pub const MOST_REQUEST: usize = 65536;

@@ -2,7 +2,7 @@
 use crate::{AnswerBuf, MOST_ANSWER, Payload, TooLong, read_part};
 use std::alloc::Global;
 use std::test::Fail;
-use wasm_types::{Items, NoMemory};
+use wasm_values::{Items, NoMemory};
 
 // What appending so many bytes of zero comes to, behind so many others.
 fn appended(

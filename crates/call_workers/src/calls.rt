@@ -10,7 +10,7 @@ use host_edge::Gate;
 use module_store::{ModuleRef, ModuleStore, Naming};
 use std::alloc::Global;
 use tenant_share::{Asked, Caller, ShareHost};
-use wasm_types::NoMemory;
+use wasm_values::NoMemory;
 
 // What a worker made of a call of this module, on the slots of the call's tenant.
 fn made<N: Naming, G: Gate>(

@@ -17,7 +17,7 @@ use std::alloc::Global;
 use std::sync::Wait;
 use std::thread::{self, Threads};
 use tenant_share::{Plan, ShareHost};
-use wasm_types::NoMemory;
+use wasm_values::NoMemory;
 
 /// The tenants' hosts of this plan for these calls, with a caller for each of so many workers, who has a pass of each tenant.
 ///

@@ -13,7 +13,7 @@ use module_store::Naming;
 use std::alloc::Global;
 use std::sync::Wait;
 use tenant_share::Caller;
-use wasm_types::NoMemory;
+use wasm_values::NoMemory;
 
 // Joins the workers' passes of the queue into this one, puts their callers back to the others, and gives what all made.
 fn join_all<N: Naming>(

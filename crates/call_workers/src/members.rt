@@ -4,7 +4,7 @@ use due_calls::{Item, Worked};
 use job_queue::{JobPass, Jobs};
 use module_store::Naming;
 use tenant_share::Caller;
-use wasm_types::NoMemory;
+use wasm_values::NoMemory;
 
 /// What lives across rounds: what workers share, and a caller for each worker.
 #[derive(Drop)]

@@ -12,7 +12,7 @@ use module_store::Naming;
 use pool_host::MOST_PASSES;
 use std::alloc::Global;
 use tenant_share::Caller;
-use wasm_types::NoMemory;
+use wasm_values::NoMemory;
 
 // A worker for each of these passes of a round's queue, with one of the callers. The others stay.
 fn staff<N: Naming>(

@@ -14,7 +14,7 @@ use std::alloc::Global;
 use std::sync::Wait;
 use std::thread;
 use tenant_share::{Caller, ShareHost};
-use wasm_types::NoMemory;
+use wasm_values::NoMemory;
 
 /// Makes the calls that the queue gives it, each on the slots of its tenant, until it is given a 0; where the queue is empty it asks again. There is
 /// an entry for each call, in the order in which they were given. After a call that found a kind full it waits before it asks for

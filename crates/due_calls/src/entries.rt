@@ -2,7 +2,7 @@
 ghost use Rattle.std.specs.Prelude.{◌≡◌, ◌++◌, OnErr, OnOk};
 
 use pool_host::Answer;
-use wasm_types::{Items, NoMemory};
+use wasm_values::{Items, NoMemory};
 
 /// What a worker made of a call.
 #[derive(Drop)]

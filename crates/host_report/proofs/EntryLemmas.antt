@@ -3,10 +3,10 @@ use Rattle.std.proofs.Common.{◌≡◌, ◌⊎◌, inl, inr, ⊎_elim, true, fa
 use Rattle.std.proofs.lemmas.List.Elements.{filter_map-append}
 use Rattle.std.proofs.lemmas.Option.{same_Some, slice_get_within}
 use Rattle.std.specs.Prelude.{Result, IfErr, IfOk, OnErr, slice_get}
-use Rattle.wasm_types.specs.declared.outcome.NoMemory.{NoMemory}
+use Rattle.wasm_values.specs.declared.outcome.NoMemory.{NoMemory}
 use Rattle.wasm_spec.specs.Loading as loading
 use Rattle.wasm_spec.specs.Loading.{Loads}
-use Rattle.pool_limits.specs.Limits.{demand_of}
+use Rattle.module_limits.specs.Limits.{demand_of}
 use Rattle.pool_limits.specs.declared.wants.Want.{Want}
 use Rattle.initial_image.specs.Segments.{extent_of}
 use Rattle.pool_worlds.specs.Contents.{Named}

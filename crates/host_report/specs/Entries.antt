@@ -1,5 +1,5 @@
 -- What became of the module lines of a request file.
-use Rattle.wasm_types.specs.declared.outcome.NoMemory.{NoMemory}
+use Rattle.wasm_values.specs.declared.outcome.NoMemory.{NoMemory}
 use Rattle.std.specs.Prelude.{◌≡◌, ◌<◌, ◌≤◌, ℕ, ◌+◌, length, slice_get, Some, List, [], ◌∷◌, ◌++◌, Result, Ok, Err, IsErr}
 use Rattle.module_store.specs.declared.fault.LoadFault.{LoadFault}
 use Rattle.module_store.specs.declared.fault.LoadFault.TheVariants as fault

@@ -1,6 +1,6 @@
 //! The calls of a round, and those of them that the lane makes.
 ghost use Rattle.std.specs.Prelude.{◌≡◌, ◌-◌, ◌<◌, ◌≤◌, ℕ, List, false, IfOk, IfSome, OnOk, Some, is_none, length, slice_get};
-ghost use Rattle.wasm_types.specs.declared.profile.Profile.{Profile};
+ghost use Rattle.wasm_values.specs.declared.profile.Profile.{Profile};
 ghost use Rattle.retired_tags.specs.Passes.{steps};
 ghost use Rattle.retired_tags.specs.Steps.{HasSet};
 ghost use Rattle.pool_worlds.specs.Contents.{Named};
@@ -20,7 +20,7 @@ use pool_host::{LaneAnswer, LaneHost};
 use report_text::CallLine;
 use request_text::{Directive, Invocation, Requests};
 use std::alloc::Global;
-use wasm_types::{Items, NoMemory, Outcome};
+use wasm_values::{Items, NoMemory, Outcome};
 
 // The line of a call that is answered so, where this is shown of its bytes.
 pub(crate) fn answer_line(answer: LaneAnswer, shown: Option<Items<u8>>) -> CallLine

@@ -9,7 +9,7 @@ use due_calls::{Due, Worked, due_at};
 use job_queue::Board;
 use pool_host::{Answer, LaneAnswer};
 use report_text::CallLine;
-use wasm_types::Items;
+use wasm_values::Items;
 
 // The line of a call that a worker made, whose module is retired before it or not. There is none where it was answered Full, or
 // Retired before a retire line of its module.

@@ -7,7 +7,7 @@ ghost use Rattle.host_report.specs.Due.{due_of, dues_from};
 use due_calls::Due;
 use request_text::{Directive, Invocation};
 use std::alloc::Global;
-use wasm_types::NoMemory;
+use wasm_values::NoMemory;
 
 // A call with a copy of what it asks.
 fn due(

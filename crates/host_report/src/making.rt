@@ -21,7 +21,7 @@ use request_text::Requests;
 use std::alloc::Global;
 use std::sync::Wait;
 use std::thread::Threads;
-use wasm_types::NoMemory;
+use wasm_values::NoMemory;
 
 // The books before the first directive.
 fn open_books<N: Naming>(

@@ -11,7 +11,7 @@ use report_text::ModuleLine;
 use request_text::{Directive, Requests};
 use std::alloc::Global;
 use std::sync::Wait;
-use wasm_types::{NoMemory, Profile};
+use wasm_values::{NoMemory, Profile};
 
 // What became of a module line: a module that may be called, or the line that tells why it is refused.
 pub(crate) type Entry<N> = Result<ModuleRef<N>, ModuleLine>;

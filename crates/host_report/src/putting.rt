@@ -18,7 +18,7 @@ use module_store::{ModuleStore, Naming};
 use request_text::{Directive, Requests};
 use std::alloc::Global;
 use std::sync::Wait;
-use wasm_types::NoMemory;
+use wasm_values::NoMemory;
 
 // What is put with a call of this module line: its module, or none where it was refused.
 fn item_of<N: Naming>(entry: &Entry<N>) -> Item<N>

@@ -21,7 +21,7 @@ use std::alloc::Global;
 use std::marker::Brand;
 use std::sync::Wait;
 use std::thread::Threads;
-use wasm_types::{Items, NoMemory};
+use wasm_values::{Items, NoMemory};
 
 // How many module lines and calls have been reported on.
 #[derive(Drop)]

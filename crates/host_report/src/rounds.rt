@@ -17,7 +17,7 @@ use request_text::{Directive, Requests};
 use std::alloc::Global;
 use std::sync::Wait;
 use std::thread::Threads;
-use wasm_types::NoMemory;
+use wasm_values::NoMemory;
 
 // What lives across the rounds of a run: what is written down of it, the lane, and a crew where there are several workers. So many
 // directives are behind it, and so many calls among them.

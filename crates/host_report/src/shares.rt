@@ -17,7 +17,7 @@ use pool_limits::{PlanFault, Share, Want};
 use slice_workers::{SliceCrew, open_slice_crew};
 use std::alloc::Global;
 use tenant_share::Plan;
-use wasm_types::NoMemory;
+use wasm_values::NoMemory;
 
 // How many workers are configured.
 pub(crate) fn worker_count<N: Naming>(store: &ModuleStore<N>) -> u32

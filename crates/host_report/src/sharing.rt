@@ -23,7 +23,7 @@ use request_text::Requests;
 use std::alloc::Global;
 use std::sync::Wait;
 use std::thread::{self, Threads};
-use wasm_types::NoMemory;
+use wasm_values::NoMemory;
 
 // What the workers of a crew made of the calls of a round, and the registry with the modules that were entered beside them. Where no
 // thread can be made the first closure runs last: then all stands in the queue before the first worker asks.

@@ -24,7 +24,7 @@ use slice_workers::{SliceCrew, SliceShared, Sliced, finish_slices, slice_all};
 use std::alloc::Global;
 use std::sync::Wait;
 use std::thread::{self, Threads};
-use wasm_types::NoMemory;
+use wasm_values::NoMemory;
 
 // What workers left: the registry, the calls, and what they made of these.
 #[derive(Drop)]

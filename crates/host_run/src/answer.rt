@@ -17,7 +17,7 @@ use request_text::{MOST_BYTES, ParseFault, Reason, Requests, parse, write_text_f
 use std::alloc::Global;
 use std::sync::Wait;
 use std::thread::Threads;
-use wasm_types::NoMemory;
+use wasm_values::NoMemory;
 
 // What is written where the file is too long.
 const FILE_TOO_LONG: &[u8] = b"file too long\n";

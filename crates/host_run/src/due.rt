@@ -15,7 +15,7 @@ use pool_limits::PoolConfig;
 use std::alloc::Global;
 use std::sync::Wait;
 use std::thread::Threads;
-use wasm_types::NoMemory;
+use wasm_values::NoMemory;
 
 // What is written where the words are refused.
 pub(crate) const REFUSED_WORDS: &[u8] = b"refused words\n";

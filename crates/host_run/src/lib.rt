@@ -10,8 +10,3 @@ mod streams;
 
 pub use serving::{refuse_words, serve};
 pub use status::Status;
-
-#[cfg(test)]
-mod retirements;
-#[cfg(test)]
-mod tests;

@@ -8,7 +8,7 @@ use host_edge::{Failed, Sink, Source};
 use request_text::MOST_BYTES;
 use std::alloc::{AllocError, Global};
 use thiserror::Error;
-use wasm_types::NoMemory;
+use wasm_values::NoMemory;
 
 /// Why an input was not read.
 #[derive(Clone, Copy, Debug, PartialEq, Eq, Error)]

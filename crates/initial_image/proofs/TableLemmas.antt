@@ -4,7 +4,7 @@ use Rattle.std.specs.Prelude.{Option, Some, None, map}
 use Rattle.std.proofs.lemmas.List.{drop_more, set_at, take_more, map-append, length-map, length-take-le}
 use Rattle.std.specs.Prelude.{slice_set, slice_index_or}
 use Rattle.wasm_types.specs.declared.module.Global.{Global}
-use Rattle.wasm_types.specs.declared.outcome.Val.{Val}
+use Rattle.wasm_values.specs.declared.outcome.Val.{Val}
 use Rattle.wasm_types.specs.Tree.{global_tree}
 use Rattle.initial_image.specs.Segments.{first_value}
 

@@ -2,8 +2,8 @@
 -- 1.0, section 4.5.4).
 use Rattle.std.specs.Prelude.{◌≡◌, Bool, Option, Some, map, find, nat_lt, unwrap_or}
 use Rattle.std.specs.List.{enumerate_from}
-use Rattle.wasm_types.specs.declared.outcome.Val.{Val}
-use Rattle.wasm_types.specs.declared.outcome.Val.TheVariants as val
+use Rattle.wasm_values.specs.declared.outcome.Val.{Val}
+use Rattle.wasm_values.specs.declared.outcome.Val.TheVariants as val
 use Rattle.wasm_types.specs.Tree.{GlobalTree, ModuleTree}
 use Rattle.wasm_spec.specs.Validity.{initial_value}
 use Rattle.wasm_spec.specs.Store as store

@@ -9,8 +9,9 @@ ghost use Rattle.initial_image.specs.Segments.{first_data_misfit, first_element_
 use crate::segments::{minimum, offset_of};
 use sparse_bytes::SparseBytes;
 use std::alloc::{AllocError, Global};
-use wasm_types::{Module, NoMemory, Val};
+use wasm_types::Module;
 use wasm_validate::{Valid, initial_value};
+use wasm_values::{NoMemory, Val};
 
 // Each entry becomes the function of its place.
 fn write_functions(entries: &mut [Option<u32>], functions: &[u32])

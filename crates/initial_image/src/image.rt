@@ -10,8 +10,8 @@ use crate::segments::{Misfit, check_data, check_elements};
 use sparse_bytes::SparseBytes;
 use std::alloc::{AllocError, Global};
 use thiserror::Error;
-use wasm_types::{Items, NoMemory, Val};
 use wasm_validate::Valid;
+use wasm_values::{Items, NoMemory, Val};
 
 /// What a new instance of a module holds beside its table, which [`write_table`](crate::write_table) writes. Source: Core
 /// Specification 1.0, section 4.5.4.

@@ -8,7 +8,7 @@ ghost use Rattle.initial_image.specs.Segments.{first_element_misfit, first_data_
 
 use crate::image::ImageFault;
 use thiserror::Error;
-use wasm_types::{Expr, Limits, Module};
+use wasm_types::{Expr, Limits, Module, PAGE_SIZE};
 use wasm_validate::offset_value;
 
 /// A segment by its place among the element segments or among the data segments.
@@ -84,7 +84,7 @@ pub(crate) fn check_data(m: &Module) -> Result<(), ImageFault>
     ensures fit { OnOk result (first_data_misfit (module_tree m.now) ≡ None) }
     ensures misfit { IfErr result (Names (first_data_misfit (module_tree m.now))) }
 {
-    let size = minimum(m.memories.as_slice()) as u64 * 65_536;
+    let size = minimum(m.memories.as_slice()) as u64 * PAGE_SIZE;
     for (place, segment) in m.data_segments.as_slice().iter().enumerate() {
         let offset = offset_of(m, &segment.offset);
         let length = segment.bytes.len();

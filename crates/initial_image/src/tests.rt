@@ -7,8 +7,9 @@ use crate::fill::write_table;
 use crate::image::build;
 use std::alloc::{AllocError, Global};
 use std::test::Fail;
-use wasm_types::{Items, Limits, Module, Profile};
+use wasm_types::{Limits, Module};
 use wasm_validate::validate;
+use wasm_values::{Items, Profile};
 
 fn none<T>(alloc: Global) -> Items<T> {
     Items::new(Vec::new(alloc))

@@ -1,8 +1,8 @@
 -- A call runs the start function first, and then its own function.
 use Rattle.std.proofs.Common.{◌≡◌, ℕ, Bool, List, [], Option, Some, None, refl, sym, ap, ◌∙◌, subst}
-use Rattle.wasm_types.specs.declared.outcome.Outcome.{Outcome}
-use Rattle.wasm_types.specs.declared.outcome.Outcome.TheVariants as outcome
-use Rattle.wasm_types.specs.declared.outcome.Val.{Val}
+use Rattle.wasm_values.specs.declared.outcome.Outcome.{Outcome}
+use Rattle.wasm_values.specs.declared.outcome.Outcome.TheVariants as outcome
+use Rattle.wasm_values.specs.declared.outcome.Val.{Val}
 use Rattle.wasm_types.specs.Tree.{ModuleTree}
 use Rattle.wasm_spec.specs.Store.{Store}
 use Rattle.wasm_spec.specs.Execution.{Terms, answer_set, terms}

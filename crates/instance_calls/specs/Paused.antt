@@ -1,6 +1,6 @@
 -- A call that is paused on the slots of an instance.
 use Rattle.std.specs.Prelude.{◌≡◌, ◌≢◌, ℕ, Bool, List, []}
-use Rattle.wasm_types.specs.declared.outcome.Val.{Val}
+use Rattle.wasm_values.specs.declared.outcome.Val.{Val}
 use Rattle.wasm_types.specs.Tree.{module_tree}
 use Rattle.wasm_spec.specs.Execution.{answer_set, terms}
 use Rattle.wasm_spec.specs.Instances.{room_for}

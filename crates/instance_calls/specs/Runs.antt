@@ -1,7 +1,7 @@
 -- What a call does to the contents of an instance's slots.
 use Rattle.std.specs.Prelude.{◌≡◌, ℕ, Bool, List}
-use Rattle.wasm_types.specs.declared.outcome.Outcome.{Outcome}
-use Rattle.wasm_types.specs.declared.outcome.Val.{Val}
+use Rattle.wasm_values.specs.declared.outcome.Outcome.{Outcome}
+use Rattle.wasm_values.specs.declared.outcome.Val.{Val}
 use Rattle.wasm_types.specs.Tree.{ModuleTree}
 use Rattle.wasm_spec.specs.Execution.{terms}
 use Rattle.wasm_spec.specs.Result.{CallResult}

@@ -6,7 +6,8 @@ ghost use Rattle.wasm_spec.specs.Functions.{function_type};
 ghost use Rattle.wasm_spec.specs.Typing.{type_of};
 
 use wasm_checker::function_type;
-use wasm_types::{Module, Val, ValType};
+use wasm_types::{Module, ValType};
+use wasm_values::Val;
 
 // The type of a value.
 fn value_type(value: &Val) -> ValType

@@ -5,7 +5,7 @@ ghost use Rattle.instance_calls.specs.CallWords.{IsRefusal, MayCall};
 use crate::arguments::fit;
 use module_store::{ModuleRef, ModuleStore, Naming};
 use thiserror::Error;
-use wasm_types::Val;
+use wasm_values::Val;
 
 /// Why a call can't be made.
 #[derive(Clone, Copy, Debug, PartialEq, Eq, Error)]

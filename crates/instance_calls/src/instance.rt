@@ -27,8 +27,9 @@ use paused_call::{PausedCall, Turned};
 use slot_words::Lease;
 use table_slots::TableSlot;
 use wasm_machine::RunEnd;
-use wasm_types::{Outcome, RunLimits, Val};
+use wasm_types::RunLimits;
 use wasm_validate::Valid;
+use wasm_values::{Outcome, Val};
 
 /// What a call runs on: a ticket, and a memory and a table where its module has them. Each is a slot that was taken, and is given
 /// back; one that is dropped stays held.

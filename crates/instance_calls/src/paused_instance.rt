@@ -12,7 +12,7 @@ use call_payload::AnswerBuf;
 use module_store::{ModuleRef, ModuleStore, Naming};
 use paused_call::{PausedCall, Turned};
 use std::marker::Model;
-use wasm_types::{Outcome, Val};
+use wasm_values::{Outcome, Val};
 
 /// A call of a module that is paused on an instance of it, with what it has answered so far. It was sent no bytes. Its slots and that
 /// answer show what a fresh instance has after as many turns, by its type.

@@ -23,8 +23,9 @@ use paused_call::{PausedCall, Turned};
 use slot_words::Lease;
 use table_slots::TableSlot;
 use wasm_machine::{RunEnd, run};
-use wasm_types::{RunLimits, Val};
+use wasm_types::RunLimits;
 use wasm_validate::Valid;
+use wasm_values::Val;
 
 // The limits of the configuration's runs.
 pub(crate) fn limits_of<N: Naming>(store: &ModuleStore<N>) -> RunLimits

@@ -1,6 +1,6 @@
 -- What a take hands out.
 use Rattle.std.specs.Prelude.{◌≡◌, ℕ, false, List}
-use Rattle.wasm_types.specs.declared.outcome.Val.{Val}
+use Rattle.wasm_values.specs.declared.outcome.Val.{Val}
 use Rattle.pool_core.specs.declared.words.StateWord.{StateWord}
 use Rattle.pool_core.specs.StateWords.{IsWordOf}
 use Rattle.pool_worlds.specs.Contents.{Named, Ticket, Matches, prepared}

@@ -1,10 +1,10 @@
 -- What contracts see of a ticket, and what every ticket keeps.
 use Rattle.std.specs.Prelude.{◌≡◌, ◌≤◌, ℕ, List, length}
-use Rattle.wasm_types.specs.declared.outcome.Val.{Val}
+use Rattle.wasm_values.specs.declared.outcome.Val.{Val}
 use Rattle.linear_memory.specs.declared.memory.Memory.{Memory}
 use Rattle.linear_memory.specs.Bytes.{IsMemory}
 use Rattle.wasm_machine.specs.Room.{StacksView}
-use Rattle.pool_limits.specs.declared.over.TheConstants.{MOST_GLOBALS}
+use Rattle.module_limits.specs.declared.over.TheConstants.{MOST_GLOBALS}
 use Rattle.pool_limits.specs.declared.numbers.Numbers.{Numbers}
 
 -- its globals, the arguments of a call that is paused on it, and its stacks

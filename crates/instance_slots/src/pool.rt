@@ -18,7 +18,7 @@ use module_store::{ModuleRef, ModuleStore, Naming};
 use slot_pools::{Full, give_cold, take_any};
 use slot_words::{KindCounts, Lease, Pass, Words};
 use std::alloc::Global;
-use wasm_types::NoMemory;
+use wasm_values::NoMemory;
 
 /// Tickets that threads share, each of them for one call at a time. A ticket that nobody has is cold.
 #[derive(Drop)]

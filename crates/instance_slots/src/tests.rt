@@ -15,7 +15,7 @@ use std::sync::Wait;
 use std::test::Fail;
 use std::thread;
 use std::thread::Threads;
-use wasm_types::{Profile, Val};
+use wasm_values::{Profile, Val};
 
 // Globals of 5 and of 9 in 64 bits, and one of 1.
 static TWO: [u8; 21] = *b"\0asm\x01\0\0\0\x06\x0b\x02\x7f\0\x41\x05\x0b\x7e\0\x42\x09\x0b";

@@ -1,18 +1,18 @@
 //! Tickets.
 ghost use Rattle.std.specs.Prelude.{◌≡◌, ◌≤◌, ◌++◌, IfOk, length, drop, replicate, take, vec_capacity};
-ghost use Rattle.wasm_types.specs.declared.outcome.Val.TheVariants.{I32};
+ghost use Rattle.wasm_values.specs.declared.outcome.Val.TheVariants.{I32};
 ghost use Rattle.wasm_spec.specs.Store.{fresh_store};
 ghost use Rattle.pool_worlds.specs.Contents as contents;
 ghost use Rattle.pool_worlds.specs.Contents.{prepared, Matches};
 ghost use Rattle.instance_slots.specs.Fits.{room, own_tag, fits-own_tag};
 
+use module_limits::MOST_GLOBALS;
 use module_store::{ModuleRef, ModuleStore, Naming};
-use pool_limits::MOST_GLOBALS;
 use slot_words::Pooled;
 use std::alloc::Global;
 use std::marker::{Model, PhantomData};
 use wasm_machine::{Memory, Stacks};
-use wasm_types::{NoMemory, Val};
+use wasm_values::{NoMemory, Val};
 
 /// The leave for one instance: globals, of which a call's module has the first, stacks for the configured depth of the
 /// configured frames, a place for the arguments of a call that is paused, and a memory without bytes for modules that have none.

@@ -1,45 +1,27 @@
 -- What profile 2 adds: the opcodes of extensions, and what the prefix leads.
-use Rattle.std.proofs.Common.{◌≡◌, ℕ, zero, suc, ◌-◌, ◌<◌, ◌≤◌, ◌++◌, List, get_or, replicate, refl, sym, ap, ◌∙◌, arith}
+use Rattle.std.proofs.Common.{◌≡◌, ℕ, ◌-◌, ◌≤◌, ◌++◌, List, get_or, replicate, refl, sym, ap, ◌∙◌, arith}
 use Rattle.std.specs.Prelude.{Some, None}
 use Rattle.std.proofs.lemmas.Bool.Decides.{nat_tests}
-use Rattle.wasm_types.specs.declared.profile.Profile.{Profile}
-use Rattle.wasm_types.specs.declared.profile.Profile.TheVariants.{One, Two, Three}
+use Rattle.wasm_values.specs.declared.profile.Profile.{Profile}
+use Rattle.wasm_values.specs.declared.profile.Profile.TheVariants.{Two, Three}
 use Rattle.wasm_types.specs.declared.instr.Instr.{Instr}
 use Rattle.wasm_spec.specs.Numbers.{TakesUnsigned}
-use Rattle.wasm_spec.specs.InstrGrammar.{Alone, Prefixed, NotPlain, PrefixedRow, TakesPrefixed, extensions, prefixed_row, shape}
+use Rattle.wasm_spec.specs.InstrGrammar.{Prefixed, NotPlain, PrefixedRow, TakesPrefixed, extensions, prefixed_row, shape}
 use Rattle.wasm_spec.proofs.UnambiguousNumbers.{unsigned-unique}
 use Rattle.instr_decode.specs.declared.fault.DecodeFault.{DecodeFault}
 use Rattle.instr_decode.specs.Decoding.{BeginsWithNone}
 use Rattle.instr_decode.specs.Opcodes.{TakesZeros}
 use Rattle.instr_decode.proofs.Decoding.{begins-through}
-use Rattle.instr_decode.proofs.Opcodes.{run, same-outside}
+use Rattle.instr_decode.proofs.Opcodes.{run}
 
-pub prefix-is : (profile : Profile) (opcode : ℕ) → profile ≡ Two → opcode ≡ 0xFC → shape profile opcode ≡ Prefixed
+pub prefix-is : (opcode : ℕ) → opcode ≡ 0xFC → shape Two opcode ≡ Prefixed
 unfolding shape
-prefix-is profile opcode second e = ap (λ (p : Profile). shape p opcode) second ∙ ap (shape Two) e
+prefix-is opcode e = ap (shape Two) e
 
 -- an opcode of an extension
-pub record IsExtension (profile : Profile) (opcode : ℕ) : Type 0 where
-  pub made : Instr
-  pub row : get_or extensions (opcode - 0xC0) NotPlain ≡ Alone made
-  pub shape_is : shape profile opcode ≡ Alone made
-
-row-at : (k : ℕ) → k < 5 → (i : Instr) × (get_or extensions k NotPlain ≡ Alone i)
-row-at zero h = (_, refl)
-row-at (suc zero) h = (_, refl)
-row-at (suc (suc zero)) h = (_, refl)
-row-at (suc (suc (suc zero))) h = (_, refl)
-row-at (suc (suc (suc (suc zero)))) h = (_, refl)
-row-at (suc (suc (suc (suc (suc k))))) h = absurd (omega arith)
-
-pub extension-is : (profile : Profile) (opcode : ℕ) → profile ≡ Two → 0xC0 ≤ opcode → opcode ≤ 0xC4 → IsExtension profile opcode
+pub extension-is : (opcode : ℕ) → 0xC0 ≤ opcode → opcode ≤ 0xC4 → shape Two opcode ≡ get_or extensions (opcode - 0xC0) NotPlain
 unfolding shape
-extension-is profile opcode second low high =
-    let (i, row) = row-at (opcode - 0xC0) (omega arith) in
-    record { made = i; row = row; shape_is = ap (λ (p : Profile). shape p opcode) second ∙ run (λ s. s) Two 0xC0 5 extensions refl opcode low (omega arith) ∙ row }
-
-pub same-common : (profile : Profile) (opcode : ℕ) → profile ≡ Two → (0xC0 ≤ opcode → opcode ≤ 0xC4 → ⊥) → (opcode ≡ 0xFC → ⊥) → shape profile opcode ≡ shape One opcode
-same-common profile opcode second low prefix = ap (λ (p : Profile). shape p opcode) second ∙ same-outside opcode low prefix
+extension-is opcode low high = run Two 0xC0 5 extensions refl opcode low (omega arith)
 
 -- profile 3 adds no opcode
 pub same-third : (profile : Profile) (opcode : ℕ) → profile ≡ Three → shape profile opcode ≡ shape Two opcode

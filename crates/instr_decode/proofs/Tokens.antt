@@ -6,7 +6,7 @@ use Rattle.wasm_types.specs.declared.instr.Instr.{Instr}
 use Rattle.wasm_types.specs.declared.instr.Op.{Op}
 use Rattle.wasm_types.specs.declared.instr.Op.TheVariants as op
 use Rattle.wasm_types.specs.Tree.{Code, End, Plain, Block, Loop, If, Call, CallIndirect}
-use Rattle.wasm_types.specs.declared.profile.Profile.{Profile}
+use Rattle.wasm_values.specs.declared.profile.Profile.{Profile}
 use Rattle.wasm_spec.specs.Numbers.{TakesUnsigned, IsUnambiguous}
 use Rattle.wasm_spec.specs.TypeGrammar.{TakesBlockType}
 use Rattle.wasm_spec.specs.InstrGrammar.{shape, Closer, ByEnd, ByElse, TakesCode}

@@ -1,6 +1,6 @@
 -- Where memory may be wanted to read a vector, or code.
 use Rattle.std.proofs.Common.{ℕ, ◌<◌, ◌⊎◌, inl, List, [], ◌∷◌, length, subst, arith}
-use Rattle.wasm_types.specs.declared.profile.Profile.{Profile}
+use Rattle.wasm_values.specs.declared.profile.Profile.{Profile}
 use Rattle.wasm_spec.specs.Numbers.{TakesUnsigned, TakesEach}
 use Rattle.instr_decode.specs.declared.token.Token.{Token}
 use Rattle.instr_decode.specs.Tokens.{TakesToken}

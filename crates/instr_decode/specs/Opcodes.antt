@@ -1,40 +1,43 @@
--- What an opcode and its immediate make.
-use Rattle.std.specs.Prelude.{◌≡◌, ◌++◌, replicate, ℕ, List, Option, Some, None}
+-- What an opcode makes of what follows it, as the grammar has it.
+use Rattle.std.specs.Prelude.{◌≡◌, ◌++◌, replicate, ℕ, List}
 use Rattle.wasm_types.specs.declared.instr.Instr.{Instr}
+use Rattle.wasm_types.specs.declared.instr.Instr.TheVariants as instr
 use Rattle.wasm_types.specs.declared.instr.MemArg.{MemArg}
-use Rattle.instr_decode.specs.declared.instr.Immediate.{Immediate}
-use Rattle.instr_decode.specs.declared.instr.Immediate.TheVariants as follows
+use Rattle.instr_decode.specs.declared.instr.IndexOp.{IndexOp}
+use Rattle.instr_decode.specs.declared.instr.IndexOp.TheVariants as index
+use Rattle.instr_decode.specs.declared.instr.AddressOp.{AddressOp}
+use Rattle.instr_decode.specs.declared.instr.AddressOp.TheVariants as address
+use Rattle.instr_decode.specs.declared.instr.Form.{Form}
+use Rattle.instr_decode.specs.declared.instr.Form.TheVariants as form
 use Rattle.wasm_spec.specs.Numbers.{TakesUnsigned}
-use Rattle.wasm_spec.specs.InstrGrammar.{Shape, Alone, WithIndex, WithLabels, WithAddress, WithZero, WithI32, WithI64, WithBytes, Prefixed, NotPlain}
+use Rattle.wasm_spec.specs.InstrGrammar.{Shape, Alone, WithIndex, WithLabels, WithAddress, WithZero, WithI32, WithI64, WithBytes}
 
-abbrev pub made_alone : Shape → Option Instr
-made_alone (Alone i) = Some i
-made_alone _ = None
+abbrev pub made_with_index : IndexOp → ℕ → Instr
+made_with_index index.Br x = instr.Br x
+made_with_index index.BrIf x = instr.BrIf x
+made_with_index index.LocalGet x = instr.LocalGet x
+made_with_index index.LocalSet x = instr.LocalSet x
+made_with_index index.LocalTee x = instr.LocalTee x
+made_with_index index.GlobalGet x = instr.GlobalGet x
+made_with_index index.GlobalSet x = instr.GlobalSet x
 
-abbrev pub made_with_index : Shape → ℕ → Option Instr
-made_with_index (WithIndex make) x = Some (make x)
-made_with_index _ x = None
+abbrev pub made_with_address : AddressOp → MemArg → Instr
+made_with_address (address.Load w) m = instr.Load w m
+made_with_address (address.LoadPacked w size sign) m = instr.LoadPacked w size sign m
+made_with_address (address.Store w) m = instr.Store w m
+made_with_address (address.StorePacked w size) m = instr.StorePacked w size m
+made_with_address address.Float m = instr.Float
 
-abbrev pub made_with_address : Shape → MemArg → Option Instr
-made_with_address (WithAddress make) m = Some (make m)
-made_with_address _ m = None
-
-abbrev pub made_with_zero : Shape → Option Instr
-made_with_zero (WithZero i) = Some i
-made_with_zero _ = None
-
--- what follows an opcode of a shape; what a prefix leads is read by itself
-abbrev pub immediate_of : Shape → Option Immediate
-immediate_of (Alone i) = Some follows.Nothing
-immediate_of (WithIndex make) = Some follows.Index
-immediate_of WithLabels = Some follows.Labels
-immediate_of (WithAddress make) = Some follows.Address
-immediate_of (WithZero i) = Some follows.Zero
-immediate_of WithI32 = Some follows.I32
-immediate_of WithI64 = Some follows.I64
-immediate_of (WithBytes n i) = Some (follows.Bytes n)
-immediate_of Prefixed = None
-immediate_of NotPlain = None
+-- the shape of a form; what so many bytes follow is an instruction on floats
+abbrev pub shape_of : Form → Shape
+shape_of (form.Alone i) = Alone i
+shape_of (form.Index op) = WithIndex (λ x. made_with_index op x)
+shape_of form.Labels = WithLabels
+shape_of (form.Address op) = WithAddress (λ m. made_with_address op m)
+shape_of (form.Zero i) = WithZero i
+shape_of form.I32 = WithI32
+shape_of form.I64 = WithI64
+shape_of (form.Bytes n) = WithBytes n instr.Float
 
 -- a place in memory: its alignment, and then its offset
 abbrev pub TakesAddress : MemArg → List ℕ → List ℕ → Type 0

@@ -1,6 +1,6 @@
 -- Where memory may be wanted to read what begins some bytes: for what stands there, and not for what is only claimed.
 use Rattle.std.specs.Prelude.{◌≡◌, ℕ, ◌<◌, ◌⊎◌, List, ◌∷◌}
-use Rattle.wasm_types.specs.declared.profile.Profile.{Profile}
+use Rattle.wasm_values.specs.declared.profile.Profile.{Profile}
 use Rattle.wasm_spec.specs.Numbers.{TakesUnsigned}
 use Rattle.wasm_spec.specs.InstrGrammar.{Shape, WithLabels, shape}
 use Rattle.instr_decode.specs.Tokens.{TakesToken}

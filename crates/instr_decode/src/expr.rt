@@ -12,7 +12,8 @@ use crate::fault::DecodeFault;
 use crate::token::{Token, read_token};
 use leb_read::Cursor;
 use std::alloc::Global;
-use wasm_types::{Expr, Profile};
+use wasm_types::Expr;
+use wasm_values::Profile;
 
 /// The expression of a profile at the cursor: instructions up to their end, just after which the cursor then stands. Nothing recurses
 /// on the bytes. Source: Core Specification 1.0, section 5.4.6.

@@ -8,7 +8,8 @@ ghost use Rattle.instr_decode.specs.Contexts.{Context, Represents, Steps, pushed
 use crate::token::BlockKind;
 use std::alloc::{AllocError, Global};
 use std::mem;
-use wasm_types::{Expr, Items, Op, ValType};
+use wasm_types::{Expr, Op, ValType};
+use wasm_values::Items;
 
 // What the sequence inside a frame is: a block's or a loop's body, the first arm of an `if`, or its second one, with
 // the number of the first.

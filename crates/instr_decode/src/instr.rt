@@ -1,187 +1,223 @@
 //! Plain instructions, by their opcodes and the profile.
 
-ghost use Rattle.std.specs.Prelude.{◌≡◌, ◌≤◌, length, get_or, IsErrOf, MatchResult};
+ghost use Rattle.std.specs.Prelude.{◌≡◌, ◌<◌, ◌≤◌, length, get_or, IsErrOf, MatchResult};
+ghost use Rattle.std.specs.Option.{option_map_or};
 ghost use Rattle.wasm_spec.specs.Numbers.{TakesUnsigned, TakesVec};
-ghost use Rattle.wasm_types.specs.declared.profile.Profile.TheVariants.{One, Two};
-ghost use Rattle.wasm_spec.specs.InstrGrammar.{shape, comparisons, extensions, operators, NotPlain, WithLabels, TakesPrefixed, TakesShape};
+ghost use Rattle.wasm_values.specs.declared.profile.Profile.TheVariants.{One, Two};
+ghost use Rattle.wasm_spec.specs.InstrGrammar.{shape, comparisons, extensions, operators, Alone, NotPlain, WithLabels, TakesPrefixed, TakesShape};
 ghost use Rattle.leb_read.specs.Reading.{rest, IsRead};
 ghost use Rattle.instr_decode.specs.Decoding.{BeginsWithNone};
 ghost use Rattle.instr_decode.specs.Wants.{WantsVec, WantsShape};
-ghost use Rattle.instr_decode.specs.Opcodes.{TakesAddress, TakesZeros, made_alone, made_with_index, made_with_address, made_with_zero, immediate_of};
+ghost use Rattle.instr_decode.specs.Opcodes.{TakesAddress, TakesZeros, made_with_index, made_with_address, shape_of};
 
 use crate::fault::DecodeFault;
 use leb_read::Cursor;
 use std::alloc::Global;
-use wasm_types::{
-    BinaryOp, CompareOp, Instr, Items, MemArg, PackSize, Profile, Sign, UnaryOp, Val, Width,
-};
+use wasm_types::{BinaryOp, CompareOp, Instr, MemArg, PackSize, Sign, UnaryOp, Width};
+use wasm_values::{Items, Profile, Val};
 
-// The comparison of a number, from `eqz` on.
-fn comparison(width: Width, number: u8) -> Option<Instr>
-    ensures { result ≡ made_alone (get_or (comparisons width) number NotPlain) }
-{
-    match number {
-        0 => Some(Instr::Eqz(width)),
-        1 => Some(Instr::Compare(width, CompareOp::Eq)),
-        2 => Some(Instr::Compare(width, CompareOp::Ne)),
-        3 => Some(Instr::Compare(width, CompareOp::LtS)),
-        4 => Some(Instr::Compare(width, CompareOp::LtU)),
-        5 => Some(Instr::Compare(width, CompareOp::GtS)),
-        6 => Some(Instr::Compare(width, CompareOp::GtU)),
-        7 => Some(Instr::Compare(width, CompareOp::LeS)),
-        8 => Some(Instr::Compare(width, CompareOp::LeU)),
-        9 => Some(Instr::Compare(width, CompareOp::GeS)),
-        10 => Some(Instr::Compare(width, CompareOp::GeU)),
-        _ => None,
-    }
-}
-
-// The operator of a number, from `clz` on.
-fn operator(width: Width, number: u8) -> Option<Instr>
-    ensures { result ≡ made_alone (get_or (operators width) number NotPlain) }
-{
-    match number {
-        0 => Some(Instr::Unary(width, UnaryOp::Clz)),
-        1 => Some(Instr::Unary(width, UnaryOp::Ctz)),
-        2 => Some(Instr::Unary(width, UnaryOp::Popcnt)),
-        3 => Some(Instr::Binary(width, BinaryOp::Add)),
-        4 => Some(Instr::Binary(width, BinaryOp::Sub)),
-        5 => Some(Instr::Binary(width, BinaryOp::Mul)),
-        6 => Some(Instr::Binary(width, BinaryOp::DivS)),
-        7 => Some(Instr::Binary(width, BinaryOp::DivU)),
-        8 => Some(Instr::Binary(width, BinaryOp::RemS)),
-        9 => Some(Instr::Binary(width, BinaryOp::RemU)),
-        10 => Some(Instr::Binary(width, BinaryOp::And)),
-        11 => Some(Instr::Binary(width, BinaryOp::Or)),
-        12 => Some(Instr::Binary(width, BinaryOp::Xor)),
-        13 => Some(Instr::Binary(width, BinaryOp::Shl)),
-        14 => Some(Instr::Binary(width, BinaryOp::ShrS)),
-        15 => Some(Instr::Binary(width, BinaryOp::ShrU)),
-        16 => Some(Instr::Binary(width, BinaryOp::Rotl)),
-        17 => Some(Instr::Binary(width, BinaryOp::Rotr)),
-        _ => None,
-    }
-}
-
-// The instruction of an opcode that nothing follows. Source: Core Specification 1.0, section 5.4.
-#[tactic(auto, unfolding(wasm_spec::specs::InstrGrammar::shape))]
-pub(crate) fn alone(opcode: u8) -> Option<Instr>
-    ensures { result ≡ made_alone (shape One opcode) }
-{
-    match opcode {
-        0x00 => Some(Instr::Unreachable),
-        0x01 => Some(Instr::Nop),
-        0x0F => Some(Instr::Return),
-        0x1A => Some(Instr::Drop),
-        0x1B => Some(Instr::Select),
-        0x45..=0x4F => comparison(Width::W32, opcode - 0x45),
-        0x50..=0x5A => comparison(Width::W64, opcode - 0x50),
-        0x5B..=0x66 => Some(Instr::Float),
-        0x67..=0x78 => operator(Width::W32, opcode - 0x67),
-        0x79..=0x8A => operator(Width::W64, opcode - 0x79),
-        0x8B..=0xA6 => Some(Instr::Float),
-        0xA7 => Some(Instr::Wrap),
-        0xA8..=0xAB => Some(Instr::Float),
-        0xAC => Some(Instr::Extend(Sign::Signed)),
-        0xAD => Some(Instr::Extend(Sign::Unsigned)),
-        0xAE..=0xBF => Some(Instr::Float),
-        _ => None,
-    }
-}
-
-// The instruction of an opcode that an index follows.
-#[tactic(auto, unfolding(wasm_spec::specs::InstrGrammar::shape))]
-pub(crate) fn with_index(opcode: u8, index: u32) -> Option<Instr>
-    ensures { result ≡ made_with_index (shape One opcode) index }
-{
-    match opcode {
-        0x0C => Some(Instr::Br(index)),
-        0x0D => Some(Instr::BrIf(index)),
-        0x20 => Some(Instr::LocalGet(index)),
-        0x21 => Some(Instr::LocalSet(index)),
-        0x22 => Some(Instr::LocalTee(index)),
-        0x23 => Some(Instr::GlobalGet(index)),
-        0x24 => Some(Instr::GlobalSet(index)),
-        _ => None,
-    }
-}
-
-// The instruction of an opcode that a place in memory follows.
-#[tactic(auto, unfolding(wasm_spec::specs::InstrGrammar::shape))]
-pub(crate) fn with_address(opcode: u8, arg: MemArg) -> Option<Instr>
-    ensures { result ≡ made_with_address (shape One opcode) arg }
-{
-    use PackSize::{Pack8, Pack16, Pack32};
-    use Sign::{Signed, Unsigned};
-    use Width::{W32, W64};
-    let instr = match opcode {
-        0x28 => Instr::Load(W32, arg),
-        0x29 => Instr::Load(W64, arg),
-        0x2A => Instr::Float,
-        0x2B => Instr::Float,
-        0x2C => Instr::LoadPacked(W32, Pack8, Signed, arg),
-        0x2D => Instr::LoadPacked(W32, Pack8, Unsigned, arg),
-        0x2E => Instr::LoadPacked(W32, Pack16, Signed, arg),
-        0x2F => Instr::LoadPacked(W32, Pack16, Unsigned, arg),
-        0x30 => Instr::LoadPacked(W64, Pack8, Signed, arg),
-        0x31 => Instr::LoadPacked(W64, Pack8, Unsigned, arg),
-        0x32 => Instr::LoadPacked(W64, Pack16, Signed, arg),
-        0x33 => Instr::LoadPacked(W64, Pack16, Unsigned, arg),
-        0x34 => Instr::LoadPacked(W64, Pack32, Signed, arg),
-        0x35 => Instr::LoadPacked(W64, Pack32, Unsigned, arg),
-        0x36 => Instr::Store(W32, arg),
-        0x37 => Instr::Store(W64, arg),
-        0x38 => Instr::Float,
-        0x39 => Instr::Float,
-        0x3A => Instr::StorePacked(W32, Pack8, arg),
-        0x3B => Instr::StorePacked(W32, Pack16, arg),
-        0x3C => Instr::StorePacked(W64, Pack8, arg),
-        0x3D => Instr::StorePacked(W64, Pack16, arg),
-        0x3E => Instr::StorePacked(W64, Pack32, arg),
-        _ => return None,
-    };
-    Some(instr)
-}
-
-// What follows an opcode.
+// What an opcode makes of an index.
 #[derive(Clone, Copy)]
-pub(crate) enum Immediate {
-    Nothing,
-    Index,
+enum IndexOp {
+    Br,
+    BrIf,
+    LocalGet,
+    LocalSet,
+    LocalTee,
+    GlobalGet,
+    GlobalSet,
+}
+
+// What an opcode makes of a place in memory.
+#[derive(Clone, Copy)]
+enum AddressOp {
+    Load(Width),
+    LoadPacked(Width, PackSize, Sign),
+    Store(Width),
+    StorePacked(Width, PackSize),
+    Float,
+}
+
+// What follows an opcode, and what the opcode makes of that.
+#[derive(Drop)]
+enum Form {
+    Alone(Instr),
+    Index(IndexOp),
     Labels,
-    Address,
-    Zero,
+    Address(AddressOp),
+    Zero(Instr),
     I32,
     I64,
     Bytes(usize),
 }
 
-// What follows an opcode, if it is that of a plain instruction.
-#[tactic(auto, unfolding(wasm_spec::specs::InstrGrammar::shape))]
-pub(crate) fn immediate_at(opcode: u8) -> Option<Immediate>
-    ensures { result ≡ immediate_of (shape One opcode) }
+// The comparison of a number, from `eqz` on.
+fn comparison(width: Width, number: u8) -> Instr
+    requires { number < 11 }
+    ensures { get_or (comparisons width) number NotPlain ≡ Alone result }
 {
-    let immediate = match opcode {
-        0x00 => Immediate::Nothing,
-        0x01 => Immediate::Nothing,
-        0x0C => Immediate::Index,
-        0x0D => Immediate::Index,
-        0x0E => Immediate::Labels,
-        0x0F => Immediate::Nothing,
-        0x1A => Immediate::Nothing,
-        0x1B => Immediate::Nothing,
-        0x20..=0x24 => Immediate::Index,
-        0x28..=0x3E => Immediate::Address,
-        0x3F => Immediate::Zero,
-        0x40 => Immediate::Zero,
-        0x41 => Immediate::I32,
-        0x42 => Immediate::I64,
-        0x43 => Immediate::Bytes(4),
-        0x44 => Immediate::Bytes(8),
-        0x45..=0xBF => Immediate::Nothing,
-        _ => return None,
-    };
-    Some(immediate)
+    match number {
+        0 => Instr::Eqz(width),
+        1 => Instr::Compare(width, CompareOp::Eq),
+        2 => Instr::Compare(width, CompareOp::Ne),
+        3 => Instr::Compare(width, CompareOp::LtS),
+        4 => Instr::Compare(width, CompareOp::LtU),
+        5 => Instr::Compare(width, CompareOp::GtS),
+        6 => Instr::Compare(width, CompareOp::GtU),
+        7 => Instr::Compare(width, CompareOp::LeS),
+        8 => Instr::Compare(width, CompareOp::LeU),
+        9 => Instr::Compare(width, CompareOp::GeS),
+        10 => Instr::Compare(width, CompareOp::GeU),
+        _ => unreachable!(),
+    }
+}
+
+// The operator of a number, from `clz` on.
+fn operator(width: Width, number: u8) -> Instr
+    requires { number < 18 }
+    ensures { get_or (operators width) number NotPlain ≡ Alone result }
+{
+    match number {
+        0 => Instr::Unary(width, UnaryOp::Clz),
+        1 => Instr::Unary(width, UnaryOp::Ctz),
+        2 => Instr::Unary(width, UnaryOp::Popcnt),
+        3 => Instr::Binary(width, BinaryOp::Add),
+        4 => Instr::Binary(width, BinaryOp::Sub),
+        5 => Instr::Binary(width, BinaryOp::Mul),
+        6 => Instr::Binary(width, BinaryOp::DivS),
+        7 => Instr::Binary(width, BinaryOp::DivU),
+        8 => Instr::Binary(width, BinaryOp::RemS),
+        9 => Instr::Binary(width, BinaryOp::RemU),
+        10 => Instr::Binary(width, BinaryOp::And),
+        11 => Instr::Binary(width, BinaryOp::Or),
+        12 => Instr::Binary(width, BinaryOp::Xor),
+        13 => Instr::Binary(width, BinaryOp::Shl),
+        14 => Instr::Binary(width, BinaryOp::ShrS),
+        15 => Instr::Binary(width, BinaryOp::ShrU),
+        16 => Instr::Binary(width, BinaryOp::Rotl),
+        17 => Instr::Binary(width, BinaryOp::Rotr),
+        _ => unreachable!(),
+    }
+}
+
+// The form of an opcode of memory. Source: Core Specification 1.0, section 5.4.4.
+#[tactic(auto, unfolding(wasm_spec::specs::InstrGrammar::shape))]
+fn memory(opcode: u8) -> Form
+    requires first { 0x28 ≤ opcode }
+    requires last { opcode ≤ 0x40 }
+    ensures { shape One opcode ≡ shape_of result }
+{
+    use PackSize::{Pack8, Pack16, Pack32};
+    use Sign::{Signed, Unsigned};
+    use Width::{W32, W64};
+    match opcode {
+        0x28 => Form::Address(AddressOp::Load(W32)),
+        0x29 => Form::Address(AddressOp::Load(W64)),
+        0x2A => Form::Address(AddressOp::Float),
+        0x2B => Form::Address(AddressOp::Float),
+        0x2C => Form::Address(AddressOp::LoadPacked(W32, Pack8, Signed)),
+        0x2D => Form::Address(AddressOp::LoadPacked(W32, Pack8, Unsigned)),
+        0x2E => Form::Address(AddressOp::LoadPacked(W32, Pack16, Signed)),
+        0x2F => Form::Address(AddressOp::LoadPacked(W32, Pack16, Unsigned)),
+        0x30 => Form::Address(AddressOp::LoadPacked(W64, Pack8, Signed)),
+        0x31 => Form::Address(AddressOp::LoadPacked(W64, Pack8, Unsigned)),
+        0x32 => Form::Address(AddressOp::LoadPacked(W64, Pack16, Signed)),
+        0x33 => Form::Address(AddressOp::LoadPacked(W64, Pack16, Unsigned)),
+        0x34 => Form::Address(AddressOp::LoadPacked(W64, Pack32, Signed)),
+        0x35 => Form::Address(AddressOp::LoadPacked(W64, Pack32, Unsigned)),
+        0x36 => Form::Address(AddressOp::Store(W32)),
+        0x37 => Form::Address(AddressOp::Store(W64)),
+        0x38 => Form::Address(AddressOp::Float),
+        0x39 => Form::Address(AddressOp::Float),
+        0x3A => Form::Address(AddressOp::StorePacked(W32, Pack8)),
+        0x3B => Form::Address(AddressOp::StorePacked(W32, Pack16)),
+        0x3C => Form::Address(AddressOp::StorePacked(W64, Pack8)),
+        0x3D => Form::Address(AddressOp::StorePacked(W64, Pack16)),
+        0x3E => Form::Address(AddressOp::StorePacked(W64, Pack32)),
+        0x3F => Form::Zero(Instr::MemorySize),
+        0x40 => Form::Zero(Instr::MemoryGrow),
+        _ => unreachable!(),
+    }
+}
+
+// The form of an opcode of numbers. Source: section 5.4.5.
+#[tactic(auto, unfolding(wasm_spec::specs::InstrGrammar::shape))]
+fn numeric(opcode: u8) -> Form
+    requires first { 0x41 ≤ opcode }
+    requires last { opcode ≤ 0xBF }
+    ensures { shape One opcode ≡ shape_of result }
+{
+    match opcode {
+        0x41 => Form::I32,
+        0x42 => Form::I64,
+        0x43 => Form::Bytes(4),
+        0x44 => Form::Bytes(8),
+        0x45..=0x4F => Form::Alone(comparison(Width::W32, opcode - 0x45)),
+        0x50..=0x5A => Form::Alone(comparison(Width::W64, opcode - 0x50)),
+        0x5B..=0x66 => Form::Alone(Instr::Float),
+        0x67..=0x78 => Form::Alone(operator(Width::W32, opcode - 0x67)),
+        0x79..=0x8A => Form::Alone(operator(Width::W64, opcode - 0x79)),
+        0x8B..=0xA6 => Form::Alone(Instr::Float),
+        0xA7 => Form::Alone(Instr::Wrap),
+        0xA8..=0xAB => Form::Alone(Instr::Float),
+        0xAC => Form::Alone(Instr::Extend(Sign::Signed)),
+        0xAD => Form::Alone(Instr::Extend(Sign::Unsigned)),
+        0xAE..=0xBF => Form::Alone(Instr::Float),
+        _ => unreachable!(),
+    }
+}
+
+// The form of an opcode of profile 1, if it is that of a plain instruction. Source: section 5.4.
+#[tactic(auto, unfolding(wasm_spec::specs::InstrGrammar::shape))]
+fn form_at(opcode: u8) -> Option<Form>
+    ensures { shape One opcode ≡ option_map_or shape_of result NotPlain }
+{
+    match opcode {
+        0x00 => Some(Form::Alone(Instr::Unreachable)),
+        0x01 => Some(Form::Alone(Instr::Nop)),
+        0x0C => Some(Form::Index(IndexOp::Br)),
+        0x0D => Some(Form::Index(IndexOp::BrIf)),
+        0x0E => Some(Form::Labels),
+        0x0F => Some(Form::Alone(Instr::Return)),
+        0x1A => Some(Form::Alone(Instr::Drop)),
+        0x1B => Some(Form::Alone(Instr::Select)),
+        0x20 => Some(Form::Index(IndexOp::LocalGet)),
+        0x21 => Some(Form::Index(IndexOp::LocalSet)),
+        0x22 => Some(Form::Index(IndexOp::LocalTee)),
+        0x23 => Some(Form::Index(IndexOp::GlobalGet)),
+        0x24 => Some(Form::Index(IndexOp::GlobalSet)),
+        0x28..=0x40 => Some(memory(opcode)),
+        0x41..=0xBF => Some(numeric(opcode)),
+        _ => None,
+    }
+}
+
+// The instruction that an opcode makes of an index.
+fn with_index(op: IndexOp, index: u32) -> Instr
+    ensures { result ≡ made_with_index op index }
+{
+    match op {
+        IndexOp::Br => Instr::Br(index),
+        IndexOp::BrIf => Instr::BrIf(index),
+        IndexOp::LocalGet => Instr::LocalGet(index),
+        IndexOp::LocalSet => Instr::LocalSet(index),
+        IndexOp::LocalTee => Instr::LocalTee(index),
+        IndexOp::GlobalGet => Instr::GlobalGet(index),
+        IndexOp::GlobalSet => Instr::GlobalSet(index),
+    }
+}
+
+// The instruction that an opcode makes of a place in memory.
+fn with_address(op: AddressOp, arg: MemArg) -> Instr
+    ensures { result ≡ made_with_address op arg }
+{
+    match op {
+        AddressOp::Load(width) => Instr::Load(width, arg),
+        AddressOp::LoadPacked(width, size, sign) => Instr::LoadPacked(width, size, sign, arg),
+        AddressOp::Store(width) => Instr::Store(width, arg),
+        AddressOp::StorePacked(width, size) => Instr::StorePacked(width, size, arg),
+        AddressOp::Float => Instr::Float,
+    }
 }
 
 // A vector of indices. Source: section 5.1.3.
@@ -218,71 +254,60 @@ fn labels(alloc: Global, cursor: &mut Cursor) -> Result<Instr, DecodeFault>
     Ok(Instr::BrTable(labels, label))
 }
 
-// The instruction of an opcode that a zero byte follows.
-#[tactic(auto, unfolding(wasm_spec::specs::InstrGrammar::shape))]
-fn with_zero(opcode: u8) -> Option<Instr>
-    ensures { result ≡ made_with_zero (shape One opcode) }
-{
-    match opcode {
-        0x3F => Some(Instr::MemorySize),
-        0x40 => Some(Instr::MemoryGrow),
-        _ => None,
-    }
-}
-
 // The plain instruction of an opcode of profile 1, with what follows that.
 fn read_common(alloc: Global, cursor: &mut Cursor, opcode: u8) -> Result<Instr, DecodeFault>
     requires { cursor.old.place ≤ length cursor.old.whole }
     ensures read { MatchResult result (IsRead (TakesShape (shape One opcode)) cursor.old cursor.new) (BeginsWithNone (TakesShape (shape One opcode)) (rest cursor.old)) }
     ensures wanted { IsErrOf result DecodeFault.NoMemory → WantsShape (shape One opcode) (rest cursor.old) }
 {
-    let Some(immediate) = immediate_at(opcode) else {
+    let Some(form) = form_at(opcode) else {
         return Err(DecodeFault::Malformed);
     };
-    match immediate {
-        Immediate::Nothing => alone(opcode).ok_or(DecodeFault::Malformed),
-        Immediate::Index => {
+    match form {
+        Form::Alone(instr) => Ok(instr),
+        Form::Index(op) => {
             let index = cursor.u32()?;
-            with_index(opcode, index).ok_or(DecodeFault::Malformed)
+            Ok(with_index(op, index))
         }
-        Immediate::Labels => labels(alloc, cursor),
-        Immediate::Address => {
+        Form::Labels => labels(alloc, cursor),
+        Form::Address(op) => {
             let arg = address(cursor)?;
-            with_address(opcode, arg).ok_or(DecodeFault::Malformed)
+            Ok(with_address(op, arg))
         }
-        Immediate::Zero => {
+        Form::Zero(instr) => {
             if cursor.u8()? != 0 {
                 return Err(DecodeFault::Malformed);
             }
-            with_zero(opcode).ok_or(DecodeFault::Malformed)
+            Ok(instr)
         }
-        Immediate::I32 => {
+        Form::I32 => {
             let value = cursor.s32()?;
             Ok(Instr::Const(Val::I32(value.cast_unsigned())))
         }
-        Immediate::I64 => {
+        Form::I64 => {
             let value = cursor.s64()?;
             Ok(Instr::Const(Val::I64(value.cast_unsigned())))
         }
-        Immediate::Bytes(n) => {
-            cursor.take(n)?;
+        Form::Bytes(count) => {
+            cursor.take(count)?;
             Ok(Instr::Float)
         }
     }
 }
 
 // The extension of a number, from the first on.
-fn extension(number: u8) -> Option<Instr>
-    ensures { result ≡ made_alone (get_or extensions number NotPlain) }
+fn extension(number: u8) -> Instr
+    requires { number < 5 }
+    ensures { get_or extensions number NotPlain ≡ Alone result }
 {
     use PackSize::{Pack8, Pack16, Pack32};
     match number {
-        0 => Some(Instr::Unary(Width::W32, UnaryOp::ExtendS(Pack8))),
-        1 => Some(Instr::Unary(Width::W32, UnaryOp::ExtendS(Pack16))),
-        2 => Some(Instr::Unary(Width::W64, UnaryOp::ExtendS(Pack8))),
-        3 => Some(Instr::Unary(Width::W64, UnaryOp::ExtendS(Pack16))),
-        4 => Some(Instr::Unary(Width::W64, UnaryOp::ExtendS(Pack32))),
-        _ => None,
+        0 => Instr::Unary(Width::W32, UnaryOp::ExtendS(Pack8)),
+        1 => Instr::Unary(Width::W32, UnaryOp::ExtendS(Pack16)),
+        2 => Instr::Unary(Width::W64, UnaryOp::ExtendS(Pack8)),
+        3 => Instr::Unary(Width::W64, UnaryOp::ExtendS(Pack16)),
+        4 => Instr::Unary(Width::W64, UnaryOp::ExtendS(Pack32)),
+        _ => unreachable!(),
     }
 }
 
@@ -325,7 +350,7 @@ fn read_later(alloc: Global, cursor: &mut Cursor, opcode: u8) -> Result<Instr, D
     ensures wanted { IsErrOf result DecodeFault.NoMemory → WantsShape (shape Two opcode) (rest cursor.old) }
 {
     match opcode {
-        0xC0..=0xC4 => extension(opcode - 0xC0).ok_or(DecodeFault::Malformed),
+        0xC0..=0xC4 => Ok(extension(opcode - 0xC0)),
         0xFC => prefixed(cursor),
         _ => read_common(alloc, cursor, opcode),
     }

@@ -7,8 +7,6 @@ mod expr;
 mod expr_builder;
 mod fault;
 mod instr;
-#[cfg(test)]
-mod tests;
 mod token;
 mod types;
 

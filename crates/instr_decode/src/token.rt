@@ -11,7 +11,8 @@ use crate::instr::read_instr;
 use crate::types::read_block_type;
 use leb_read::Cursor;
 use std::alloc::Global;
-use wasm_types::{Op, Profile, ValType};
+use wasm_types::{Op, ValType};
+use wasm_values::Profile;
 
 // What opens a sequence inside another.
 #[derive(Clone, Copy)]

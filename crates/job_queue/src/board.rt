@@ -5,7 +5,7 @@ ghost use Rattle.job_queue.specs.Boards.{IsCollected, IsOpen, IsStranger};
 use report_text::CallLine;
 use std::alloc::Global;
 use std::marker::Model;
-use wasm_types::NoMemory;
+use wasm_values::NoMemory;
 
 /// One place for the line of each call, in order of the calls' numbers, which begin at 1.
 #[derive(Drop)]

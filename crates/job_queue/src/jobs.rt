@@ -11,7 +11,7 @@ use crossbeam_queue::{Pass, RuledArrayQueue};
 use std::alloc::{AllocError, Global};
 use std::marker::Brand;
 use std::sync::Wait;
-use wasm_types::NoMemory;
+use wasm_values::NoMemory;
 
 /// The right to put to a queue of jobs, or to take from it. Contracts see what it put and was given. One thread has it at a time.
 pub type JobPass<M> = Pass<(u32, M), Account<M>>;

@@ -12,7 +12,7 @@ use std::alloc::{AllocError, Global};
 use std::collections::LinkedList;
 use std::marker::Brand;
 use std::sync::Wait;
-use wasm_types::NoMemory;
+use wasm_values::NoMemory;
 
 /// What a queue was opened with: how many passes were handed out, and how many items it can hold.
 #[derive(Clone, Copy, Debug)]

@@ -10,7 +10,7 @@ use std::sync::Wait;
 use std::test::Fail;
 use std::thread;
 use std::thread::Threads;
-use wasm_types::NoMemory;
+use wasm_values::NoMemory;
 
 /// What one worker did: how many turns it made, and the calls that it ended, each by its number and with all its turns.
 #[derive(Drop)]

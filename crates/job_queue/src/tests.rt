@@ -9,7 +9,7 @@ use std::sync::Wait;
 use std::test::Fail;
 use std::thread;
 use std::thread::Threads;
-use wasm_types::{NoMemory, Outcome, Val};
+use wasm_values::{NoMemory, Outcome, Val};
 
 // The result that the line at this place tells, if there is one.
 fn value_on(board: &Board, place: usize) -> Option<Val> {

@@ -5,4 +5,4 @@ mod memory;
 #[cfg(test)]
 mod tests;
 
-pub use memory::{BLOCK_SIZE, Memory, PAGE_SIZE};
+pub use memory::{BLOCK_SIZE, Memory};

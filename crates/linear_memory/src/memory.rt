@@ -6,10 +6,8 @@ ghost use Rattle.linear_memory.specs.Bytes.{Grows, IsMemory, IsZeroed, shown};
 ghost use Rattle.linear_memory.specs.Marks.{MarksChanges, block_size, touched};
 
 use std::alloc::{AllocError, Global};
-use wasm_types::NoMemory;
-
-/// How many bytes a page has (Core Specification 1.0, section 4.2.8).
-pub const PAGE_SIZE: u64 = 65536;
+use wasm_types::PAGE_SIZE;
+use wasm_values::NoMemory;
 
 /// How many bytes a block has, for which one mark is kept.
 pub const BLOCK_SIZE: u64 = 4096;

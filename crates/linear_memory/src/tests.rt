@@ -2,7 +2,7 @@
 use crate::Memory;
 use std::alloc::Global;
 use std::test::Fail;
-use wasm_types::NoMemory;
+use wasm_values::NoMemory;
 
 // How many blocks are marked once four bytes were written into one page.
 fn marks_after(alloc: Global, at: u64) -> Result<usize, NoMemory> {

@@ -8,6 +8,3 @@ mod modules;
 pub use generator::{INCREMENT, MULTIPLIER};
 pub use load::{FUEL, LOOP_FUELS, make};
 pub use modules::{ADD, BUMP, GROWN};
-
-#[cfg(test)]
-mod tests;

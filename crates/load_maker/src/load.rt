@@ -6,7 +6,7 @@ use crate::generator::{draw_of, state_after};
 use crate::modules::{ADD, BUMP, GROWN};
 use itoa::Buffer;
 use std::alloc::{AllocError, Global};
-use wasm_types::NoMemory;
+use wasm_values::NoMemory;
 
 /// The fuel of a call that ends by itself, in instructions.
 pub const FUEL: u64 = 100;

@@ -4,7 +4,7 @@ use Rattle.std.specs.Prelude.{None, Ok, All, map, find, nat_lt}
 use Rattle.std.specs.List.{enumerate_from}
 use Rattle.std.proofs.lemmas.List.Elements.{All-nil, All-cons}
 use Rattle.wasm_types.specs.declared.limits.LoadLimits.{LoadLimits}
-use Rattle.wasm_types.specs.declared.profile.Profile.{Profile}
+use Rattle.wasm_values.specs.declared.profile.Profile.{Profile}
 use Rattle.wasm_types.specs.Tree.{FunctionTree, ModuleTree}
 use Rattle.wasm_spec.specs.Need.{need}
 use Rattle.wasm_spec.specs.Store.{minimum_of, first_misfit}

@@ -2,7 +2,7 @@
 use Rattle.std.specs.Prelude.{◌≡◌, ◌≤◌, None, length, All}
 use Rattle.wasm_types.specs.declared.limits.LoadLimits.{LoadLimits}
 use Rattle.wasm_types.specs.Tree.{ModuleTree}
-use Rattle.wasm_types.specs.declared.profile.Profile.TheVariants.{Three}
+use Rattle.wasm_values.specs.declared.profile.Profile.TheVariants.{Three}
 use Rattle.wasm_spec.specs.Validity.{IsSupported, IsValid}
 use Rattle.wasm_spec.specs.Need.{need}
 use Rattle.wasm_spec.specs.Store.{minimum_of, first_misfit}

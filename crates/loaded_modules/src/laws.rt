@@ -1,7 +1,7 @@
 //! What loading says of a module. Each function does nothing: its contract is the law.
 ghost use Rattle.std.specs.Prelude.{◌≡◌, ℕ, List, Ok, length};
 ghost use Rattle.wasm_types.specs.declared.limits.LoadLimits.{LoadLimits};
-ghost use Rattle.wasm_types.specs.declared.profile.Profile.{Profile};
+ghost use Rattle.wasm_values.specs.declared.profile.Profile.{Profile};
 ghost use Rattle.wasm_types.specs.Tree.{ModuleTree};
 ghost use Rattle.wasm_spec.specs.Loading.{Loads};
 ghost use Rattle.wasm_spec.specs.Store.{fresh_store, memory_size, table_size};

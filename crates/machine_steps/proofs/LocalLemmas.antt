@@ -3,7 +3,7 @@ use Rattle.std.proofs.Common.{◌≡◌, ℕ, ◌+◌, ◌<◌, List, [], ◌∷
 use Rattle.std.specs.Prelude.{slice_get}
 use Rattle.std.proofs.lemmas.List.{get_or-append-add, get_or_append_left, length-set, set-append_left, set-append_right}
 use Rattle.std.proofs.lemmas.Option.{slice_get_within, get_or_from_slice_get}
-use Rattle.wasm_types.specs.declared.outcome.Val.{Val}
+use Rattle.wasm_values.specs.declared.outcome.Val.{Val}
 use Rattle.machine_steps.specs.declared.machine.Position.{Position}
 use Rattle.machine_steps.specs.declared.machine.Machine.{Machine}
 use Rattle.machine_steps.specs.declared.machine.Label.{Label}

@@ -1,6 +1,6 @@
 -- What a function of the host does to a machine.
-use Rattle.std.specs.Prelude.{◌≢◌, ℕ, ◌<◌, List, Option, vec_len, vec_capacity}
-use Rattle.wasm_types.specs.declared.outcome.TrapKind.{TrapKind}
+use Rattle.std.specs.Prelude.{◌≢◌, ℕ, ◌<◌, List, Option, length}
+use Rattle.wasm_values.specs.declared.outcome.TrapKind.{TrapKind}
 use Rattle.wasm_types.specs.declared.host.HostFunction.{HostFunction}
 use Rattle.wasm_types.specs.declared.host.HostFunction.TheVariants as host
 use Rattle.wasm_spec.specs.Store.{Store}
@@ -24,5 +24,5 @@ CallsHost request h old before o new after =
 
 -- the one that takes nothing needs room for what it gives
 abbrev pub IsHostReady : HostFunction → Machine → Type 0
-IsHostReady host.Len machine = vec_len machine.values < vec_capacity machine.values
+IsHostReady host.Len machine = length machine.values.items < machine.values.room
 IsHostReady _ machine = Unit {0}

@@ -1,6 +1,6 @@
 -- The parts that are lent to a run, as a store.
 use Rattle.std.specs.Prelude.{ℕ, List, Option}
-use Rattle.wasm_types.specs.declared.outcome.Val.{Val}
+use Rattle.wasm_values.specs.declared.outcome.Val.{Val}
 use Rattle.wasm_spec.specs.Store.{Store}
 use Rattle.linear_memory.specs.declared.memory.Memory.{Memory}
 use Rattle.linear_memory.specs.Bytes.{shown}

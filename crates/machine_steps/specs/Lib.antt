@@ -1,3 +1,4 @@
+pub mod Values
 pub mod Configuration
 pub mod StackLayout
 pub mod Lent

@@ -1,11 +1,11 @@
 -- What a plain instruction does to a machine.
 use Rattle.wasm_spec.specs.Execution.{Terms}
-use Rattle.std.specs.Prelude.{◌≡◌, ◌≢◌, ℕ, ◌<◌, List, [], ◌∷◌, length, Bool, true, false, Option, Some, None, Result, Ok, Err, slice_get, vec_len, vec_capacity}
+use Rattle.std.specs.Prelude.{◌≡◌, ◌≢◌, ℕ, ◌<◌, List, [], ◌∷◌, length, Bool, true, false, Option, Some, None, Result, Ok, Err, slice_get}
 use Rattle.wasm_types.specs.declared.types.ValType.{ValType}
-use Rattle.wasm_types.specs.declared.outcome.TrapKind.{TrapKind}
-use Rattle.wasm_types.specs.declared.outcome.TrapKind.TheVariants as trap
-use Rattle.wasm_types.specs.declared.outcome.Val.{Val}
-use Rattle.wasm_types.specs.declared.outcome.Val.TheVariants as val
+use Rattle.wasm_values.specs.declared.outcome.TrapKind.{TrapKind}
+use Rattle.wasm_values.specs.declared.outcome.TrapKind.TheVariants as trap
+use Rattle.wasm_values.specs.declared.outcome.Val.{Val}
+use Rattle.wasm_values.specs.declared.outcome.Val.TheVariants as val
 use Rattle.wasm_types.specs.declared.instr.Width.{Width}
 use Rattle.wasm_types.specs.declared.instr.Instr.{Instr}
 use Rattle.wasm_types.specs.declared.instr.Instr.TheVariants as instr
@@ -13,6 +13,8 @@ use Rattle.wasm_types.specs.Tree.{ModuleTree}
 use Rattle.wasm_spec.specs.Store.{Store}
 use Rattle.wasm_spec.specs.Execution.{State, Signal, Next, Trapped, Stuck, plain, value}
 use Rattle.machine_steps.specs.declared.machine.Machine.{Machine}
+use Rattle.machine_steps.specs.declared.plain.Effect.{Effect}
+use Rattle.machine_steps.specs.declared.plain.Effect.TheVariants as effect
 use Rattle.machine_steps.specs.Configuration.{Configuration, state}
 use Rattle.machine_steps.specs.StackLayout.{Represents}
 
@@ -70,11 +72,11 @@ IsReady (instr.BrIf l) machine globals = ⊥
 IsReady (instr.BrTable ls l) machine globals = ⊥
 IsReady instr.Return machine globals = ⊥
 IsReady instr.Float machine globals = ⊥
-IsReady (instr.Const v) machine globals = vec_len machine.values < vec_capacity machine.values
-IsReady (instr.LocalGet x) machine globals = vec_len machine.values < vec_capacity machine.values
-IsReady (instr.GlobalGet x) machine globals = (x < length globals) × (vec_len machine.values < vec_capacity machine.values)
+IsReady (instr.Const v) machine globals = length machine.values.items < machine.values.room
+IsReady (instr.LocalGet x) machine globals = length machine.values.items < machine.values.room
+IsReady (instr.GlobalGet x) machine globals = (x < length globals) × (length machine.values.items < machine.values.room)
 IsReady (instr.GlobalSet x) machine globals = x < length globals
-IsReady instr.MemorySize machine globals = vec_len machine.values < vec_capacity machine.values
+IsReady instr.MemorySize machine globals = length machine.values.items < machine.values.room
 IsReady _ machine globals = Unit {0}
 
 pub record HasNumber (machine : Machine) : Type 0 where
@@ -94,3 +96,12 @@ pub record HasLocal (machine : Machine) (x : ℕ) : Type 0 where
 abbrev pub trap_unless : Bool → Option TrapKind
 trap_unless true = None
 trap_unless false = Some trap.Memory
+
+-- what an instruction comes to that stays in its sequence, unless it traps, and the trap that is said
+abbrev pub effect_unless : Option TrapKind → Effect
+effect_unless None = effect.Stays
+effect_unless (Some t) = effect.Traps t
+
+abbrev pub trap_of : Effect → Option TrapKind
+trap_of (effect.Traps t) = Some t
+trap_of _ = None

@@ -1,6 +1,6 @@
 -- The stacks that represent a configuration: each part of it lies on those below it.
 use Rattle.std.specs.Prelude.{◌≡◌, ℕ, ◌*◌, ◌≤◌, List, [], ◌∷◌, ◌++◌, length, reverse, vec_capacity}
-use Rattle.wasm_types.specs.declared.outcome.Val.{Val}
+use Rattle.wasm_values.specs.declared.outcome.Val.{Val}
 use Rattle.machine_steps.specs.declared.machine.Position.{Position}
 use Rattle.machine_steps.specs.declared.machine.Label.{Label}
 use Rattle.machine_steps.specs.declared.machine.Machine.{Machine}
@@ -46,12 +46,12 @@ pub record Represents (k : Configuration) (machine : Machine) : Type 0 where
 
 -- room for so many frames of so many entries
 pub record HasRoom (depth frame : ℕ) (machine : Machine) : Type 0 where
-  pub values : depth * frame ≤ vec_capacity machine.values
+  pub values : depth * frame ≤ machine.values.room
   pub labels : depth * frame ≤ vec_capacity machine.labels
   pub frames : depth ≤ vec_capacity machine.frames
 
 -- no room is given up
 pub record KeepsRoom (old new : Machine) : Type 0 where
-  pub values : vec_capacity old.values ≤ vec_capacity new.values
+  pub values : old.values.room ≤ new.values.room
   pub labels : vec_capacity old.labels ≤ vec_capacity new.labels
   pub frames : vec_capacity old.frames ≤ vec_capacity new.frames

@@ -1,7 +1,7 @@
 //! Loads, stores and the memory's size.
 ghost use Rattle.std.specs.Prelude.{◌≡◌, ◌≢◌, ℕ, ◌+◌, ◌<◌, ◌≤◌, ◌^◌, List, Option, None, Some, IfSome, if◌then◌else◌, nat_lt, not, length, vec_len, vec_capacity};
 ghost use Rattle.std.specs.Int.{byte_len, to_le_bytes};
-ghost use Rattle.wasm_types.specs.declared.outcome.Val.{Val as AVal};
+ghost use Rattle.wasm_values.specs.declared.outcome.Val.{Val as AVal};
 ghost use Rattle.wasm_types.specs.declared.instr.Instr.TheVariants as instr;
 ghost use Rattle.wasm_spec.specs.Execution.{Terms};
 ghost use Rattle.wasm_types.specs.Tree.{ModuleTree};
@@ -20,7 +20,8 @@ use crate::machine::Machine;
 use crate::operands::{number32, number64};
 use linear_memory::Memory;
 use wasm_numeric::i64_extend_i32_s;
-use wasm_types::{Instr, PackSize, Sign, TrapKind, Val, Width};
+use wasm_types::{Instr, PackSize, Sign, Width};
+use wasm_values::{TrapKind, Val};
 
 // Signed numbers of 8, 16 and 32 bits in more.
 fn i32_extend8_s(n: u8) -> u32
@@ -236,7 +237,7 @@ impl Machine {
 
     // Puts the memory's size in pages on the top.
     pub(crate) fn memory_size(&mut self, memory: &Memory)
-        requires free { vec_len self.old.values < vec_capacity self.old.values }
+        requires free { length self.old.values.items < self.old.values.room }
         requires memory { (most : ℕ) × IsMemory most memory.now }
         ensures does { (m : ModuleTree) (limits : Terms) (table : List (Option ℕ)) (globals : List AVal) (answer : List ℕ)
             → Executes m limits instr.MemorySize self.old (store_of memory.now table globals answer) None self.new (store_of memory.now table globals answer) }

@@ -1,6 +1,6 @@
 //! Copies and fills of the memory.
 ghost use Rattle.std.specs.Prelude.{◌≡◌, ℕ, List, Option, length};
-ghost use Rattle.wasm_types.specs.declared.outcome.Val.{Val as AVal};
+ghost use Rattle.wasm_values.specs.declared.outcome.Val.{Val as AVal};
 ghost use Rattle.wasm_types.specs.declared.instr.Instr.TheVariants as instr;
 ghost use Rattle.wasm_types.specs.Tree.{ModuleTree};
 ghost use Rattle.wasm_spec.specs.Execution.{Terms};
@@ -12,7 +12,7 @@ ghost use Rattle.machine_steps.specs.PlainSteps.{CanExecute, Executes, trap_unle
 
 use crate::machine::Machine;
 use linear_memory::Memory;
-use wasm_types::TrapKind;
+use wasm_values::TrapKind;
 
 // The trap of an access, unless it was within the memory.
 fn unless_within(within: bool) -> Option<TrapKind>

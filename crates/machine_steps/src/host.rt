@@ -1,6 +1,6 @@
 //! The functions of the host.
 ghost use Rattle.std.specs.Prelude.{◌≡◌, ℕ, ◌+◌, ◌-◌, ◌<◌, ◌++◌, ◌^◌, List, Option, Some, None, length, nat_le, nat_lt, vec_len, vec_capacity, if◌then◌else◌};
-ghost use Rattle.wasm_types.specs.declared.outcome.Val.{Val as AVal};
+ghost use Rattle.wasm_values.specs.declared.outcome.Val.{Val as AVal};
 ghost use Rattle.wasm_types.specs.declared.host.HostFunction.TheVariants as host;
 ghost use Rattle.wasm_spec.specs.Store.{Store, written};
 ghost use Rattle.wasm_spec.specs.Execution.{most_answer, part};
@@ -13,7 +13,8 @@ ghost use Rattle.machine_steps.specs.StackLayout.{KeepsRoom};
 use crate::machine::Machine;
 use call_payload::{AnswerBuf, read_part};
 use linear_memory::Memory;
-use wasm_types::{HostFunction, TrapKind, Val};
+use wasm_types::HostFunction;
+use wasm_values::{TrapKind, Val};
 
 /// Bytes of a request to an address, and how many, if the whole of what is asked for lies in the memory.
 pub fn copy_request(
@@ -58,7 +59,7 @@ pub fn append_memory(memory: &Memory, answer: &mut AnswerBuf, from: u32, count: 
 impl Machine {
     // Puts the length of the request on the top.
     fn request_len(&mut self, request: &[u8])
-        requires free { vec_len self.old.values < vec_capacity self.old.values }
+        requires free { length self.old.values.items < self.old.values.room }
         requires short { length request.now < 2 ^ 32 }
         ensures does { (store : Store) → CallsHost request.now host.Len self.old store None self.new store }
         ensures room { KeepsRoom self.old self.new }

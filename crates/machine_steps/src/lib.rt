@@ -9,8 +9,10 @@ mod machine;
 mod operands;
 mod plain;
 mod stack;
+mod values;
 
 pub use host::{append_memory, copy_request};
 pub use machine::{Label, Machine, Position};
-pub use plain::is_jump;
-pub use stack::{keep, push};
+pub use plain::Effect;
+pub use stack::push;
+pub use values::ValueStack;

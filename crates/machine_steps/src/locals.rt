@@ -1,6 +1,6 @@
 //! Locals and globals.
 ghost use Rattle.std.specs.Prelude.{◌≡◌, ◌<◌, None, Some, get_or, length, set, slice_get, slice_set, vec_len, vec_capacity};
-ghost use Rattle.wasm_types.specs.declared.outcome.Val.{Val as AVal};
+ghost use Rattle.wasm_values.specs.declared.outcome.Val.{Val as AVal};
 ghost use Rattle.wasm_types.specs.declared.instr.Instr.TheVariants as instr;
 ghost use Rattle.wasm_spec.specs.Execution.{Terms};
 ghost use Rattle.wasm_types.specs.Tree.{ModuleTree};
@@ -10,9 +10,10 @@ ghost use Rattle.machine_steps.specs.StackLayout.{KeepsRoom, Represents};
 ghost use Rattle.machine_steps.specs.PlainSteps.{CanExecute, Executes, HasLocal};
 
 use crate::machine::Machine;
-use wasm_types::Val;
+use wasm_values::Val;
 
 // The value at a place.
+#[inline(always)]
 fn value_at(values: &[Val], i: usize) -> Val
     requires { i < length values.now }
     ensures at { (d : AVal) → result ≡ get_or values.now i d }
@@ -21,38 +22,32 @@ fn value_at(values: &[Val], i: usize) -> Val
     values[i]
 }
 
-// Writes a value at a place.
-fn put_at(values: &mut Vec<Val>, i: usize, v: Val)
-    requires { i < length values.old.items }
-    ensures items { values.new.items ≡ set values.old.items i v }
-    ensures capacity { vec_capacity values.new ≡ vec_capacity values.old }
-{
-    values[i] = v;
-}
-
 impl Machine {
     // Puts a local's value on the top.
+    #[inline(always)]
     pub(crate) fn get_local(&mut self, x: u32)
         requires can { CanExecute (instr.LocalGet x) self.old }
-        requires free { vec_len self.old.values < vec_capacity self.old.values }
+        requires free { length self.old.values.items < self.old.values.room }
         ensures does { (m : ModuleTree) (limits : Terms) (store : Store) → Executes m limits (instr.LocalGet x) self.old store None self.new store }
         ensures room { KeepsRoom self.old self.new }
     {
-        let v = value_at(&self.values, self.at.locals + x as usize);
+        let v = self.values.at(self.at.locals, x);
         self.push(v);
     }
 
     // Gives a local this value.
+    #[inline(always)]
     fn put_local(&mut self, x: u32, v: Val)
         requires { HasLocal self.old x }
         ensures represents { (k : Configuration) (old : AVal) → Represents k self.old → slice_get k.locals x ≡ Some old → Represents (record k { locals = slice_set k.locals x v }) self.new }
         ensures room { KeepsRoom self.old self.new }
-        ensures free { vec_len self.old.values < vec_capacity self.old.values → vec_len self.new.values < vec_capacity self.new.values }
+        ensures free { length self.old.values.items < self.old.values.room → length self.new.values.items < self.new.values.room }
     {
-        put_at(&mut self.values, self.at.locals + x as usize, v);
+        self.values.put(self.at.locals, x, v);
     }
 
     // Gives a local the topmost operand, which is taken off.
+    #[inline(always)]
     pub(crate) fn set_local(&mut self, x: u32)
         requires { CanExecute (instr.LocalSet x) self.old }
         ensures does { (m : ModuleTree) (limits : Terms) (store : Store) → Executes m limits (instr.LocalSet x) self.old store None self.new store }
@@ -63,6 +58,7 @@ impl Machine {
     }
 
     // Gives a local the topmost operand.
+    #[inline(always)]
     pub(crate) fn tee_local(&mut self, x: u32)
         requires { CanExecute (instr.LocalTee x) self.old }
         ensures does { (m : ModuleTree) (limits : Terms) (store : Store) → Executes m limits (instr.LocalTee x) self.old store None self.new store }
@@ -76,7 +72,7 @@ impl Machine {
     // Puts a global's value on the top.
     pub(crate) fn get_global(&mut self, globals: &[Val], x: u32)
         requires there { x < length globals.now }
-        requires free { vec_len self.old.values < vec_capacity self.old.values }
+        requires free { length self.old.values.items < self.old.values.room }
         ensures does { (m : ModuleTree) (limits : Terms) (store : Store) → store.globals ≡ globals.now
             → Executes m limits (instr.GlobalGet x) self.old store None self.new store }
         ensures room { KeepsRoom self.old self.new }

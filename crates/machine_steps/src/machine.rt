@@ -3,8 +3,8 @@ ghost use Rattle.std.specs.Prelude.{◌≡◌, ◌<◌, ◌≤◌, IfOk, List, l
 ghost use Rattle.wasm_types.specs.declared.types.ValType.{ValType};
 
 use crate::stack;
+use crate::values::ValueStack;
 use std::alloc::{AllocError, Global};
-use wasm_types::Val;
 
 /// Where a function goes on, and where its frame's locals and labels begin.
 #[derive(Clone, Copy, Debug, PartialEq, Eq)]
@@ -31,7 +31,7 @@ pub struct Label {
 #[derive(Drop)]
 pub struct Machine {
     pub at: Position,
-    pub values: Vec<Val>,
+    pub values: ValueStack,
     pub labels: Vec<Label>,
     pub frames: Vec<Position>,
 }
@@ -47,7 +47,7 @@ impl Machine {
     ///
     /// `AllocError` where memory was refused.
     pub fn with_room(alloc: Global, entries: usize, calls: usize) -> Result<Machine, AllocError>
-        ensures values { IfOk result (λ machine. entries ≤ vec_capacity machine.values) }
+        ensures values { IfOk result (λ machine. entries ≤ machine.values.room) }
         ensures labels { IfOk result (λ machine. entries ≤ vec_capacity machine.labels) }
         ensures frames { IfOk result (λ machine. calls ≤ vec_capacity machine.frames) }
     {
@@ -60,7 +60,7 @@ impl Machine {
         };
         Ok(Machine {
             at,
-            values: Vec::with_capacity(alloc, entries)?,
+            values: ValueStack::with_room(alloc, entries)?,
             labels: Vec::with_capacity(alloc, entries)?,
             frames: Vec::with_capacity(alloc, calls)?,
         })

@@ -1,7 +1,7 @@
 //! Instructions that only take operands and give others.
-ghost use Rattle.std.specs.Prelude.{◌≡◌, ◌≢◌, ℕ, ◌<◌, List, ◌∷◌, None, Some, Ok, vec_len, vec_capacity};
-ghost use Rattle.wasm_types.specs.declared.outcome.Val.{Val as AVal};
-ghost use Rattle.wasm_types.specs.declared.outcome.Val.TheVariants as val;
+ghost use Rattle.std.specs.Prelude.{◌≡◌, ◌≢◌, ℕ, ◌<◌, List, ◌∷◌, None, Some, Ok, length, vec_len, vec_capacity};
+ghost use Rattle.wasm_values.specs.declared.outcome.Val.{Val as AVal};
+ghost use Rattle.wasm_values.specs.declared.outcome.Val.TheVariants as val;
 ghost use Rattle.wasm_types.specs.declared.instr.Instr.TheVariants as instr;
 ghost use Rattle.wasm_types.specs.declared.instr.Width.TheVariants as width;
 ghost use Rattle.wasm_spec.specs.Execution.{Terms};
@@ -15,12 +15,12 @@ ghost use Rattle.machine_steps.specs.InstructionKinds.{IsOfOne, IsOfTwo, gives_w
 ghost use Rattle.machine_steps.specs.PlainSteps.{CanExecute, Executes, HasNumber, HasOperand, valued};
 
 use crate::machine::Machine;
-use crate::stack;
 use wasm_numeric::{
     binary32, binary64, compare32, compare64, i32_wrap_i64, i64_extend_i32_s, i64_extend_i32_u,
     unary32, unary64,
 };
-use wasm_types::{BinaryOp, CompareOp, Instr, Sign, TrapKind, UnaryOp, Val, Width};
+use wasm_types::{BinaryOp, CompareOp, Instr, Sign, UnaryOp, Width};
+use wasm_values::{TrapKind, Val};
 
 // The number of an i32.
 pub(crate) fn number32(v: Val) -> u32
@@ -56,6 +56,7 @@ fn eqz(width: Width, v: Val) -> Val
 }
 
 // The value of an operator on one value of its width.
+#[inline(always)]
 fn unary(width: Width, op: UnaryOp, v: Val) -> Val
     requires { number width v ≢ None }
     ensures { (a : ℕ) → number width v ≡ Some a → result ≡ value width (operators.unary (operators.bit_width width) op a) }
@@ -77,6 +78,7 @@ fn extend(sign: Sign, n: u32) -> Val
 }
 
 // The value of a comparison of two values of a width.
+#[inline(always)]
 fn compare(width: Width, op: CompareOp, first: Val, second: Val) -> Val
     requires first { number width first ≢ None }
     requires second { number width second ≢ None }
@@ -90,6 +92,7 @@ fn compare(width: Width, op: CompareOp, first: Val, second: Val) -> Val
 }
 
 // The value of an operator on two values of its width.
+#[inline(always)]
 fn binary(width: Width, op: BinaryOp, first: Val, second: Val) -> Result<Val, TrapKind>
     requires first { number width first ≢ None }
     requires second { number width second ≢ None }
@@ -117,6 +120,7 @@ fn chosen(condition: u32, first: Val, second: Val) -> Val
 }
 
 // What an instruction makes of one operand.
+#[inline(always)]
 fn one(instr: &Instr, v: Val) -> Val
     requires kind { IsOfOne instr.now }
     requires number { number (takes_width instr.now) v ≢ None }
@@ -132,6 +136,7 @@ fn one(instr: &Instr, v: Val) -> Val
 }
 
 // What an instruction makes of two operands.
+#[inline(always)]
 fn two(instr: &Instr, first: Val, second: Val) -> Result<Val, TrapKind>
     requires kind { IsOfTwo instr.now }
     requires first { number (takes_width instr.now) first ≢ None }
@@ -148,32 +153,35 @@ fn two(instr: &Instr, first: Val, second: Val) -> Result<Val, TrapKind>
 
 impl Machine {
     // Puts an operand on the top.
+    #[inline(always)]
     pub(crate) fn push(&mut self, v: Val)
-        requires { vec_len self.old.values < vec_capacity self.old.values }
+        requires { length self.old.values.items < self.old.values.room }
         ensures represents { (k : Configuration) → Represents k self.old → Represents (record k { operands = v ∷ k.operands }) self.new }
         ensures room { KeepsRoom self.old self.new }
     {
-        stack::push(&mut self.values, v);
+        self.values.push(v);
     }
 
     // Takes the topmost operand off.
+    #[inline(always)]
     pub(crate) fn pop(&mut self) -> Val
         requires { HasOperand self.old }
         ensures represents { (k : Configuration) (x : AVal) (vs : List AVal) → Represents k self.old → k.operands ≡ x ∷ vs
             → (result ≡ x) × Represents (record k { operands = vs }) self.new }
         ensures room { KeepsRoom self.old self.new }
-        ensures free { vec_len self.new.values < vec_capacity self.new.values }
+        ensures free { length self.new.values.items < self.new.values.room }
     {
-        stack::pop(&mut self.values)
+        self.values.pop()
     }
 
     /// Takes the topmost operand off, which is an i32.
+    #[inline(always)]
     pub fn pop32(&mut self) -> u32
         requires { HasNumber self.old }
         ensures represents { (k : Configuration) (n : ℕ) (vs : List AVal) → Represents k self.old → k.operands ≡ val.I32 n ∷ vs
             → (result ≡ n) × Represents (record k { operands = vs }) self.new }
         ensures room { KeepsRoom self.old self.new }
-        ensures free { vec_len self.new.values < vec_capacity self.new.values }
+        ensures free { length self.new.values.items < self.new.values.room }
     {
         match self.pop() {
             Val::I32(n) => n,
@@ -182,6 +190,7 @@ impl Machine {
     }
 
     // An instruction that makes a number of the topmost operand.
+    #[inline(always)]
     pub(crate) fn on_one(&mut self, instr: &Instr)
         requires kind { IsOfOne instr.now }
         requires can { CanExecute instr.now self.old }
@@ -193,6 +202,7 @@ impl Machine {
     }
 
     // An instruction that makes a number of the two topmost operands, or traps.
+    #[inline(always)]
     pub(crate) fn on_two(&mut self, instr: &Instr) -> Option<TrapKind>
         requires kind { IsOfTwo instr.now }
         requires can { CanExecute instr.now self.old }

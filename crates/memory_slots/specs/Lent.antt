@@ -1,6 +1,6 @@
 -- A memory that lies in a slot, lent to a run.
 use Rattle.std.specs.Prelude.{ℕ, ◌*◌, ◌≤◌, List, Option, take, count_by}
-use Rattle.wasm_types.specs.declared.outcome.Val.{Val}
+use Rattle.wasm_values.specs.declared.outcome.Val.{Val}
 use Rattle.wasm_types.specs.declared.module.Module.{Module}
 use Rattle.wasm_spec.specs.Store.{Store, page_size}
 use Rattle.wasm_machine.specs.Lent.{own}

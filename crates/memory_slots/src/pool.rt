@@ -26,7 +26,7 @@ use module_store::{ModuleRef, ModuleStore, Naming};
 use slot_pools::{Full, take_batched};
 use slot_words::{KindCounts, Lease, Pass, Words};
 use std::alloc::Global;
-use wasm_types::NoMemory;
+use wasm_values::NoMemory;
 
 /// Memories that threads share, each of them for one call at a time. A memory that is given back awaits its decommit, and with a
 /// batch of them each becomes warm or cold.

@@ -30,8 +30,9 @@ use std::alloc::Global;
 use std::marker::{Brand, Model};
 use std::sync::ledger::{Blank, Ledger};
 use wasm_machine::{RunEnd, Stacks, run};
-use wasm_types::{NoMemory, RunLimits, Val};
+use wasm_types::RunLimits;
 use wasm_validate::Valid;
+use wasm_values::{NoMemory, Val};
 
 /// A memory that lies in a slot, with bytes for the configured pages. Each byte outside its marked blocks is that of its own
 /// module's image, so it lends no `&mut` of its memory. Contracts see its contents.

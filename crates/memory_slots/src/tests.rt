@@ -17,7 +17,7 @@ use std::sync::Wait;
 use std::test::Fail;
 use std::thread;
 use std::thread::Threads;
-use wasm_types::Profile;
+use wasm_values::Profile;
 
 // A counter at address 0 of one page.
 static BUMP: [u8; 58] =

@@ -1,13 +1,13 @@
 -- What each fault says of the bytes.
 use Rattle.wasm_types.specs.declared.limits.LoadLimits.{LoadLimits}
-use Rattle.wasm_types.specs.declared.profile.Profile.{Profile}
+use Rattle.wasm_values.specs.declared.profile.Profile.{Profile}
 use Rattle.std.specs.Prelude.{ℕ, List, Err}
 use Rattle.wasm_spec.specs.Loading as loading
 use Rattle.wasm_spec.specs.Loading.{Loads}
 use Rattle.initial_image.specs.Segments.{extent_of}
 use Rattle.initial_image.specs.declared.image.ImageFault.{ImageFault}
 use Rattle.initial_image.specs.declared.image.ImageFault.TheVariants as image
-use Rattle.pool_limits.specs.Limits.{demand_of}
+use Rattle.module_limits.specs.Limits.{demand_of}
 use Rattle.instr_decode.specs.declared.fault.DecodeFault.{DecodeFault}
 use Rattle.instr_decode.specs.declared.fault.DecodeFault.TheVariants as decode
 use Rattle.wasm_validate.specs.declared.valid.ValidFault.{ValidFault}

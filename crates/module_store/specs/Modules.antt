@@ -1,11 +1,11 @@
 -- What lies in a store.
 use Rattle.std.specs.Prelude.{◌≡◌, ◌<◌, ℕ, List, Ok}
-use Rattle.wasm_types.specs.declared.profile.Profile.{Profile}
+use Rattle.wasm_values.specs.declared.profile.Profile.{Profile}
 use Rattle.wasm_types.specs.Tree.{ModuleTree, module_tree}
 use Rattle.wasm_spec.specs.Loading.{Loads}
 use Rattle.initial_image.specs.Image.{IsImageOf}
 use Rattle.pool_limits.specs.declared.numbers.Numbers.{Numbers}
-use Rattle.pool_limits.specs.Limits.{load_limits}
+use Rattle.module_limits.specs.Limits.{load_limits}
 use Rattle.module_store.specs.declared.desk.TheConstants.{MOST_MODULES}
 use Rattle.module_store.specs.declared.reference.Loaded.{Loaded}
 

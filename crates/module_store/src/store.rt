@@ -3,7 +3,7 @@ ghost use Rattle.std.specs.Prelude.{◌≡◌, ◌+◌, ◌↔◌, Ok, IfErr, If
 ghost use Rattle.wasm_types.specs.Tree.{module_tree};
 ghost use Rattle.wasm_spec.specs.Loading.{Loads};
 ghost use Rattle.initial_image.specs.Image.{IsImageOf};
-ghost use Rattle.pool_limits.specs.Limits.{load_limits};
+ghost use Rattle.module_limits.specs.Limits.{load_limits};
 ghost use Rattle.module_store.specs.Faults.{IsRefusal};
 ghost use Rattle.module_store.specs.Modules.{IsLoaded};
 ghost use Rattle.module_store.specs.Names.{Bears};
@@ -19,8 +19,8 @@ use pool_limits::PoolConfig;
 use std::alloc::{AllocError, Global};
 use std::marker::{Model, PhantomData};
 use std::sync::Wait;
-use wasm_types::{NoMemory, Profile};
 use wasm_validate::Valid;
+use wasm_values::{NoMemory, Profile};
 
 /// A store that has no name yet.
 #[derive(Drop)]

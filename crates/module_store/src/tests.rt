@@ -7,7 +7,8 @@ use crate::naming::Naming;
 use crate::reference::ModuleRef;
 use crate::store::{ModuleStore, Opened};
 use initial_image::{Misfit, SegmentIndex};
-use pool_limits::{Measure, Numbers, Over, PoolConfig};
+use module_limits::{Measure, Over};
+use pool_limits::{Numbers, PoolConfig};
 use std::alloc::Global;
 use std::marker::Brand;
 use std::process::Abort;
@@ -15,7 +16,7 @@ use std::sync::Wait;
 use std::test::Fail;
 use std::thread;
 use std::thread::Threads;
-use wasm_types::{Profile, Val};
+use wasm_values::{Profile, Val};
 
 const USUAL: Numbers = Numbers {
     workers: 1,

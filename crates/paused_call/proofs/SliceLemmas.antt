@@ -2,9 +2,9 @@
 use Rattle.std.proofs.Common.{◌≡◌, ℕ, ◌+◌, ◌-◌, ◌*◌, ◌<◌, ◌≤◌, Bool, true, false, true≢false, List, [], Option, Some, None, refl, sym, ap, ◌∙◌, subst, arith}
 use Rattle.std.specs.Prelude.{is_some, unwrap_or}
 use Rattle.wasm_types.specs.declared.module.Module.{Module}
-use Rattle.wasm_types.specs.declared.outcome.Outcome.{Outcome}
-use Rattle.wasm_types.specs.declared.outcome.Outcome.TheVariants as outcome
-use Rattle.wasm_types.specs.declared.outcome.Val.{Val}
+use Rattle.wasm_values.specs.declared.outcome.Outcome.{Outcome}
+use Rattle.wasm_values.specs.declared.outcome.Outcome.TheVariants as outcome
+use Rattle.wasm_values.specs.declared.outcome.Val.{Val}
 use Rattle.wasm_types.specs.Tree.{ModuleTree, module_tree}
 use Rattle.wasm_spec.specs.MoreFuel.{is_fuel, is_fuel_end, with_more}
 use Rattle.wasm_spec.specs.Execution.{Ended, Terms}

@@ -1,8 +1,8 @@
 -- Where a call stands that is made in slices, and what a slice makes of it.
 use Rattle.std.specs.Prelude.{◌≡◌, ℕ, ◌+◌, ◌-◌, ◌*◌, ◌<◌, ◌≤◌, Bool, true, false, List, Option, Some, is_some}
 use Rattle.wasm_types.specs.declared.module.Module.{Module}
-use Rattle.wasm_types.specs.declared.outcome.Outcome.{Outcome}
-use Rattle.wasm_types.specs.declared.outcome.Val.{Val}
+use Rattle.wasm_values.specs.declared.outcome.Outcome.{Outcome}
+use Rattle.wasm_values.specs.declared.outcome.Val.{Val}
 use Rattle.wasm_types.specs.Tree.{module_tree}
 use Rattle.wasm_spec.specs.Execution.{Ended, Terms}
 use Rattle.wasm_spec.specs.MoreFuel.{is_fuel, is_fuel_end}

@@ -1,6 +1,6 @@
 //! A call in slices.
 ghost use Rattle.std.specs.Prelude.{◌≡◌, ℕ, ◌+◌, ◌-◌, ◌*◌, ◌<◌, ◌≤◌, true, List, Some, length};
-ghost use Rattle.wasm_types.specs.declared.outcome.Val.{Val as AVal};
+ghost use Rattle.wasm_values.specs.declared.outcome.Val.{Val as AVal};
 ghost use Rattle.wasm_spec.specs.Execution.{Terms, terms};
 ghost use Rattle.wasm_spec.specs.Instances.{room_for};
 ghost use Rattle.wasm_spec.specs.Result.{CallResult};
@@ -16,8 +16,8 @@ ghost use Rattle.paused_call.specs.Standing.{CanResume, HasTurned, Ran, Stands, 
 
 use call_payload::AnswerBuf;
 use wasm_machine::{Memory, RunEnd, RunLimits, Stacks};
-use wasm_types::{Outcome, Val};
 use wasm_validate::Valid;
+use wasm_values::{Outcome, Val};
 
 /// How a slice of a call ended.
 #[derive(Clone, Copy, Debug, PartialEq, Eq)]

@@ -1,6 +1,6 @@
 -- The slots of an instance, from their takes to their gives.
 use Rattle.std.proofs.Common.{Option, Some, sym, subst}
-use Rattle.wasm_types.specs.declared.outcome.Outcome.{Outcome}
+use Rattle.wasm_values.specs.declared.outcome.Outcome.{Outcome}
 use Rattle.slot_words.specs.declared.leases.Lease.{Lease}
 use Rattle.slot_words.specs.Leases.{lease_number, lease_word}
 use Rattle.slot_words.specs.Owned.{slots_of}

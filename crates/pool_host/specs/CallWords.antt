@@ -1,6 +1,6 @@
 -- What a call of a loaded module is answered.
 use Rattle.std.specs.Prelude.{◌≡◌, ℕ, Bool, true, false, List, []}
-use Rattle.wasm_types.specs.declared.outcome.Val.{Val}
+use Rattle.wasm_values.specs.declared.outcome.Val.{Val}
 use Rattle.wasm_types.specs.declared.limits.RunLimits.{RunLimits}
 use Rattle.wasm_types.specs.Tree.{ModuleTree}
 use Rattle.instance_calls.specs.CallWords.{EndsWith, LacksExport, LacksTypes, MayCall}

@@ -1,5 +1,5 @@
 //! What a host answers.
-use wasm_types::Outcome;
+use wasm_values::Outcome;
 
 /// A kind of slot.
 #[derive(Clone, Copy, Debug, PartialEq, Eq)]

@@ -17,7 +17,7 @@ use retired_tags::TagPass;
 use slot_words::Pass;
 use std::alloc::Global;
 use table_slots::TableSlot;
-use wasm_types::NoMemory;
+use wasm_values::NoMemory;
 
 // Puts the passes of each kind together. There are as many of each.
 pub(crate) fn deal<N: Naming>(

@@ -10,7 +10,7 @@ use call_payload::AnswerBuf;
 use instance_calls::{Refusal, find_function};
 use module_store::{ModuleRef, ModuleStore, Naming};
 use retired_tags::TagPass;
-use wasm_types::Val;
+use wasm_values::Val;
 
 // Why a call takes no slots.
 pub(crate) enum Refused {

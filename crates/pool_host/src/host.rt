@@ -23,7 +23,7 @@ use pool_limits::Share;
 use retired_tags::{RetiredTags, TagPass};
 use std::alloc::Global;
 use table_slots::TablePool;
-use wasm_types::{NoMemory, Val};
+use wasm_values::{NoMemory, Val};
 
 /// The most passes of a host.
 pub const MOST_PASSES: u32 = 32;

@@ -17,7 +17,7 @@ use host_edge::Gate;
 use module_store::{ModuleRef, ModuleStore, Naming};
 use pool_limits::Share;
 use std::alloc::Global;
-use wasm_types::{NoMemory, Outcome, Val};
+use wasm_values::{NoMemory, Outcome, Val};
 
 /// How a call went.
 #[derive(Clone, Copy, Debug, PartialEq, Eq)]

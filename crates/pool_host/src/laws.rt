@@ -1,7 +1,7 @@
 //! Laws of the definitions, as contracts of functions that do nothing.
 ghost use Rattle.std.specs.Prelude.{◌≡◌, ℕ, List, []};
-ghost use Rattle.wasm_types.specs.declared.outcome.Outcome.{Outcome};
-ghost use Rattle.wasm_types.specs.declared.outcome.Val.{Val};
+ghost use Rattle.wasm_values.specs.declared.outcome.Outcome.{Outcome};
+ghost use Rattle.wasm_values.specs.declared.outcome.Val.{Val};
 ghost use Rattle.wasm_types.specs.Tree.{ModuleTree};
 ghost use Rattle.wasm_types.specs.declared.limits.RunLimits.{RunLimits};
 ghost use Rattle.wasm_spec.specs.Validity.{IsValid};

@@ -13,7 +13,7 @@ use crate::slots::{give_slots, take_slots};
 use host_edge::Gate;
 use instance_calls::{PausedInstance, Resumed};
 use module_store::{ModuleRef, ModuleStore, Naming};
-use wasm_types::{Outcome, Val};
+use wasm_values::{Outcome, Val};
 
 /// How a call began.
 #[derive(Drop)]

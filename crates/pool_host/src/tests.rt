@@ -14,7 +14,7 @@ use std::marker::Brand;
 use std::process::Abort;
 use std::sync::Wait;
 use std::test::Fail;
-use wasm_types::{Outcome, Profile, Val};
+use wasm_values::{Outcome, Profile, Val};
 
 // A counter in memory, a store at an address, a memory that is grown and written to, one that is only grown, and a fill.
 static BUMP: [u8; 58] =

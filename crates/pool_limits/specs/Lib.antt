@@ -1,4 +1,3 @@
 pub mod Ranges
 pub mod Shares
-pub mod Limits
 pub mod Plans

@@ -13,7 +13,7 @@ use std::marker::Brand;
 use std::process::Abort;
 use std::sync::Wait;
 use std::test::Fail;
-use wasm_types::{Items, Outcome, Profile, Val};
+use wasm_values::{Items, Outcome, Profile, Val};
 
 // Of profile 3: it reads its whole request to address 0, and answers it.
 pub(crate) static ECHO: [u8; 101] =

@@ -3,7 +3,7 @@ ghost use Rattle.std.specs.Prelude.{◌<◌};
 ghost use Rattle.module_store.specs.Names.{Bears};
 ghost use Rattle.pool_host.specs.Hosts.{IsHostPass};
 
-use crate::callers::{BUMP, ONE, bump, open, register, two_callers};
+use crate::callers::{BUMP, ONE, bump, close_two, one_module, open, register, two_callers};
 use host_edge::Gate;
 use module_store::{ModuleRef, ModuleStore, Naming, Opened};
 use pool_host::{Answer, Host, HostPass, Kind};
@@ -15,7 +15,7 @@ use std::sync::atomic::{AtomicBool, Ordering};
 use std::test::Fail;
 use std::thread;
 use std::thread::Threads;
-use wasm_types::{Outcome, Profile, Val};
+use wasm_values::{Outcome, Profile, Val};
 
 static ADD: [u8; 41] =
     *b"\0asm\x01\0\0\0\x01\x07\x01\x60\x02\x7f\x7f\x01\x7f\x03\x02\x01\0\x07\x07\x01\x03add\0\0\x0a\x09\x01\x07\0\x20\0\x20\x01\x6a\x0b";
@@ -101,16 +101,12 @@ fn held<N: Naming + Send + Sync, R: Abort + Threads + Wait>(
     requires bears { Bears opened N.shelves N.config }
     requires memories { 0 < memories × memories < 5 }
 {
-    let (store, mut desk) = opened.named::<N>();
-    let module = register(rt, alloc, &store, &mut desk, Profile::One, BUMP.as_slice());
+    let (store, module) = one_module::<N, R>(rt, alloc, opened, Profile::One, BUMP.as_slice());
     let (host, one, two) = two_callers(rt, alloc, &store, memories);
     let gate = HoldingGate::new();
     let ((first, one), (second, two)) = both(rt, &host, one, two, &store, &module, &gate);
     let (again, two) = bump(&host, two, &store, &module, 2, &gate);
-    let mut passes = Vec::new(alloc);
-    passes.push(one).expect(rt, "room");
-    passes.push(two).expect(rt, "room");
-    let counts = host.close(passes);
+    let counts = close_two(rt, alloc, host, one, two);
     (
         [first, second, again],
         [counts.instance.held, counts.memory.held, counts.table.held],

@@ -1,5 +1,6 @@
 //! The stores, hosts and callers of the tests. Each store has its name from the test that opens it.
 ghost use Rattle.std.specs.Prelude.{◌<◌};
+ghost use Rattle.module_store.specs.Names.{Bears};
 ghost use Rattle.pool_host.specs.Hosts.{IsHostPass};
 
 use host_edge::Gate;
@@ -10,7 +11,7 @@ use std::alloc::Global;
 use std::process::Abort;
 use std::sync::Wait;
 use std::test::Fail;
-use wasm_types::{Outcome, Profile, Val};
+use wasm_values::{Outcome, Profile, Val};
 
 // Counts in its memory, in eight turns.
 pub(crate) static BUMP: [u8; 58] =
@@ -85,6 +86,35 @@ pub(crate) fn two_callers<N: Naming, R: Abort>(
     let first = passes.pop().unwrap();
     let second = passes.pop().unwrap();
     (host, first, second)
+}
+
+// A store, and a module of these bytes in it.
+pub(crate) fn one_module<N: Naming, R: Abort + Wait>(
+    rt: &R,
+    alloc: Global,
+    opened: Opened,
+    profile: Profile,
+    bytes: &[u8],
+) -> (ModuleStore<N>, ModuleRef<N>)
+    requires { Bears opened N.shelves N.config }
+{
+    let (store, mut desk) = opened.named::<N>();
+    let module = register(rt, alloc, &store, &mut desk, profile, bytes);
+    (store, module)
+}
+
+// The slots of a host that is closed with its one pass.
+pub(crate) fn close_one<N: Naming, R: Abort>(
+    rt: &R,
+    alloc: Global,
+    host: Host<N>,
+    pass: HostPass<N>,
+) -> PoolCounts
+    requires { IsHostPass host pass }
+{
+    let mut passes = Vec::new(alloc);
+    passes.push(pass).expect(rt, "room");
+    host.close(passes)
 }
 
 // The slots of a host that is closed with two passes.

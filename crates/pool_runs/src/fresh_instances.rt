@@ -11,7 +11,7 @@ use std::marker::Brand;
 use std::process::Abort;
 use std::sync::Wait;
 use std::test::Fail;
-use wasm_types::{Outcome, Profile, TrapKind, Val};
+use wasm_values::{Outcome, Profile, TrapKind, Val};
 
 // A store at an address, a memory that is grown and written to, a counter in a global, and a table.
 static POKE: [u8; 48] =

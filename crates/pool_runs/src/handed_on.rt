@@ -3,7 +3,7 @@ ghost use Rattle.module_store.specs.Names.{Bears};
 ghost use Rattle.pool_host.specs.Hosts.{IsHostPass};
 ghost use Rattle.pool_host.specs.Pausing.{IsOfHost};
 
-use crate::callers::{BUMP, ONE, close_two, open, register, two_callers};
+use crate::callers::{BUMP, ONE, close_two, one_module, open, two_callers};
 use crate::slices::{begun, ended, paused_again};
 use module_store::{ModuleStore, Naming, Opened};
 use pool_host::{Host, HostPass, Paused};
@@ -14,7 +14,7 @@ use std::sync::Wait;
 use std::test::Fail;
 use std::thread;
 use std::thread::Threads;
-use wasm_types::{Outcome, Profile};
+use wasm_values::{Outcome, Profile};
 
 // Makes a slice of each of two calls, on two threads where they can be had.
 fn both_again<N: Naming + Send + Sync, R: Abort + Threads + Sync>(
@@ -72,17 +72,14 @@ fn check_handed_on<N: Naming + Send + Sync, R: Abort + Threads + Wait + Sync>(
 )
     requires { Bears opened N.shelves N.config }
 {
-    let (store, mut desk) = opened.named::<N>();
-    let bump = BUMP.as_slice();
-    let module = register(rt, alloc, &store, &mut desk, Profile::One, bump);
+    let (store, module) = one_module::<N, R>(rt, alloc, opened, Profile::One, BUMP.as_slice());
     let (host, first, second) = two_callers(rt, alloc, &store, 2);
     let one = begun(rt, &host, first, &store, &module, "bump", &[], 100);
     let two = begun(rt, &host, second, &store, &module, "bump", &[], 100);
     let (one, two) = both_again(rt, &host, &store, one, two);
     let ((second_end, second), (first_end, first)) = both_ended(rt, &host, &store, two, one);
-    assert_eq!(rt; (first_end, second_end), (ONE, ONE));
-    let counts = close_two(rt, alloc, host, first, second);
-    assert_eq!(rt; counts.memory.held, 0);
+    let held = close_two(rt, alloc, host, first, second).memory.held;
+    assert_eq!(rt; (first_end, second_end, held), (ONE, ONE, 0));
 }
 
 #[test]

@@ -14,6 +14,8 @@ mod given_up;
 #[cfg(test)]
 mod handed_on;
 #[cfg(test)]
+mod plans;
+#[cfg(test)]
 mod retirements;
 #[cfg(test)]
 mod slices;

@@ -2,14 +2,16 @@
 ghost use Rattle.std.specs.Prelude.{◌≡◌, length};
 ghost use Rattle.module_store.specs.Names.{Bears};
 ghost use Rattle.pool_host.specs.Hosts.{IsHostPass};
+ghost use Rattle.pool_host.specs.Pausing.{IsOfHost};
 ghost use Rattle.tenant_share.specs.Tenants.{IsTenantPass};
 
-use crate::callers::{BUMP, ONE, bump, open, register, two_callers};
+use crate::callers::{BUMP, ONE, bump, close_one, close_two, open, register, two_callers};
+use crate::given_up::given_up;
 use crate::slices::{begun, ended};
 use crate::tenants as two_tenants;
 use host_edge::OpenGate;
 use module_store::{ModuleRef, ModuleStore, Naming, Opened};
-use pool_host::{Answer, Begun, Host, HostPass, LaneAnswer, LaneHost, Retire};
+use pool_host::{Answer, Begun, Host, HostPass, LaneAnswer, LaneHost, Paused, Retire};
 use pool_limits::Share;
 use slot_words::KindCounts;
 use std::alloc::Global;
@@ -20,7 +22,7 @@ use std::test::Fail;
 use std::thread;
 use std::thread::Threads;
 use tenant_share::{Plan, ShareHost, TenantPass};
-use wasm_types::{Profile, Val};
+use wasm_values::{Profile, Val};
 
 const SHARE: Share = Share {
     instances: 1,
@@ -62,29 +64,42 @@ fn called<N: Naming>(
     [missing, bad, made]
 }
 
+// What calls of a module are answered before and behind its retirement, and what it is answered, and once more.
+fn around_retirement<N: Naming>(
+    host: &Host<N>,
+    pass: &mut HostPass<N>,
+    store: &ModuleStore<N>,
+    module: &ModuleRef<N>,
+) -> ([Answer; 3], Retire, [Answer; 3], Retire)
+    requires { IsHostPass host.now pass.old }
+    ensures { IsHostPass host.now pass.new }
+{
+    let before = called(host, pass, store, module);
+    let first = host.retire(pass, store, module);
+    let behind = called(host, pass, store, module);
+    let again = host.retire(pass, store, module);
+    (before, first, behind, again)
+}
+
 fn check_one_pass<N: Naming, R: Abort + Wait>(rt: &R, alloc: Global, opened: Opened)
     requires { Bears opened N.shelves N.config }
 {
     let (store, one, other) = twins::<N, R>(rt, alloc, opened);
     let (host, mut passes) = Host::open(alloc, &store, SHARE, 1).expect(rt, "opened");
     let mut pass = passes.pop().unwrap();
+    let of_one = around_retirement(&host, &mut pass, &store, &one);
+    let of_other = around_retirement(&host, &mut pass, &store, &other);
+    let memories = close_one(rt, alloc, host, pass).memory;
     let made = [Answer::NoExport, Answer::BadArgs, Answer::Done(ONE)];
     let retired = [Answer::NoExport, Answer::BadArgs, Answer::Retired];
-    assert_eq!(rt; called(&host, &mut pass, &store, &one), made);
-    assert_eq!(rt; host.retire(&mut pass, &store, &one), FIRST);
-    assert_eq!(rt; called(&host, &mut pass, &store, &one), retired);
-    assert_eq!(rt; host.retire(&mut pass, &store, &one), Retire::Already);
-    assert_eq!(rt; called(&host, &mut pass, &store, &other), made);
-    assert_eq!(rt; host.retire(&mut pass, &store, &other), FIRST);
-    assert_eq!(rt; called(&host, &mut pass, &store, &other), retired);
+    let want = (made, FIRST, retired, Retire::Already);
     let all_cold = KindCounts {
         cold: 2,
         warm: 0,
         awaiting: 0,
         held: 0,
     };
-    passes.push(pass).expect(rt, "room");
-    assert_eq!(rt; host.close(passes).memory, all_cold);
+    assert_eq!(rt; (of_one, of_other, memories), (want, want, all_cold));
 }
 
 #[test]
@@ -138,28 +153,58 @@ fn turned_away<N: Naming, R: Abort>(
     }
 }
 
+// The pass of a paused call of `bump`, which is made to its end or given up.
+fn ended_or_given_up<N: Naming, R: Abort>(
+    rt: &R,
+    host: &Host<N>,
+    store: &ModuleStore<N>,
+    paused: Paused<N>,
+    ends: bool,
+) -> HostPass<N>
+    requires { IsOfHost host.now paused }
+    ensures { IsHostPass host.now result }
+{
+    if ends {
+        let (outcome, pass) = ended(rt, host, store, paused, 8);
+        assert_eq!(rt; outcome, ONE);
+        pass
+    } else {
+        given_up(host, store, paused)
+    }
+}
+
+// Retires a module with the second pass while a call with the first is paused, which is then ended or given up, and has the first
+// turned away when it is to call once more.
+fn retired_beside_paused<N: Naming, R: Abort>(
+    rt: &R,
+    host: &Host<N>,
+    store: &ModuleStore<N>,
+    module: &ModuleRef<N>,
+    first: HostPass<N>,
+    second: &mut HostPass<N>,
+    ends: bool,
+) -> HostPass<N>
+    requires { IsHostPass host.now first × IsHostPass host.now second.old }
+    ensures { IsHostPass host.now result × IsHostPass host.now second.new }
+{
+    let paused = begun(rt, host, first, store, module, "bump", &[], 100);
+    let none_cleaned = Retire::First { cleaned: 0 };
+    assert_eq!(rt; host.retire(second, store, module), none_cleaned);
+    let first = ended_or_given_up(rt, host, store, paused, ends);
+    turned_away(rt, host, first, store, module)
+}
+
 // One call goes on when its module is retired, and one is given up. Their memory is not cleaned: each had it.
 fn check_paused<N: Naming, R: Abort + Wait>(rt: &R, alloc: Global, opened: Opened)
     requires { Bears opened N.shelves N.config }
 {
     let (store, one, other) = twins::<N, R>(rt, alloc, opened);
     let (host, first, mut second) = two_callers(rt, alloc, &store, 1);
-    let none = Retire::First { cleaned: 0 };
-    let paused = begun(rt, &host, first, &store, &one, "bump", &[], 100);
-    assert_eq!(rt; host.retire(&mut second, &store, &one), none);
-    let (outcome, first) = ended(rt, &host, &store, paused, 8);
-    assert_eq!(rt; outcome, ONE);
-    let first = turned_away(rt, &host, first, &store, &one);
-    let paused = begun(rt, &host, first, &store, &other, "bump", &[], 100);
-    assert_eq!(rt; host.retire(&mut second, &store, &other), none);
-    let first = paused.cancel(&host, &store, &OpenGate);
-    let first = turned_away(rt, &host, first, &store, &other);
+    let first = retired_beside_paused(rt, &host, &store, &one, first, &mut second, true);
+    let first = retired_beside_paused(rt, &host, &store, &other, first, &mut second, false);
     let (answer, second) = bump(&host, second, &store, &other, 2, &OpenGate);
-    assert_eq!(rt; answer, Answer::Retired);
-    let mut passes = Vec::new(alloc);
-    passes.push(first).expect(rt, "room");
-    passes.push(second).expect(rt, "room");
-    assert_eq!(rt; host.close(passes).memory.awaiting, 1);
+    let awaiting = close_two(rt, alloc, host, first, second).memory.awaiting;
+    assert_eq!(rt; (answer, awaiting), (Answer::Retired, 1));
 }
 
 #[test]
@@ -231,31 +276,59 @@ fn pass_of_each<N: Naming, R: Abort>(
     (share, first, second)
 }
 
+// A module is retired for tenant 0, and tenant 1 calls it still.
+fn check_retired_for_one<N: Naming, R: Abort>(
+    rt: &R,
+    alloc: Global,
+    store: &ModuleStore<N>,
+    module: &ModuleRef<N>,
+    plan: &Plan,
+)
+    requires plan { plan.now.0 ≡ N.config }
+    requires tenants { length plan.now.1 ≡ 2 }
+{
+    let gate = OpenGate;
+    let (share, mut first, mut second) = pass_of_each(rt, alloc, store, plan);
+    let before = share.call(&mut first, store, module, b"bump", &[], 100, 1, &gate);
+    let retired = share.retire(&mut first, store, module);
+    let behind = share.call(&mut first, store, module, b"bump", &[], 100, 2, &gate);
+    let again = share.retire(&mut first, store, module);
+    let other = share.call(&mut second, store, module, b"bump", &[], 100, 3, &gate);
+    let done = Answer::Done(ONE);
+    assert_eq!(rt; (before, retired, behind), (done, FIRST, Answer::Retired));
+    assert_eq!(rt; (again, other), (Retire::Already, done));
+}
+
+// A module is retired for all tenants, and a module of the same bytes is called still.
+fn check_retired_for_all<N: Naming, R: Abort>(
+    rt: &R,
+    alloc: Global,
+    store: &ModuleStore<N>,
+    retired: &ModuleRef<N>,
+    other: &ModuleRef<N>,
+    plan: &Plan,
+)
+    requires plan { plan.now.0 ≡ N.config }
+    requires tenants { length plan.now.1 ≡ 2 }
+{
+    let (share, mut caller, mut beside) = two_tenants::two_callers(rt, alloc, store, plan);
+    share.retire_for_all(&mut caller, store, retired);
+    for tenant in 0..2u32 {
+        let answer = two_tenants::bump_for(&share, &mut beside, tenant, store, retired);
+        assert_eq!(rt; answer, Answer::Retired, "for {tenant}");
+        let answer = two_tenants::bump_for(&share, &mut caller, tenant, store, other);
+        assert_eq!(rt; answer, Answer::Done(ONE), "for {tenant}");
+    }
+}
+
 fn check_tenants<N: Naming, R: Abort + Wait>(rt: &R, alloc: Global, opened: Opened, plan: &Plan)
     requires bears { Bears opened N.shelves N.config }
     requires plan { plan.now.0 ≡ N.config }
     requires tenants { length plan.now.1 ≡ 2 }
 {
     let (store, one, other) = twins::<N, R>(rt, alloc, opened);
-    let gate = OpenGate;
-    let done = Answer::Done(ONE);
-    let (share, mut first, mut second) = pass_of_each(rt, alloc, &store, plan);
-    let answer = share.call(&mut first, &store, &one, b"bump", &[], 100, 1, &gate);
-    assert_eq!(rt; answer, done);
-    assert_eq!(rt; share.retire(&mut first, &store, &one), FIRST);
-    let answer = share.call(&mut first, &store, &one, b"bump", &[], 100, 2, &gate);
-    assert_eq!(rt; answer, Answer::Retired);
-    assert_eq!(rt; share.retire(&mut first, &store, &one), Retire::Already);
-    let answer = share.call(&mut second, &store, &one, b"bump", &[], 100, 3, &gate);
-    assert_eq!(rt; answer, done);
-    let (share, mut caller, mut beside) = two_tenants::two_callers(rt, alloc, &store, plan);
-    share.retire_for_all(&mut caller, &store, &one);
-    for tenant in 0..2u32 {
-        let answer = two_tenants::bump_for(&share, &mut beside, tenant, &store, &one);
-        assert_eq!(rt; answer, Answer::Retired, "for {tenant}");
-        let answer = two_tenants::bump_for(&share, &mut caller, tenant, &store, &other);
-        assert_eq!(rt; answer, done, "for {tenant}");
-    }
+    check_retired_for_one(rt, alloc, &store, &one, plan);
+    check_retired_for_all(rt, alloc, &store, &one, &other, plan);
 }
 
 #[test]

@@ -12,7 +12,7 @@ use std::marker::Brand;
 use std::process::Abort;
 use std::sync::Wait;
 use std::test::Fail;
-use wasm_types::{Outcome, Profile, Val};
+use wasm_values::{Outcome, Profile, Val};
 
 // Counts its argument down in a loop: six turns for each, and one.
 static COUNTING: [u8; 47] =

@@ -18,7 +18,7 @@ use std::test::Fail;
 use std::thread;
 use std::thread::Threads;
 use tenant_share::{Asked, Caller, Plan, ShareHost, TenantPass};
-use wasm_types::Profile;
+use wasm_values::Profile;
 
 // A store for tenants 0 and 1, and their plan: tenant 1 has two tickets, and one memory and one table, as tenant 0 has.
 pub(crate) fn open<R: Abort>(rt: &R, alloc: Global) -> (Opened, Plan)

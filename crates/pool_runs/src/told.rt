@@ -13,7 +13,7 @@ use std::process::Abort;
 use std::sync::Wait;
 use std::sync::atomic::{AtomicU64, Ordering};
 use std::test::Fail;
-use wasm_types::{Profile, Val};
+use wasm_values::{Profile, Val};
 
 // Notes what it is told, a hex digit each: K where call K entered, and 8 more where it was answered.
 #[derive(Drop)]

@@ -2,7 +2,7 @@
 ghost use Rattle.module_store.specs.Names.{Bears};
 ghost use Rattle.pool_host.specs.Hosts.{IsHostPass};
 
-use crate::callers::{BUMP, ONE, bump, one_caller, open, register};
+use crate::callers::{BUMP, ONE, bump, close_one, one_caller, open, register};
 use host_edge::OpenGate;
 use module_store::{Naming, Opened};
 use pool_host::Answer;
@@ -12,7 +12,7 @@ use std::marker::Brand;
 use std::process::Abort;
 use std::sync::Wait;
 use std::test::Fail;
-use wasm_types::Profile;
+use wasm_values::Profile;
 
 fn kinds(cold: u32, warm: u32, awaiting: u32) -> KindCounts {
     KindCounts {
@@ -45,9 +45,7 @@ fn memories_after<N: Naming, R: Abort + Wait>(
         assert_eq!(rt; answer, Answer::Done(ONE));
         pass = back;
     }
-    let mut passes = Vec::new(alloc);
-    passes.push(pass).expect(rt, "room");
-    host.close(passes).memory
+    close_one(rt, alloc, host, pass).memory
 }
 
 #[test]

@@ -1,5 +1,5 @@
 -- The laws of whole runs.
-use Rattle.wasm_types.specs.declared.outcome.Outcome.{Outcome}
+use Rattle.wasm_values.specs.declared.outcome.Outcome.{Outcome}
 use Rattle.std.proofs.Common.{◌≡◌, ℕ, List, [], ◌∷◌, sym, ap, ◌∙◌, subst, zero, suc, Bool, true, false, cond, ◌++◌, ◌/◌, length}
 use Rattle.std.specs.Prelude.{Option, Some, None, slice_get, ◌==◌}
 use Rattle.wasm_spec.specs.Store.{Store, fresh_store, page_size}

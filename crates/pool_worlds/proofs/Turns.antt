@@ -3,8 +3,8 @@ use Rattle.wasm_spec.specs.Execution.{Terms}
 use Rattle.std.proofs.Common.{◌≡◌, ℕ, zero, suc, ◌+◌, ◌-◌, ◌<◌, ◌≤◌, Bool, true, false, cond, List, [], length, refl, sym, ap, ◌∙◌, subst, arith, true≢false, ◌⊎◌, inl, inr, eq-eqb}
 use Rattle.std.specs.Prelude.{Option, Some, None, is_some, replicate, slice_index}
 use Rattle.std.proofs.lemmas.Bool.{cases_lt}
-use Rattle.wasm_types.specs.declared.outcome.Outcome.{Outcome}
-use Rattle.wasm_types.specs.declared.outcome.Outcome.TheVariants as outcome
+use Rattle.wasm_values.specs.declared.outcome.Outcome.{Outcome}
+use Rattle.wasm_values.specs.declared.outcome.Outcome.TheVariants as outcome
 use Rattle.wasm_types.specs.Tree.{ModuleTree}
 use Rattle.wasm_spec.specs.Store.{Store, fresh_store}
 use Rattle.wasm_spec.specs.Result.{CallResult, answer_of, function_result, if_done_by, if_done, after_start}
@@ -12,7 +12,7 @@ use Rattle.wasm_spec.specs.MoreFuel.{is_fuel, is_fuel_end, with_more}
 use Rattle.wasm_spec.specs.Instances.{IsInstance}
 use Rattle.wasm_spec.proofs.ResultLaws.{function-spends, function-keeps, instance-kept, fresh-instance}
 use Rattle.wasm_spec.proofs.MoreFuel.{result-more, function-more}
-use Rattle.wasm_types.specs.declared.outcome.Val.{Val}
+use Rattle.wasm_values.specs.declared.outcome.Val.{Val}
 use Rattle.pool_worlds.specs.Contents.{Kind, Memory, MemoryContents, Contents, needs, filled, turned, Marks, is_marked}
 use Rattle.pool_worlds.specs.PoolMachine.{World, Request, Running, Machine, Turn, End, slots_of, result, answer, store_or, store_after, last_store, after_end, told, IsFuelEnd, CanTurn, after_turn, after, after_all, AllMayHappen, MayHappen, terms_of}
 use Rattle.pool_worlds.specs.FreshMachine.{FreshCall, FreshMachine}

@@ -1,6 +1,6 @@
 -- The same calls, each on a fresh instance of its own: no slots, words or marks.
 use Rattle.std.specs.Prelude.{ℕ, ◌+◌, ◌==◌, if◌then◌else◌, List, [], ◌∷◌, Option, Some, None}
-use Rattle.wasm_types.specs.declared.outcome.Outcome.{Outcome}
+use Rattle.wasm_values.specs.declared.outcome.Outcome.{Outcome}
 use Rattle.wasm_spec.specs.Store.{Store, fresh_store}
 use Rattle.wasm_spec.specs.Result.{CallResult, call_result}
 use Rattle.pool_worlds.specs.PoolMachine.{InstanceLimits, terms_of, Request, WorldEvent, Begin, Turn, End, Cancel, store_or, told}

@@ -1,7 +1,7 @@
 -- Pools of several tenants, each of whom has pools of its own: what its callers see is decided by its own events, and how much of it all is warm.
 use Rattle.std.specs.Prelude.{◌≡◌, ℕ, ◌<◌, ◌≤◌, ◌==◌, true, if◌then◌else◌, List, [], ◌∷◌, ◌++◌, length, slice_index, sum, Option, Some, None}
 use Rattle.std.specs.List.{count_by, range_with_len, sum_by}
-use Rattle.wasm_types.specs.declared.outcome.Outcome.{Outcome}
+use Rattle.wasm_values.specs.declared.outcome.Outcome.{Outcome}
 use Rattle.pool_core.specs.StateWords.{packed}
 use Rattle.pool_core.specs.Lawful.{is_free_warm}
 use Rattle.pool_core.specs.PoolCore.{PoolCore, word_at}

@@ -1,6 +1,6 @@
 -- What callers can see of a pool: the same as of fresh instances, so the same in any two worlds.
 use Rattle.std.specs.Prelude.{◌≡◌, ℕ, ◌*◌, ◌≤◌, ◌⊎◌, Bool, true, List, Option, Some, None, slice_index, ◌++◌, ◌==◌, if◌then◌else◌, slice_get, [], ◌∷◌}
-use Rattle.wasm_types.specs.declared.outcome.Outcome.{Outcome}
+use Rattle.wasm_values.specs.declared.outcome.Outcome.{Outcome}
 use Rattle.wasm_spec.specs.Store.{Store, page_size}
 use Rattle.wasm_spec.specs.Result.{CallResult, answer_of}
 use Rattle.pool_worlds.specs.Contents.{Named, Kind, Memory, MemoryContents, Contents, prepared, needs, shown}

@@ -2,7 +2,7 @@
 use Rattle.std.specs.Prelude.{ℕ, Bool, true, false, List, [], ◌∷◌, ◌++◌, codes, count_by, flat_map}
 use Rattle.std.specs.Fmt.{decimal}
 use Rattle.std.specs.Str.{bytes_eq}
-use Rattle.wasm_types.specs.declared.outcome.Outcome.TheVariants as outcome
+use Rattle.wasm_values.specs.declared.outcome.Outcome.TheVariants as outcome
 use Rattle.report_text.specs.declared.report.ModuleLine.{ModuleLine}
 use Rattle.report_text.specs.declared.report.ModuleLine.TheVariants as loading
 use Rattle.report_text.specs.declared.report.CallLine.{CallLine}

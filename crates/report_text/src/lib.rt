@@ -9,6 +9,3 @@ pub use report::{
     CallLine, ModuleLine, ReportLine, report_text, write_call, write_module, write_retire,
 };
 pub use summary::write_summary;
-
-#[cfg(test)]
-mod tests;

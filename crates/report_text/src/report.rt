@@ -4,7 +4,7 @@ ghost use Rattle.report_text.specs.Lines.{bytes_text, call_line, call_text, line
 
 use itoa::Buffer;
 use std::alloc::{AllocError, Global};
-use wasm_types::{Items, NoMemory, Outcome, TrapKind, Val};
+use wasm_values::{Items, NoMemory, Outcome, TrapKind, Val};
 
 /// How the loading of a module went.
 #[derive(Clone, Copy, Debug, PartialEq, Eq)]

@@ -5,7 +5,7 @@ ghost use Rattle.report_text.specs.Summary.{call_label, count_line, count_of, co
 use crate::report::{CallLine, ModuleLine, ReportLine, append};
 use itoa::Buffer;
 use std::alloc::{AllocError, Global};
-use wasm_types::{NoMemory, Outcome};
+use wasm_values::{NoMemory, Outcome};
 
 // The label under which the line of a module counts.
 fn module_label(line: ModuleLine) -> &'static [u8]

@@ -1,8 +1,8 @@
 -- Lines that begin with `profile`: worked by hand.
 use Rattle.std.proofs.Common.{◌≡◌, ℕ, true, false, List, [], ◌∷◌, refl, codes, Ok, Err, Result}
 use Rattle.pool_limits.specs.declared.numbers.Numbers.{Numbers}
-use Rattle.wasm_types.specs.declared.profile.Profile.{Profile}
-use Rattle.wasm_types.specs.declared.profile.Profile.TheVariants.{One, Two, Three}
+use Rattle.wasm_values.specs.declared.profile.Profile.{Profile}
+use Rattle.wasm_values.specs.declared.profile.Profile.TheVariants.{One, Two, Three}
 use Rattle.request_text.specs.declared.request.Directive.{Directive}
 use Rattle.request_text.specs.declared.request.Directive.TheVariants.{Module}
 use Rattle.request_text.specs.declared.request.Reason.{Reason}

@@ -5,7 +5,7 @@ use Rattle.std.proofs.lemmas.Map.Views.{list_any-from_Contains}
 use Rattle.std.specs.List.{IsDistinct}
 use Rattle.std.specs.Prelude.{None, Option, Some, replicate, unwrap_or}
 use Rattle.hex.specs.Hex.{decode_pairs}
-use Rattle.wasm_types.specs.declared.profile.Profile.TheVariants.{Three}
+use Rattle.wasm_values.specs.declared.profile.Profile.TheVariants.{Three}
 use Rattle.pool_limits.specs.declared.numbers.Numbers.{Numbers}
 use Rattle.request_text.specs.declared.request.Directive.{Directive}
 use Rattle.request_text.specs.declared.request.Directive.TheVariants.{Module, Call, Retire}

@@ -2,7 +2,7 @@
 use Rattle.std.proofs.Common.{◌≡◌, ◌≤◌, ℕ, true, false, arith, List, [], ◌∷◌, refl, codes, Ok, Err, Result}
 use Rattle.std.specs.Prelude.{None, replicate}
 use Rattle.hex.specs.Hex.{decode_pairs}
-use Rattle.wasm_types.specs.declared.profile.Profile.TheVariants.{One, Three}
+use Rattle.wasm_values.specs.declared.profile.Profile.TheVariants.{One, Three}
 use Rattle.pool_limits.specs.declared.numbers.Numbers.{Numbers}
 use Rattle.pool_limits.specs.declared.wants.Want.{Want}
 use Rattle.request_text.specs.declared.request.Directive.{Directive}

@@ -1,8 +1,8 @@
 -- The profile of a request file: how a line names it, and what a file of it has.
 use Rattle.std.specs.Prelude.{ℕ, Bool, true, false, if◌then◌else◌, List, [], ◌∷◌, codes, Result, Ok, Err}
 use Rattle.std.specs.Str.{bytes_eq}
-use Rattle.wasm_types.specs.declared.profile.Profile.{Profile}
-use Rattle.wasm_types.specs.declared.profile.Profile.TheVariants as modules
+use Rattle.wasm_values.specs.declared.profile.Profile.{Profile}
+use Rattle.wasm_values.specs.declared.profile.Profile.TheVariants as modules
 use Rattle.request_text.specs.declared.file_profile.FileProfile.{FileProfile}
 use Rattle.request_text.specs.declared.file_profile.FileProfile.TheVariants.{One, Two, Three, Four, Five}
 use Rattle.request_text.specs.declared.request.Reason.{Reason}

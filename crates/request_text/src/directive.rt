@@ -15,7 +15,7 @@ use crate::words::next_word;
 use call_payload::Payload;
 use hex::FromHexError;
 use std::alloc::Global;
-use wasm_types::{Items, Val};
+use wasm_values::{Items, Val};
 
 // A copy of some bytes.
 fn copied(alloc: Global, bytes: &[u8]) -> Result<Items<u8>, LineFault>

@@ -5,7 +5,7 @@ ghost use Rattle.request_text.specs.Profiles.{has_tenants, modules_profile, prof
 
 use crate::request::Reason;
 use crate::words::next_word;
-use wasm_types::Profile;
+use wasm_values::Profile;
 
 // The profile of a request file.
 #[derive(Clone, Copy)]

@@ -4,7 +4,7 @@ ghost use Rattle.request_text.specs.Invocations.{sent_by, shown_of};
 
 use call_payload::{MOST_REQUEST, Payload};
 use std::alloc::Global;
-use wasm_types::{Items, NoMemory, Val};
+use wasm_values::{Items, NoMemory, Val};
 
 /// A call of an export, on this fuel, in instructions, with these arguments.
 #[derive(Drop)]

@@ -22,6 +22,3 @@ pub use refusal::write_text_fault;
 pub use request::{
     Directive, MOST_BYTES, MOST_CALLS, MOST_MODULES, MOST_NAME_BYTES, ParseFault, Reason, Requests,
 };
-
-#[cfg(test)]
-mod tests;

@@ -5,7 +5,7 @@ ghost use Rattle.std.specs.List.{list_all};
 ghost use Rattle.std.specs.Str.Parse.{digits_value};
 ghost use Rattle.request_text.specs.Words.{is_empty, number_up_to, fuel_of, integer_of, argument_of};
 
-use wasm_types::Val;
+use wasm_values::Val;
 
 // Whether each byte is a digit.
 fn are_digits(word: &[u8]) -> bool

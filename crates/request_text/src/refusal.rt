@@ -6,7 +6,7 @@ ghost use Rattle.request_text.specs.Text.{BadLine};
 use crate::request::Reason;
 use itoa::Buffer;
 use std::alloc::{AllocError, Global};
-use wasm_types::NoMemory;
+use wasm_values::NoMemory;
 
 // Appends the line that tells which line of a request file is refused, and why.
 fn push_text_fault(text: &mut Vec<u8>, line: u32, reason: Reason) -> Result<(), AllocError>

@@ -10,7 +10,7 @@ use pool_limits::{MOST_TENANTS, Want};
 use std::fmt;
 use std::marker::Model;
 use thiserror::Error;
-use wasm_types::{Items, Profile};
+use wasm_values::{Items, Profile};
 
 /// The greatest size of a request file, in bytes.
 pub const MOST_BYTES: usize = 67_108_864;

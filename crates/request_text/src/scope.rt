@@ -13,7 +13,7 @@ use pool_limits::{PoolConfig, Want};
 use std::alloc::{AllocError, Global};
 use std::collections::BTreeMap;
 use std::marker::Model;
-use wasm_types::Items;
+use wasm_values::Items;
 
 // The names of the modules of the lines before, the place of each, those that are retired, how many calls stood there, and the tenants.
 #[derive(Drop)]

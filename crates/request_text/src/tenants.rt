@@ -13,7 +13,7 @@ use crate::words::next_word;
 use pool_limits::{MOST_TENANTS, PoolConfig, Want};
 use std::alloc::Global;
 use std::marker::Model;
-use wasm_types::Items;
+use wasm_values::Items;
 
 // The most that a tenant may want of a kind of slots, and of the warm ones.
 const MOST_WANTED: u64 = 1_024;

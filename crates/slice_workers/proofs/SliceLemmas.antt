@@ -4,7 +4,7 @@ use Rattle.std.specs.Prelude.{◌↔◌, Result, IfOk, OnOk}
 use Rattle.std.specs.List.Sorted.{IsPermutation}
 use Rattle.std.proofs.lemmas.Grind.{flat_map-append}
 use Rattle.std.proofs.lemmas.List.Sorted.{IsPermutation-append, IsPermutation-append_comm, IsPermutation-append_left, IsPermutation-append_right, IsPermutation-refl, IsPermutation-trans}
-use Rattle.wasm_types.specs.declared.outcome.NoMemory.{NoMemory}
+use Rattle.wasm_values.specs.declared.outcome.NoMemory.{NoMemory}
 use Rattle.job_queue.specs.declared.accounts.Account.{Account}
 use Rattle.job_queue.specs.declared.run_queue.RunAccount.{RunAccount}
 use Rattle.job_queue.specs.Accounts.{with_given}

@@ -2,7 +2,7 @@
 use Rattle.std.specs.Prelude.{◌≡◌, ℕ, ◌+◌, List, [], ◌∷◌, ◌++◌, Option, None, Some, Result, Ok, Err}
 use Rattle.std.specs.List.{AllZip}
 use Rattle.std.specs.List.Sorted.{IsPermutation}
-use Rattle.wasm_types.specs.declared.outcome.NoMemory.{NoMemory}
+use Rattle.wasm_values.specs.declared.outcome.NoMemory.{NoMemory}
 use Rattle.job_queue.specs.declared.accounts.Account.{Account}
 use Rattle.job_queue.specs.declared.jobs.Jobs.{Jobs}
 use Rattle.job_queue.specs.declared.run_queue.RunAccount.{RunAccount}

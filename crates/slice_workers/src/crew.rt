@@ -24,7 +24,7 @@ use std::alloc::Global;
 use std::marker::Brand;
 use std::sync::Wait;
 use std::thread::{self, Threads};
-use wasm_types::NoMemory;
+use wasm_values::NoMemory;
 
 /// Workers that have not begun: what they share, the pass that puts their calls, their passes of the queue of these, and the passes of
 /// the host that go round among them.

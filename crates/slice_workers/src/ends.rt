@@ -18,7 +18,7 @@ use job_queue::{Admits, JobPass, RunPass, RunQueue};
 use module_store::{ModuleStore, Naming};
 use pool_host::Paused;
 use std::sync::Wait;
-use wasm_types::NoMemory;
+use wasm_values::NoMemory;
 
 // What the first worker made. The first pass of the run queue has put the idle passes of the host, and its pass is joined into that.
 fn join_first<N: Naming, A: Admits<Queued<N>>>(

@@ -12,7 +12,7 @@ use host_edge::Gate;
 use module_store::{ModuleRef, ModuleStore, Naming};
 use pool_host::{Answer, Begun, HostPass, Paused, Turned};
 use std::alloc::Global;
-use wasm_types::NoMemory;
+use wasm_values::NoMemory;
 
 // What a slice of a call left: what goes round from here on, and what was made of the call, if it was answered.
 #[derive(Drop)]

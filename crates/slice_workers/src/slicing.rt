@@ -17,7 +17,7 @@ use module_store::{ModuleStore, Naming};
 use pool_host::HostPass;
 use std::alloc::Global;
 use std::sync::Wait;
-use wasm_types::NoMemory;
+use wasm_values::NoMemory;
 
 // Makes slices of calls, and begins those that the queue gives, until it is told to end. After a call that found a kind full it makes
 // some slices of others before it begins the next one.

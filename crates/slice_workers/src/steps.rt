@@ -18,7 +18,7 @@ use pool_host::{HostPass, Paused};
 use std::alloc::Global;
 use std::sync::Wait;
 use std::thread;
-use wasm_types::NoMemory;
+use wasm_values::NoMemory;
 
 /// What a worker works with that makes calls in slices: its passes of the queue of calls and of the run queue, how many turns a slice
 /// has, and how many items go round.

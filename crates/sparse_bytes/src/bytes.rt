@@ -4,7 +4,7 @@ ghost use Rattle.sparse_bytes.specs.SparseBytes.{HasCell, IsWritten, byte_at, ce
 
 use std::alloc::Global;
 use std::collections::BTreeMap;
-use wasm_types::NoMemory;
+use wasm_values::NoMemory;
 
 /// How many bytes a cell has.
 pub const CELL_SIZE: usize = 64;

@@ -2,7 +2,7 @@
 use crate::SparseBytes;
 use std::alloc::Global;
 use std::test::Fail;
-use wasm_types::NoMemory;
+use wasm_values::NoMemory;
 
 // How many bytes are 9.
 fn nines(part: &[u8]) -> usize {

@@ -22,7 +22,7 @@ use module_store::{ModuleRef, ModuleStore, Naming};
 use slot_pools::{Full, give_warm, take_affine};
 use slot_words::{KindCounts, Lease, Pass, Words};
 use std::alloc::Global;
-use wasm_types::NoMemory;
+use wasm_values::NoMemory;
 
 /// Tables that threads share, each of them for one call at a time. A table that is given back is warm, and found again by calls
 /// of its module.

@@ -9,7 +9,7 @@ use module_store::{ModuleRef, ModuleStore, Naming};
 use slot_words::Pooled;
 use std::alloc::Global;
 use std::marker::Model;
-use wasm_types::NoMemory;
+use wasm_values::NoMemory;
 
 /// A table that lies in a slot, with room for the configured elements. No run writes to a table, so its entries are those of
 /// its own module. Contracts see its contents.

@@ -16,7 +16,7 @@ use std::sync::Wait;
 use std::test::Fail;
 use std::thread;
 use std::thread::Threads;
-use wasm_types::Profile;
+use wasm_values::Profile;
 
 // Three elements of which the second is function 0; one element; no table.
 static THREE: [u8; 39] =

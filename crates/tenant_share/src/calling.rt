@@ -15,7 +15,7 @@ use crate::share_host::ShareHost;
 use host_edge::Gate;
 use module_store::{ModuleRef, ModuleStore, Naming};
 use pool_host::Answer;
-use wasm_types::Val;
+use wasm_values::Val;
 
 /// What is asked of a module: an export with its arguments, a request that it may read, and the fuel.
 #[derive(Clone, Copy, Debug)]

@@ -8,8 +8,6 @@ mod passes;
 mod plan;
 mod retiring;
 mod share_host;
-#[cfg(test)]
-mod tests;
 
 pub use calling::Asked;
 pub use passes::{Caller, TenantPass};

@@ -13,7 +13,7 @@ use module_store::{ModuleStore, Naming};
 use pool_host::{Host, HostPass, MOST_PASSES};
 use pool_limits::Share;
 use std::alloc::Global;
-use wasm_types::NoMemory;
+use wasm_values::NoMemory;
 
 // A tenant's slots.
 fn planned_share<N: Naming>(store: &ModuleStore<N>, plan: &Plan, tenant: usize) -> Share

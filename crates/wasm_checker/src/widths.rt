@@ -6,7 +6,8 @@ ghost use Rattle.wasm_spec.specs.Typing as typing;
 ghost use Rattle.wasm_spec.specs.Typing.{result_types};
 
 use crate::checker::agrees;
-use wasm_types::{PackSize, Val, ValType, Width};
+use wasm_types::{PackSize, ValType, Width};
+use wasm_values::Val;
 
 /// The type of an integer of this width.
 pub(crate) fn integer_type(width: Width) -> ValType

@@ -1,7 +1,7 @@
 -- Sections in order, from one on.
 use Rattle.std.proofs.Common.{◌≡◌, ◌↔◌, ℕ, ◌<◌, ◌≤◌, ◌+◌, List, ◌∷◌, length, map, drop, get_or, add-one, inl, inr, ⊎_elim, ap, arith}
 use Rattle.std.proofs.Math.Seq.{drop-cons}
-use Rattle.wasm_types.specs.declared.profile.Profile.{Profile}
+use Rattle.wasm_values.specs.declared.profile.Profile.{Profile}
 use Rattle.wasm_decode.specs.declared.section.Section.{Section as Read}
 use Rattle.wasm_decode.specs.Sections.{section_of}
 use Rattle.wasm_spec.specs.Grammar.{Section, IsCustom, IsOrderedAbove, last_id, place}

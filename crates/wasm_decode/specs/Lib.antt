@@ -1,3 +1,4 @@
 pub mod Pairs
 pub mod Bodies
 pub mod Sections
+pub mod Fields

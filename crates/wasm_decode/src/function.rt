@@ -14,7 +14,8 @@ use crate::item::{Item, decode_whole, read_bytes};
 use instr_decode::{DecodeFault, decode_expr};
 use leb_read::Cursor;
 use std::alloc::{AllocError, Global};
-use wasm_types::{Expr, Function, Items, LocalRun, Profile, ValType};
+use wasm_types::{Expr, Function, LocalRun, ValType};
+use wasm_values::{Items, Profile};
 
 // Source: Core Specification 1.0, section 5.5.13.
 impl Item for LocalRun {

@@ -1,7 +1,7 @@
 //! Items of the binary format: what stands alone, in a row, and in a vector.
 
 ghost use Rattle.std.specs.Prelude.{◌≡◌, ℕ, List, [], map, IsErrOf, MatchResult};
-ghost use Rattle.wasm_types.specs.declared.profile.Profile.{Profile as AProfile};
+ghost use Rattle.wasm_values.specs.declared.profile.Profile.{Profile as AProfile};
 ghost use Rattle.wasm_spec.specs.Numbers.{TakesUnsigned, TakesVec, TakesBytes, IsUnambiguous};
 ghost use Rattle.wasm_spec.proofs.UnambiguousNumbers.{unsigned-unique, vec-unique, byte-unique};
 ghost use Rattle.leb_read.specs.Reading.{rest, IsRead, TakesByte};
@@ -12,7 +12,7 @@ ghost use Rattle.wasm_decode.specs.Pairs.{TakesPair, WantsPair, pair-unique};
 use instr_decode::DecodeFault;
 use leb_read::Cursor;
 use std::alloc::Global;
-use wasm_types::{Items, Profile};
+use wasm_values::{Items, Profile};
 
 // An item of the binary format.
 pub(crate) trait Item: Sized + Drop {

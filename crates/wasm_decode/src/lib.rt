@@ -8,8 +8,6 @@ mod function;
 mod item;
 mod module;
 mod section;
-#[cfg(test)]
-mod tests;
 mod types;
 
 pub use decoder::decode;

@@ -19,8 +19,9 @@ use leb_read::Cursor;
 use std::alloc::Global;
 use wasm_types::{
     DataSegment, ElementSegment, Export, ExportDesc, Expr, Global as GlobalItem, GlobalType,
-    Import, ImportDesc, Items, Limits, Profile,
+    Import, ImportDesc, Limits,
 };
+use wasm_values::{Items, Profile};
 
 // A name, as its bytes.
 #[derive(Drop)]

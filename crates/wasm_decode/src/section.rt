@@ -12,7 +12,7 @@ use crate::item::{Item, decode_whole, read_bytes};
 use instr_decode::DecodeFault;
 use leb_read::Cursor;
 use std::alloc::Global;
-use wasm_types::{Items, Profile};
+use wasm_values::{Items, Profile};
 
 // A section: its id, and its contents. Source: Core Specification 1.0, section 5.5.2.
 #[derive(Clone, Copy)]

@@ -11,7 +11,8 @@ use crate::item::Item;
 use instr_decode::{DecodeFault, value_type};
 use leb_read::Cursor;
 use std::alloc::Global;
-use wasm_types::{FuncType, GlobalType, Items, Limits, Profile, ValType};
+use wasm_types::{FuncType, GlobalType, Limits, ValType};
+use wasm_values::{Items, Profile};
 
 // Source: Core Specification 1.0, section 5.3.1.
 impl Item for ValType {

@@ -11,7 +11,7 @@ use Rattle.wasm_types.specs.declared.module.Import.{Import}
 use Rattle.wasm_types.specs.declared.module.ImportDesc.{ImportDesc}
 use Rattle.wasm_types.specs.declared.module.ImportDesc.TheVariants as item
 use Rattle.wasm_types.specs.declared.module.ExportDesc.TheVariants as export
-use Rattle.wasm_types.specs.declared.profile.Profile.TheVariants.{Two, Three}
+use Rattle.wasm_values.specs.declared.profile.Profile.TheVariants.{Two, Three}
 use Rattle.wasm_types.specs.Tree.{End, Call, CallIndirect, FunctionTree, ElementTree}
 use Rattle.wasm_types.specs.SameTypes.{same_type}
 use Rattle.wasm_spec.specs.Functions.{host_function, host_type, Imported, Own, callee_at, callee_type, function_type}

@@ -1,11 +1,11 @@
 -- Calls of a module that imports the host's functions, computed.
 use Rattle.std.specs.Prelude.{◌≡◌, ℕ, List, [], ◌∷◌, ◌++◌, Option, Some, None, codes, length, refl}
 use Rattle.wasm_types.specs.declared.types.ValType.TheVariants.{I32}
-use Rattle.wasm_types.specs.declared.outcome.Val.{Val}
-use Rattle.wasm_types.specs.declared.outcome.Val.TheVariants as val
-use Rattle.wasm_types.specs.declared.outcome.TrapKind.TheVariants as trap
-use Rattle.wasm_types.specs.declared.outcome.Outcome.{Outcome}
-use Rattle.wasm_types.specs.declared.outcome.Outcome.TheVariants.{Done, Trap, Fuel}
+use Rattle.wasm_values.specs.declared.outcome.Val.{Val}
+use Rattle.wasm_values.specs.declared.outcome.Val.TheVariants as val
+use Rattle.wasm_values.specs.declared.outcome.TrapKind.TheVariants as trap
+use Rattle.wasm_values.specs.declared.outcome.Outcome.{Outcome}
+use Rattle.wasm_values.specs.declared.outcome.Outcome.TheVariants.{Done, Trap, Fuel}
 use Rattle.wasm_types.specs.declared.instr.Width.TheVariants.{W32}
 use Rattle.wasm_types.specs.declared.instr.BinaryOp.TheVariants as binary
 use Rattle.wasm_types.specs.declared.instr.Instr.TheVariants as instr

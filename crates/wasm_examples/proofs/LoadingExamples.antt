@@ -2,14 +2,14 @@
 use Rattle.std.proofs.Common.{ap, arith}
 use Rattle.std.specs.Prelude.{◌≡◌, ℕ, [], ◌∷◌, Some, None, Ok, Err, true, false, replicate, codes, refl}
 use Rattle.wasm_types.specs.declared.types.ValType.TheVariants as type
-use Rattle.wasm_types.specs.declared.outcome.Val.TheVariants.{I64}
+use Rattle.wasm_values.specs.declared.outcome.Val.TheVariants.{I64}
 use Rattle.wasm_types.specs.declared.instr.Instr.TheVariants as instr
 use Rattle.wasm_types.specs.Tree.{End, Block, Loop, If, Call, CallIndirect, ModuleTree}
 use Rattle.wasm_types.specs.declared.module.ImportDesc.TheVariants as import
 use Rattle.wasm_spec.specs.Validity.{IsSupported, uses_floats, offset_value}
 use Rattle.wasm_spec.specs.Store.{Element, Data, first_misfit}
 use Rattle.wasm_types.specs.declared.limits.LoadLimits.{LoadLimits}
-use Rattle.wasm_types.specs.declared.profile.Profile.TheVariants.{One}
+use Rattle.wasm_values.specs.declared.profile.Profile.TheVariants.{One}
 use Rattle.wasm_spec.specs.Loading.{Malformed, Unsupported, Invalid, Answers, Loads, OverLimit, Segment, Pages, Elements, Globals, Frame, late_refusal}
 use Rattle.wasm_spec.proofs.AddModule.{add, add_bytes, add_spelled, add_valid, add_supported}
 use Rattle.wasm_examples.proofs.GrammarExamples.{header_cut_off}

@@ -2,7 +2,7 @@
 use Rattle.std.proofs.Common.{◌≡◌, ℕ, ◌+◌, length, refl, ap, ◌∙◌, List, [], ◌∷◌, ◌++◌, inl, inr, arith}
 use Rattle.std.proofs.lemmas.List.{length-append, length-replicate}
 use Rattle.std.specs.List.{flat_map}
-use Rattle.wasm_types.specs.declared.profile.Profile.TheVariants.{One}
+use Rattle.wasm_values.specs.declared.profile.Profile.TheVariants.{One}
 use Rattle.wasm_types.specs.declared.types.ValType.{ValType}
 use Rattle.wasm_types.specs.declared.types.ValType.TheVariants.{I32}
 use Rattle.wasm_types.specs.declared.module.LocalRun.{LocalRun}

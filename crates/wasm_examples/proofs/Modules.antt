@@ -6,7 +6,7 @@ use Rattle.wasm_types.specs.declared.types.FuncType.{FuncType}
 use Rattle.wasm_types.specs.declared.types.Limits.{Limits}
 use Rattle.wasm_types.specs.declared.module.Export.{Export}
 use Rattle.wasm_types.specs.declared.module.ExportDesc.TheVariants as export
-use Rattle.wasm_types.specs.declared.outcome.Val.TheVariants.{I32}
+use Rattle.wasm_values.specs.declared.outcome.Val.TheVariants.{I32}
 use Rattle.wasm_types.specs.declared.instr.Width.TheVariants.{W32}
 use Rattle.wasm_types.specs.declared.instr.Sign.TheVariants.{Unsigned}
 use Rattle.wasm_types.specs.declared.instr.PackSize.TheVariants.{Pack8}

@@ -6,8 +6,8 @@ use Rattle.wasm_types.specs.declared.instr.BinaryOp.{BinaryOp}
 use Rattle.wasm_types.specs.declared.instr.BinaryOp.TheVariants as binary_op
 use Rattle.wasm_types.specs.declared.instr.CompareOp.{CompareOp}
 use Rattle.wasm_types.specs.declared.instr.CompareOp.TheVariants as compare_op
-use Rattle.wasm_types.specs.declared.outcome.TrapKind.{TrapKind}
-use Rattle.wasm_types.specs.declared.outcome.TrapKind.TheVariants.{Divide, Overflow}
+use Rattle.wasm_values.specs.declared.outcome.TrapKind.{TrapKind}
+use Rattle.wasm_values.specs.declared.outcome.TrapKind.TheVariants.{Divide, Overflow}
 use Rattle.wasm_spec.specs.Operators.{binary_digits, unary, binary, compare, eqz, extend_s, wrap}
 
 -- pairs of operands of 32 bits

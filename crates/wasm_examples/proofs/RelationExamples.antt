@@ -1,7 +1,7 @@
 -- More bodies in the words of the relation of typing.
 use Rattle.std.proofs.Common.{[], ◌∷◌, Some, refl}
 use Rattle.wasm_types.specs.declared.types.ValType.TheVariants.{I32, I64}
-use Rattle.wasm_types.specs.declared.outcome.Val.TheVariants as val
+use Rattle.wasm_values.specs.declared.outcome.Val.TheVariants as val
 use Rattle.wasm_types.specs.declared.instr.Width.TheVariants.{W64}
 use Rattle.wasm_types.specs.declared.instr.Instr.TheVariants as instr
 use Rattle.wasm_types.specs.Tree.{Code, End, Plain, Block}

@@ -2,7 +2,7 @@
 use Rattle.std.proofs.Common.{ℕ, inl, inr, List, [], ◌∷◌, ◌++◌, true, false, map, refl, arith, pos}
 use Rattle.std.specs.Prelude.{Some, None, negsuc}
 use Rattle.wasm_types.specs.declared.types.ValType.TheVariants as type
-use Rattle.wasm_types.specs.declared.outcome.Val.TheVariants as val
+use Rattle.wasm_values.specs.declared.outcome.Val.TheVariants as val
 use Rattle.wasm_types.specs.declared.instr.Instr.TheVariants as instr
 use Rattle.wasm_types.specs.declared.instr.Width.TheVariants.{W32, W64}
 use Rattle.wasm_types.specs.declared.instr.PackSize.TheVariants.{Pack32}
@@ -13,7 +13,7 @@ use Rattle.wasm_types.specs.Tree.{End, Plain, Block, Loop, If, Call, CallIndirec
 use Rattle.wasm_spec.specs.Numbers.{TakesUnsigned, TakesEach, TakesVec}
 use Rattle.wasm_spec.specs.TypeGrammar.{TakesFuncType, TakesTableType, TakesMemoryType}
 use Rattle.wasm_spec.specs.InstrGrammar.{shape}
-use Rattle.wasm_types.specs.declared.profile.Profile.TheVariants.{One}
+use Rattle.wasm_values.specs.declared.profile.Profile.TheVariants.{One}
 use Rattle.wasm_spec.specs.Grammar.{Section, IsCustom, TakesSection, IsOrderedAbove, TakesImport, TakesGlobal, TakesExport, TakesElement, TakesSizedBody, TakesData, body_of, Spells}
 
 abbrev note_contents : List ℕ

@@ -5,15 +5,15 @@ use Rattle.std.proofs.lemmas.List.Elements.{All-nil, All-cons}
 use Rattle.wasm_types.specs.declared.types.ValType.TheVariants as type
 use Rattle.wasm_types.specs.declared.types.FuncType.{FuncType}
 use Rattle.wasm_types.specs.declared.types.Limits.{Limits}
-use Rattle.wasm_types.specs.declared.outcome.Val.{Val}
-use Rattle.wasm_types.specs.declared.outcome.Val.TheVariants as val
+use Rattle.wasm_values.specs.declared.outcome.Val.{Val}
+use Rattle.wasm_values.specs.declared.outcome.Val.TheVariants as val
 use Rattle.wasm_types.specs.declared.instr.Instr.TheVariants as instr
 use Rattle.wasm_types.specs.declared.module.Export.{Export}
 use Rattle.wasm_types.specs.declared.module.ExportDesc.{ExportDesc}
 use Rattle.wasm_types.specs.declared.module.ExportDesc.TheVariants as desc
 use Rattle.wasm_types.specs.declared.module.ImportDesc.TheVariants as import
 use Rattle.wasm_types.specs.Tree.{Code, End, FunctionTree, GlobalTree, ElementTree, DataTree, ModuleTree}
-use Rattle.wasm_types.specs.declared.profile.Profile.TheVariants.{One}
+use Rattle.wasm_values.specs.declared.profile.Profile.TheVariants.{One}
 use Rattle.wasm_spec.specs.Functions.{callee_at}
 use Rattle.wasm_spec.specs.Typing.{IsTypedFunction}
 use Rattle.wasm_spec.specs.Validity.{IsValid, IsSupported, IsDefined, IsInitialised, IsElementSegment, IsDataSegment, IsMemoryType, AreOrdered, IsStart, Exports}

@@ -1,6 +1,6 @@
 -- No number of more than 32 bits, wherever the binary format asks for one of 32, and no constant that is too wide.
 use Rattle.std.proofs.Common.{◌≡◌, ℕ, suc, length, List, [], ◌∷◌, map, Option, Some, None, inl, inr, subst, sym, arith}
-use Rattle.wasm_types.specs.declared.profile.Profile.TheVariants.{One}
+use Rattle.wasm_values.specs.declared.profile.Profile.TheVariants.{One}
 use Rattle.wasm_types.specs.declared.instr.Instr.{Instr}
 use Rattle.wasm_types.specs.declared.module.LocalRun.{LocalRun}
 use Rattle.wasm_types.specs.declared.module.ImportDesc.TheVariants as import

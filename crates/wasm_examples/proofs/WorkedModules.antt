@@ -1,7 +1,7 @@
 -- The bytes of the worked modules, spelled: the tree of each is what the examples of calls are about.
 use Rattle.std.proofs.Common.{ℕ, inl, inr, List, [], ◌∷◌, ◌++◌, map, refl, arith, pos}
 use Rattle.std.specs.Prelude.{negsuc}
-use Rattle.wasm_types.specs.declared.profile.Profile.TheVariants.{One}
+use Rattle.wasm_values.specs.declared.profile.Profile.TheVariants.{One}
 use Rattle.wasm_spec.specs.Numbers.{TakesUnsigned, TakesEach, TakesVec}
 use Rattle.wasm_spec.specs.TypeGrammar.{TakesFuncType, TakesTableType, TakesMemoryType}
 use Rattle.wasm_spec.specs.InstrGrammar.{shape}

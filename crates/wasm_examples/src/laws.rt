@@ -1,7 +1,7 @@
 //! Tables, as contracts of functions that do nothing.
 
 ghost use Rattle.std.specs.Prelude.{◌≡◌, ◌+◌, ◌++◌, map, length, replicate};
-ghost use Rattle.wasm_types.specs.declared.profile.Profile.TheVariants.{One, Two};
+ghost use Rattle.wasm_values.specs.declared.profile.Profile.TheVariants.{One, Two};
 ghost use Rattle.wasm_spec.specs.InstrGrammar.{NotPlain, shape};
 ghost use Rattle.wasm_examples.specs.OpcodeIndex.{added_index, index, left_bytes, other_bytes};
 

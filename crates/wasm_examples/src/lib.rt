@@ -4,8 +4,14 @@
 //! Source: WebAssembly Core Specification 1.0; for what profile 2 adds, version 2.0. Nothing stands on this crate.
 #![tactic(auto)]
 
+#[cfg(test)]
+mod decoded_code;
+#[cfg(test)]
+mod decoded_modules;
 pub mod laws;
 #[cfg(test)]
 mod rows;
+#[cfg(test)]
+mod stacks;
 #[cfg(test)]
 mod tests;

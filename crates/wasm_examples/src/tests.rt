@@ -5,10 +5,11 @@ use std::alloc::{AllocError, Global};
 use std::process::Abort;
 use std::test::Fail;
 use wasm_types::{
-    BinaryOp, CompareOp, Export, ExportDesc, Expr, FuncType, Function, GlobalType, Instr, Items,
-    Limits, LocalRun, MemArg, Module, Op, Profile, UnaryOp, Val, ValType, Width,
+    BinaryOp, CompareOp, Export, ExportDesc, Expr, FuncType, Function, GlobalType, Instr, Limits,
+    LocalRun, MemArg, Module, Op, UnaryOp, ValType, Width,
 };
 use wasm_validate::{ValidFault, validate};
+use wasm_values::{Items, Profile, Val};
 
 fn none<T>(alloc: Global) -> Items<T> {
     Items::new(Vec::new(alloc))

@@ -4,7 +4,7 @@ use Rattle.wasm_spec.specs.Execution.{Terms}
 use Rattle.std.proofs.Common.{◌≡◌, ℕ, ◌+◌, ◌<◌, List, [], ◌++◌, false, length, map, take, drop, reverse, Some, refl, sym, ap, ◌∙◌, arith, append-nil}
 use Rattle.std.proofs.lemmas.List.{length-map, length-reverse, reverse-reverse, take_all, drop_all}
 use Rattle.wasm_types.specs.declared.types.ValType.{ValType}
-use Rattle.wasm_types.specs.declared.outcome.Val.{Val}
+use Rattle.wasm_values.specs.declared.outcome.Val.{Val}
 use Rattle.wasm_types.specs.declared.module.Module.{Module}
 use Rattle.wasm_types.specs.Tree.{Code, FunctionTree, function_tree, module_tree}
 use Rattle.wasm_spec.specs.Typing.{type_of, params_or_none, results_or_none}
@@ -22,6 +22,7 @@ use Rattle.wasm_machine.specs.Remaining.{body_type, resting, function_of, result
 use Rattle.machine_steps.specs.StackLayout.{HasRoom, KeepsRoom}
 use Rattle.wasm_machine.specs.TypedConfiguration.{IsRunnable, IsTypedStore, local_types}
 use Rattle.wasm_machine.specs.Simulation.{Simulates, start_of}
+use Rattle.wasm_machine.proofs.FunctionLemmas.{own_there}
 use Rattle.wasm_machine.proofs.LabelLemmas.{map-append}
 use Rattle.machine_steps.proofs.StackLayoutLemmas.{room_kept}
 use Rattle.wasm_machine.proofs.CallLemmas.{type_known, tree_known, body_resumes, no_floats, zero_types, same_return, entered_by}
@@ -54,7 +55,7 @@ begins_run m limits frame x args old new store run call deep stored room keeps a
       represents = record { at = at; values = values ∙ sym (append-nil (args ++ map zero_of zeros)); labels = labels; frames = frames };
       typed = record {
         here = body_resumes m frame x f t run call.there call.typed;
-        around = record { locals = locals; blocks = tt; activations = tt; deep = omega arith };
+        around = record { locals = locals; blocks = tt; activations = tt; deep = omega arith; there = own_there m x f call.there };
       };
       stored = stored;
       room = room_kept limits.depth frame old new room keeps;

@@ -4,7 +4,7 @@ use Rattle.std.proofs.Common.{◌≡◌, ◌≢◌, ℕ, suc, ◌+◌, ◌*◌, 
 use Rattle.std.specs.Prelude.{slice_get}
 use Rattle.std.proofs.lemmas.List.{length-reverse, length-map}
 use Rattle.wasm_types.specs.declared.types.ValType.{ValType}
-use Rattle.wasm_types.specs.declared.outcome.Val.{Val}
+use Rattle.wasm_values.specs.declared.outcome.Val.{Val}
 use Rattle.wasm_types.specs.declared.instr.Op.{Op}
 use Rattle.wasm_types.specs.declared.instr.Op.TheVariants as op
 use Rattle.wasm_types.specs.declared.module.Module.{Module}
@@ -85,7 +85,7 @@ module _ (m : Module) (limits : Terms) (frame : ℕ) where
         represents = record { at = ats ∙ ap (λ (a : Position). record a { place = a.place + 1 }) e.represents.at; values = values ∙ e.represents.values; labels = labels ∙ e.represents.labels; frames = frames ∙ e.represents.frames };
         is = subst (λ (p : ℕ). code_at body k.sequence p ≡ doing m o (record k { place = k.place + 1 })) place code;
         typed = subst (λ (c : Code). IsTypedCode m frame k.function k.blocks c (map type_of k.operands)) code e.typed.here;
-        around = record { locals = e.typed.around.locals; blocks = e.typed.around.blocks; activations = e.typed.around.activations; deep = e.typed.around.deep };
+        around = record { locals = e.typed.around.locals; blocks = e.typed.around.blocks; activations = e.typed.around.activations; deep = e.typed.around.deep; there = e.typed.around.there };
         stored = e.stored;
         room = room_kept limits.depth frame old new e.room keeps;
         goes = λ fuel. ap (λ (c : Code). after_sequence m limits k (exec (module_tree m) limits (length k.activations + 1) c (state k store) fuel)) (sym code) ∙ e.goes fuel;
@@ -122,7 +122,7 @@ module _ (m : Module) (limits : Terms) (frame : ℕ) where
             fits = subst (λ (c : Code). length (local_types m frame x) + highest (operand_count os + length k.operands) (under (result_types t) C) c 0 + deepest (suc (length os) + 1) c ≤ frame) (sym named) (omega arith);
             narrow = subst (λ (c : Code). uses_bulk (module_tree m) ≡ false → code_uses_bulk c ≡ false) (sym named) (λ e. (neither (code_uses_bulk body) (code_uses_bulk rest) (b.typed.narrow e)).0);
           };
-          around = record { locals = b.around.locals; blocks = (record { at_end = resumes; at_branch = resumes }, b.around.blocks); activations = b.around.activations; deep = b.around.deep };
+          around = record { locals = b.around.locals; blocks = (record { at_end = resumes; at_branch = resumes }, b.around.blocks); activations = b.around.activations; deep = b.around.deep; there = b.around.there };
         };
         stored = b.stored;
         room = room_kept limits.depth frame old new b.room keeps;
@@ -168,7 +168,7 @@ module _ (m : Module) (limits : Terms) (frame : ℕ) where
             fits = subst (λ (c : Code). length (local_types m frame x) + highest (operand_count os + length k.operands) (under [] C) c 0 + deepest (suc (length os) + 1) c ≤ frame) (sym named) (omega arith);
             narrow = subst (λ (c : Code). uses_bulk (module_tree m) ≡ false → code_uses_bulk c ≡ false) (sym named) (λ e. (neither (code_uses_bulk body) (code_uses_bulk rest) (b.typed.narrow e)).0);
           };
-          around = record { locals = b.around.locals; blocks = (record { at_end = resumes; at_branch = again }, b.around.blocks); activations = b.around.activations; deep = b.around.deep };
+          around = record { locals = b.around.locals; blocks = (record { at_end = resumes; at_branch = again }, b.around.blocks); activations = b.around.activations; deep = b.around.deep; there = b.around.there };
         };
         stored = b.stored;
         room = room_kept limits.depth frame old new b.room keeps;

@@ -1,11 +1,11 @@
 -- Conditional branches, and instructions that only put an operand on the top.
 use Rattle.wasm_spec.specs.Execution.{Terms}
 use Rattle.std.proofs.Common.{◌≡◌, ◌≢◌, ℕ, zero, suc, ◌+◌, ◌<◌, List, [], ◌∷◌, ◌++◌, length, map, Option, Some, None, refl, sym, ap, ◌∙◌, arith, length-append}
-use Rattle.std.specs.Prelude.{slice_get, vec_capacity}
+use Rattle.std.specs.Prelude.{slice_get}
 use Rattle.std.proofs.lemmas.List.{length-map}
 use Rattle.wasm_types.specs.declared.types.ValType.{ValType}
-use Rattle.wasm_types.specs.declared.outcome.Val.{Val}
-use Rattle.wasm_types.specs.declared.outcome.Val.TheVariants as val
+use Rattle.wasm_values.specs.declared.outcome.Val.{Val}
+use Rattle.wasm_values.specs.declared.outcome.Val.TheVariants as val
 use Rattle.wasm_types.specs.declared.instr.Instr.{Instr}
 use Rattle.wasm_types.specs.declared.instr.Instr.TheVariants as instr
 use Rattle.wasm_types.specs.declared.instr.Op.TheVariants as op
@@ -91,7 +91,7 @@ module _ (m : Module) (limits : Terms) (frame : ℕ) where
       record {
         configuration = record k { operands = c.rest };
         represents = p.1;
-        around = record { locals = b.around.locals; blocks = b.around.blocks; activations = b.around.activations; deep = b.around.deep };
+        around = record { locals = b.around.locals; blocks = b.around.blocks; activations = b.around.activations; deep = b.around.deep; there = b.around.there };
         ready = record { label = c.label; below = c.below; there = c.there; types = c.types };
         stored = b.stored;
         room = room_kept limits.depth frame old new b.room keeps;
@@ -119,7 +119,7 @@ module _ (m : Module) (limits : Terms) (frame : ℕ) where
   -- ---- one operand more
 
   pub push_free : (machine : Machine) (store : Store) (here : ℕ) (i : Instr) (t : ValType) (r : ℕ → Ended) (b : HasFetched m limits frame machine store here (op.Plain i) r)
-      → rule (context m frame b.configuration.function b.configuration.blocks) i ≡ Fixed [] (t ∷ []) → length machine.values.items < vec_capacity machine.values
+      → rule (context m frame b.configuration.function b.configuration.blocks) i ≡ Fixed [] (t ∷ []) → length machine.values.items < machine.values.room
   push_free machine store here i t r b is =
       let k = b.configuration in
       let C : Context = context m frame k.function k.blocks in

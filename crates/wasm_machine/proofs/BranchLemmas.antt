@@ -3,7 +3,7 @@ use Rattle.wasm_spec.specs.Execution.{Terms}
 use Rattle.std.proofs.Common.{◌≡◌, ◌≢◌, ℕ, zero, suc, ◌+◌, ◌-◌, ◌<◌, ◌≤◌, List, [], ◌∷◌, ◌++◌, length, map, take, drop, get_or, reverse, refl, sym, ap, ◌∙◌, subst, arith, append_assoc, append-nil, length-append}
 use Rattle.std.proofs.lemmas.List.{same_from_push}
 use Rattle.wasm_types.specs.declared.types.ValType.{ValType}
-use Rattle.wasm_types.specs.declared.outcome.Val.{Val}
+use Rattle.wasm_values.specs.declared.outcome.Val.{Val}
 use Rattle.wasm_types.specs.declared.module.Module.{Module}
 use Rattle.wasm_spec.specs.Typing.{type_of}
 use Rattle.wasm_spec.specs.Store.{Store}
@@ -90,7 +90,7 @@ module _ (m : Module) (limits : Terms) (frame : ℕ) where
         };
         typed = record {
           here = subst (λ (us : List ValType). IsTypedAt m frame k.function rest us o.sequence o.target) (sym types) t.resumes;
-          around = record { locals = e.around.locals; blocks = t.blocks; activations = e.around.activations; deep = e.around.deep };
+          around = record { locals = e.around.locals; blocks = t.blocks; activations = e.around.activations; deep = e.around.deep; there = e.around.there };
         };
         stored = e.stored;
         room = room_kept limits.depth frame old new e.room keeps;
@@ -151,7 +151,7 @@ module _ (m : Module) (limits : Terms) (frame : ℕ) where
         };
         typed = record {
           here = subst (λ (us : List ValType). IsTypedAt m frame x os us o.sequence o.after) (sym types) block.at_end;
-          around = record { locals = ar.locals; blocks = blocks; activations = ar.activations; deep = ar.deep };
+          around = record { locals = ar.locals; blocks = blocks; activations = ar.activations; deep = ar.deep; there = ar.there };
         };
         stored = stored;
         room = room_kept limits.depth frame old new room keeps;

@@ -5,8 +5,8 @@ use Rattle.std.specs.Prelude.{slice_get, unwrap_or, if◌then◌else◌}
 use Rattle.std.proofs.lemmas.Bool.{and_parts}
 use Rattle.std.specs.List.{list_all}
 use Rattle.wasm_types.specs.declared.types.ValType.{ValType}
-use Rattle.wasm_types.specs.declared.outcome.Val.{Val}
-use Rattle.wasm_types.specs.declared.outcome.Val.TheVariants as val
+use Rattle.wasm_values.specs.declared.outcome.Val.{Val}
+use Rattle.wasm_values.specs.declared.outcome.Val.TheVariants as val
 use Rattle.wasm_types.specs.declared.types.ValType.TheVariants as type
 use Rattle.wasm_types.specs.declared.instr.Instr.TheVariants as instr
 use Rattle.wasm_types.specs.declared.instr.Op.TheVariants as op
@@ -88,7 +88,7 @@ module _ (m : Module) (limits : Terms) (frame : ℕ) where
       record {
         configuration = record k { operands = c.rest };
         represents = p.1;
-        around = record { locals = b.around.locals; blocks = b.around.blocks; activations = b.around.activations; deep = b.around.deep };
+        around = record { locals = b.around.locals; blocks = b.around.blocks; activations = b.around.activations; deep = b.around.deep; there = b.around.there };
         ready = record { label = t.label; below = t.below; there = ap (slice_get C.labels) e ∙ t.there c.n; types = c.types };
         stored = b.stored;
         room = room_kept limits.depth frame old new b.room keeps;

@@ -3,7 +3,7 @@ use Rattle.wasm_types.proofs.SequenceLemmas.{tree_is}
 use Rattle.wasm_types.proofs.Found.{all_found}
 use Rattle.wasm_spec.specs.Execution.{Terms}
 use Rattle.std.proofs.Common.{◌≡◌, ℕ, zero, suc, ◌+◌, ◌-◌, ◌*◌, ◌<◌, ◌≤◌, List, [], ◌∷◌, ◌++◌, Bool, true, false, length, map, take, drop, get_or, reverse, Option, Some, refl, sym, ap, ◌∙◌, subst, arith, append_assoc, append-nil, length-append, length-take-le, mul-le-mul_right}
-use Rattle.std.specs.Prelude.{slice_get, nat_lt, nat_le, ◌||◌, option_and_then, vec_capacity}
+use Rattle.std.specs.Prelude.{slice_get, nat_lt, nat_le, ◌||◌, option_and_then}
 use Rattle.std.specs.List.{list_any}
 use Rattle.std.proofs.lemmas.List.{length-reverse, length-map, reverse-reverse, reverse-append}
 use Rattle.std.proofs.lemmas.Bool.{or_parts}
@@ -11,14 +11,14 @@ use Rattle.std.proofs.lemmas.Bool.Decides.{nat_tests}
 use Rattle.wasm_types.specs.declared.types.ValType.{ValType}
 use Rattle.wasm_types.specs.declared.types.ValType.TheVariants as type
 use Rattle.wasm_types.specs.declared.types.FuncType.{FuncType}
-use Rattle.wasm_types.specs.declared.outcome.Val.{Val}
-use Rattle.wasm_types.specs.declared.outcome.TrapKind.TheVariants as trap
+use Rattle.wasm_values.specs.declared.outcome.Val.{Val}
+use Rattle.wasm_values.specs.declared.outcome.TrapKind.TheVariants as trap
 use Rattle.wasm_types.specs.declared.module.Function.{Function}
 use Rattle.wasm_types.specs.declared.module.Module.{Module}
 use Rattle.wasm_types.specs.Tree.{Code, FunctionTree, function_tree, module_tree}
 use Rattle.wasm_spec.specs.Typing.{Context, Typed, type_of, params_or_none, results_or_none, body_context, IsTypedFunction}
 use Rattle.wasm_spec.specs.Need.{highest, deepest}
-use Rattle.wasm_types.specs.declared.profile.Profile.TheVariants.{Three}
+use Rattle.wasm_values.specs.declared.profile.Profile.TheVariants.{Three}
 use Rattle.wasm_spec.specs.Validity.{IsSupported, has_float, code_uses_floats}
 use Rattle.wasm_spec.specs.Store.{Store}
 use Rattle.wasm_spec.specs.Execution.{State, Signal, Next, Branch, Returned, Trapped, OutOfFuel, Stuck, Ended, Continuation, ended, exec, return_by, return, invoke, entered, zero_of}
@@ -34,6 +34,7 @@ use Rattle.wasm_spec.specs.Bulk.{code_uses_bulk}
 use Rattle.wasm_spec.proofs.NarrowModules.{narrow_function}
 use Rattle.wasm_machine.specs.Simulation.{SimulatesCall, Simulates, in_function, start_of}
 use Rattle.machine_steps.proofs.StackLists.{cut}
+use Rattle.wasm_machine.proofs.FunctionLemmas.{own_there}
 use Rattle.wasm_machine.proofs.RemainingLemmas.{not_below, after_sequence-Trapped}
 use Rattle.wasm_machine.proofs.LabelLemmas.{Cut, types_cut, map-append}
 use Rattle.machine_steps.proofs.StackLayoutLemmas.{room_kept, count_values}
@@ -205,7 +206,7 @@ module _ (m : Module) (limits : Terms) (frame : ℕ) where
         represents = represents k c.represents enough;
         typed = record {
           here = body_resumes m frame x f t run c.there c.typed;
-          around = record { locals = locals; blocks = tt; activations = (record { resumes = resumes; blocks = c.around.blocks; locals = c.around.locals }, c.around.activations); deep = omega (arith, deep_as k old c.represents) };
+          around = record { locals = locals; blocks = tt; activations = (record { resumes = resumes; blocks = c.around.blocks; locals = c.around.locals; there = c.around.there }, c.around.activations); deep = omega (arith, deep_as k old c.represents); there = own_there m x f c.there };
         };
         stored = c.stored;
         room = room_kept limits.depth frame old new c.room keeps;
@@ -224,7 +225,7 @@ module _ (m : Module) (limits : Terms) (frame : ℕ) where
 
   -- room for what a call puts on the stacks
   pub call_values : (old : Machine) (store : Store) (x : ℕ) (r : ℕ → Ended) → IsRunnable m frame → SimulatesCall m limits frame old store x r → length old.frames.items + 1 < limits.depth
-      → length old.values.items + length (function_tree (function_of m x)).locals ≤ vec_capacity old.values
+      → length old.values.items + length (function_tree (function_of m x)).locals ≤ old.values.room
   call_values old store x r run c deep =
       let k = c.configuration in
       let f = c.function in

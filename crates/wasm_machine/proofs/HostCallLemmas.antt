@@ -1,6 +1,6 @@
 -- Calls by number: of the module's own functions, and of imports.
 use Rattle.std.proofs.Common.{◌≡◌, ◌≢◌, ℕ, zero, suc, ◌+◌, ◌-◌, ◌^◌, ◌<◌, ◌≤◌, List, [], ◌∷◌, ◌++◌, Bool, true, false, length, map, reverse, Option, Some, None, refl, sym, ap, ◌∙◌, subst, arith}
-use Rattle.std.specs.Prelude.{slice_get, nat_lt, if◌then◌else◌, option_and_then, option_map, IfSome, IsTrue, vec_len, vec_capacity}
+use Rattle.std.specs.Prelude.{slice_get, nat_lt, if◌then◌else◌, option_and_then, option_map, IfSome, IsTrue}
 use Rattle.std.proofs.lemmas.Option.{slice_get_within}
 use Rattle.std.proofs.lemmas.List.{length-map}
 use Rattle.wasm_types.proofs.Found.{all_found}
@@ -9,10 +9,10 @@ use Rattle.wasm_types.specs.SameTypes.{same_type}
 use Rattle.wasm_types.specs.declared.types.ValType.{ValType}
 use Rattle.wasm_types.specs.declared.types.ValType.TheVariants as type
 use Rattle.wasm_types.specs.declared.types.FuncType.{FuncType}
-use Rattle.wasm_types.specs.declared.outcome.Val.{Val}
-use Rattle.wasm_types.specs.declared.outcome.Val.TheVariants as val
-use Rattle.wasm_types.specs.declared.outcome.TrapKind.{TrapKind}
-use Rattle.wasm_types.specs.declared.outcome.TrapKind.TheVariants as trap
+use Rattle.wasm_values.specs.declared.outcome.Val.{Val}
+use Rattle.wasm_values.specs.declared.outcome.Val.TheVariants as val
+use Rattle.wasm_values.specs.declared.outcome.TrapKind.{TrapKind}
+use Rattle.wasm_values.specs.declared.outcome.TrapKind.TheVariants as trap
 use Rattle.wasm_types.specs.declared.host.HostFunction.{HostFunction}
 use Rattle.wasm_types.specs.declared.host.HostFunction.TheVariants as host
 use Rattle.wasm_types.specs.declared.module.Import.{Import}
@@ -34,9 +34,9 @@ use Rattle.machine_steps.specs.PlainSteps.{EndsAs, with_state}
 use Rattle.machine_steps.specs.HostSteps.{CallsHost, CanCallHost, IsHostReady}
 use Rattle.machine_steps.proofs.HostLemmas.{ThreeNumbers, TwoNumbers, at_three, at_two}
 use Rattle.machine_steps.proofs.StackLayoutLemmas.{room_kept}
-use Rattle.wasm_machine.specs.declared.running.Step.{Step}
 use Rattle.wasm_machine.specs.Remaining.{resume_at, after_sequence, function_of}
 use Rattle.wasm_machine.specs.TypedConfiguration.{operand_count, IsRunnable, IsTypedAt, IsTypedContext, IsTypedStore, context}
+use Rattle.wasm_machine.specs.declared.running.Step.{Step}
 use Rattle.wasm_machine.specs.Simulation.{SimulatesCall, SimulatesCalling, SimulatesPlain, SimulatesStep, step_unless_trapped}
 use Rattle.wasm_machine.proofs.RemainingLemmas.{after_sequence-Trapped}
 use Rattle.wasm_machine.proofs.RoomLemmas.{free_value}
@@ -178,7 +178,7 @@ module _ (m : Module) (limits : Terms) (frame : ℕ) where
     represents = represents;
     typed = record {
       here = subst (λ (us : List ValType). IsTypedAt m frame k.function k.blocks us k.sequence k.place) (sym are) resumes;
-      around = record { locals = ap (map type_of) locals ∙ around.locals; blocks = around.blocks; activations = around.activations; deep = around.deep };
+      around = record { locals = ap (map type_of) locals ∙ around.locals; blocks = around.blocks; activations = around.activations; deep = around.deep; there = around.there };
     };
     stored = subst (λ (t : Store). IsTypedStore m t) same stored;
     room = room_kept limits.depth frame old new room keeps;
@@ -216,7 +216,7 @@ module _ (m : Module) (limits : Terms) (frame : ℕ) where
       fine = host_fine m (type.I32 ∷ c.below) c.configuration.locals (host_call limits.request h.function (state c.configuration store)) preserved;
     }
 
-    one_free : h.function ≡ host.Len → vec_len old.values < vec_capacity old.values
+    one_free : h.function ≡ host.Len → length old.values.items < old.values.room
     one_free is =
         let k = c.configuration in
         let f = goes_on.fits in

@@ -5,8 +5,8 @@ use Rattle.std.specs.Prelude.{vec_capacity, ◌||◌}
 use Rattle.std.proofs.lemmas.List.{length-map}
 use Rattle.wasm_types.specs.declared.types.ValType.{ValType}
 use Rattle.wasm_types.specs.declared.types.ValType.TheVariants as type
-use Rattle.wasm_types.specs.declared.outcome.Val.{Val}
-use Rattle.wasm_types.specs.declared.outcome.Val.TheVariants as val
+use Rattle.wasm_values.specs.declared.outcome.Val.{Val}
+use Rattle.wasm_values.specs.declared.outcome.Val.TheVariants as val
 use Rattle.wasm_types.specs.declared.instr.Op.TheVariants as op
 use Rattle.wasm_types.specs.declared.module.Module.{Module}
 use Rattle.wasm_types.specs.Tree.{Code, module_tree}
@@ -72,7 +72,7 @@ module _ (m : Module) (limits : Terms) (frame : ℕ) where
       let first : Code = named_in (body_of m k) k.sequence n in
       let f = b.typed.fits in
       free_label m limits frame (record k { operands = cond.rest }) mid p.1
-      (record { locals = b.around.locals; blocks = b.around.blocks; activations = b.around.activations; deep = b.around.deep })
+      (record { locals = b.around.locals; blocks = b.around.blocks; activations = b.around.activations; deep = b.around.deep; there = b.around.there })
       (room_kept limits.depth frame old mid b.room keeps) (omega (arith, deepest-least (length k.blocks + 1 + 1) first))
 
   pub if_goes : (old mid new : Machine) (store : Store) (here inner n j c : ℕ) (t : Option ValType) (r : ℕ → Ended) (b : HasFetched m limits frame old store here (op.If t n j) r)
@@ -126,7 +126,7 @@ module _ (m : Module) (limits : Terms) (frame : ℕ) where
             narrow = subst (λ (z : Code). uses_bulk (module_tree m) ≡ false → code_uses_bulk z ≡ false) (sym named)
                 (either_one (λ (z : Code). uses_bulk (module_tree m) ≡ false → code_uses_bulk z ≡ false) c trees n j (λ e. (arms e).0) (λ e. (arms e).1));
           };
-          around = record { locals = b.around.locals; blocks = (record { at_end = resumes; at_branch = resumes }, b.around.blocks); activations = b.around.activations; deep = b.around.deep };
+          around = record { locals = b.around.locals; blocks = (record { at_end = resumes; at_branch = resumes }, b.around.blocks); activations = b.around.activations; deep = b.around.deep; there = b.around.there };
         };
         stored = b.stored;
         room = room_kept limits.depth frame old new b.room keeps;

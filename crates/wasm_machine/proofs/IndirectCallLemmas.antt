@@ -7,8 +7,8 @@ use Rattle.wasm_types.specs.declared.types.ValType.{ValType}
 use Rattle.wasm_types.specs.declared.types.ValType.TheVariants.{I32}
 use Rattle.wasm_types.specs.declared.types.FuncType.{FuncType}
 use Rattle.wasm_types.specs.declared.types.Limits.{Limits}
-use Rattle.wasm_types.specs.declared.outcome.Val.{Val}
-use Rattle.wasm_types.specs.declared.outcome.TrapKind.TheVariants as trap
+use Rattle.wasm_values.specs.declared.outcome.Val.{Val}
+use Rattle.wasm_values.specs.declared.outcome.TrapKind.TheVariants as trap
 use Rattle.wasm_types.specs.declared.instr.Op.TheVariants as op
 use Rattle.wasm_types.specs.declared.module.Module.{Module}
 use Rattle.wasm_types.specs.Tree.{Code, function_tree, module_tree}
@@ -195,7 +195,7 @@ module _ (m : Module) (limits : Terms) (frame : ℕ) where
           below = e.below;
           arguments = e.index.types ∙ ap (λ (ts : List ValType). reverse ts ++ e.below) params;
           resumes = subst (λ (ts : List ValType). IsTypedAt m frame k.function k.blocks (ts ++ e.below) k.sequence k.place) results e.resumes;
-          around = record { locals = b.around.locals; blocks = b.around.blocks; activations = b.around.activations; deep = b.around.deep };
+          around = record { locals = b.around.locals; blocks = b.around.blocks; activations = b.around.activations; deep = b.around.deep; there = b.around.there };
           stored = b.stored;
           room = room_kept limits.depth frame old mid b.room keeps;
           goes = λ fuel.

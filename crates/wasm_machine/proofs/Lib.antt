@@ -19,4 +19,5 @@ pub mod StepLemmas
 pub mod TypeLemmas
 pub mod ZeroLemmas
 pub mod HostCallLemmas
+pub mod FunctionLemmas
 pub mod OutsideLemmas

@@ -1,7 +1,6 @@
 -- What an instruction needs is there.
 use Rattle.wasm_spec.specs.Execution.{Terms}
-use Rattle.std.proofs.Common.{◌≡◌, ℕ, ◌<◌, map, false, refl, arith}
-use Rattle.std.specs.Prelude.{vec_len, vec_capacity}
+use Rattle.std.proofs.Common.{◌≡◌, ℕ, ◌<◌, map, false, refl, arith, length}
 use Rattle.wasm_types.specs.declared.instr.Instr.{Instr}
 use Rattle.wasm_types.specs.declared.instr.Instr.TheVariants as instr
 use Rattle.wasm_types.specs.declared.instr.Op.TheVariants as op
@@ -22,7 +21,7 @@ use Rattle.wasm_machine.proofs.PreservationLemmas.{Pushes, local_pushes, global_
 
 module _ (m : Module) (limits : Terms) (frame : ℕ) (machine : Machine) (store : Store) (here : ℕ) (r : ℕ → Ended) where
   pushed : (i : Instr) (b : HasFetched m limits frame machine store here (op.Plain i) r) → Pushes m limits (context m frame b.configuration.function b.configuration.blocks) refl i (state b.configuration store)
-      → vec_len machine.values < vec_capacity machine.values
+      → length machine.values.items < machine.values.room
   pushed i b p = omega (arith, push_free m limits frame machine store here i p.type r b p.rule_is)
 
   pub plain_ready : (i : Instr) → HasFetched m limits frame machine store here (op.Plain i) r → jumps i ≡ false → IsReady i machine store.globals

@@ -3,8 +3,8 @@ use Rattle.wasm_spec.specs.Execution.{Terms}
 use Rattle.std.proofs.Common.{◌≡◌, ℕ, zero, suc, ◌+◌, ◌≤◌, List, [], ◌∷◌, ◌++◌, false, length, take, drop, refl, ap, ◌∙◌, arith}
 use Rattle.std.specs.Prelude.{nat_lt}
 use Rattle.std.proofs.lemmas.Bool.Decides.{nat_tests}
-use Rattle.wasm_types.specs.declared.outcome.Val.{Val}
-use Rattle.wasm_types.specs.declared.outcome.TrapKind.{TrapKind}
+use Rattle.wasm_values.specs.declared.outcome.Val.{Val}
+use Rattle.wasm_values.specs.declared.outcome.TrapKind.{TrapKind}
 use Rattle.wasm_types.specs.declared.module.Module.{Module}
 use Rattle.wasm_spec.specs.Store.{Store}
 use Rattle.wasm_spec.specs.Execution.{State, Next, Branch, Returned, Trapped, OutOfFuel, Continuation, ended, keep}

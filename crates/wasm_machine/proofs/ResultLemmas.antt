@@ -1,15 +1,15 @@
 -- Whole runs.
 use Rattle.std.proofs.Common.{◌≡◌, ℕ, ◌+◌, ◌-◌, ◌*◌, ◌<◌, ◌≤◌, List, [], ◌∷◌, ◌++◌, length, take, reverse, Option, Some, refl, sym, ap, ◌∙◌, subst, arith, length-append, mul-le-mul_right}
-use Rattle.std.specs.Prelude.{slice_get, vec_capacity}
+use Rattle.std.specs.Prelude.{slice_get}
 use Rattle.std.proofs.Math.Seq.{take-append_seam}
 use Rattle.std.proofs.lemmas.List.{reverse-append, reverse-reverse, length-reverse, length-map}
 use Rattle.wasm_types.specs.declared.types.FuncType.{FuncType}
-use Rattle.wasm_types.specs.declared.outcome.Val.{Val}
-use Rattle.wasm_types.specs.declared.outcome.TrapKind.{TrapKind}
-use Rattle.wasm_types.specs.declared.outcome.Outcome.{Outcome}
-use Rattle.wasm_types.specs.declared.outcome.Outcome.TheVariants as outcome
+use Rattle.wasm_values.specs.declared.outcome.Val.{Val}
+use Rattle.wasm_values.specs.declared.outcome.TrapKind.{TrapKind}
+use Rattle.wasm_values.specs.declared.outcome.Outcome.{Outcome}
+use Rattle.wasm_values.specs.declared.outcome.Outcome.TheVariants as outcome
 use Rattle.wasm_types.specs.declared.module.Module.{Module}
-use Rattle.wasm_types.specs.declared.profile.Profile.TheVariants.{Three}
+use Rattle.wasm_values.specs.declared.profile.Profile.TheVariants.{Three}
 use Rattle.wasm_types.specs.Tree.{function_tree, global_tree, module_tree}
 use Rattle.wasm_spec.specs.Typing.{params_or_none, type_of}
 use Rattle.wasm_spec.specs.Store.{Store}
@@ -63,7 +63,7 @@ not_both (outcome.Trap t) ended out = out
 
 -- room for the first frame
 pub first_frame : (m : Module) (limits : Terms) (frame x : ℕ) (args : List Val) (machine : Machine) → IsRunnable m frame → IsOwnCall m x args → 0 < limits.depth → HasRoom limits.depth frame machine
-    → length args + length (function_tree (function_of m x)).locals ≤ vec_capacity machine.values
+    → length args + length (function_tree (function_of m x)).locals ≤ machine.values.room
 first_frame m limits frame x args machine run call deep room =
     let there = frame_fits m frame x [] _ _ (body_resumes m frame x call.function call.type run call.there call.typed) in
     let own : length (local_types m frame x) ≡ length call.type.params + length (function_tree (function_of m x)).locals =

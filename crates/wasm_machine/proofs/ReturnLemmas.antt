@@ -3,7 +3,7 @@ use Rattle.wasm_spec.specs.Execution.{Terms}
 use Rattle.std.proofs.Common.{◌≡◌, ℕ, ◌+◌, ◌≤◌, List, [], ◌∷◌, ◌++◌, length, map, take, drop, reverse, refl, sym, ap, ◌∙◌, subst, arith, append-nil, length-append}
 use Rattle.std.proofs.lemmas.List.{reverse-reverse, length-reverse, take_at, same_from_push}
 use Rattle.wasm_types.specs.declared.types.ValType.{ValType}
-use Rattle.wasm_types.specs.declared.outcome.Val.{Val}
+use Rattle.wasm_values.specs.declared.outcome.Val.{Val}
 use Rattle.wasm_types.specs.declared.module.Module.{Module}
 use Rattle.wasm_spec.specs.Typing.{type_of}
 use Rattle.wasm_spec.specs.Store.{Store}
@@ -89,7 +89,7 @@ module _ (m : Module) (limits : Terms) (frame : ℕ) where
         };
         typed = record {
           here = subst (λ (ts : List ValType). IsTypedAt m frame c.function c.blocks ts c.sequence c.after) (sym types) caller.resumes;
-          around = record { locals = caller.locals; blocks = caller.blocks; activations = activations; deep = omega arith };
+          around = record { locals = caller.locals; blocks = caller.blocks; activations = activations; deep = omega arith; there = caller.there };
         };
         stored = stored;
         room = room_kept limits.depth frame old new room keeps;

@@ -44,7 +44,7 @@ module _ (m : Module) (limits : Terms) (frame : ℕ) where
 
   -- one value more
   pub free_value : (k : Configuration) (machine : Machine) → Represents k machine → IsTypedContext m frame limits.depth k → HasRoom limits.depth frame machine
-      → length (local_types m frame k.function) + operand_count k.blocks + length k.operands + 1 ≤ frame → length machine.values.items < vec_capacity machine.values
+      → length (local_types m frame k.function) + operand_count k.blocks + length k.operands + 1 ≤ frame → length machine.values.items < machine.values.room
   free_value k machine sh ar room le =
       let (values, labels) = beneath_fits m frame k.function k.activations ar.activations in
       let frames : (length k.activations + 1) * frame ≤ limits.depth * frame = mul-le-mul_right frame ar.deep in

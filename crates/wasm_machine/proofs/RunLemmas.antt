@@ -1,12 +1,15 @@
 -- Runs, step by step.
-use Rattle.std.proofs.Common.{◌≡◌, ℕ, ◌+◌, ◌-◌, ◌<◌, ◌≤◌, ⊎_elim, List, reverse, Option, Some, refl, sym, ap, ◌∙◌, subst, arith}
+use Rattle.std.proofs.Common.{◌≡◌, ℕ, ◌+◌, ◌-◌, ◌<◌, ◌≤◌, ⊎_elim, List, length, get_or, reverse, Option, Some, refl, sym, ap, ◌∙◌, subst, arith}
 use Rattle.std.specs.Prelude.{slice_get, unwrap_or}
 use Rattle.std.proofs.lemmas.Bool.{cases_lt}
 use Rattle.wasm_spec.specs.Execution.{Terms}
 use Rattle.wasm_types.specs.declared.module.Module.{Module}
-use Rattle.wasm_types.specs.declared.outcome.Outcome.TheVariants as outcome
-use Rattle.wasm_types.specs.declared.outcome.TrapKind.{TrapKind}
+use Rattle.wasm_values.specs.declared.outcome.Outcome.TheVariants as outcome
+use Rattle.wasm_values.specs.declared.outcome.TrapKind.{TrapKind}
+use Rattle.std.proofs.lemmas.Option.{slice_get-get_or}
 use Rattle.wasm_types.specs.declared.instr.Op.{Op}
+use Rattle.wasm_types.specs.declared.instr.Op.TheVariants as op
+use Rattle.wasm_types.specs.declared.instr.Instr.TheVariants as instr
 use Rattle.wasm_spec.specs.Store.{Store}
 use Rattle.wasm_spec.specs.Execution.{Trapped, OutOfFuel, Ended, ended}
 use Rattle.wasm_spec.specs.Result.{CallResult, result_of}
@@ -16,7 +19,7 @@ use Rattle.linear_memory.specs.Marks.{KeepsUnmarked, MarksChanges}
 use Rattle.linear_memory.proofs.MarkedBlocks.{changes_more, shown_unmarked}
 use Rattle.wasm_machine.specs.Lent.{MarksWithin}
 use Rattle.machine_steps.specs.declared.machine.Machine.{Machine}
-use Rattle.wasm_machine.specs.Simulation.{AreMarkedBelow, Simulates, IsOver, after, paid, op_at}
+use Rattle.wasm_machine.specs.Simulation.{AreMarkedBelow, Simulates, IsOver, after, paid, sequence_at}
 use Rattle.wasm_machine.proofs.BlockLemmas.{no_fuel}
 
 -- ---- marks
@@ -93,12 +96,15 @@ module _ (m : Module) (limits : Terms) (frame : ℕ) where
   pub trap_paid : (t : TrapKind) (store : Store) (r : ℕ → Ended) (spent spent' : ℕ) → spent + 1 ≡ spent' → ((g : ℕ) → paid (after spent r) g ≡ ended (Trapped t store) g) → (g : ℕ) → r (spent' + g) ≡ ended (Trapped t store) g
   trap_paid t store r spent spent' e h g = ap r (omega arith) ∙ h g
 
-  pub spent_all : (machine : Machine) (store : Store) (r : ℕ → Ended) (spent fuel : ℕ) (o : Op) → spent ≡ fuel → Simulates m limits frame machine store (after spent r) → op_at m machine ≡ Some o → r fuel ≡ ended (OutOfFuel store) 0
-  spent_all machine store r spent fuel o e l there = ap r (omega arith) ∙ no_fuel m limits frame machine store (after spent r) o l there
+  -- at an instruction, where the fuel is used up
+  pub spent_all : (machine : Machine) (store : Store) (r : ℕ → Ended) (spent fuel : ℕ) → spent ≡ fuel → Simulates m limits frame machine store (after spent r) → machine.at.place < length (sequence_at m machine) → r fuel ≡ ended (OutOfFuel store) 0
+  spent_all machine store r spent fuel e l lt =
+      let o : Op = get_or (sequence_at m machine) machine.at.place (op.Plain instr.Nop) in
+      ap r (omega arith) ∙ no_fuel m limits frame machine store (after spent r) o l (slice_get-get_or (sequence_at m machine) machine.at.place (op.Plain instr.Nop) lt)
 
   -- one turn more, from an instruction on
-  pub marked_next : (r : ℕ → Ended) (old : Memory) (machine : Machine) (store : Store) (o : Op) (spent most n k : ℕ) (mid new : Memory) → AreMarkedBelow spent r old mid → IsMemory most mid → MarksChanges old mid n
-      → store.memory ≡ shown mid → Simulates m limits frame machine store (after spent r) → op_at m machine ≡ Some o → MarksChanges mid new k → AreMarkedBelow (spent + 1) r old new
-  marked_next r old machine store o spent most n k mid new below is changes memory e there more =
-      let out : r spent ≡ ended (OutOfFuel store) 0 = spent_all machine store r spent spent o refl e there in
+  pub marked_next : (r : ℕ → Ended) (old : Memory) (machine : Machine) (store : Store) (spent most n k : ℕ) (mid new : Memory) → AreMarkedBelow spent r old mid → IsMemory most mid → MarksChanges old mid n
+      → store.memory ≡ shown mid → Simulates m limits frame machine store (after spent r) → machine.at.place < length (sequence_at m machine) → MarksChanges mid new k → AreMarkedBelow (spent + 1) r old new
+  marked_next r old machine store spent most n k mid new below is changes memory e there more =
+      let out : r spent ≡ ended (OutOfFuel store) 0 = spent_all machine store r spent spent refl e there in
       marked_on r old (spent + 1) k mid new more (marked_out r old store spent (spent + 1) most n mid below is changes memory (omega arith) out)

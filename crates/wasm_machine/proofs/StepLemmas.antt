@@ -4,7 +4,7 @@ use Rattle.std.proofs.Common.{◌≡◌, ◌≢◌, ℕ, suc, ◌+◌, ◌≤◌
 use Rattle.std.specs.Prelude.{slice_get, option_and_then}
 use Rattle.wasm_types.specs.declared.types.ValType.{ValType}
 use Rattle.wasm_types.specs.declared.types.FuncType.{FuncType}
-use Rattle.wasm_types.specs.declared.outcome.TrapKind.{TrapKind}
+use Rattle.wasm_values.specs.declared.outcome.TrapKind.{TrapKind}
 use Rattle.wasm_types.specs.declared.instr.Instr.{Instr}
 use Rattle.wasm_types.specs.declared.instr.Instr.TheVariants as instr
 use Rattle.wasm_types.specs.declared.instr.Op.TheVariants as op
@@ -20,7 +20,7 @@ use Rattle.wasm_types.specs.Sequences.{code_at}
 use Rattle.machine_steps.specs.declared.machine.Machine.{Machine}
 use Rattle.machine_steps.specs.Configuration.{Configuration, state}
 use Rattle.wasm_machine.specs.Remaining.{resume_at, after_sequence}
-use Rattle.machine_steps.specs.StackLayout.{Represents, HasRoom, KeepsRoom}
+use Rattle.machine_steps.specs.StackLayout.{Represents, HasRoom, KeepsRoom, position_of}
 use Rattle.wasm_machine.specs.TypedConfiguration.{operand_count, IsTypedContext, IsTypedStore, context, local_types, ends_of}
 use Rattle.wasm_spec.specs.Bulk.{is_bulk, code_uses_bulk, uses_bulk}
 use Rattle.wasm_spec.proofs.NarrowModules.{neither}
@@ -151,7 +151,7 @@ module _ (m : Module) (limits : Terms) (frame : ℕ) where
         represents = represents;
         typed = record {
           here = record { typed = subst (λ (us : List ValType). Typed C rest us (ends_of m frame k.function k.blocks)) (sym good.types) typed; fits = omega arith; narrow = narrow };
-          around = record { locals = good.locals; blocks = around.blocks; activations = around.activations; deep = around.deep };
+          around = record { locals = good.locals; blocks = around.blocks; activations = around.activations; deep = around.deep; there = around.there };
         };
         stored = subst (λ (t : Store). IsTypedStore m t) same good.stored;
         room = room_kept limits.depth frame old new room keeps;
@@ -186,3 +186,24 @@ module _ (m : Module) (limits : Terms) (frame : ℕ) where
       let fine = good k middle takes b.around.locals in
       done_as (plain (module_tree m) limits i (state k store)) k i middle o old new store store' (paid r) fine typed b.typed.fits (λ e. (neither (is_bulk i) (code_uses_bulk (code_at (body_of m k) k.sequence k.place)) (b.typed.narrow e)).1) b.around b.room keeps (jumps old store here i r b)
       (after k b.represents (not_stuck (plain (module_tree m) limits i (state k store)) k i middle fine))
+
+  ends_at : (e : Signal) (k : Configuration) (o : Option TrapKind) (new : Machine) (store : Store) → o ≡ None → EndsAs e k o new store → new.at ≡ position_of k.function k.sequence k.place k.activations
+  ends_at (Next s) k None new store n (represents, same) = represents.at
+  ends_at (Next s) k (Some t) new store n h = absurd h
+  ends_at (Trapped t before) k None new store n h = absurd h
+  ends_at (Trapped t before) k (Some u) new store n h = cc
+  ends_at (Branch l s) k o new store n h = absurd h
+  ends_at (Returned s) k o new store n h = absurd h
+  ends_at (OutOfFuel s) k o new store n h = absurd h
+  ends_at Stuck k o new store n h = absurd h
+
+  -- one that goes on stands where it stood
+  pub plain_stays : (old new : Machine) (store store' : Store) (here : ℕ) (i : Instr) (o : Option TrapKind) (r : ℕ → Ended) (b : HasFetched m limits frame old store here (op.Plain i) r) → o ≡ None
+      → ((k : Configuration) (middle : List ValType) → Takes (rule (context m frame k.function k.blocks) i) (map type_of k.operands) middle → map type_of k.locals ≡ local_types m frame k.function
+      → IsPreserved m (context m frame k.function k.blocks) i (map type_of k.operands) middle (plain (module_tree m) limits i (state k store)))
+      → ((k : Configuration) → Represents k old → plain (module_tree m) limits i (state k store) ≢ Stuck → EndsAs (plain (module_tree m) limits i (state k store)) k o new store') → new.at ≡ old.at
+  plain_stays old new store store' here i o r b none good after =
+      let k = b.configuration in
+      let (middle, takes, typed) = b.typed.typed in
+      let e : Signal = plain (module_tree m) limits i (state k store) in
+      ends_at e k o new store' none (after k b.represents (not_stuck e k i middle (good k middle takes b.around.locals))) ∙ sym b.represents.at

@@ -2,9 +2,9 @@
 use Rattle.wasm_spec.specs.Execution.{Terms}
 use Rattle.std.proofs.Common.{◌≡◌, ℕ, List, [], ◌∷◌, length, map, Some, Result, Ok, Err, refl, sym, ap, ◌∙◌}
 use Rattle.wasm_types.specs.declared.types.ValType.{ValType}
-use Rattle.wasm_types.specs.declared.outcome.Val.{Val}
-use Rattle.wasm_types.specs.declared.outcome.Val.TheVariants as val
-use Rattle.wasm_types.specs.declared.outcome.TrapKind.{TrapKind}
+use Rattle.wasm_values.specs.declared.outcome.Val.{Val}
+use Rattle.wasm_values.specs.declared.outcome.Val.TheVariants as val
+use Rattle.wasm_values.specs.declared.outcome.TrapKind.{TrapKind}
 use Rattle.wasm_types.specs.declared.instr.Width.{Width}
 use Rattle.wasm_types.specs.declared.instr.Width.TheVariants.{W32, W64}
 use Rattle.wasm_types.specs.declared.instr.Instr.{Instr}

@@ -1,13 +1,13 @@
 -- A call from outside.
 use Rattle.std.specs.Prelude.{◌≡◌, ℕ, ◌≤◌, List, [], map, Option, Some, None, reverse, slice_get}
-use Rattle.wasm_types.specs.declared.outcome.Val.TheVariants as val
-use Rattle.wasm_types.specs.declared.outcome.TrapKind.TheVariants as trap
+use Rattle.wasm_values.specs.declared.outcome.Val.TheVariants as val
+use Rattle.wasm_values.specs.declared.outcome.TrapKind.TheVariants as trap
 use Rattle.wasm_spec.specs.Store.{Store}
 use Rattle.wasm_spec.specs.Execution.{State, Signal, Next, Trapped}
 use Rattle.wasm_types.specs.declared.types.FuncType.{FuncType}
-use Rattle.wasm_types.specs.declared.outcome.Val.{Val}
-use Rattle.wasm_types.specs.declared.outcome.Outcome.{Outcome}
-use Rattle.wasm_types.specs.declared.outcome.Outcome.TheVariants as outcome
+use Rattle.wasm_values.specs.declared.outcome.Val.{Val}
+use Rattle.wasm_values.specs.declared.outcome.Outcome.{Outcome}
+use Rattle.wasm_values.specs.declared.outcome.Outcome.TheVariants as outcome
 use Rattle.wasm_types.specs.declared.module.Module.{Module}
 use Rattle.wasm_types.specs.Tree.{FunctionTree, module_tree}
 use Rattle.wasm_spec.specs.Functions.{function_type}

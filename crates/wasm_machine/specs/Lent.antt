@@ -1,6 +1,6 @@
 -- The parts that are lent to a run of a module, as its store. Of the globals the first are the module's.
 use Rattle.std.specs.Prelude.{◌≤◌, ℕ, List, Option, length, take, drop}
-use Rattle.wasm_types.specs.declared.outcome.Val.{Val}
+use Rattle.wasm_values.specs.declared.outcome.Val.{Val}
 use Rattle.wasm_types.specs.declared.module.Module.{Module}
 use Rattle.wasm_spec.specs.Store.{Store}
 use Rattle.linear_memory.specs.declared.memory.Memory.{Memory}

@@ -2,7 +2,7 @@
 use Rattle.wasm_spec.specs.Execution.{Terms}
 use Rattle.std.specs.Prelude.{ℕ, ◌+◌, List, [], ◌∷◌, Option, length, get_or, option_and_then, slice_get}
 use Rattle.wasm_types.specs.declared.types.ValType.{ValType}
-use Rattle.wasm_types.specs.declared.outcome.Val.{Val}
+use Rattle.wasm_values.specs.declared.outcome.Val.{Val}
 use Rattle.wasm_types.specs.declared.module.Function.{Function}
 use Rattle.wasm_types.specs.declared.module.Module.{Module}
 use Rattle.wasm_types.specs.declared.types.FuncType.{FuncType}

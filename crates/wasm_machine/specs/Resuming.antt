@@ -1,8 +1,8 @@
 -- Where stacks stand in a run, and what it comes to from there.
 use Rattle.std.specs.Prelude.{ℕ}
 use Rattle.wasm_types.specs.declared.module.Module.{Module}
-use Rattle.wasm_types.specs.declared.outcome.Outcome.{Outcome}
-use Rattle.wasm_types.specs.declared.outcome.Outcome.TheVariants as outcome
+use Rattle.wasm_values.specs.declared.outcome.Outcome.{Outcome}
+use Rattle.wasm_values.specs.declared.outcome.Outcome.TheVariants as outcome
 use Rattle.wasm_spec.specs.Execution.{Terms, Ended}
 use Rattle.wasm_spec.specs.Store.{Store}
 use Rattle.wasm_machine.specs.Room.{StacksView}

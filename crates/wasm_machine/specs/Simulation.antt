@@ -1,7 +1,7 @@
 -- What a machine's steps come to.
 use Rattle.std.specs.Prelude.{◌≡◌, ℕ, zero, suc, ◌+◌, ◌-◌, ◌<◌, List, [], ◌∷◌, ◌++◌, Bool, true, false, length, map, take, drop, reverse, Option, Some, None, slice_get}
 use Rattle.wasm_types.specs.declared.types.ValType.{ValType}
-use Rattle.wasm_types.specs.declared.outcome.TrapKind.{TrapKind}
+use Rattle.wasm_values.specs.declared.outcome.TrapKind.{TrapKind}
 use Rattle.wasm_types.specs.declared.instr.Instr.{Instr}
 use Rattle.wasm_types.specs.declared.instr.Op.{Op}
 use Rattle.wasm_types.specs.declared.instr.Op.TheVariants as op
@@ -77,6 +77,7 @@ pub record IsOver (m : Module) (machine : Machine) (store : Store) (r : ℕ → 
   pub goes : (fuel : ℕ) → r fuel ≡ ended (Next (record { locals = []; operands = reverse machine.values.items; store = store })) fuel
 
 abbrev pub SimulatesStep : Step → Module → Terms → ℕ → Machine → Store → (ℕ → Ended) → Type 0
+SimulatesStep step.Stays m limits frame machine store r = Simulates m limits frame machine store r
 SimulatesStep step.Continues m limits frame machine store r = Simulates m limits frame machine store r
 SimulatesStep step.Finishes m limits frame machine store r = IsOver m machine store r
 SimulatesStep (step.Traps t) m limits frame machine store r = (fuel : ℕ) → r fuel ≡ ended (Trapped t store) fuel
@@ -85,8 +86,12 @@ SimulatesStep (step.Traps t) m limits frame machine store r = (fuel : ℕ) → r
 abbrev pub paid : (ℕ → Ended) → ℕ → Ended
 paid r fuel = r (suc fuel)
 
+-- the instructions of the sequence in which the machine stands, and the one at which it stands
+abbrev pub sequence_at : Module → Machine → List Op
+sequence_at m machine = ops_of (function_of m machine.at.function).body machine.at.sequence
+
 abbrev pub op_at : Module → Machine → Option Op
-op_at m machine = slice_get (ops_of (function_of m machine.at.function).body machine.at.sequence) machine.at.place
+op_at m machine = slice_get (sequence_at m machine) machine.at.place
 
 -- the run goes on, or is over
 abbrev pub SimulatesUnlessOver : Bool → Module → Terms → ℕ → Machine → Store → (ℕ → Ended) → Type 0
@@ -109,6 +114,11 @@ depth_of machine = length machine.labels.items + length machine.frames.items
 
 abbrev pub body_of : Module → Configuration → Expr
 body_of m k = (function_of m k.function).body
+
+-- an instruction that is no plain one: a block, a loop, an if or a call
+abbrev pub IsStructured : Op → Type 0
+IsStructured (op.Plain i) = ⊥
+IsStructured _ = Unit {0}
 
 -- an instruction of the current sequence, and what stands from the current place on
 abbrev pub doing : Module → Op → Configuration → Code
@@ -134,11 +144,6 @@ pub record CanContinue (m : Module) (machine : Machine) : Type 0 where
   pub store : Store
   pub to : ℕ → Ended
   pub simulates : Simulates m limits frame machine store to
-
--- at an instruction, or over
-abbrev pub Fetches : Option Op → Module → Terms → ℕ → Machine → Store → (ℕ → Ended) → Type 0
-Fetches None m limits frame machine store r = IsOver m machine store r
-Fetches (Some o) m limits frame machine store r = Simulates m limits frame machine store r × (op_at m machine ≡ Some o)
 
 -- with so much fuel paid
 abbrev pub after : ℕ → (ℕ → Ended) → ℕ → Ended

@@ -6,7 +6,7 @@ use Rattle.wasm_types.specs.Tree.{Code, FunctionTree, function_tree, module_tree
 use Rattle.wasm_spec.specs.Typing.{Context, Typed, type_of, params_or_none}
 use Rattle.wasm_spec.specs.Need.{highest, deepest, need}
 use Rattle.wasm_spec.specs.Store.{Store}
-use Rattle.wasm_types.specs.declared.profile.Profile.TheVariants.{Three}
+use Rattle.wasm_values.specs.declared.profile.Profile.TheVariants.{Three}
 use Rattle.wasm_spec.specs.Validity.{IsSupported, IsValid}
 use Rattle.wasm_types.specs.Sequences.{code_at}
 use Rattle.wasm_validate.specs.Locals.{HaveNoEmptyRun}
@@ -64,6 +64,7 @@ module _ (m : Module) (frame : ℕ) where
     pub resumes : IsTypedAt c.function c.blocks (types ++ map type_of c.below) c.sequence c.after
     pub blocks : AreTypedBlocks c.function c.blocks
     pub locals : map type_of c.locals ≡ local_types c.function
+    pub there : c.function < length m.functions
 
   abbrev pub AreTypedActivations : ℕ → List Activation → Type 0
   AreTypedActivations x [] = Unit {0}
@@ -75,6 +76,7 @@ module _ (m : Module) (frame : ℕ) where
     pub blocks : AreTypedBlocks k.function k.blocks
     pub activations : AreTypedActivations k.function k.activations
     pub deep : length k.activations + 1 ≤ depth
+    pub there : k.function < length m.functions
 
   pub record IsTypedConfiguration (depth : ℕ) (k : Configuration) : Type 0 where
     pub here : IsTypedAt k.function k.blocks (map type_of k.operands) k.sequence k.place

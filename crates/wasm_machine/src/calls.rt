@@ -1,8 +1,8 @@
 //! Calls, from outside and of one function by another.
-ghost use Rattle.std.specs.Prelude.{◌≡◌, ℕ, ◌^◌, List, Option, ◌+◌, ◌-◌, ◌<◌, ◌≤◌, ◌++◌, All, length, map, replicate, slice_get, vec_len, vec_capacity};
+ghost use Rattle.std.specs.Prelude.{◌≡◌, ◌≢◌, ℕ, ◌^◌, List, Option, ◌+◌, ◌-◌, ◌<◌, ◌≤◌, ◌++◌, All, length, map, replicate, slice_get, vec_len, vec_capacity};
 ghost use Rattle.std.specs.List.{flat_map};
 ghost use Rattle.wasm_types.specs.declared.limits.RunLimits.{RunLimits as Limits};
-ghost use Rattle.wasm_types.specs.declared.outcome.Val.{Val as AVal};
+ghost use Rattle.wasm_values.specs.declared.outcome.Val.{Val as AVal};
 ghost use Rattle.linear_memory.specs.Bytes.{IsMemory};
 ghost use Rattle.machine_steps.specs.Lent.{store_of};
 ghost use Rattle.wasm_machine.specs.Lent.{MarksWithin};
@@ -17,14 +17,16 @@ ghost use Rattle.wasm_machine.specs.Remaining.{function_of};
 ghost use Rattle.machine_steps.specs.StackLayout.{HasRoom, KeepsRoom, Represents};
 ghost use Rattle.wasm_machine.specs.TypedConfiguration.{IsRunnable, IsTypedStore};
 ghost use Rattle.wasm_types.specs.declared.instr.Op.TheVariants as op;
+ghost use Rattle.wasm_machine.specs.declared.running.Step.TheVariants as step;
 ghost use Rattle.wasm_machine.specs.Simulation.{HasFetched, CanCall, CanCallNumber, CanCallElement, Simulates, SimulatesCall, SimulatesCalling, SimulatesStep, in_function, paid};
 
 use crate::lookup::{has_type, host_of, local_runs, param_count, start_of};
-use crate::running::{Step, unless_trapped};
+use crate::running::{Inputs, Step, unless_trapped};
 use call_payload::AnswerBuf;
 use linear_memory::Memory;
-use machine_steps::{Machine, Position, push};
-use wasm_types::{LocalRun, Module, RunLimits, TrapKind, Val, ValType};
+use machine_steps::{Machine, Position, ValueStack, push};
+use wasm_types::{LocalRun, Module, RunLimits, ValType};
+use wasm_values::{TrapKind, Val};
 
 // The value that a local begins with.
 fn zero(t: ValType) -> Val
@@ -37,23 +39,33 @@ fn zero(t: ValType) -> Val
 }
 
 // Puts one value on the top so many times.
-fn fill(values: &mut Vec<Val>, count: usize, value: Val)
-    requires { length values.old.items + count ≤ vec_capacity values.old }
+fn fill(values: &mut ValueStack, count: usize, value: Val)
+    requires { length values.old.items + count ≤ values.old.room }
     ensures items { values.new.items ≡ values.old.items ++ replicate count value }
-    ensures capacity { vec_capacity values.old ≤ vec_capacity values.new }
+    ensures room { values.old.room ≤ values.new.room }
 {
-    match values.resize(values.len() + count, value) {
-        Ok(()) => {}
-        Err(_) => unreachable!(),
+    for _ in 0..count {
+        values.push(value);
+    }
+}
+
+// Puts values on the top, the last one highest.
+fn push_all(values: &mut ValueStack, more: &[Val])
+    requires { length values.old.items + length more.now ≤ values.old.room }
+    ensures items { values.new.items ≡ values.old.items ++ more.now }
+    ensures room { values.old.room ≤ values.new.room }
+{
+    for value in more {
+        values.push(*value);
     }
 }
 
 // Puts the declared locals' zeros on the top. No run is empty, so that there are no more turns than locals.
-pub(crate) fn push_zeros(values: &mut Vec<Val>, runs: &[LocalRun])
-    requires room { vec_len values.old + length (flat_map locals_of runs.now) ≤ vec_capacity values.old }
+pub(crate) fn push_zeros(values: &mut ValueStack, runs: &[LocalRun])
+    requires room { length values.old.items + length (flat_map locals_of runs.now) ≤ values.old.room }
     requires turns { All HasLocals runs.now }
     ensures items { values.new.items ≡ values.old.items ++ map zero_of (flat_map locals_of runs.now) }
-    ensures capacity { vec_capacity values.old ≤ vec_capacity values.new }
+    ensures room { values.old.room ≤ values.new.room }
 {
     for run in runs {
         fill(values, run.count as usize, zero(run.value));
@@ -73,8 +85,9 @@ fn element_at(table: &[Option<u32>], i: u32) -> Option<Option<u32>>
 // Enters a function, whose arguments are on the top.
 fn enter_function(machine: &mut Machine, m: &Module, x: usize, count: usize)
     requires arguments { count ≤ length machine.old.values.items }
-    requires values { length machine.old.values.items + length (function_tree (function_of m.now x)).locals ≤ vec_capacity machine.old.values }
+    requires values { length machine.old.values.items + length (function_tree (function_of m.now x)).locals ≤ machine.old.values.room }
     requires frames { vec_len machine.old.frames < vec_capacity machine.old.frames }
+    requires there { x < length m.now.functions }
     requires turns { HasNoEmptyRun (function_of m.now x) }
     ensures represents { (k : Configuration) → Represents k machine.old → count ≤ length k.operands → Represents (in_function m.now k x count) machine.new }
     ensures room { KeepsRoom machine.old machine.new }
@@ -92,41 +105,42 @@ fn enter_function(machine: &mut Machine, m: &Module, x: usize, count: usize)
 }
 
 // Calls one of the module's own functions, if one more call may be open.
-fn invoke(machine: &mut Machine, m: &Module, limits: RunLimits, x: usize) -> Step
-    requires { (request : List ℕ) × CanCall m.now (terms limits request) machine.old x }
-    ensures steps { (request : List ℕ) (frame : ℕ) (store : Store) (r : ℕ → Ended) → IsRunnable m.now frame → SimulatesCall m.now (terms limits request) frame machine.old store x r
-        → SimulatesStep result m.now (terms limits request) frame machine.new store r }
+fn invoke(machine: &mut Machine, inputs: &Inputs, x: usize) -> Step
+    requires { (request : List ℕ) × CanCall inputs.now.m.now (terms inputs.now.limits request) machine.old x }
+    ensures steps { (request : List ℕ) (frame : ℕ) (store : Store) (r : ℕ → Ended) → IsRunnable inputs.now.m.now frame → SimulatesCall inputs.now.m.now (terms inputs.now.limits request) frame machine.old store x r
+        → SimulatesStep result inputs.now.m.now (terms inputs.now.limits request) frame machine.new store r }
     ensures room { KeepsRoom machine.old machine.new }
+    ensures moves { result ≢ step.Stays }
 {
-    if machine.frames.len() + 1 >= limits.depth as usize {
+    if machine.frames.len() + 1 >= inputs.limits.depth as usize {
         return Step::Traps(TrapKind::Exhausted);
     }
-    enter_function(machine, m, x, param_count(m, x));
+    enter_function(machine, inputs.m, x, param_count(inputs.m, x));
     Step::Continues
 }
 
 // Calls an import, for which the host has what it does in place of a body.
 fn call_import(
     machine: &mut Machine,
-    m: &Module,
-    request: &[u8],
+    inputs: &Inputs,
     memory: &mut Memory,
     answer: &mut AnswerBuf,
     x: usize,
 ) -> Step
-    requires import { x < length m.now.imports }
-    requires can { (limits : Limits) × CanCallNumber m.now (terms limits request.now) machine.old x }
+    requires import { x < length inputs.now.m.now.imports }
+    requires can { CanCallNumber inputs.now.m.now (terms inputs.now.limits inputs.now.request.now) machine.old x }
     requires memory { (most : ℕ) × IsMemory most memory.old }
-    requires short { length request.now < 2 ^ 32 }
-    ensures steps { (limits : Limits) (frame : ℕ) (table : List (Option ℕ)) (globals : List AVal) (r : ℕ → Ended) → IsRunnable m.now frame
-        → SimulatesCalling m.now (terms limits request.now) frame machine.old (store_of memory.old table globals answer.old) x r
-        → SimulatesStep result m.now (terms limits request.now) frame machine.new (store_of memory.new table globals answer.new) r }
+    requires short { length inputs.now.request.now < 2 ^ 32 }
+    ensures steps { (frame : ℕ) (table : List (Option ℕ)) (globals : List AVal) (r : ℕ → Ended) → IsRunnable inputs.now.m.now frame
+        → SimulatesCalling inputs.now.m.now (terms inputs.now.limits inputs.now.request.now) frame machine.old (store_of memory.old table globals answer.old) x r
+        → SimulatesStep result inputs.now.m.now (terms inputs.now.limits inputs.now.request.now) frame machine.new (store_of memory.new table globals answer.new) r }
     ensures room { KeepsRoom machine.old machine.new }
     ensures memory { (most : ℕ) → IsMemory most memory.old → IsMemory most memory.new }
-    ensures marks { MarksWithin m.now memory.old memory.new 0 }
+    ensures marks { MarksWithin inputs.now.m.now memory.old memory.new 0 }
+    ensures moves { result ≢ step.Stays }
 {
-    match host_of(m, x) {
-        Some(function) => unless_trapped(machine.host(function, request, memory, answer)),
+    match host_of(inputs.m, x) {
+        Some(function) => unless_trapped(machine.host(function, inputs.request, memory, answer)),
         None => unreachable!(),
     }
 }
@@ -134,60 +148,57 @@ fn call_import(
 // Calls a function by its number: the imports have the first ones.
 pub(crate) fn call(
     machine: &mut Machine,
-    m: &Module,
-    limits: RunLimits,
-    request: &[u8],
+    inputs: &Inputs,
     memory: &mut Memory,
     answer: &mut AnswerBuf,
     x: u32,
 ) -> Step
-    requires can { CanCallNumber m.now (terms limits request.now) machine.old x }
+    requires can { CanCallNumber inputs.now.m.now (terms inputs.now.limits inputs.now.request.now) machine.old x }
     requires memory { (most : ℕ) × IsMemory most memory.old }
-    requires short { length request.now < 2 ^ 32 }
-    ensures steps { (frame : ℕ) (table : List (Option ℕ)) (globals : List AVal) (r : ℕ → Ended) → IsRunnable m.now frame
-        → SimulatesCalling m.now (terms limits request.now) frame machine.old (store_of memory.old table globals answer.old) x r
-        → SimulatesStep result m.now (terms limits request.now) frame machine.new (store_of memory.new table globals answer.new) r }
+    requires short { length inputs.now.request.now < 2 ^ 32 }
+    ensures steps { (frame : ℕ) (table : List (Option ℕ)) (globals : List AVal) (r : ℕ → Ended) → IsRunnable inputs.now.m.now frame
+        → SimulatesCalling inputs.now.m.now (terms inputs.now.limits inputs.now.request.now) frame machine.old (store_of memory.old table globals answer.old) x r
+        → SimulatesStep result inputs.now.m.now (terms inputs.now.limits inputs.now.request.now) frame machine.new (store_of memory.new table globals answer.new) r }
     ensures room { KeepsRoom machine.old machine.new }
     ensures memory { (most : ℕ) → IsMemory most memory.old → IsMemory most memory.new }
-    ensures marks { MarksWithin m.now memory.old memory.new 0 }
+    ensures marks { MarksWithin inputs.now.m.now memory.old memory.new 0 }
+    ensures moves { result ≢ step.Stays }
 {
     let x = x as usize;
-    let imported = m.imports.len();
+    let imported = inputs.m.imports.len();
     if x < imported {
-        call_import(machine, m, request, memory, answer, x)
+        call_import(machine, inputs, memory, answer, x)
     } else {
-        invoke(machine, m, limits, x - imported)
+        invoke(machine, inputs, x - imported)
     }
 }
 
 // Calls the function that an element of the table is, if it has the type that is named.
 pub(crate) fn call_indirect(
     machine: &mut Machine,
-    m: &Module,
-    limits: RunLimits,
-    request: &[u8],
+    inputs: &Inputs,
     memory: &mut Memory,
-    table: &[Option<u32>],
     answer: &mut AnswerBuf,
     x: u32,
 ) -> Step
-    requires can { CanCallElement m.now (terms limits request.now) table.now machine.old x }
+    requires can { CanCallElement inputs.now.m.now (terms inputs.now.limits inputs.now.request.now) inputs.now.table.now machine.old x }
     requires memory { (most : ℕ) × IsMemory most memory.old }
-    requires short { length request.now < 2 ^ 32 }
-    ensures steps { (frame : ℕ) (globals : List AVal) (here : ℕ) (r : ℕ → Ended) → IsRunnable m.now frame
-        → HasFetched m.now (terms limits request.now) frame machine.old (store_of memory.old table.now globals answer.old) here (op.CallIndirect x) r
-        → SimulatesStep result m.now (terms limits request.now) frame machine.new (store_of memory.new table.now globals answer.new) (paid r) }
+    requires short { length inputs.now.request.now < 2 ^ 32 }
+    ensures steps { (frame : ℕ) (globals : List AVal) (here : ℕ) (r : ℕ → Ended) → IsRunnable inputs.now.m.now frame
+        → HasFetched inputs.now.m.now (terms inputs.now.limits inputs.now.request.now) frame machine.old (store_of memory.old inputs.now.table.now globals answer.old) here (op.CallIndirect x) r
+        → SimulatesStep result inputs.now.m.now (terms inputs.now.limits inputs.now.request.now) frame machine.new (store_of memory.new inputs.now.table.now globals answer.new) (paid r) }
     ensures room { KeepsRoom machine.old machine.new }
     ensures memory { (most : ℕ) → IsMemory most memory.old → IsMemory most memory.new }
-    ensures marks { MarksWithin m.now memory.old memory.new 0 }
+    ensures marks { MarksWithin inputs.now.m.now memory.old memory.new 0 }
+    ensures moves { result ≢ step.Stays }
 {
     let i = machine.pop32();
-    match element_at(table, i) {
+    match element_at(inputs.table, i) {
         None => Step::Traps(TrapKind::Element),
         Some(None) => Step::Traps(TrapKind::Uninit),
         Some(Some(y)) => {
-            if has_type(m, y, x as usize) {
-                call(machine, m, limits, request, memory, answer, y)
+            if has_type(inputs.m, y, x as usize) {
+                call(machine, inputs, memory, answer, y)
             } else {
                 Step::Traps(TrapKind::Signature)
             }
@@ -197,8 +208,9 @@ pub(crate) fn call_indirect(
 
 // Stands at the beginning of one of the module's own functions, which is called with these arguments from outside.
 pub(crate) fn begin(machine: &mut Machine, m: &Module, x: usize, args: &[Val])
-    requires room { length args.now + length (function_tree (function_of m.now x)).locals ≤ vec_capacity machine.old.values }
+    requires room { length args.now + length (function_tree (function_of m.now x)).locals ≤ machine.old.values.room }
     requires turns { HasNoEmptyRun (function_of m.now x) }
+    requires there { x < length m.now.functions }
     ensures simulates { (limits : Terms) (frame : ℕ) (store : Store) → IsRunnable m.now frame → IsOwnCall m.now x args.now → 0 < limits.depth
         → IsTypedStore m.now store → HasRoom limits.depth frame machine.old
         → Simulates m.now limits frame machine.new store (run_function (module_tree m.now) limits (length m.now.imports + x) args.now store) }
@@ -207,10 +219,7 @@ pub(crate) fn begin(machine: &mut Machine, m: &Module, x: usize, args: &[Val])
     machine.values.clear();
     machine.labels.clear();
     machine.frames.clear();
-    match machine.values.extend_from_slice(args) {
-        Ok(()) => {}
-        Err(_) => unreachable!(),
-    }
+    push_all(&mut machine.values, args);
     push_zeros(&mut machine.values, local_runs(m, x));
     machine.at = Position {
         function: x,

@@ -10,10 +10,11 @@ ghost use Rattle.wasm_machine.specs.Simulation.{AtEnd, ByReturn, HasFetched, Can
 ghost use Rattle.machine_steps.specs.InstructionKinds.{jumps};
 
 use crate::lookup::{label_at, result_count};
-use machine_steps::{Machine, keep};
+use machine_steps::Machine;
 use wasm_types::{Instr, Module};
 
 // Ends the current function: its results are left for the caller. Says whether the run is over.
+#[inline(always)]
 pub(crate) fn return_from_function(machine: &mut Machine, m: &Module) -> bool
     requires { CanExit ByReturn m.now machine.old }
     ensures steps { (limits : Terms) (frame : ℕ) (store : Store) (r : ℕ → Ended)
@@ -22,7 +23,7 @@ pub(crate) fn return_from_function(machine: &mut Machine, m: &Module) -> bool
     ensures falls { IsFalse result → depth_of machine.new < depth_of machine.old }
 {
     let count = result_count(m, machine.at.function);
-    keep(&mut machine.values, count, machine.at.locals);
+    machine.values.keep(count, machine.at.locals);
     machine.labels.truncate(machine.at.labels);
     match machine.frames.pop() {
         Some(at) => {
@@ -34,6 +35,7 @@ pub(crate) fn return_from_function(machine: &mut Machine, m: &Module) -> bool
 }
 
 // Goes on at the label l, counted from the innermost; the outermost is the function's own. Says whether the run is over.
+#[inline(always)]
 pub(crate) fn branch(machine: &mut Machine, m: &Module, l: usize) -> bool
     requires { CanExit (ToLabel l) m.now machine.old }
     ensures steps { (limits : Terms) (frame : ℕ) (store : Store) (r : ℕ → Ended)
@@ -45,7 +47,7 @@ pub(crate) fn branch(machine: &mut Machine, m: &Module, l: usize) -> bool
         let index = count - 1 - l;
         let label = machine.labels[index];
         machine.labels.truncate(index);
-        keep(&mut machine.values, label.arity, label.base);
+        machine.values.keep(label.arity, label.base);
         machine.at.sequence = label.sequence;
         machine.at.place = label.target;
         false
@@ -76,6 +78,7 @@ pub(crate) fn end_sequence(machine: &mut Machine, m: &Module) -> bool
 }
 
 // A branch to the label l where the topmost operand is not 0. Says whether the run is over.
+#[inline(always)]
 pub(crate) fn branch_if(machine: &mut Machine, m: &Module, l: usize) -> bool
     requires { CanExecuteNext m.now (op.Plain (instr.BrIf l)) machine.old }
     ensures steps { (limits : Terms) (frame : ℕ) (store : Store) (here : ℕ) (r : ℕ → Ended)

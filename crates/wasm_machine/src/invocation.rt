@@ -1,6 +1,6 @@
 //! A function's run, from its beginning to its end or in slices.
 ghost use Rattle.std.specs.Prelude.{◌≡◌, ℕ, ◌+◌, ◌-◌, ◌*◌, ◌<◌, ◌≤◌, ◌^◌, List, Option, Some, IsSome, length, map, option_and_then, reverse, slice_get};
-ghost use Rattle.wasm_types.specs.declared.outcome.Val.{Val as AVal};
+ghost use Rattle.wasm_values.specs.declared.outcome.Val.{Val as AVal};
 ghost use Rattle.wasm_types.specs.declared.limits.RunLimits.{RunLimits as Limits};
 ghost use Rattle.wasm_types.specs.declared.instr.Width.TheVariants.{W32};
 ghost use Rattle.wasm_spec.specs.Functions.{host_type};
@@ -23,29 +23,20 @@ ghost use Rattle.wasm_machine.specs.TypedConfiguration.{IsRunnable, IsTypedStore
 
 use crate::calls::begin;
 use crate::lookup::host_of;
-use crate::running::{Halt, advance};
+use crate::running::{Halt, Inputs, advance};
 use crate::stacks::Stacks;
 use call_payload::AnswerBuf;
 use linear_memory::Memory;
 use machine_steps::{Machine, append_memory, copy_request};
-use wasm_types::{HostFunction, Module, Outcome, RunLimits, TrapKind, Val};
+use wasm_types::{HostFunction, Module, RunLimits};
 use wasm_validate::Valid;
+use wasm_values::{Outcome, TrapKind, Val};
 
 /// How a run ended, and the fuel that it left.
 #[derive(Clone, Copy, Debug, PartialEq, Eq)]
 pub struct RunEnd {
     pub outcome: Outcome,
     pub left: u64,
-}
-
-// The topmost value.
-fn top(values: &[Val]) -> Option<Val>
-    ensures { result ≡ slice_get (reverse values.now) 0 }
-{
-    match values.last() {
-        Some(v) => Some(*v),
-        None => None,
-    }
 }
 
 // The i32 that is an argument.
@@ -131,46 +122,41 @@ fn run_import(
 
 // Goes on from where a run stands, over a machine and the module's own globals.
 fn go_on(
-    m: &Module,
+    inputs: &Inputs,
     fuel: u64,
-    limits: RunLimits,
-    request: &[u8],
     memory: &mut Memory,
-    table: &[Option<u32>],
     globals: &mut [Val],
     answer: &mut AnswerBuf,
     machine: &mut Machine,
 ) -> RunEnd
-    requires runs { (frame : ℕ) × (r : ℕ → Ended) × IsRunnable m.now frame
-        × Simulates m.now (terms limits request.now) frame machine.old (store_of memory.old table.now globals.old answer.old) r }
-    requires memory { IsMemory (room_for m.now.memories limits.pages) memory.old }
-    requires short { length request.now < 2 ^ 32 }
-    ensures result { (frame : ℕ) (r : ℕ → Ended) → IsRunnable m.now frame
-        → Simulates m.now (terms limits request.now) frame machine.old (store_of memory.old table.now globals.old answer.old) r
-        → result_of (r fuel) ≡ Some (record { outcome = result.outcome; store = store_of memory.new table.now globals.new answer.new; fuel = result.left }) }
-    ensures ended { HasEnded result.outcome → (frame : ℕ) (r : ℕ → Ended) → IsRunnable m.now frame
-        → Simulates m.now (terms limits request.now) frame machine.old (store_of memory.old table.now globals.old answer.old) r → (more : ℕ)
-        → result_of (r (fuel - result.left + more)) ≡ Some (record { outcome = result.outcome; store = store_of memory.new table.now globals.new answer.new; fuel = more }) }
-    ensures stands { IsOutOfFuel result.outcome → (frame : ℕ) (r : ℕ → Ended) → IsRunnable m.now frame
-        → Simulates m.now (terms limits request.now) frame machine.old (store_of memory.old table.now globals.old answer.old) r
-        → Simulates m.now (terms limits request.now) frame machine.new (store_of memory.new table.now globals.new answer.new) (after fuel r) }
+    requires runs { (frame : ℕ) × (r : ℕ → Ended) × IsRunnable inputs.now.m.now frame
+        × Simulates inputs.now.m.now (terms inputs.now.limits inputs.now.request.now) frame machine.old (store_of memory.old inputs.now.table.now globals.old answer.old) r }
+    requires memory { IsMemory (room_for inputs.now.m.now.memories inputs.now.limits.pages) memory.old }
+    requires short { length inputs.now.request.now < 2 ^ 32 }
+    ensures result { (frame : ℕ) (r : ℕ → Ended) → IsRunnable inputs.now.m.now frame
+        → Simulates inputs.now.m.now (terms inputs.now.limits inputs.now.request.now) frame machine.old (store_of memory.old inputs.now.table.now globals.old answer.old) r
+        → result_of (r fuel) ≡ Some (record { outcome = result.outcome; store = store_of memory.new inputs.now.table.now globals.new answer.new; fuel = result.left }) }
+    ensures ended { HasEnded result.outcome → (frame : ℕ) (r : ℕ → Ended) → IsRunnable inputs.now.m.now frame
+        → Simulates inputs.now.m.now (terms inputs.now.limits inputs.now.request.now) frame machine.old (store_of memory.old inputs.now.table.now globals.old answer.old) r → (more : ℕ)
+        → result_of (r (fuel - result.left + more)) ≡ Some (record { outcome = result.outcome; store = store_of memory.new inputs.now.table.now globals.new answer.new; fuel = more }) }
+    ensures stands { IsOutOfFuel result.outcome → (frame : ℕ) (r : ℕ → Ended) → IsRunnable inputs.now.m.now frame
+        → Simulates inputs.now.m.now (terms inputs.now.limits inputs.now.request.now) frame machine.old (store_of memory.old inputs.now.table.now globals.old answer.old) r
+        → Simulates inputs.now.m.now (terms inputs.now.limits inputs.now.request.now) frame machine.new (store_of memory.new inputs.now.table.now globals.new answer.new) (after fuel r) }
     ensures left { result.left ≤ fuel }
-    ensures store { IsDone result.outcome → IsTypedStore m.now (store_of memory.new table.now globals.new answer.new) }
-    ensures marked { (frame : ℕ) (r : ℕ → Ended) → IsRunnable m.now frame
-        → Simulates m.now (terms limits request.now) frame machine.old (store_of memory.old table.now globals.old answer.old) r
+    ensures store { IsDone result.outcome → IsTypedStore inputs.now.m.now (store_of memory.new inputs.now.table.now globals.new answer.new) }
+    ensures marked { (frame : ℕ) (r : ℕ → Ended) → IsRunnable inputs.now.m.now frame
+        → Simulates inputs.now.m.now (terms inputs.now.limits inputs.now.request.now) frame machine.old (store_of memory.old inputs.now.table.now globals.old answer.old) r
         → (turns : ℕ) (x : CallResult) → turns ≤ fuel → result_of (r turns) ≡ Some x
         → KeepsUnmarked memory.old.bytes.items x.store.memory memory.old.marks.items memory.new.marks.items }
     ensures unspent { result.left ≡ fuel → memory.new.marks.items ≡ memory.old.marks.items }
-    ensures marks { MarksWithin m.now memory.old memory.new (2 * (fuel - result.left)) }
-    ensures memory { IsMemory (room_for m.now.memories limits.pages) memory.new }
+    ensures marks { MarksWithin inputs.now.m.now memory.old memory.new (2 * (fuel - result.left)) }
+    ensures memory { IsMemory (room_for inputs.now.m.now.memories inputs.now.limits.pages) memory.new }
     ensures globals { length globals.new ≡ length globals.old }
     ensures room { KeepsRoom machine.old machine.new }
 {
-    match advance(
-        machine, m, limits, request, memory, table, globals, answer, fuel,
-    ) {
+    match advance(machine, inputs, memory, globals, answer, fuel) {
         Halt::Done(left) => RunEnd {
-            outcome: Outcome::Done(top(&machine.values)),
+            outcome: Outcome::Done(machine.values.top()),
             left,
         },
         Halt::Trapped(t, left) => RunEnd {
@@ -238,13 +224,16 @@ impl Stacks {
     {
         let m = valid.module();
         let count = m.globals.len();
-        go_on(
+        let inputs = Inputs {
             m,
-            fuel,
             limits,
             request,
-            memory,
             table,
+        };
+        go_on(
+            &inputs,
+            fuel,
+            memory,
             &mut globals[..count],
             answer,
             &mut self.machine,

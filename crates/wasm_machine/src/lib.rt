@@ -7,8 +7,6 @@ mod invocation;
 mod lookup;
 mod running;
 mod stacks;
-#[cfg(test)]
-mod tests;
 
 pub use invocation::{RunEnd, run};
 pub use linear_memory::Memory;

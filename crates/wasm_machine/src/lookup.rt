@@ -1,6 +1,6 @@
 //! What a module has at a place.
 ghost use Rattle.wasm_types.specs.SameTypes.{same_type};
-ghost use Rattle.std.specs.Prelude.{◌≡◌, ◌+◌, ◌<◌, ◌^◌, IfSome, Some, length, option_and_then, option_copied, slice_get, unwrap_or};
+ghost use Rattle.std.specs.Prelude.{◌≡◌, ◌<◌, Some, length, option_and_then, option_copied, slice_get, unwrap_or};
 ghost use Rattle.wasm_types.specs.declared.types.FuncType.{FuncType};
 ghost use Rattle.wasm_spec.specs.Execution as execution;
 ghost use Rattle.wasm_spec.specs.Functions.{function_type, host_function as named_function};
@@ -10,19 +10,38 @@ ghost use Rattle.wasm_machine.specs.Simulation.{start_of as start};
 ghost use Rattle.wasm_types.specs.Sequences.{code_at, named_in, ops_of};
 ghost use Rattle.wasm_machine.specs.Remaining.{body_type, function_of, results};
 
+use machine_steps::Position;
 use wasm_checker::function_type;
-use wasm_types::{HostFunction, LocalRun, Module, Op, ValType, named, op_at, same_function_types};
+use wasm_types::{
+    FuncType, Function, HostFunction, LocalRun, Module, Op, ValType, named, same_function_types,
+};
 use wasm_validate::host_function;
 
-// How many results a function gives.
-pub(crate) fn result_count(m: &Module, function: usize) -> usize
-    ensures { result ≡ length (results m.now function) }
+// One of the module's own functions, by its number among these.
+fn function_at(m: &Module, x: usize) -> &Function
+    requires { x < length m.now.functions }
+    ensures { result.now ≡ function_of m.now x }
 {
-    match m.functions.as_slice().get(function) {
-        Some(f) => match m.types.as_slice().get(f.type_index as usize) {
-            Some(t) => t.results.len(),
-            None => 0,
-        },
+    &m.functions.as_slice()[x]
+}
+
+// The type that a function names.
+fn type_at(m: &Module, x: usize) -> Option<&FuncType>
+    requires { x < length m.now.functions }
+    ensures { option_copied result ≡ body_type (module_tree m.now) x }
+{
+    m.types
+        .as_slice()
+        .get(function_at(m, x).type_index as usize)
+}
+
+// How many results a function gives.
+pub(crate) fn result_count(m: &Module, x: usize) -> usize
+    requires { x < length m.now.functions }
+    ensures { result ≡ length (results m.now x) }
+{
+    match type_at(m, x) {
+        Some(t) => t.results.len(),
         None => 0,
     }
 }
@@ -37,58 +56,55 @@ pub(crate) fn value_count(t: Option<ValType>) -> usize
     }
 }
 
-// The instruction at a place, if there is one.
-pub(crate) fn op_of(m: &Module, function: usize, sequence: usize, place: usize) -> Option<&Op>
-    ensures is { option_copied result ≡ slice_get (ops_of (function_of m.now function).body sequence) place }
-    ensures fits { IfSome result (λ _. place + 1 < 2 ^ 64) }
+// The instructions of the sequence that a position is in: none where there is no such sequence.
+pub(crate) fn sequence_of(m: &Module, at: Position) -> &[Op]
+    requires { at.function < length m.now.functions }
+    ensures { result.now ≡ ops_of (function_of m.now at.function).body at.sequence }
 {
-    match m.functions.as_slice().get(function) {
-        Some(f) => op_at(&f.body, sequence, place),
-        None => None,
+    match function_at(m, at.function)
+        .body
+        .sequences
+        .as_slice()
+        .get(at.sequence)
+    {
+        Some(ops) => ops.as_slice(),
+        None => &[],
     }
 }
 
 // The number of the sequence that one sequence names by this number.
-pub(crate) fn named_by(m: &Module, function: usize, sequence: usize, inner: usize) -> usize
-    ensures { code_at (function_of m.now function).body result 0 ≡ named_in (function_of m.now function).body sequence inner }
+pub(crate) fn named_by(m: &Module, at: Position, inner: usize) -> usize
+    requires { at.function < length m.now.functions }
+    ensures { code_at (function_of m.now at.function).body result 0 ≡ named_in (function_of m.now at.function).body at.sequence inner }
 {
-    match m.functions.as_slice().get(function) {
-        Some(f) => named(&f.body, sequence, inner),
-        None => 0,
-    }
+    named(&function_at(m, at.function).body, at.sequence, inner)
 }
 
 // How many parameters a function takes.
-pub(crate) fn param_count(m: &Module, function: usize) -> usize
-    ensures { result ≡ length (params_or_none (body_type (module_tree m.now) function)) }
+pub(crate) fn param_count(m: &Module, x: usize) -> usize
+    requires { x < length m.now.functions }
+    ensures { result ≡ length (params_or_none (body_type (module_tree m.now) x)) }
 {
-    match m.functions.as_slice().get(function) {
-        Some(f) => match m.types.as_slice().get(f.type_index as usize) {
-            Some(t) => t.params.len(),
-            None => 0,
-        },
+    match type_at(m, x) {
+        Some(t) => t.params.len(),
         None => 0,
     }
 }
 
 // A function's declared locals.
-pub(crate) fn local_runs(m: &Module, function: usize) -> &[LocalRun]
-    ensures { result.now ≡ (function_of m.now function).locals }
+pub(crate) fn local_runs(m: &Module, x: usize) -> &[LocalRun]
+    requires { x < length m.now.functions }
+    ensures { result.now ≡ (function_of m.now x).locals }
 {
-    match m.functions.as_slice().get(function) {
-        Some(f) => f.locals.as_slice(),
-        None => &[],
-    }
+    function_at(m, x).locals.as_slice()
 }
 
 // The number of the sequence with which a function's body begins: its last one.
-pub(crate) fn start_of(m: &Module, function: usize) -> usize
-    ensures { result ≡ start m.now function }
+pub(crate) fn start_of(m: &Module, x: usize) -> usize
+    requires { x < length m.now.functions }
+    ensures { result ≡ start m.now x }
 {
-    match m.functions.as_slice().get(function) {
-        Some(f) => f.body.sequences.len().saturating_sub(1),
-        None => 0,
-    }
+    function_at(m, x).body.sequences.len().saturating_sub(1)
 }
 
 // The label that a table names at a place: the last one past its end.

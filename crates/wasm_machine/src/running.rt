@@ -1,7 +1,8 @@
 //! A run from a place on.
-ghost use Rattle.std.specs.Prelude.{◌≡◌, ℕ, List, ◌+◌, ◌-◌, ◌*◌, ◌<◌, ◌≤◌, ◌^◌, Option, Some, None, IfSome, length, option_copied};
-ghost use Rattle.wasm_types.specs.declared.outcome.Val.{Val};
+ghost use Rattle.std.specs.Prelude.{◌≡◌, ◌≢◌, ℕ, List, ◌+◌, ◌-◌, ◌*◌, ◌<◌, ◌≤◌, ◌^◌, Option, Some, None, IsFalse, length, slice_get};
+ghost use Rattle.wasm_values.specs.declared.outcome.Val.{Val as AVal};
 ghost use Rattle.wasm_types.specs.declared.instr.Op.TheVariants as op;
+ghost use Rattle.wasm_machine.specs.declared.running.Step.TheVariants as step;
 ghost use Rattle.wasm_spec.specs.Execution.{Ended, Terms, terms, most_pages as pages_at_most};
 ghost use Rattle.wasm_spec.specs.Store.{Store};
 ghost use Rattle.machine_steps.specs.StackLayout.{KeepsRoom};
@@ -10,19 +11,30 @@ ghost use Rattle.wasm_spec.specs.Instances.{room_for};
 ghost use Rattle.machine_steps.specs.Lent.{store_of};
 ghost use Rattle.wasm_machine.specs.Lent.{MarksWithin};
 ghost use Rattle.wasm_machine.specs.TypedConfiguration.{IsRunnable};
-ghost use Rattle.wasm_machine.specs.Simulation.{AreMarkedBelow, HasFetched, CanContinue, HaltsAs, Simulates, Fetches, SimulatesStep, left_of, op_at, paid, chosen_arm, step_unless_trapped, step_unless_over};
+ghost use Rattle.wasm_machine.specs.Simulation.{AreMarkedBelow, HasFetched, CanContinue, HaltsAs, IsStructured, Simulates, SimulatesStep, SimulatesUnlessOver, chosen_arm, left_of, op_at, paid, sequence_at, step_unless_over, step_unless_trapped};
 
 use crate::calls::{call, call_indirect};
 use crate::control::{end_sequence, jump};
-use crate::lookup::{most_pages, named_by, op_of, value_count};
+use crate::lookup::{most_pages, named_by, sequence_of, value_count};
 use call_payload::AnswerBuf;
 use linear_memory::Memory;
-use machine_steps::{Machine, is_jump};
-use wasm_types::{Instr, Module, Op, RunLimits, TrapKind, Val};
+use machine_steps::{Effect, Machine};
+use wasm_types::{Instr, Module, Op, RunLimits};
+use wasm_values::{TrapKind, Val};
 
-// What a step comes to: the run goes on, is over, or traps.
+/// What a run reads and does not change.
+#[derive(Clone, Copy)]
+pub(crate) struct Inputs<'a> {
+    pub m: &'a Module,
+    pub limits: RunLimits,
+    pub request: &'a [u8],
+    pub table: &'a [Option<u32>],
+}
+
+// What a step comes to: the run goes on in the same sequence, or wherever it stands then, is over, or traps.
 #[derive(Clone, Copy, Debug, PartialEq, Eq)]
 pub(crate) enum Step {
+    Stays,
     Continues,
     Finishes,
     Traps(TrapKind),
@@ -44,6 +56,7 @@ fn arm_of(condition: u32, first: usize, second: usize) -> usize
 }
 
 // Whether a run is over.
+#[inline(always)]
 fn unless_over(over: bool) -> Step
     ensures { result ≡ step_unless_over over }
 {
@@ -54,7 +67,7 @@ fn unless_over(over: bool) -> Step
     }
 }
 
-// Whether a run stops.
+// What a function of the host comes to in place of a call.
 pub(crate) fn unless_trapped(trap: Option<TrapKind>) -> Step
     ensures { result ≡ step_unless_trapped trap }
 {
@@ -64,169 +77,221 @@ pub(crate) fn unless_trapped(trap: Option<TrapKind>) -> Step
     }
 }
 
-// Ends the sequences that are over, up to the next instruction. None: the run is over.
-fn fetch<'m>(machine: &mut Machine, m: &'m Module) -> Option<&'m Op>
-    requires { CanContinue m.now machine.old }
+// The instruction at a place of a sequence.
+#[inline(always)]
+fn op_in(ops: &[Op], place: usize) -> &Op
+    requires { place < length ops.now }
+    ensures is { slice_get ops.now place ≡ Some result.now }
+    ensures fits { place + 1 < 2 ^ 64 }
+{
+    &ops[place]
+}
+
+// Ends the current sequence, which is over, and those that are over then, up to the next instruction. Says whether the run is
+// over.
+#[inline(never)]
+fn end_sequences(machine: &mut Machine, m: &Module) -> bool
+    requires over { op_at m.now machine.old ≡ None }
+    requires can { CanContinue m.now machine.old }
     ensures steps { (limits : Terms) (frame : ℕ) (store : Store) (r : ℕ → Ended)
-        → Simulates m.now limits frame machine.old store r → Fetches (option_copied result) m.now limits frame machine.new store r }
+        → Simulates m.now limits frame machine.old store r → SimulatesUnlessOver result m.now limits frame machine.new store r }
+    ensures there { IsFalse result → machine.new.at.place < length (sequence_at m.now machine.new) }
     ensures room { KeepsRoom machine.old machine.new }
-    ensures fits { IfSome result (λ _. machine.new.at.place + 1 < 2 ^ 64) }
 {
     loop {
-        match op_of(
-            m,
-            machine.at.function,
-            machine.at.sequence,
-            machine.at.place,
-        ) {
-            Some(op) => return Some(op),
-            None => {
-                if end_sequence(machine, m) {
-                    return None;
-                }
-            }
+        if end_sequence(machine, m) {
+            return true;
+        }
+        let ops = sequence_of(m, machine.at);
+        if machine.at.place < ops.len() {
+            return false;
         }
     }
 }
 
-// The instruction at which the machine stands.
-fn execute(
+// Goes to the next instruction, and to the instructions of its sequence. Says whether the run is over.
+#[inline(always)]
+fn fetch<'m>(machine: &mut Machine, m: &'m Module, ops: &mut &'m [Op]) -> bool
+    requires current { ops.old.now ≡ sequence_at m.now machine.old }
+    requires can { CanContinue m.now machine.old }
+    ensures steps { (limits : Terms) (frame : ℕ) (store : Store) (r : ℕ → Ended)
+        → Simulates m.now limits frame machine.old store r → SimulatesUnlessOver result m.now limits frame machine.new store r }
+    ensures there { IsFalse result → machine.new.at.place < length ops.new.now }
+    ensures current { IsFalse result → ops.new.now ≡ sequence_at m.now machine.new }
+    ensures room { KeepsRoom machine.old machine.new }
+{
+    if machine.at.place < ops.len() {
+        return false;
+    }
+    if end_sequences(machine, m) {
+        return true;
+    }
+    *ops = sequence_of(m, machine.at);
+    false
+}
+
+// A block, a loop, an `if` or a call, at which the machine stands.
+#[inline(always)]
+fn execute_structured(
     machine: &mut Machine,
-    m: &Module,
-    limits: RunLimits,
-    most: u32,
-    request: &[u8],
+    inputs: &Inputs,
     memory: &mut Memory,
-    table: &[Option<u32>],
-    globals: &mut [Val],
     answer: &mut AnswerBuf,
     op: &Op,
 ) -> Step
-    requires there { op_at m.now machine.old ≡ Some op.now }
+    requires there { op_at inputs.now.m.now machine.old ≡ Some op.now }
+    requires structured { IsStructured op.now }
     requires fits { machine.old.at.place + 1 < 2 ^ 64 }
-    requires most { most ≡ pages_at_most m.now.memories limits.pages }
-    requires runs { (frame : ℕ) × (r : ℕ → Ended) × IsRunnable m.now frame
-        × Simulates m.now (terms limits request.now) frame machine.old (store_of memory.old table.now globals.old answer.old) r }
-    requires memory { IsMemory (room_for m.now.memories limits.pages) memory.old }
-    requires short { length request.now < 2 ^ 32 }
-    ensures steps { (frame : ℕ) (r : ℕ → Ended) → IsRunnable m.now frame
-        → Simulates m.now (terms limits request.now) frame machine.old (store_of memory.old table.now globals.old answer.old) r
-        → SimulatesStep result m.now (terms limits request.now) frame machine.new (store_of memory.new table.now globals.new answer.new) (paid r) }
+    requires runs { (frame : ℕ) × (globals : List AVal) × (r : ℕ → Ended) × IsRunnable inputs.now.m.now frame
+        × Simulates inputs.now.m.now (terms inputs.now.limits inputs.now.request.now) frame machine.old (store_of memory.old inputs.now.table.now globals answer.old) r }
+    requires memory { IsMemory (room_for inputs.now.m.now.memories inputs.now.limits.pages) memory.old }
+    requires short { length inputs.now.request.now < 2 ^ 32 }
+    ensures steps { (frame : ℕ) (globals : List AVal) (r : ℕ → Ended) → IsRunnable inputs.now.m.now frame
+        → Simulates inputs.now.m.now (terms inputs.now.limits inputs.now.request.now) frame machine.old (store_of memory.old inputs.now.table.now globals answer.old) r
+        → SimulatesStep result inputs.now.m.now (terms inputs.now.limits inputs.now.request.now) frame machine.new (store_of memory.new inputs.now.table.now globals answer.new) (paid r) }
     ensures room { KeepsRoom machine.old machine.new }
-    ensures memory { IsMemory (room_for m.now.memories limits.pages) memory.new }
-    ensures marks { MarksWithin m.now memory.old memory.new 2 }
-    ensures globals { length globals.new ≡ length globals.old }
+    ensures memory { IsMemory (room_for inputs.now.m.now.memories inputs.now.limits.pages) memory.new }
+    ensures marks { MarksWithin inputs.now.m.now memory.old memory.new 2 }
+    ensures moves { result ≢ step.Stays }
 {
     let here = machine.at.place;
     machine.at.place = here + 1;
     match op {
         Op::Block(t, q) => {
-            let inner = named_by(m, machine.at.function, machine.at.sequence, *q);
+            let inner = named_by(inputs.m, machine.at, *q);
             machine.enter_block(value_count(*t), here + 1, inner);
             Step::Continues
         }
         Op::Loop(_, q) => {
-            let inner = named_by(m, machine.at.function, machine.at.sequence, *q);
+            let inner = named_by(inputs.m, machine.at, *q);
             machine.enter_block(0, here, inner);
             Step::Continues
         }
-        Op::Call(x) => call(machine, m, limits, request, memory, answer, *x),
-        Op::Plain(instr) => execute_plain(
-            machine, m, limits, most, request, memory, table, globals, instr, here,
-        ),
+        Op::Call(x) => call(machine, inputs, memory, answer, *x),
+        Op::Plain(_) => unreachable!(),
         Op::If(t, first, second) => {
             let c = machine.pop32();
-            let inner = named_by(
-                m,
-                machine.at.function,
-                machine.at.sequence,
-                arm_of(c, *first, *second),
-            );
+            let inner = named_by(inputs.m, machine.at, arm_of(c, *first, *second));
             machine.enter_block(value_count(*t), here + 1, inner);
             Step::Continues
         }
-        Op::CallIndirect(x) => {
-            call_indirect(machine, m, limits, request, memory, table, answer, *x)
+        Op::CallIndirect(x) => { call_indirect(machine, inputs, memory, answer, *x) }
+    }
+}
+
+// The instruction at which the machine stands.
+#[inline(always)]
+fn execute(
+    machine: &mut Machine,
+    inputs: &Inputs,
+    most: u32,
+    memory: &mut Memory,
+    globals: &mut [Val],
+    answer: &mut AnswerBuf,
+    op: &Op,
+) -> Step
+    requires there { op_at inputs.now.m.now machine.old ≡ Some op.now }
+    requires fits { machine.old.at.place + 1 < 2 ^ 64 }
+    requires most { most ≡ pages_at_most inputs.now.m.now.memories inputs.now.limits.pages }
+    requires runs { (frame : ℕ) × (r : ℕ → Ended) × IsRunnable inputs.now.m.now frame
+        × Simulates inputs.now.m.now (terms inputs.now.limits inputs.now.request.now) frame machine.old (store_of memory.old inputs.now.table.now globals.old answer.old) r }
+    requires memory { IsMemory (room_for inputs.now.m.now.memories inputs.now.limits.pages) memory.old }
+    requires short { length inputs.now.request.now < 2 ^ 32 }
+    ensures steps { (frame : ℕ) (r : ℕ → Ended) → IsRunnable inputs.now.m.now frame
+        → Simulates inputs.now.m.now (terms inputs.now.limits inputs.now.request.now) frame machine.old (store_of memory.old inputs.now.table.now globals.old answer.old) r
+        → SimulatesStep result inputs.now.m.now (terms inputs.now.limits inputs.now.request.now) frame machine.new (store_of memory.new inputs.now.table.now globals.new answer.new) (paid r) }
+    ensures room { KeepsRoom machine.old machine.new }
+    ensures memory { IsMemory (room_for inputs.now.m.now.memories inputs.now.limits.pages) memory.new }
+    ensures marks { MarksWithin inputs.now.m.now memory.old memory.new 2 }
+    ensures globals { length globals.new ≡ length globals.old }
+    ensures stays { result ≡ step.Stays → sequence_at inputs.now.m.now machine.new ≡ sequence_at inputs.now.m.now machine.old }
+{
+    match op {
+        Op::Plain(instr) => {
+            let here = machine.at.place;
+            machine.at.place = here + 1;
+            execute_plain(machine, inputs, most, memory, globals, instr, here)
         }
+        _ => execute_structured(machine, inputs, memory, answer, op),
     }
 }
 
 // A plain instruction, behind which the machine stands.
+#[inline(always)]
 fn execute_plain(
     machine: &mut Machine,
-    m: &Module,
-    limits: RunLimits,
+    inputs: &Inputs,
     most: u32,
-    request: &[u8],
     memory: &mut Memory,
-    table: &[Option<u32>],
     globals: &mut [Val],
     instr: &Instr,
     here: usize,
 ) -> Step
-    requires most { most ≡ pages_at_most m.now.memories limits.pages }
-    requires runs { (frame : ℕ) × (answer : List ℕ) × (r : ℕ → Ended) × IsRunnable m.now frame
-        × HasFetched m.now (terms limits request.now) frame machine.old (store_of memory.old table.now globals.old answer) here (op.Plain instr.now) r }
-    requires memory { IsMemory (room_for m.now.memories limits.pages) memory.old }
-    ensures steps { (frame : ℕ) (answer : List ℕ) (r : ℕ → Ended) → IsRunnable m.now frame
-        → HasFetched m.now (terms limits request.now) frame machine.old (store_of memory.old table.now globals.old answer) here (op.Plain instr.now) r
-        → SimulatesStep result m.now (terms limits request.now) frame machine.new (store_of memory.new table.now globals.new answer) (paid r) }
+    requires most { most ≡ pages_at_most inputs.now.m.now.memories inputs.now.limits.pages }
+    requires runs { (frame : ℕ) × (answer : List ℕ) × (r : ℕ → Ended) × IsRunnable inputs.now.m.now frame
+        × HasFetched inputs.now.m.now (terms inputs.now.limits inputs.now.request.now) frame machine.old (store_of memory.old inputs.now.table.now globals.old answer) here (op.Plain instr.now) r }
+    requires memory { IsMemory (room_for inputs.now.m.now.memories inputs.now.limits.pages) memory.old }
+    ensures steps { (frame : ℕ) (answer : List ℕ) (r : ℕ → Ended) → IsRunnable inputs.now.m.now frame
+        → HasFetched inputs.now.m.now (terms inputs.now.limits inputs.now.request.now) frame machine.old (store_of memory.old inputs.now.table.now globals.old answer) here (op.Plain instr.now) r
+        → SimulatesStep result inputs.now.m.now (terms inputs.now.limits inputs.now.request.now) frame machine.new (store_of memory.new inputs.now.table.now globals.new answer) (paid r) }
     ensures room { KeepsRoom machine.old machine.new }
-    ensures memory { IsMemory (room_for m.now.memories limits.pages) memory.new }
-    ensures marks { MarksWithin m.now memory.old memory.new 2 }
+    ensures memory { IsMemory (room_for inputs.now.m.now.memories inputs.now.limits.pages) memory.new }
+    ensures marks { MarksWithin inputs.now.m.now memory.old memory.new 2 }
     ensures globals { length globals.new ≡ length globals.old }
+    ensures stays { result ≡ step.Stays → sequence_at inputs.now.m.now machine.new ≡ sequence_at inputs.now.m.now machine.old }
 {
-    if is_jump(instr) {
-        unless_over(jump(machine, m, instr))
-    } else {
-        unless_trapped(machine.plain(most, memory, globals, instr))
+    match machine.plain(most, memory, globals, instr) {
+        Effect::Stays => Step::Stays,
+        Effect::Traps(t) => Step::Traps(t),
+        Effect::Jumps => unless_over(jump(machine, inputs.m, instr)),
     }
 }
 
 // Runs to the end, to a trap, or to the end of the fuel.
 pub(crate) fn advance(
     machine: &mut Machine,
-    m: &Module,
-    limits: RunLimits,
-    request: &[u8],
+    inputs: &Inputs,
     memory: &mut Memory,
-    table: &[Option<u32>],
     globals: &mut [Val],
     answer: &mut AnswerBuf,
     fuel: u64,
 ) -> Halt
-    requires runs { (frame : ℕ) × (r : ℕ → Ended) × IsRunnable m.now frame
-        × Simulates m.now (terms limits request.now) frame machine.old (store_of memory.old table.now globals.old answer.old) r }
-    requires memory { IsMemory (room_for m.now.memories limits.pages) memory.old }
-    requires short { length request.now < 2 ^ 32 }
-    ensures halts { (frame : ℕ) (r : ℕ → Ended) → IsRunnable m.now frame
-        → Simulates m.now (terms limits request.now) frame machine.old (store_of memory.old table.now globals.old answer.old) r
-        → HaltsAs result m.now (terms limits request.now) frame machine.new (store_of memory.new table.now globals.new answer.new) fuel r }
-    ensures marked { (frame : ℕ) (r : ℕ → Ended) → IsRunnable m.now frame
-        → Simulates m.now (terms limits request.now) frame machine.old (store_of memory.old table.now globals.old answer.old) r
+    requires runs { (frame : ℕ) × (r : ℕ → Ended) × IsRunnable inputs.now.m.now frame
+        × Simulates inputs.now.m.now (terms inputs.now.limits inputs.now.request.now) frame machine.old (store_of memory.old inputs.now.table.now globals.old answer.old) r }
+    requires memory { IsMemory (room_for inputs.now.m.now.memories inputs.now.limits.pages) memory.old }
+    requires short { length inputs.now.request.now < 2 ^ 32 }
+    ensures halts { (frame : ℕ) (r : ℕ → Ended) → IsRunnable inputs.now.m.now frame
+        → Simulates inputs.now.m.now (terms inputs.now.limits inputs.now.request.now) frame machine.old (store_of memory.old inputs.now.table.now globals.old answer.old) r
+        → HaltsAs result inputs.now.m.now (terms inputs.now.limits inputs.now.request.now) frame machine.new (store_of memory.new inputs.now.table.now globals.new answer.new) fuel r }
+    ensures marked { (frame : ℕ) (r : ℕ → Ended) → IsRunnable inputs.now.m.now frame
+        → Simulates inputs.now.m.now (terms inputs.now.limits inputs.now.request.now) frame machine.old (store_of memory.old inputs.now.table.now globals.old answer.old) r
         → AreMarkedBelow (fuel + 1) r memory.old memory.new }
     ensures left { left_of result ≤ fuel }
     ensures unspent { left_of result ≡ fuel → memory.new.marks.items ≡ memory.old.marks.items }
-    ensures marks { MarksWithin m.now memory.old memory.new (2 * (fuel - left_of result)) }
+    ensures marks { MarksWithin inputs.now.m.now memory.old memory.new (2 * (fuel - left_of result)) }
     ensures room { KeepsRoom machine.old machine.new }
-    ensures memory { IsMemory (room_for m.now.memories limits.pages) memory.new }
+    ensures memory { IsMemory (room_for inputs.now.m.now.memories inputs.now.limits.pages) memory.new }
     ensures globals { length globals.new ≡ length globals.old }
 {
-    let most = most_pages(m, limits.pages);
-    for spent in 0..fuel {
-        match fetch(machine, m) {
-            None => return Halt::Done(fuel - spent),
-            Some(op) => match execute(
-                machine, m, limits, most, request, memory, table, globals, answer, op,
-            ) {
-                Step::Continues => {}
-                Step::Finishes => return Halt::Done(fuel - spent - 1),
-                Step::Traps(t) => return Halt::Trapped(t, fuel - spent - 1),
-            },
+    let most = most_pages(inputs.m, inputs.limits.pages);
+    let mut ops = sequence_of(inputs.m, machine.at);
+    let mut left = fuel;
+    while left > 0 {
+        if fetch(machine, inputs.m, &mut ops) {
+            return Halt::Done(left);
+        }
+        left -= 1;
+        let op = op_in(ops, machine.at.place);
+        match execute(machine, inputs, most, memory, globals, answer, op) {
+            Step::Stays => {}
+            Step::Continues => ops = sequence_of(inputs.m, machine.at),
+            Step::Finishes => return Halt::Done(left),
+            Step::Traps(t) => return Halt::Trapped(t, left),
         }
     }
-    match fetch(machine, m) {
-        None => Halt::Done(0),
-        Some(_) => Halt::OutOfFuel,
+    if fetch(machine, inputs.m, &mut ops) {
+        Halt::Done(0)
+    } else {
+        Halt::OutOfFuel
     }
 }

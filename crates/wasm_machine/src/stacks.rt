@@ -4,7 +4,7 @@ ghost use Rattle.std.specs.Prelude.{◌≡◌, IfOk};
 use machine_steps::Machine;
 use std::alloc::Global;
 use std::marker::Model;
-use wasm_types::NoMemory;
+use wasm_values::NoMemory;
 
 /// Room for the frames of a run: so many of them, each of so many entries.
 #[derive(Drop)]

@@ -8,7 +8,7 @@ use Rattle.std.proofs.lemmas.Int.{ints, quot-rem, rem_below}
 use Rattle.std.proofs.lemmas.Nat.{pow_pos}
 use Rattle.std.proofs.Math.Nat.{div-le_self, div-mul-le_self, div-one}
 use Rattle.std.proofs.Math.Path.{ap₂}
-use Rattle.wasm_types.specs.declared.outcome.TrapKind.TheVariants.{Divide, Overflow}
+use Rattle.wasm_values.specs.declared.outcome.TrapKind.TheVariants.{Divide, Overflow}
 use Rattle.wasm_spec.specs.Operators.{signed, unsigned, overflows, div_s, rem_s}
 use Rattle.wasm_numeric.proofs.Signed.{signed-high, twice, unsigned-signed, signed-unsigned, mag-signed, signed-some}
 

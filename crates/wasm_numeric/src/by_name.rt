@@ -18,7 +18,8 @@ use crate::i64_operators::{
     i64_gt_u, i64_le_s, i64_le_u, i64_lt_s, i64_lt_u, i64_mul, i64_ne, i64_or, i64_popcnt,
     i64_rem_s, i64_rem_u, i64_rotl, i64_rotr, i64_shl, i64_shr_s, i64_shr_u, i64_sub, i64_xor,
 };
-use wasm_types::{BinaryOp, CompareOp, PackSize, TrapKind, UnaryOp};
+use wasm_types::{BinaryOp, CompareOp, PackSize, UnaryOp};
+use wasm_values::TrapKind;
 
 /// The value of an operator of one operand of 32 bits.
 pub fn unary32(op: UnaryOp, a: u32) -> u32

@@ -7,7 +7,7 @@ ghost use Rattle.std.specs.Prelude.{◌≡◌, bit_and, bit_or, bit_xor};
 ghost use Rattle.wasm_types.specs.declared.instr.CompareOp.TheVariants as compare_op;
 ghost use Rattle.wasm_spec.specs.Operators.{add, clz, compare, ctz, div_s, div_u, eqz, mul, popcnt, rem_s, rem_u, rotl, rotr, shl, shr_s, shr_u, sub};
 
-use wasm_types::TrapKind;
+use wasm_values::TrapKind;
 
 /// How many of the digits at the upper end are 0: all of them where the number is 0. Standard: `iclz`.
 #[tactic(auto, using(crate::proofs::StdOperators::clz_in_std))]

@@ -6,7 +6,7 @@
 ghost use Rattle.std.specs.Prelude.{◌≡◌, ◌↔◌, ℕ, ◌-◌, ◌/◌, ◌%◌, ◌^◌, ◌<◌, ◌≤◌, ◌++◌, take, drop, replicate, ℤ, pos, ◌+ℤ◌, ◌*ℤ◌, ◌≤ℤ◌, int_div, unsigned_abs};
 ghost use Rattle.wasm_types.specs.declared.instr.Width.{Width};
 ghost use Rattle.wasm_types.specs.declared.instr.PackSize.{PackSize};
-ghost use Rattle.wasm_types.specs.declared.outcome.TrapKind.TheVariants as trap;
+ghost use Rattle.wasm_values.specs.declared.outcome.TrapKind.TheVariants as trap;
 ghost use Rattle.wasm_spec.specs.Operators.{binary_digits, bit_width, div_s, extend_low, pack_bits, rem_s, rotl, rotr, shl, shr_s, shr_u, signed, wrap};
 
 /// A rotation by k places: the k digits that leave at one end come in at the other, in their order.

@@ -2,7 +2,7 @@
 use Rattle.std.proofs.Common.{ℕ, inl, inr, List, [], ◌∷◌, ◌++◌, Bool, true, false, map, Option, Some, None, arith}
 use Rattle.std.specs.Prelude.{◌==◌, if◌then◌else◌, find}
 use Rattle.std.specs.Option.{option_map_or}
-use Rattle.wasm_types.specs.declared.profile.Profile.TheVariants.{One, Two}
+use Rattle.wasm_values.specs.declared.profile.Profile.TheVariants.{One, Two}
 use Rattle.wasm_types.specs.declared.instr.Instr.{Instr}
 use Rattle.wasm_types.specs.Tree.{Code, End, Plain, Block, Loop, If, Call, CallIndirect, ModuleTree}
 use Rattle.wasm_spec.specs.Numbers.{TakesEach}

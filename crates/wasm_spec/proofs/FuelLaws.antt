@@ -3,9 +3,9 @@ use Rattle.std.proofs.Common.{◌≡◌, ℕ, zero, suc, ◌+◌, ◌<◌, ◌�
 use Rattle.std.specs.Prelude.{nat_lt, nat_le, slice_get, not}
 use Rattle.wasm_types.specs.declared.types.FuncType.{FuncType}
 use Rattle.wasm_types.specs.declared.types.ValType.{ValType}
-use Rattle.wasm_types.specs.declared.outcome.Val.{Val}
-use Rattle.wasm_types.specs.declared.outcome.Val.TheVariants as val
-use Rattle.wasm_types.specs.declared.outcome.TrapKind.TheVariants as trap
+use Rattle.wasm_values.specs.declared.outcome.Val.{Val}
+use Rattle.wasm_values.specs.declared.outcome.Val.TheVariants as val
+use Rattle.wasm_values.specs.declared.outcome.TrapKind.TheVariants as trap
 use Rattle.wasm_types.specs.SameTypes.{same_type}
 use Rattle.wasm_types.specs.Tree.{Code, End, Plain, Block, Loop, If, Call, CallIndirect, FunctionTree, ModuleTree}
 use Rattle.wasm_spec.specs.Store.{Store}

@@ -3,7 +3,7 @@ use Rattle.std.proofs.Common.{◌≡◌, ℕ, ◌≤◌, Bool, true, false, cond
 use Rattle.std.specs.Prelude.{Result, Ok, Err, nat_lt}
 use Rattle.std.proofs.lemmas.Bool.{ltb-false}
 use Rattle.wasm_types.specs.declared.limits.LoadLimits.{LoadLimits}
-use Rattle.wasm_types.specs.declared.profile.Profile.{Profile}
+use Rattle.wasm_values.specs.declared.profile.Profile.{Profile}
 use Rattle.wasm_types.specs.Tree.{ModuleTree}
 use Rattle.wasm_spec.specs.Grammar.{Spells}
 use Rattle.wasm_spec.proofs.UnambiguousModules.{spells-unique}

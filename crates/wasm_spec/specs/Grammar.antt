@@ -1,8 +1,8 @@
 -- Modules in the binary format, by profile. Source: WebAssembly Core Specification 1.0, section 5.5; for the section that
 -- profile 2 adds, version 2.0, section 5.5.16.
 use Rattle.std.specs.Prelude.{◌≡◌, ℕ, ◌<◌, ◌≤◌, ◌^◌, ◌⊎◌, ◌==◌, ◌*◌, if◌then◌else◌, List, [], ◌∷◌, length, map, flat_map, find, Option, Some, None}
-use Rattle.wasm_types.specs.declared.profile.Profile.{Profile}
-use Rattle.wasm_types.specs.declared.profile.Profile.TheVariants.{One, Two, Three}
+use Rattle.wasm_values.specs.declared.profile.Profile.{Profile}
+use Rattle.wasm_values.specs.declared.profile.Profile.TheVariants.{One, Two, Three}
 use Rattle.wasm_types.specs.declared.types.ValType.{ValType}
 use Rattle.wasm_types.specs.declared.module.LocalRun.{LocalRun}
 use Rattle.wasm_types.specs.declared.module.Import.{Import}

@@ -2,7 +2,7 @@
 use Rattle.std.specs.Prelude.{◌≡◌, ℕ, List, ◌∷◌, Option, Some, None, Result, Ok, Err, length, map, find, nat_lt}
 use Rattle.std.specs.List.{enumerate_from}
 use Rattle.wasm_types.specs.declared.limits.LoadLimits.{LoadLimits}
-use Rattle.wasm_types.specs.declared.profile.Profile.{Profile}
+use Rattle.wasm_values.specs.declared.profile.Profile.{Profile}
 use Rattle.wasm_types.specs.Tree.{ModuleTree}
 use Rattle.wasm_spec.specs.Validity.{IsSupported, IsValid}
 use Rattle.wasm_spec.specs.Need.{need}

@@ -14,8 +14,8 @@ use Rattle.wasm_types.specs.declared.instr.BinaryOp.{BinaryOp}
 use Rattle.wasm_types.specs.declared.instr.BinaryOp.TheVariants as binary_op
 use Rattle.wasm_types.specs.declared.instr.CompareOp.{CompareOp}
 use Rattle.wasm_types.specs.declared.instr.CompareOp.TheVariants as compare_op
-use Rattle.wasm_types.specs.declared.outcome.TrapKind.{TrapKind}
-use Rattle.wasm_types.specs.declared.outcome.TrapKind.TheVariants as trap
+use Rattle.wasm_values.specs.declared.outcome.TrapKind.{TrapKind}
+use Rattle.wasm_values.specs.declared.outcome.TrapKind.TheVariants as trap
 
 abbrev pub bit_width : Width → ℕ
 bit_width W32 = 32

@@ -1,9 +1,9 @@
 -- The result of a call: what invocation (WebAssembly Core Specification 1.0, section 4.5.5) gives a fresh instance, whose
 -- start function (section 4.5.4) runs first and on the same fuel.
 use Rattle.std.specs.Prelude.{ℕ, List, [], Option, Some, None, slice_get, reverse}
-use Rattle.wasm_types.specs.declared.outcome.Val.{Val}
-use Rattle.wasm_types.specs.declared.outcome.Outcome.{Outcome}
-use Rattle.wasm_types.specs.declared.outcome.Outcome.TheVariants as outcome
+use Rattle.wasm_values.specs.declared.outcome.Val.{Val}
+use Rattle.wasm_values.specs.declared.outcome.Outcome.{Outcome}
+use Rattle.wasm_values.specs.declared.outcome.Outcome.TheVariants as outcome
 use Rattle.wasm_types.specs.Tree.{ModuleTree}
 use Rattle.wasm_spec.specs.Store.{Store, fresh_store}
 use Rattle.wasm_spec.specs.Execution.{Terms, State, Signal, Next, Branch, Returned, Trapped, OutOfFuel, Stuck, Ended, ended, exec, call, with_function}

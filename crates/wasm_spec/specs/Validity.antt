@@ -5,8 +5,8 @@ use Rattle.wasm_types.specs.declared.types.ValType.{ValType}
 use Rattle.wasm_types.specs.declared.types.ValType.TheVariants.{I32, I64, F32, F64}
 use Rattle.wasm_types.specs.declared.types.FuncType.{FuncType}
 use Rattle.wasm_types.specs.declared.types.Limits.{Limits}
-use Rattle.wasm_types.specs.declared.outcome.Val.{Val}
-use Rattle.wasm_types.specs.declared.outcome.Val.TheVariants as val
+use Rattle.wasm_values.specs.declared.outcome.Val.{Val}
+use Rattle.wasm_values.specs.declared.outcome.Val.TheVariants as val
 use Rattle.wasm_types.specs.declared.instr.Instr.{Instr}
 use Rattle.wasm_types.specs.declared.instr.Instr.TheVariants as instr
 use Rattle.wasm_types.specs.declared.module.Export.{Export}
@@ -15,8 +15,8 @@ use Rattle.wasm_types.specs.declared.module.ExportDesc.TheVariants as desc
 use Rattle.wasm_types.specs.declared.module.Import.{Import}
 use Rattle.wasm_types.specs.declared.module.ImportDesc.TheVariants as item
 use Rattle.wasm_types.specs.declared.host.HostFunction.{HostFunction}
-use Rattle.wasm_types.specs.declared.profile.Profile.{Profile}
-use Rattle.wasm_types.specs.declared.profile.Profile.TheVariants.{One, Two, Three}
+use Rattle.wasm_values.specs.declared.profile.Profile.{Profile}
+use Rattle.wasm_values.specs.declared.profile.Profile.TheVariants.{One, Two, Three}
 use Rattle.wasm_types.specs.SameTypes.{same_type}
 use Rattle.wasm_types.specs.Tree.{Code, End, Plain, Block, Loop, If, Call, CallIndirect, GlobalTree, ElementTree, DataTree, ModuleTree}
 use Rattle.wasm_spec.specs.Functions.{host_function, host_type, Imported, callee_at, callee_type, function_type}

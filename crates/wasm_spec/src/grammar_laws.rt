@@ -1,8 +1,8 @@
 //! Laws of the binary format.
 
 ghost use Rattle.std.specs.Prelude.{◌≡◌, ℕ, false, List};
-ghost use Rattle.wasm_types.specs.declared.profile.Profile.{Profile};
-ghost use Rattle.wasm_types.specs.declared.profile.Profile.TheVariants.{One, Two};
+ghost use Rattle.wasm_values.specs.declared.profile.Profile.{Profile};
+ghost use Rattle.wasm_values.specs.declared.profile.Profile.TheVariants.{One, Two};
 ghost use Rattle.wasm_types.specs.Tree.{ModuleTree};
 ghost use Rattle.wasm_spec.specs.Bulk.{HasFewMarks, uses_bulk};
 ghost use Rattle.wasm_spec.specs.Grammar.{Spells};

@@ -1,10 +1,10 @@
 //! Laws of the definitions, as contracts of functions that do nothing.
 
 ghost use Rattle.std.specs.Prelude.{◌≡◌, ◌≢◌, ◌<◌, ◌≤◌, ◌+◌, ℕ, suc, true, false, List, Option, Some, None, Result};
-ghost use Rattle.wasm_types.specs.declared.outcome.Val.{Val};
+ghost use Rattle.wasm_values.specs.declared.outcome.Val.{Val};
 ghost use Rattle.wasm_types.specs.declared.types.ValType.{ValType};
 ghost use Rattle.wasm_types.specs.declared.instr.Instr.{Instr};
-ghost use Rattle.wasm_types.specs.declared.profile.Profile.{Profile};
+ghost use Rattle.wasm_values.specs.declared.profile.Profile.{Profile};
 ghost use Rattle.wasm_types.specs.declared.limits.LoadLimits.{LoadLimits};
 ghost use Rattle.wasm_types.specs.Tree.{Code, End, Plain, Block, Loop, If, Call, CallIndirect, FunctionTree, ModuleTree};
 ghost use Rattle.wasm_spec.specs.Functions.{Own, callee_at};

@@ -1,8 +1,7 @@
 //! Instructions, and code as numbered sequences of them.
 
-use crate::items::Items;
-use crate::outcome::Val;
 use crate::types::ValType;
+use wasm_values::{Items, Val};
 
 /// An integer type's width, in bits.
 #[derive(Clone, Copy, Debug, PartialEq, Eq)]

@@ -1,8 +1,8 @@
 //! Modules.
 
 use crate::instr::Expr;
-use crate::items::Items;
 use crate::types::{FuncType, GlobalType, Limits, ValType};
+use wasm_values::Items;
 
 /// So many locals of one type. Source: Core Specification 1.0, section 5.5.13 (locals).
 #[derive(Clone, Copy, Debug, PartialEq, Eq)]

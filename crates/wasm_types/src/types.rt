@@ -3,7 +3,7 @@
 ghost use Rattle.std.specs.Prelude.{◌≡◌};
 ghost use Rattle.wasm_types.specs.SameTypes.{all_same, same_type};
 
-use crate::items::Items;
+use wasm_values::Items;
 
 /// A value type. Source: Core Specification 1.0, section 2.3.1.
 #[derive(Clone, Copy, Debug, PartialEq, Eq)]

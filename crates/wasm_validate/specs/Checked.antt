@@ -2,7 +2,7 @@
 use Rattle.std.specs.Prelude.{◌≡◌, ℕ, ◌≤◌, List, All, IfSome, IsSome, length, map}
 use Rattle.wasm_types.specs.declared.module.Module.{Module}
 use Rattle.wasm_types.specs.Tree.{module_tree, global_tree, element_tree, data_tree}
-use Rattle.wasm_types.specs.declared.profile.Profile.TheVariants.{Three}
+use Rattle.wasm_values.specs.declared.profile.Profile.TheVariants.{Three}
 use Rattle.wasm_spec.specs.Functions.{Imported, callee_type}
 use Rattle.wasm_spec.specs.Need.{need}
 use Rattle.wasm_validate.specs.ByName.{AreByName}

@@ -4,7 +4,8 @@ ghost use Rattle.std.specs.Prelude.{◌≡◌, ℕ, Option, option_copied};
 ghost use Rattle.wasm_types.specs.Tree.{expr_tree, global_tree, module_tree};
 ghost use Rattle.wasm_spec.specs.Validity as validity;
 
-use wasm_types::{Expr, Global, Instr, Module, Op, Val, op_at};
+use wasm_types::{Expr, Global, Instr, Module, Op, op_at};
+use wasm_values::Val;
 
 // The one instruction of an expression.
 fn single_instruction(e: &Expr) -> Option<&Instr>

@@ -6,9 +6,8 @@ ghost use Rattle.wasm_types.specs.Tree.{module_tree};
 ghost use Rattle.wasm_spec.specs.Functions as functions;
 ghost use Rattle.wasm_spec.specs.Validity.{AreRunImports, IsHostImport};
 
-use wasm_types::{
-    FuncType, HostFunction, Import, ImportDesc, Module, Profile, ValType, same_types,
-};
+use wasm_types::{FuncType, HostFunction, Import, ImportDesc, Module, ValType, same_types};
+use wasm_values::Profile;
 
 // The function of the host that an item of `host` names.
 fn host_item(name: &[u8]) -> Option<HostFunction>

@@ -6,7 +6,8 @@ ghost use Rattle.wasm_validate.specs.Locals.{HasLocals, HasNoEmptyRun, HaveNoEmp
 
 use std::alloc::Global;
 use std::mem;
-use wasm_types::{Function, Items, LocalRun, Module};
+use wasm_types::{Function, LocalRun, Module};
+use wasm_values::Items;
 
 // The runs that have locals.
 fn with_locals(runs: Items<LocalRun>) -> Items<LocalRun>

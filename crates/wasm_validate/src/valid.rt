@@ -2,7 +2,7 @@
 
 ghost use Rattle.std.specs.Prelude.{◌≡◌, ◌<◌, ◌↔◌, ℕ, List, length, slice_get, IfSome, IfNone, IfOk, OnOk, IsErrOf, IsTrue, map};
 ghost use Rattle.wasm_types.specs.Tree.{module_tree};
-ghost use Rattle.wasm_types.specs.declared.profile.Profile.TheVariants.{Three};
+ghost use Rattle.wasm_values.specs.declared.profile.Profile.TheVariants.{Three};
 ghost use Rattle.wasm_spec.specs.Need.{need};
 ghost use Rattle.wasm_spec.specs.Validity.{IsSupported, IsValid, Exports};
 ghost use Rattle.wasm_validate.specs.Checked.{IsValidated};
@@ -21,7 +21,8 @@ use std::alloc::{AllocError, Global};
 use std::marker::Model;
 use thiserror::Error;
 use wasm_checker::CheckFault;
-use wasm_types::{Module, Profile};
+use wasm_types::Module;
+use wasm_values::Profile;
 
 /// Why a module is refused.
 #[derive(Clone, Copy, Debug, PartialEq, Eq, Error)]

@@ -1,11 +1,11 @@
 -- One call of `add`, which has no memory and no table: it needs a ticket alone.
 use Rattle.std.proofs.Common.{◌≡◌, true, true≢false, List, [], ◌∷◌, refl, sym, arith}
 use Rattle.std.specs.Prelude.{Option, Some, None}
-use Rattle.wasm_types.specs.declared.profile.Profile.TheVariants.{One}
-use Rattle.wasm_types.specs.declared.outcome.Val.{Val}
-use Rattle.wasm_types.specs.declared.outcome.Val.TheVariants.{I32}
-use Rattle.wasm_types.specs.declared.outcome.Outcome.{Outcome}
-use Rattle.wasm_types.specs.declared.outcome.Outcome.TheVariants as outcome
+use Rattle.wasm_values.specs.declared.profile.Profile.TheVariants.{One}
+use Rattle.wasm_values.specs.declared.outcome.Val.{Val}
+use Rattle.wasm_values.specs.declared.outcome.Val.TheVariants.{I32}
+use Rattle.wasm_values.specs.declared.outcome.Outcome.{Outcome}
+use Rattle.wasm_values.specs.declared.outcome.Outcome.TheVariants as outcome
 use Rattle.wasm_spec.specs.Execution.{exec}
 use Rattle.wasm_spec.specs.Store.{fresh_store}
 use Rattle.wasm_spec.proofs.AddModule.{add, add_bytes, add_loads, add_type}

@@ -1,8 +1,8 @@
 -- Callers whose seats have other numbers than they; what opens a pool, and what may be called at all.
 use Rattle.std.proofs.Common.{◌≡◌, ℕ, ◌+◌, true, false, true≢false, List, [], ◌∷◌, length, refl, ap, arith}
 use Rattle.std.specs.Prelude.{Some, None}
-use Rattle.wasm_types.specs.declared.outcome.Val.TheVariants.{I32}
-use Rattle.wasm_types.specs.declared.outcome.Outcome.TheVariants as outcome
+use Rattle.wasm_values.specs.declared.outcome.Val.TheVariants.{I32}
+use Rattle.wasm_values.specs.declared.outcome.Outcome.TheVariants as outcome
 use Rattle.wasm_types.specs.Tree.{ModuleTree}
 use Rattle.wasm_spec.specs.Execution.{exec}
 use Rattle.pool_core.specs.declared.events.Event.TheVariants.{Stamp}

@@ -2,12 +2,12 @@
 use Rattle.std.proofs.Common.{ℕ, ◌≤◌, inl, inr, List, [], ◌∷◌, ◌++◌, length, map, refl, arith, pos}
 use Rattle.std.specs.Prelude.{None, Ok, All, IsSome}
 use Rattle.std.proofs.lemmas.List.Elements.{All-nil, All-cons}
-use Rattle.wasm_types.specs.declared.profile.Profile.TheVariants.{One}
+use Rattle.wasm_values.specs.declared.profile.Profile.TheVariants.{One}
 use Rattle.wasm_types.specs.declared.limits.LoadLimits.{LoadLimits}
 use Rattle.wasm_types.specs.declared.types.ValType.TheVariants as type
 use Rattle.wasm_types.specs.declared.types.FuncType.{FuncType}
 use Rattle.wasm_types.specs.declared.types.Limits.{Limits}
-use Rattle.wasm_types.specs.declared.outcome.Val.TheVariants.{I32}
+use Rattle.wasm_values.specs.declared.outcome.Val.TheVariants.{I32}
 use Rattle.wasm_types.specs.declared.instr.Instr.{Instr}
 use Rattle.wasm_types.specs.declared.instr.Instr.TheVariants as instr
 use Rattle.wasm_types.specs.declared.instr.MemArg.{MemArg}

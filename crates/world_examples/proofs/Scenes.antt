@@ -3,8 +3,8 @@ use Rattle.std.proofs.Common.{◌≡◌, ℕ, zero, suc, Bool, true, false, ◌&
 use Rattle.std.specs.Prelude.{Option, Some, None, is_none, ◌==◌, slice_index, slice_index_or}
 use Rattle.std.specs.List.{list_any}
 use Rattle.std.proofs.lemmas.Bool.{and_parts, or_parts, eqb-true}
-use Rattle.wasm_types.specs.declared.profile.Profile.TheVariants.{One}
-use Rattle.wasm_types.specs.declared.outcome.Val.TheVariants.{I32}
+use Rattle.wasm_values.specs.declared.profile.Profile.TheVariants.{One}
+use Rattle.wasm_values.specs.declared.outcome.Val.TheVariants.{I32}
 use Rattle.pool_core.specs.declared.events.Event.{Event}
 use Rattle.pool_core.specs.declared.events.Event.TheVariants.{Release}
 use Rattle.pool_core.specs.PoolCore.{opening_core}

@@ -1,7 +1,7 @@
 -- What does not fit a word.
 use Rattle.std.proofs.Common.{◌≡◌, ℕ, true, false, true≢false, List, [], ◌∷◌, ◌++◌, refl, sym, ap, ◌∙◌, arith}
 use Rattle.std.specs.Prelude.{Option, Some, None, replicate, slice_index}
-use Rattle.wasm_types.specs.declared.outcome.Val.TheVariants.{I32}
+use Rattle.wasm_values.specs.declared.outcome.Val.TheVariants.{I32}
 use Rattle.wasm_spec.specs.Store.{minimum_of}
 use Rattle.pool_core.specs.declared.words.State.TheVariants.{Cold, Warm, Awaiting}
 use Rattle.pool_worlds.specs.Contents.{Named, Ticket, Memory, Table, MemoryContents, TableContents, memory_image, table_image, is_marked, Matches}

@@ -1,6 +1,6 @@
 use Rattle.std.proofs.Common.{◌≡◌, ◌∙◌, ◌++◌, List, length, take, drop, rules, subst}
 use Rattle.wasm_types.specs.Tree.{module_tree}
-use Rattle.wasm_types.specs.declared.outcome.Val.{Val}
+use Rattle.wasm_values.specs.declared.outcome.Val.{Val}
 use Rattle.wasm_spec.specs.Execution.{terms}
 use Rattle.wasm_spec.specs.Result.{function_result}
 use Rattle.pool_worlds.specs.Runs.{Leaves}

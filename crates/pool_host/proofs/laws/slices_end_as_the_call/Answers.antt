@@ -1,5 +1,5 @@
 use Rattle.std.proofs.Common.{◌≡◌, ℕ, List, [], Some, subst}
-use Rattle.wasm_types.specs.declared.outcome.Val.{Val}
+use Rattle.wasm_values.specs.declared.outcome.Val.{Val}
 use Rattle.wasm_spec.specs.Execution.{terms}
 use Rattle.wasm_spec.specs.Result.{call_result}
 use Rattle.pool_worlds.specs.Contents.{Named}

@@ -6,26 +6,26 @@ use Rattle.wasm_machine.proofs.calls.call_import.Goals as goal
 
 pub host-requires-clause-can : goal.host-requires-clause-can
 host-requires-clause-can c =
-    let (limits, can) = c.requires.can in
-    found_can c.args.m.now (terms limits c.args.request.now) can.frame c.args.machine.now can.store c.args.x can.to can.runnable can.calling c.requires.import
+    let can = c.requires.can in
+    found_can c.args.inputs.now.m.now (terms c.args.inputs.now.limits c.args.inputs.now.request.now) can.frame c.args.machine.now can.store c.args.x can.to can.runnable can.calling c.requires.import
     c.host_of.result c.host_of.ensures c.in-Some.function c.in-Some.is
 
 pub host-requires-clause-ready : goal.host-requires-clause-ready
 host-requires-clause-ready c =
-    let (limits, can) = c.requires.can in
-    found_ready c.args.m.now (terms limits c.args.request.now) can.frame c.args.machine.now can.store c.args.x can.to can.runnable can.calling c.requires.import
+    let can = c.requires.can in
+    found_ready c.args.inputs.now.m.now (terms c.args.inputs.now.limits c.args.inputs.now.request.now) can.frame c.args.machine.now can.store c.args.x can.to can.runnable can.calling c.requires.import
     c.host_of.result c.host_of.ensures c.in-Some.function c.in-Some.is
 
 pub unreachable-requires : goal.unreachable-requires
 unreachable-requires c =
-    let (limits, can) = c.requires.can in
-    some_function c.args.m.now (terms limits c.args.request.now) can.frame c.args.machine.now can.store c.args.x can.to can.runnable can.calling c.requires.import
+    let can = c.requires.can in
+    some_function c.args.inputs.now.m.now (terms c.args.inputs.now.limits c.args.inputs.now.request.now) can.frame c.args.machine.now can.store c.args.x can.to can.runnable can.calling c.requires.import
     c.host_of.result c.host_of.ensures c.in-None.is
 
 pub returns-clause-steps : goal.returns-clause-steps
-returns-clause-steps c limits frame table globals r run e =
-    let m = c.args.m.now in
-    let t : Terms = terms limits c.args.request.now in
+returns-clause-steps c frame table globals r run e =
+    let m = c.args.inputs.now.m.now in
+    let t : Terms = terms c.args.inputs.now.limits c.args.inputs.now.request.now in
     let before : Store = store_of c.args.memory.now table globals c.args.answer.now in
     let after : Store = store_of c.host.new.memory table globals c.host.new.answer in
     stopped c.host.result c.unless_trapped.result m t frame c.host.new.self after r c.unless_trapped.ensures

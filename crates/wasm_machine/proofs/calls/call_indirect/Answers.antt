@@ -14,50 +14,50 @@ read store table i o e is = ap (λ (t : List (Option ℕ)). slice_get t i) e ∙
 pub pop32-i-requires : goal.pop32-i-requires
 pop32-i-requires c =
     let e = c.requires.can in
-    element_number c.args.m.now (terms c.args.limits c.args.request.now) e.frame c.args.machine.now e.store e.here c.args.x e.to e.before
+    element_number c.args.inputs.now.m.now (terms c.args.inputs.now.limits c.args.inputs.now.request.now) e.frame c.args.machine.now e.store e.here c.args.x e.to e.before
 
 pub returns-in-None-clause-steps : goal.returns-in-None-clause-steps
 returns-in-None-clause-steps c frame globals here r run b =
-    let store : Store = store_of c.args.memory.now c.args.table.now globals c.args.answer.now in
-    no_element c.args.m.now (terms c.args.limits c.args.request.now) frame c.args.machine.now c.pop32-i.new.self store here c.args.x c.pop32-i.result r b c.pop32-i.ensures.represents
-    (read store c.args.table.now c.pop32-i.result None refl c.in-None.ensures)
+    let store : Store = store_of c.args.memory.now c.args.inputs.now.table.now globals c.args.answer.now in
+    no_element c.args.inputs.now.m.now (terms c.args.inputs.now.limits c.args.inputs.now.request.now) frame c.args.machine.now c.pop32-i.new.self store here c.args.x c.pop32-i.result r b c.pop32-i.ensures.represents
+    (read store c.args.inputs.now.table.now c.pop32-i.result None refl c.in-None.ensures)
 
 pub returns-in-Some-None-clause-steps : goal.returns-in-Some-None-clause-steps
 returns-in-Some-None-clause-steps c frame globals here r run b =
-    let store : Store = store_of c.args.memory.now c.args.table.now globals c.args.answer.now in
-    let got : Some None ≡ slice_get c.args.table.now c.pop32-i.result = cc (c.element_at.ensures, c.in-Some-None.is, c.in-Some-None.field-0-is) in
-    empty_element c.args.m.now (terms c.args.limits c.args.request.now) frame c.args.machine.now c.pop32-i.new.self store here c.args.x c.pop32-i.result r b c.pop32-i.ensures.represents
-    (read store c.args.table.now c.pop32-i.result (Some None) refl got)
+    let store : Store = store_of c.args.memory.now c.args.inputs.now.table.now globals c.args.answer.now in
+    let got : Some None ≡ slice_get c.args.inputs.now.table.now c.pop32-i.result = cc (c.element_at.ensures, c.in-Some-None.is, c.in-Some-None.field-0-is) in
+    empty_element c.args.inputs.now.m.now (terms c.args.inputs.now.limits c.args.inputs.now.request.now) frame c.args.machine.now c.pop32-i.new.self store here c.args.x c.pop32-i.result r b c.pop32-i.ensures.represents
+    (read store c.args.inputs.now.table.now c.pop32-i.result (Some None) refl got)
 
 pub returns-then-has_type-clause-steps : goal.returns-then-has_type-clause-steps
 returns-then-has_type-clause-steps c frame globals here r run b =
-    let store : Store = store_of c.args.memory.now c.args.table.now globals c.args.answer.now in
-    let m = c.args.m.now in
+    let store : Store = store_of c.args.memory.now c.args.inputs.now.table.now globals c.args.answer.now in
+    let m = c.args.inputs.now.m.now in
     let y : ℕ = c.in-Some-Some.y in
-    let got : Some (Some y) ≡ slice_get c.args.table.now c.pop32-i.result = cc (c.element_at.ensures, c.in-Some-Some.is, c.in-Some-Some.field-0-is) in
-    let there = read store c.args.table.now c.pop32-i.result (Some (Some y)) refl got in
-    c.call.ensures.steps frame c.args.table.now globals (paid r) run
-    (element_calls m (terms c.args.limits c.args.request.now) frame c.args.machine.now c.pop32-i.new.self store here c.args.x c.pop32-i.result r b c.pop32-i.ensures.represents y
+    let got : Some (Some y) ≡ slice_get c.args.inputs.now.table.now c.pop32-i.result = cc (c.element_at.ensures, c.in-Some-Some.is, c.in-Some-Some.field-0-is) in
+    let there = read store c.args.inputs.now.table.now c.pop32-i.result (Some (Some y)) refl got in
+    c.call.ensures.steps frame c.args.inputs.now.table.now globals (paid r) run
+    (element_calls m (terms c.args.inputs.now.limits c.args.inputs.now.request.now) frame c.args.machine.now c.pop32-i.new.self store here c.args.x c.pop32-i.result r b c.pop32-i.ensures.represents y
     (member m frame y run (b.stored.table c.pop32-i.result y there)) there c.has_type.result c.has_type.ensures c.if-has_type.true c.pop32-i.ensures.room)
 
 pub returns-else-has_type-clause-steps : goal.returns-else-has_type-clause-steps
 returns-else-has_type-clause-steps c frame globals here r run b =
-    let store : Store = store_of c.args.memory.now c.args.table.now globals c.args.answer.now in
-    let m = c.args.m.now in
+    let store : Store = store_of c.args.memory.now c.args.inputs.now.table.now globals c.args.answer.now in
+    let m = c.args.inputs.now.m.now in
     let y : ℕ = c.in-Some-Some.y in
-    let got : Some (Some y) ≡ slice_get c.args.table.now c.pop32-i.result = cc (c.element_at.ensures, c.in-Some-Some.is, c.in-Some-Some.field-0-is) in
-    let there = read store c.args.table.now c.pop32-i.result (Some (Some y)) refl got in
-    other_type m (terms c.args.limits c.args.request.now) frame c.args.machine.now c.pop32-i.new.self store here c.args.x c.pop32-i.result r b c.pop32-i.ensures.represents y
+    let got : Some (Some y) ≡ slice_get c.args.inputs.now.table.now c.pop32-i.result = cc (c.element_at.ensures, c.in-Some-Some.is, c.in-Some-Some.field-0-is) in
+    let there = read store c.args.inputs.now.table.now c.pop32-i.result (Some (Some y)) refl got in
+    other_type m (terms c.args.inputs.now.limits c.args.inputs.now.request.now) frame c.args.machine.now c.pop32-i.new.self store here c.args.x c.pop32-i.result r b c.pop32-i.ensures.represents y
     (member m frame y run (b.stored.table c.pop32-i.result y there)) there c.has_type.result c.has_type.ensures c.if-has_type.false
 
 pub call-requires-clause-can : goal.call-requires-clause-can
 call-requires-clause-can c =
     let h = c.requires.can in
-    let m = c.args.m.now in
-    let limits = terms c.args.limits c.args.request.now in
+    let m = c.args.inputs.now.m.now in
+    let limits = terms c.args.inputs.now.limits c.args.inputs.now.request.now in
     let y : ℕ = c.in-Some-Some.y in
-    let got : Some (Some y) ≡ slice_get c.args.table.now c.pop32-i.result = cc (c.element_at.ensures, c.in-Some-Some.is, c.in-Some-Some.field-0-is) in
-    let there = read h.store c.args.table.now c.pop32-i.result (Some (Some y)) h.tabled got in
+    let got : Some (Some y) ≡ slice_get c.args.inputs.now.table.now c.pop32-i.result = cc (c.element_at.ensures, c.in-Some-Some.is, c.in-Some-Some.field-0-is) in
+    let there = read h.store c.args.inputs.now.table.now c.pop32-i.result (Some (Some y)) h.tabled got in
     record {
       frame = h.frame;
       store = h.store;

@@ -2,7 +2,7 @@ use Rattle.std.proofs.Common.{◌++◌, List, length, map, take, get_or, replica
 use Rattle.std.proofs.lemmas.List.{take_all}
 use Rattle.std.specs.List.{flat_map}
 use Rattle.wasm_types.specs.declared.types.ValType.TheVariants.{I32}
-use Rattle.wasm_types.specs.declared.outcome.Val.{Val}
+use Rattle.wasm_values.specs.declared.outcome.Val.{Val}
 use Rattle.wasm_types.specs.declared.module.LocalRun.{LocalRun}
 use Rattle.wasm_types.specs.Tree.{locals_of}
 use Rattle.wasm_spec.specs.Execution.{zero_of}
@@ -27,7 +27,7 @@ loop-run-preserved c =
           ∙ ap (λ (v : Val). (c.args.values.now.items ++ before) ++ replicate run.count v) c.zero.ensures
           ∙ append_assoc c.args.values.now.items before (replicate run.count (zero_of run.value))
           ∙ ap (λ (l : List Val). c.args.values.now.items ++ l) (sym (zeros_more c.args.runs.now c.loop-run.run-index d c.loop-run-test.true));
-      capacity = omega (arith, c.fill.ensures.capacity);
+      room = omega (arith, c.fill.ensures.room);
     }
 
 pub returns-clause-items : goal.returns-clause-items

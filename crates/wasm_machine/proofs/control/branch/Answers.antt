@@ -21,8 +21,8 @@ pub returns-then-l-count-clause-steps : goal.returns-then-l-count-clause-steps
 returns-then-l-count-clause-steps c limits frame store r e =
     let o = open_count e.configuration c.args.machine.now e.represents in
     let old : Machine = c.args.machine.now in
-    let new : Machine = record { at = record old.at { sequence = c.index-label.result.now.sequence; place = c.index-label.result.now.target }; values = c.keep.new.stack; labels = c.truncate.new.self; frames = old.frames } in
-    let keeps : KeepsRoom old new = record { values = omega (arith, c.keep.ensures.capacity); labels = omega (arith, c.truncate.ensures.capacity); frames = omega arith } in
+    let new : Machine = record { at = record old.at { sequence = c.index-label.result.now.sequence; place = c.index-label.result.now.target }; values = c.keep.new.self; labels = c.truncate.new.self; frames = old.frames } in
+    let keeps : KeepsRoom old new = record { values = omega (arith, c.keep.ensures.room); labels = omega (arith, c.truncate.ensures.capacity); frames = omega arith } in
     shown_jump c.args.m.now limits frame old new c.args.l (c.len-count.result - 1 - c.args.l) c.index-label.result.now store r e (omega arith) (omega arith) c.index-label.ensures c.keep.ensures.kept c.truncate.ensures.items refl refl keeps
 
 pub returns-else-l-count-clause-steps : goal.returns-else-l-count-clause-steps

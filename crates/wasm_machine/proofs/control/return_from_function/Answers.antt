@@ -17,8 +17,8 @@ keep-requires c =
 pub returns-in-Some-clause-steps : goal.returns-in-Some-clause-steps
 returns-in-Some-clause-steps c limits frame store r e =
     let old : Machine = c.args.machine.now in
-    let new : Machine = record { at = c.in-Some.at; values = c.keep.new.stack; labels = c.truncate.new.self; frames = c.pop.new.self } in
-    let keeps : KeepsRoom old new = record { values = omega (arith, c.keep.ensures.capacity); labels = omega (arith, c.truncate.ensures.capacity); frames = omega (arith, c.in-Some.ensures.capacity) } in
+    let new : Machine = record { at = c.in-Some.at; values = c.keep.new.self; labels = c.truncate.new.self; frames = c.pop.new.self } in
+    let keeps : KeepsRoom old new = record { values = omega (arith, c.keep.ensures.room); labels = omega (arith, c.truncate.ensures.capacity); frames = omega (arith, c.in-Some.ensures.capacity) } in
     shown_caller c.args.m.now limits frame old new store r e
     (record { count = c.result_count-count.result; count_is = c.result_count-count.ensures; values = c.keep.ensures.kept; labels = c.truncate.ensures.items })
     keeps c.in-Some.ensures.items
@@ -26,7 +26,7 @@ returns-in-Some-clause-steps c limits frame store r e =
 pub returns-in-None-clause-steps : goal.returns-in-None-clause-steps
 returns-in-None-clause-steps c limits frame store r e =
     let old : Machine = c.args.machine.now in
-    let new : Machine = record { at = old.at; values = c.keep.new.stack; labels = c.truncate.new.self; frames = c.pop.new.self } in
+    let new : Machine = record { at = old.at; values = c.keep.new.self; labels = c.truncate.new.self; frames = c.pop.new.self } in
     shown_end c.args.m.now limits frame old new store r e
     (record { count = c.result_count-count.result; count_is = c.result_count-count.ensures; values = c.keep.ensures.kept; labels = c.truncate.ensures.items })
     (none_left old.frames.items (omega (arith, c.in-None.ensures.cases)))

@@ -1,7 +1,5 @@
-use Rattle.std.proofs.Common.{◌-◌, List, reverse, Some, ap, ◌∙◌, arith}
-use Rattle.std.specs.Prelude.{slice_get}
-use Rattle.wasm_types.specs.declared.outcome.Outcome.TheVariants as outcome
-use Rattle.wasm_types.specs.declared.outcome.Val.{Val}
+use Rattle.std.proofs.Common.{◌-◌, Some, ap, arith}
+use Rattle.wasm_values.specs.declared.outcome.Outcome.TheVariants as outcome
 use Rattle.wasm_spec.specs.Result.{result_of}
 use Rattle.machine_steps.specs.Lent.{store_of}
 use Rattle.wasm_machine.proofs.ResultLemmas.{at_fuel, done_at, trapped_at}
@@ -11,16 +9,14 @@ use Rattle.wasm_machine.proofs.invocation.go_on.Goals as goal
 
 pub returns-in-Done-clause-result : goal.returns-in-Done-clause-result
 returns-in-Done-clause-result c frame r run simulates =
-    let store = store_of c.advance.new.memory c.args.table.now c.advance.new.globals c.advance.new.answer in
-    let top = c.top.ensures ∙ ap (λ (l : List Val). slice_get (reverse l) 0) c.deref.ensures.value in
+    let store = store_of c.advance.new.memory c.args.inputs.now.table.now c.advance.new.globals c.advance.new.answer in
     at_fuel r c.args.fuel c.in-Done.left (λ more. Some (record { outcome = outcome.Done c.top.result; store = store; fuel = more })) c.in-Done.ensures.left
-    (done_at c.args.m.now c.advance.new.machine store r (c.args.fuel - c.in-Done.left) c.top.result top (c.in-Done.ensures.halts frame r run simulates))
+    (done_at c.args.inputs.now.m.now c.advance.new.machine store r (c.args.fuel - c.in-Done.left) c.top.result c.top.ensures (c.in-Done.ensures.halts frame r run simulates))
 
 pub returns-in-Done-clause-ended : goal.returns-in-Done-clause-ended
 returns-in-Done-clause-ended c done frame r run simulates more =
-    let store = store_of c.advance.new.memory c.args.table.now c.advance.new.globals c.advance.new.answer in
-    let top = c.top.ensures ∙ ap (λ (l : List Val). slice_get (reverse l) 0) c.deref.ensures.value in
-    done_at c.args.m.now c.advance.new.machine store r (c.args.fuel - c.in-Done.left) c.top.result top (c.in-Done.ensures.halts frame r run simulates) more
+    let store = store_of c.advance.new.memory c.args.inputs.now.table.now c.advance.new.globals c.advance.new.answer in
+    done_at c.args.inputs.now.m.now c.advance.new.machine store r (c.args.fuel - c.in-Done.left) c.top.result c.top.ensures (c.in-Done.ensures.halts frame r run simulates) more
 
 pub returns-in-Done-clause-store : goal.returns-in-Done-clause-store
 returns-in-Done-clause-store c done =
@@ -34,13 +30,13 @@ returns-in-Done-clause-marked c frame r run simulates turns x le e = c.in-Done.e
 
 pub returns-in-Trapped-clause-result : goal.returns-in-Trapped-clause-result
 returns-in-Trapped-clause-result c frame r run simulates =
-    let store = store_of c.advance.new.memory c.args.table.now c.advance.new.globals c.advance.new.answer in
+    let store = store_of c.advance.new.memory c.args.inputs.now.table.now c.advance.new.globals c.advance.new.answer in
     at_fuel r c.args.fuel c.in-Trapped.left (λ more. Some (record { outcome = outcome.Trap c.in-Trapped.t; store = store; fuel = more })) c.in-Trapped.ensures.left
     (trapped_at store r (c.args.fuel - c.in-Trapped.left) c.in-Trapped.t (c.in-Trapped.ensures.halts frame r run simulates))
 
 pub returns-in-Trapped-clause-ended : goal.returns-in-Trapped-clause-ended
 returns-in-Trapped-clause-ended c trapped frame r run simulates more =
-    let store = store_of c.advance.new.memory c.args.table.now c.advance.new.globals c.advance.new.answer in
+    let store = store_of c.advance.new.memory c.args.inputs.now.table.now c.advance.new.globals c.advance.new.answer in
     trapped_at store r (c.args.fuel - c.in-Trapped.left) c.in-Trapped.t (c.in-Trapped.ensures.halts frame r run simulates) more
 
 pub returns-in-Trapped-clause-marked : goal.returns-in-Trapped-clause-marked

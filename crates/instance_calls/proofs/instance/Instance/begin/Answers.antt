@@ -1,13 +1,13 @@
 use Rattle.std.proofs.Common.{◌≡◌, ◌∙◌, List, length, take, sym, ap, subst}
 use Rattle.wasm_types.specs.declared.module.Module.{Module}
-use Rattle.wasm_types.specs.declared.outcome.Val.{Val}
+use Rattle.wasm_values.specs.declared.outcome.Val.{Val}
 use Rattle.wasm_types.specs.Tree.{ModuleTree, module_tree}
 use Rattle.wasm_spec.specs.Execution.{terms}
 use Rattle.wasm_spec.specs.Store.{fresh_store}
 use Rattle.wasm_machine.specs.Calls.{FitsFrame}
 use Rattle.wasm_machine.specs.TypedConfiguration.{IsTypedStore}
 use Rattle.loaded_modules.specs.Within.{IsWithin}
-use Rattle.pool_limits.specs.Limits.{load_limits}
+use Rattle.module_limits.specs.Limits.{load_limits}
 use Rattle.paused_call.specs.Standing.{Stands}
 use Rattle.instance_calls.specs.CallWords.{MayCall, run_limits}
 use Rattle.instance_calls.specs.Instances.{IsFreshInstance}

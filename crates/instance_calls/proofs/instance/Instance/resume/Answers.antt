@@ -1,7 +1,7 @@
 use Rattle.std.proofs.Common.{Option, List, refl, sym, ap, subst}
 use Rattle.std.specs.Prelude.{is_some}
 use Rattle.wasm_types.specs.declared.module.Module.{Module}
-use Rattle.wasm_types.specs.declared.outcome.Val.{Val}
+use Rattle.wasm_values.specs.declared.outcome.Val.{Val}
 use Rattle.wasm_types.specs.Tree.{module_tree}
 use Rattle.wasm_spec.specs.Execution.{terms}
 use Rattle.wasm_spec.specs.Instances.{room_for}

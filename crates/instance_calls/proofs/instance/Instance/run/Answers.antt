@@ -2,7 +2,7 @@ use Rattle.std.proofs.Common.{sym, subst}
 use Rattle.wasm_types.specs.Tree.{ModuleTree, module_tree}
 use Rattle.wasm_machine.specs.TypedConfiguration.{IsTypedStore}
 use Rattle.loaded_modules.specs.Within.{IsWithin}
-use Rattle.pool_limits.specs.Limits.{load_limits}
+use Rattle.module_limits.specs.Limits.{load_limits}
 use Rattle.instance_calls.specs.CallWords.{MayCall}
 use Rattle.instance_calls.specs.Instances.{IsFreshInstance, instance_contents}
 use Rattle.instance_calls.specs.Runs.{RanOn}

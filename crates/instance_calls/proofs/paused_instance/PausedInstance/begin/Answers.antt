@@ -1,5 +1,5 @@
 use Rattle.std.proofs.Common.{ℕ, List, [], sym, ap, subst}
-use Rattle.wasm_types.specs.declared.outcome.Val.{Val}
+use Rattle.wasm_values.specs.declared.outcome.Val.{Val}
 use Rattle.wasm_spec.specs.Store.{fresh_store}
 use Rattle.pool_worlds.specs.Contents.{Named}
 use Rattle.instance_calls.specs.CallWords.{MayCall}

@@ -1,8 +1,8 @@
 use Rattle.std.proofs.Common.{◌≡◌, ◌+◌, ℕ, List, ◌∷◌, Option, replicate, refl, sym, ap, ◌∙◌, subst}
 use Rattle.std.specs.Prelude.{nat_le, length, Bool, if◌then◌else◌}
-use Rattle.wasm_types.specs.declared.outcome.TrapKind.{TrapKind}
-use Rattle.wasm_types.specs.declared.outcome.Val.{Val}
-use Rattle.wasm_types.specs.declared.outcome.Val.TheVariants as val
+use Rattle.wasm_values.specs.declared.outcome.TrapKind.{TrapKind}
+use Rattle.wasm_values.specs.declared.outcome.Val.{Val}
+use Rattle.wasm_values.specs.declared.outcome.Val.TheVariants as val
 use Rattle.wasm_types.specs.declared.instr.Instr.TheVariants as instr
 use Rattle.wasm_spec.specs.Operators.{wrap}
 use Rattle.wasm_spec.specs.Store.{Store, written}

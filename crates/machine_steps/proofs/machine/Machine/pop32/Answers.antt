@@ -1,5 +1,5 @@
 use Rattle.std.proofs.Common.{◌≡◌, sym, ◌∙◌}
-use Rattle.wasm_types.specs.declared.outcome.Val.TheVariants as val
+use Rattle.wasm_values.specs.declared.outcome.Val.TheVariants as val
 use Rattle.machine_steps.proofs.machine.Machine.pop32.Goals as goal
 
 pub unreachable-requires : goal.unreachable-requires

@@ -1,5 +1,5 @@
 use Rattle.std.proofs.Common.{◌∷◌, None, refl, subst, set}
-use Rattle.wasm_types.specs.declared.outcome.Val.{Val}
+use Rattle.wasm_values.specs.declared.outcome.Val.{Val}
 use Rattle.wasm_types.specs.declared.instr.Instr.TheVariants as instr
 use Rattle.machine_steps.specs.StackLayout.{Represents}
 use Rattle.machine_steps.proofs.KindLemmas.{local_tee_of, local_tee_means, after_as}

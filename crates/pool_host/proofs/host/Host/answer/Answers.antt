@@ -16,3 +16,6 @@ returns-in-Ok-take_slots-clause-trails g c =
     let have = still_have config host m x y keeps c.take_slots.new.passes c.in-Ok-take_slots.ensures.have in
     let gave = gave_those config host m x y keeps c.take_slots.new.passes c.give_slots.new.passes (c.give_slots.ensures.gave m have) in
     all_served config host m x c.args.passes.now c.take_slots.new.passes c.give_slots.new.passes c.in-Ok-take_slots.ensures.fresh c.in-Ok-take_slots.ensures.took gave c.run-outcome.result
+
+pub returns-in-Ok-take_slots-clause-answer : goal.returns-in-Ok-take_slots-clause-answer
+returns-in-Ok-take_slots-clause-answer g c = c.run-outcome.ensures.ends c.args.export.now c.in-Ok.ensures.found

@@ -1,4 +1,4 @@
-use Rattle.wasm_types.specs.declared.profile.Profile.{Profile}
+use Rattle.wasm_values.specs.declared.profile.Profile.{Profile}
 use Rattle.std.proofs.Common.{ℕ, List, [], subst}
 use Rattle.wasm_spec.specs.Numbers.{TakesBytes}
 use Rattle.wasm_spec.specs.Grammar.{TakesBody, TakesSizedBody}

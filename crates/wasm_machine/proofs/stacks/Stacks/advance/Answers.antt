@@ -1,6 +1,6 @@
 use Rattle.std.proofs.Common.{List, Some, drop, refl, ap, sym, ◌∙◌, subst}
 use Rattle.wasm_types.specs.declared.module.Module.{Module}
-use Rattle.wasm_types.specs.declared.outcome.Val.{Val}
+use Rattle.wasm_values.specs.declared.outcome.Val.{Val}
 use Rattle.wasm_spec.specs.Execution.{terms}
 use Rattle.machine_steps.specs.Lent.{store_of}
 use Rattle.wasm_machine.specs.Calls.{FitsFrame}

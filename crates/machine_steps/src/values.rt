@@ -1,0 +1,143 @@
+//! The values of a run, the top at the end.
+ghost use Rattle.std.specs.Prelude.{◌≡◌, ◌+◌, ◌<◌, ◌≤◌, List, [], ◌∷◌, ◌++◌, IfOk, get_or, length, reverse, set, slice_get, take, vec_capacity, vec_len};
+ghost use Rattle.wasm_values.specs.declared.outcome.Val.{Val as AVal};
+ghost use Rattle.wasm_values.specs.declared.outcome.Val.TheVariants as val;
+
+use crate::stack::push;
+use std::alloc::{AllocError, Global};
+use std::marker::Model;
+use wasm_values::Val;
+
+/// A stack of values in room that is had once. A cell above the top has what was left there, and is written again when the stack
+/// is that high.
+#[derive(Drop)]
+pub struct ValueStack {
+    cells: Vec<Val>,
+    height: usize,
+}
+
+// One cell more, in the room that there is. Few pushes come to it.
+#[cold]
+#[inline(never)]
+fn add_cell(cells: &mut Vec<Val>)
+    requires { vec_len cells.old < vec_capacity cells.old }
+    ensures items { cells.new.items ≡ cells.old.items ++ val.I32 0 ∷ [] }
+    ensures capacity { vec_capacity cells.old ≤ vec_capacity cells.new }
+{
+    push(cells, Val::I32(0));
+}
+
+impl Model for ValueStack {
+    ghost use Rattle.std.specs.Prelude.{◌≤◌, length, take, vec_capacity};
+    ghost use Rattle.machine_steps.specs.Values.{Values};
+
+    ghost Value = { Values };
+
+    ghost view = { λ stack. record { items = take stack.height stack.cells.items; room = vec_capacity stack.cells } };
+
+    ghost invariant = { λ stack. stack.height ≤ length stack.cells.items };
+}
+
+impl ValueStack {
+    /// No values, and room for at least so many.
+    ///
+    /// # Errors
+    ///
+    /// `AllocError` where memory was refused.
+    pub fn with_room(alloc: Global, room: usize) -> Result<ValueStack, AllocError>
+        ensures items { IfOk result (λ stack. stack.items ≡ []) }
+        ensures room { IfOk result (λ stack. room ≤ stack.room) }
+    {
+        Ok(ValueStack {
+            cells: Vec::with_capacity(alloc, room)?,
+            height: 0,
+        })
+    }
+
+    /// How many values there are.
+    pub fn len(&self) -> usize
+        ensures { result ≡ length self.now.items }
+    {
+        self.height
+    }
+
+    // The value so many places above another.
+    #[inline(always)]
+    pub(crate) fn at(&self, base: usize, x: u32) -> Val
+        requires { base + x < length self.now.items }
+        ensures { (d : AVal) → result ≡ get_or self.now.items (base + x) d }
+    {
+        self.cells[base + x as usize]
+    }
+
+    // Writes a value there.
+    #[inline(always)]
+    pub(crate) fn put(&mut self, base: usize, x: u32, v: Val)
+        requires { base + x < length self.old.items }
+        ensures items { self.new.items ≡ set self.old.items (base + x) v }
+        ensures room { self.new.room ≡ self.old.room }
+    {
+        self.cells[base + x as usize] = v;
+    }
+
+    /// Puts a value on the top, in the room that there is.
+    #[inline(always)]
+    pub fn push(&mut self, v: Val)
+        requires { length self.old.items < self.old.room }
+        ensures items { self.new.items ≡ self.old.items ++ v ∷ [] }
+        ensures room { self.old.room ≤ self.new.room }
+    {
+        let height = self.height;
+        self.height = height + 1;
+        if height < self.cells.len() {
+            self.cells[height] = v;
+        } else {
+            add_cell(&mut self.cells);
+            self.cells[height] = v;
+        }
+    }
+
+    // Takes the top off.
+    #[inline(always)]
+    pub(crate) fn pop(&mut self) -> Val
+        requires { 0 < length self.old.items }
+        ensures value { (rest : List AVal) (x : AVal) → self.old.items ≡ rest ++ x ∷ [] → (self.new.items ≡ rest) × (result ≡ x) }
+        ensures room { self.new.room ≡ self.old.room }
+        ensures free { length self.new.items < self.new.room }
+    {
+        self.height -= 1;
+        self.cells[self.height]
+    }
+
+    /// The topmost value.
+    pub fn top(&self) -> Option<Val>
+        ensures { result ≡ slice_get (reverse self.now.items) 0 }
+    {
+        if self.height == 0 {
+            None
+        } else {
+            Some(self.cells[self.height - 1])
+        }
+    }
+
+    /// Moves the topmost n values down to `base`, and drops what was left from there on.
+    #[inline(always)]
+    pub fn keep(&mut self, n: usize, base: usize)
+        requires { base + n ≤ length self.old.items }
+        ensures kept { (lower middle operands : List AVal) → self.old.items ≡ lower ++ middle ++ reverse operands → length lower ≡ base
+            → n ≤ length operands → self.new.items ≡ lower ++ reverse (take n operands) }
+        ensures room { self.new.room ≡ self.old.room }
+    {
+        let height = self.height;
+        self.cells.copy_within(height - n..height, base);
+        self.height = base + n;
+    }
+
+    /// Drops all values.
+    pub fn clear(&mut self)
+        ensures items { self.new.items ≡ [] }
+        ensures room { self.new.room ≡ self.old.room }
+    {
+        self.height = 0;
+    }
+}

@@ -1,0 +1,294 @@
+//! Whole runs on request files that retire modules.
+use crate::files::{BUMPS, answered_beside_a_held_call};
+use host_edge::{MemSink, MemSource, OpenGate};
+use host_run::serve;
+use std::alloc::Global;
+use std::process::Abort;
+use std::sync::Wait;
+use std::test::Fail;
+use std::thread::Threads;
+
+// What a run on these words, parted by spaces, over a file must end with, and write.
+fn check<R: Abort + Threads + Wait + Sync>(
+    rt: &R,
+    alloc: Global,
+    line: &str,
+    text: &str,
+    status: u8,
+    written: &str,
+) -> Result<(), Fail> {
+    let mut words = Vec::new(alloc);
+    for word in line.split_whitespace() {
+        words.push(word)?;
+    }
+    let bytes = text.as_bytes().to_vec(alloc)?;
+    let mut source = MemSource::new(bytes, 4096, Vec::new(alloc));
+    let mut sink = MemSink::new(alloc, 65536, Vec::new(alloc));
+    let ended = serve(rt, alloc, &words, &mut source, &mut sink, &OpenGate);
+    assert_eq!(rt; sink.bytes(), written.as_bytes(), "{line} on {text}");
+    assert_eq!(rt; ended, status, "{line} on {text}");
+    Ok(())
+}
+
+// The words of runs that write the same report on a file of profile 5.
+const LINES: [&str; 3] = [
+    "poolhost run --pages 1",
+    "poolhost run --pages 1 --workers 4",
+    "poolhost run --pages 1 --workers 16 --instances 2 --memories 2 --tables 2 --slice 1",
+];
+
+// Two modules of the same bytes that count in their memory, one that adds, and one that is cut off.
+const MODULES: &str = "profile 5
+module bump 0061736d010000000105016000017f0302010005030100010708010462756d7000000a160114004100410028020041016a36020041002802000b
+module twin 0061736d010000000105016000017f0302010005030100010708010462756d7000000a160114004100410028020041016a36020041002802000b
+module add 0061736d0100000001070160027f7f017f030201000707010361646400000a09010700200020016a0b
+module cut 0061736d010000
+";
+
+const ENTERED: &str =
+    "module bump ok\nmodule twin ok\nmodule add ok\nmodule cut refused malformed\n";
+
+// Directives behind these modules, and the lines on them.
+const ROWS: [(&str, &str); 8] = [
+    // a call before the line, and one behind it
+    (
+        "call bump bump 8\nretire bump\ncall bump bump 8\n",
+        "1 ok i32:1\nretire bump done\n2 refused retired\n",
+    ),
+    // whatever is asked of the module
+    (
+        "call bump none 8\ncall bump bump 8 i32:1\ncall bump bump 7\nsend bump bump 8 00\n\
+        retire bump\n\
+        call bump none 8\ncall bump bump 8 i32:1\ncall bump bump 7\nsend bump bump 8 00\n",
+        "1 refused export\n2 refused args\n3 fuel\n4 ok i32:1 out:-\n\
+        retire bump done\n\
+        5 refused retired\n6 refused retired\n7 refused retired\n8 refused retired\n",
+    ),
+    // a refused module
+    (
+        "call cut bump 8\nretire cut\ncall cut bump 8\nsend cut none 8 00\n",
+        "1 refused module\nretire cut done\n2 refused module\n3 refused module\n",
+    ),
+    // of two modules of the same bytes first the one and then the other
+    (
+        "call bump bump 8\ncall twin bump 8\nretire bump\ncall bump bump 8\ncall twin bump 8\nretire twin\ncall twin bump 8\ncall bump bump 8\n",
+        "1 ok i32:1\n2 ok i32:1\nretire bump done\n3 refused retired\n4 ok i32:1\nretire twin done\n5 refused retired\n6 refused retired\n",
+    ),
+    // before each call, and one behind the other
+    (
+        "retire bump\nretire cut\nretire twin\ncall twin bump 8\ncall add add 4 i32:2 i32:3\ncall bump bump 8\n",
+        "retire bump done\nretire cut done\nretire twin done\n1 refused retired\n2 ok i32:5\n3 refused retired\n",
+    ),
+    // at the end of the file, behind each call
+    (
+        "call add add 4 i32:2 i32:3\ncall bump bump 8\nretire add\nretire bump\n",
+        "1 ok i32:5\n2 ok i32:1\nretire add done\nretire bump done\n",
+    ),
+    // in a file without a call
+    ("retire add\n", "retire add done\n"),
+    // before the line of another module of the same bytes
+    (
+        "retire add\nmodule late 0061736d0100000001070160027f7f017f030201000707010361646400000a09010700200020016a0b\n\
+        call late add 4 i32:2 i32:3\ncall add add 4 i32:2 i32:3\nretire late\ncall late add 4 i32:2 i32:3\n",
+        "retire add done\nmodule late ok\n1 ok i32:5\n2 refused retired\nretire late done\n3 refused retired\n",
+    ),
+];
+
+// Each of these files, on these words.
+fn check_rows<R: Abort + Threads + Wait + Sync>(
+    rt: &R,
+    alloc: Global,
+    line: &str,
+) -> Result<(), Fail> {
+    for (directives, lines) in ROWS {
+        let text = format!(in alloc; "{MODULES}{directives}")?;
+        let written = format!(in alloc; "{ENTERED}{lines}")?;
+        check(rt, alloc, line, text.as_str(), 0, written.as_str())?;
+    }
+    Ok(())
+}
+
+#[test]
+fn calls_behind_a_retire_line_of_their_module_are_refused(rt: HostRuntime) -> Result<(), Fail> {
+    for line in LINES {
+        check_rows(&rt, rt.alloc(), line)?;
+    }
+    Ok(())
+}
+
+// Calls that are refused count as such, and retire lines don't count.
+#[test]
+fn retired_modules_are_summed_up(rt: HostRuntime) -> Result<(), Fail> {
+    let alloc = rt.alloc();
+    let rows = [
+        (
+            "call bump bump 8\ncall cut f 1\nretire bump\nretire cut\ncall bump bump 8\ncall bump none 8\ncall twin bump 7\ncall cut f 1\n",
+            "modules ok 3\nmodules refused 1\ncalls ok 1\ncalls trap 0\ncalls fuel 1\ncalls refused 4\n",
+        ),
+        (
+            "retire twin\nretire add\n",
+            "modules ok 3\nmodules refused 1\ncalls ok 0\ncalls trap 0\ncalls fuel 0\ncalls refused 0\n",
+        ),
+    ];
+    for (directives, written) in rows {
+        let text = format!(in alloc; "{MODULES}{directives}")?;
+        check(
+            &rt,
+            alloc,
+            "poolhost run --workers 2 --summary",
+            text.as_str(),
+            0,
+            written,
+        )?;
+    }
+    Ok(())
+}
+
+#[test]
+fn files_with_bad_retire_lines_are_refused(rt: HostRuntime) -> Result<(), Fail> {
+    let rows = [
+        (
+            "profile 4\nmodule e 0061736d01000000\nretire e\n",
+            "line 3: unknown directive\n",
+        ),
+        (
+            "profile 5\nretire e\nmodule e 0061736d01000000\n",
+            "line 2: unknown module\n",
+        ),
+        (
+            "profile 5\nmodule e 0061736d01000000\nretire e\ncall e f 1\nretire e\n",
+            "line 5: retired twice\n",
+        ),
+    ];
+    for (text, written) in rows {
+        check(&rt, rt.alloc(), "poolhost run", text, 2, written)?;
+    }
+    Ok(())
+}
+
+// One memory is shared: while the first call is held the other is answered Full, and the lane makes it again before the line.
+#[test]
+fn a_full_call_is_made_again_before_its_module_is_retired(rt: HostRuntime) -> Result<(), Fail> {
+    let alloc = rt.alloc();
+    let text = format!(in alloc; "profile 5\n{BUMPS}retire bump\ncall bump bump 100\n")?;
+    let words = ["poolhost", "run", "--workers", "2", "--memories", "2"];
+    let written = b"module bump ok\n1 ok i32:1\n2 ok i32:1\nretire bump done\n3 refused retired\n";
+    let answered = answered_beside_a_held_call(&rt, alloc, &words, text.as_str(), 0, 1, written)?;
+    assert_eq!(rt; answered, 4);
+    let four = "call bump bump 100\ncall bump bump 100\n";
+    let text = format!(in alloc; "profile 5\n{BUMPS}{four}retire bump\ncall bump bump 100\n")?;
+    let words = ["poolhost", "run", "--workers", "4", "--memories", "2"];
+    let written =
+        b"module bump ok\n1 ok i32:1\n2 ok i32:1\n3 ok i32:1\n4 ok i32:1\nretire bump done\n5 refused retired\n";
+    let answered = answered_beside_a_held_call(&rt, alloc, &words, text.as_str(), 0, 3, written)?;
+    assert_eq!(rt; answered, 8);
+    Ok(())
+}
+
+// One tenant has a memory: its calls that find it held are made again before the line, and the other tenant's call stands behind it.
+#[test]
+fn a_full_tenant_is_served_before_its_module_is_retired(rt: HostRuntime) -> Result<(), Fail> {
+    let alloc = rt.alloc();
+    let text = format!(in alloc;
+        "profile 5\ntenant flood 2 1 1 0\ntenant quiet 1 1 1 0\nfor flood\n{BUMPS}call bump bump 100\nretire bump\nfor quiet\ncall bump bump 100\n"
+    )?;
+    let words = [
+        "poolhost",
+        "run",
+        "--workers",
+        "2",
+        "--memories",
+        "4",
+        "--instances",
+        "5",
+        "--tables",
+        "4",
+    ];
+    let written =
+        b"module bump ok\n1 ok i32:1\n2 ok i32:1\n3 ok i32:1\nretire bump done\n4 refused retired\n";
+    let answered = answered_beside_a_held_call(&rt, alloc, &words, text.as_str(), 0, 2, written)?;
+    assert_eq!(rt; answered, 6);
+    Ok(())
+}
+
+// How many modules the large file retires, and how many calls stand before each of these lines.
+const RETIRED: u8 = 20;
+
+const CALLS: u8 = 50;
+
+// Appends the calls before the retire line of module k, by each tenant, and the line, with what is written on them.
+fn push_round(text: &mut String, written: &mut String, k: u8) -> Result<(), Fail> {
+    for call in 0..CALLS {
+        match call {
+            10 => text.push_str("  for a\n")?,
+            30 => text.push_str("for b\n# b's calls\n\n")?,
+            _ => {}
+        }
+        let number = k as u32 * CALLS as u32 + call as u32 + 1;
+        let module = call % RETIRED;
+        let (directive, bytes) = if call % 3 == 0 {
+            ("send", " 00")
+        } else {
+            ("call", "")
+        };
+        write!(text, "{directive} m{module} bump 8{bytes}\n")?;
+        if module < k {
+            write!(written, "{number} refused retired\n")?;
+        } else if call % 3 == 0 {
+            write!(written, "{number} ok i32:1 out:-\n")?;
+        } else {
+            write!(written, "{number} ok i32:1\n")?;
+        }
+    }
+    write!(text, "retire m{k}\n")?;
+    write!(written, "retire m{k} done\n")?;
+    Ok(())
+}
+
+// Appends the line of module k, with what is written on it.
+fn push_module(text: &mut String, written: &mut String, k: u8) -> Result<(), Fail> {
+    write!(
+        text,
+        "module m{k} 0061736d010000000105016000017f0302010005030100010708010462756d7000000a160114004100410028020041016a36020041002802000b\n"
+    )?;
+    write!(written, "module m{k} ok\n")?;
+    Ok(())
+}
+
+// A file of 1,000 calls and 20 retire lines that has every directive, and the report on it.
+fn large(alloc: Global) -> Result<(String, String), Fail> {
+    let mut text = String::from_str(
+        alloc,
+        "# every directive\n\nprofile 5\ntenant a 1 1 1 1\ntenant b 1 1 1 0\n",
+    )?;
+    let mut written = String::new(alloc);
+    for k in 0..RETIRED {
+        push_module(&mut text, &mut written, k)?;
+    }
+    for k in 0..RETIRED {
+        push_round(&mut text, &mut written, k)?;
+    }
+    Ok((text, written))
+}
+
+#[test]
+fn many_retire_lines_have_one_report(rt: HostRuntime) -> Result<(), Fail> {
+    let alloc = rt.alloc();
+    let (text, written) = large(alloc)?;
+    assert!(rt;
+        written
+            .as_str()
+            .ends_with("\n1000 refused retired\nretire m19 done\n")
+    );
+    for line in [
+        "poolhost run --pages 1",
+        "poolhost run --pages 1 --slice 100",
+        "poolhost run --pages 1 --workers 2",
+        "poolhost run --pages 1 --workers 4 --slice 100",
+        "poolhost run --pages 1 --workers 16",
+        "poolhost run --pages 1 --workers 16 --slice 100",
+    ] {
+        check(&rt, alloc, line, text.as_str(), 0, written.as_str())?;
+    }
+    Ok(())
+}

@@ -1,0 +1,93 @@
+#!/usr/bin/env python3
+"""Measures the shape of the repository: how long its definitions are, and what is longer than it should be.
+
+Usage: scripts/measure_shape.py (at the top of a checkout)
+
+Prints the lines of the definitions of WebAssembly and of the pool, without comments, blank lines and imports;
+each function whose body has more than 40 lines; each signature with more than eight parameters; each line of a
+clause that has more than 160 characters; each crate that has more than 1,500 lines of code or 100 functions.
+"""
+import glob
+import re
+import sys
+
+WASM = ["wasm_types", "wasm_spec"]
+POOL = ["slot_words", "pool_core", "pool_worlds", "slot_pools", "memory_slots", "table_slots", "instance_slots", "pool_host"]
+
+
+def lines_of(path):
+    with open(path, encoding="utf-8") as file:
+        return file.read().split("\n")
+
+
+def definition_lines(crate):
+    """Lines of a crate's specs/ that are no comment, no blank line and no import."""
+    count = 0
+    for path in glob.glob(f"crates/{crate}/specs/**/*.antt", recursive=True):
+        for line in lines_of(path):
+            text = line.strip()
+            if text and not re.match(r"--|use |pub use |mod |pub mod |import ", text):
+                count += 1
+    return count
+
+
+def functions(path):
+    """Of each function: its name, its line, its parameters, and the lines of its body."""
+    lines = lines_of(path)
+    found = []
+    for number, line in enumerate(lines):
+        head = re.match(r"( *)(?:pub(?:\(crate\))? )?(?:const )?fn (\w+)", line)
+        if not head:
+            continue
+        indent = head.group(1)
+        end = next((k for k in range(number, len(lines)) if lines[k] == indent + "}"), number)
+        if any(lines[k].rstrip().endswith(";") and lines[k].startswith(indent) and not lines[k].startswith(indent + " ") for k in range(number, min(number + 1, end))):
+            continue
+        text = "\n".join(lines[number : end + 1])
+        signature = text.split("(", 1)[1]
+        depth, parameters, angle = 1, "", 0
+        for letter in signature:
+            depth += letter in "([" 
+            depth -= letter in ")]"
+            if depth == 0:
+                break
+            parameters += letter
+        flat = re.sub(r"<[^<>]*>", "", re.sub(r"<[^<>]*>", "", parameters))
+        while re.search(r"\([^()]*\)|\[[^\[\]]*\]", flat):
+            flat = re.sub(r"\([^()]*\)|\[[^\[\]]*\]", "", flat)
+        count = len([part for part in flat.split(",") if part.strip() and part.strip() not in ("self", "&self", "&mut self", "mut self")])
+        body = next((k for k in range(number, end + 1) if lines[k] == indent + "{" or lines[k].rstrip().endswith("{") and not re.search(r"(requires|ensures)", lines[k])), end)
+        found.append((head.group(2), number + 1, count, max(0, end - body - 1)))
+    return found
+
+
+def main():
+    total = {}
+    for name, crates in (("WebAssembly", WASM), ("the pool", POOL)):
+        counts = [(crate, definition_lines(crate)) for crate in crates]
+        total[name] = sum(count for _, count in counts)
+        print(f"definitions of {name}: {total[name]} lines: " + ", ".join(f"{crate} {count}" for crate, count in counts))
+    wide = {}
+    for path in sorted(glob.glob("crates/*/src/**/*.rt", recursive=True)):
+        for name, line, parameters, body in functions(path):
+            if body > 40:
+                print(f"{path}:{line}: the body of {name} has {body} lines")
+            if parameters > 8:
+                print(f"{path}:{line}: {name} has {parameters} parameters")
+        for number, line in enumerate(lines_of(path), 1):
+            if re.match(r" *(requires|ensures|invariant|ghost)\b", line) and len(line) > 160 and not line.strip().startswith("ghost use"):
+                wide.setdefault(path, []).append(number)
+    print(f"clauses of more than 160 characters: {sum(map(len, wide.values()))} in {len(wide)} files")
+    if "-v" in sys.argv:
+        for path, numbers in wide.items():
+            print(f"  {path}: {numbers}")
+    for crate in sorted(glob.glob("crates/*")):
+        paths = glob.glob(f"{crate}/src/**/*.rt", recursive=True)
+        size = sum(len(lines_of(path)) - 1 for path in paths)
+        count = sum(len(functions(path)) for path in paths)
+        if size > 1500 or count > 100:
+            print(f"{crate}: {size} lines, {count} functions")
+
+
+if __name__ == "__main__":
+    main()
