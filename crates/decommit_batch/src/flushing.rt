@@ -4,8 +4,7 @@ ghost use Rattle.pool_core.specs.StateWords.{is_well_formed, is_awaiting};
 ghost use Rattle.slot_words.specs.Leases.{lease_number, lease_word};
 ghost use Rattle.slot_words.specs.Parts.{Grew};
 ghost use Rattle.slot_words.specs.Passes.{IsIdle, IsSamePass, Holds, trail};
-ghost use Rattle.slot_words.specs.Owned.{IsPassOf, slots_of, limit_of, room_of};
-ghost use Rattle.slot_words.specs.Shows.{Suits};
+ghost use Rattle.slot_words.specs.Owned.{IsPassOf, slots_of, limit_of};
 ghost use Rattle.decommit_batch.specs.Flush.{IsFlush, IsFlushPart, IsTried, IsDecommit};
 
 use pool_core::{State, Target, unpack};
@@ -19,11 +18,11 @@ fn decommit<V: Pooled>(
     lease: Lease<V>,
     found: Target,
 )
-    requires own { IsPassOf V.room words.now pass.old }
+    requires own { IsPassOf words.now pass.old }
     requires number { lease_number lease < slots_of words.now }
     requires holds { Holds pass.old (lease_number lease) false false true }
     requires found { (is_well_formed found ≡ true) × (is_awaiting found.state ≡ true) }
-    requires fits { Suits V.fits V.room (room_of V.room words.now) found lease.value }
+    requires fits { V.fits found.state found.tag lease.value }
     ensures same { IsSamePass pass.old pass.new }
     ensures idle { IsIdle pass.new }
     ensures trail { Grew (IsDecommit (limit_of words.now) (lease_number lease) found) (trail pass.old) (trail pass.new) }
@@ -46,7 +45,7 @@ fn decommit<V: Pooled>(
 
 // Claims a number that was seen free and awaiting.
 fn claim_awaiting<V: Pooled>(words: &Words<V>, pass: &mut Pass<V>, images: &V::Images, n: u32)
-    requires own { IsPassOf V.room words.now pass.old }
+    requires own { IsPassOf words.now pass.old }
     requires idle { IsIdle pass.old }
     requires number { n < slots_of words.now }
     ensures same { IsSamePass pass.old pass.new }
@@ -65,7 +64,7 @@ fn claim_awaiting<V: Pooled>(words: &Words<V>, pass: &mut Pass<V>, images: &V::I
 
 // One number of a flush.
 fn flush_number<V: Pooled>(words: &Words<V>, pass: &mut Pass<V>, images: &V::Images, n: u32)
-    requires own { IsPassOf V.room words.now pass.old }
+    requires own { IsPassOf words.now pass.old }
     requires idle { IsIdle pass.old }
     requires number { n < slots_of words.now }
     ensures same { IsSamePass pass.old pass.new }
@@ -84,7 +83,7 @@ fn flush_number<V: Pooled>(words: &Words<V>, pass: &mut Pass<V>, images: &V::Ima
 
 /// Makes each slot that it sees free and awaiting, and wins, warm where there is a permit, and else cold.
 pub fn flush<V: Pooled>(words: &Words<V>, pass: &mut Pass<V>, images: &V::Images)
-    requires own { IsPassOf V.room words.now pass.old }
+    requires own { IsPassOf words.now pass.old }
     requires idle { IsIdle pass.old }
     ensures same { IsSamePass pass.old pass.new }
     ensures idle { IsIdle pass.new }

@@ -1,10 +1,10 @@
 //! A used slot is handed in.
-ghost use Rattle.std.specs.Prelude.{◌≡◌, ℕ, ◌<◌, ◌≤◌, false};
+ghost use Rattle.std.specs.Prelude.{ℕ, ◌<◌, ◌≤◌, false};
 ghost use Rattle.pool_core.specs.declared.words.State.TheVariants.{Awaiting};
 ghost use Rattle.slot_words.specs.Leases.{lease_number};
 ghost use Rattle.slot_words.specs.Parts.{Grew};
 ghost use Rattle.slot_words.specs.Passes.{IsIdle, IsSamePass, Holds, trail};
-ghost use Rattle.slot_words.specs.Owned.{IsPassOf, slots_of, limit_of, room_of};
+ghost use Rattle.slot_words.specs.Owned.{IsPassOf, slots_of, limit_of};
 ghost use Rattle.decommit_batch.specs.HandIn.{IsHandIn};
 
 use crate::flushing::flush;
@@ -19,11 +19,10 @@ pub fn hand_in<V: Pooled>(
     images: &V::Images,
     batch: u32,
 )
-    requires own { IsPassOf V.room words.now pass.old }
+    requires own { IsPassOf words.now pass.old }
     requires number { lease_number lease < slots_of words.now }
     requires holds { Holds pass.old (lease_number lease) false false false }
     requires used { (tag : ℕ) × V.fits Awaiting tag lease.value }
-    requires room { V.room lease.value ≡ room_of V.room words.now }
     requires batch { 1 ≤ batch }
     ensures same { IsSamePass pass.old pass.new }
     ensures idle { IsIdle pass.new }

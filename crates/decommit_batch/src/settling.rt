@@ -11,10 +11,10 @@ use slot_words::{Lease, Pass, Pooled, Words};
 
 /// Gives back the permit or the mark that came with a slot that was won.
 pub fn settle<V: Pooled>(words: &Words<V>, pass: &mut Pass<V>, lease: &Lease<V>)
-    requires own { IsPassOf V.room words.now pass.old }
-    requires won { HasWon V.fits V.room words.now pass.old lease.now }
+    requires own { IsPassOf words.now pass.old }
+    requires won { HasWon V.fits words.now pass.old lease.now }
     ensures same { IsSamePass pass.old pass.new }
-    ensures taken { HasTaken V.fits V.room words.now pass.new lease.now }
+    ensures taken { HasTaken V.fits words.now pass.new lease.now }
     ensures trail { Grew (IsSettled (lease_word lease.now)) (trail pass.old) (trail pass.new) }
 {
     let (found, _) = unpack(lease.word());

@@ -26,8 +26,8 @@ fn is_of_module(left: Target, tag: u32) -> bool
 
 // Settles a slot that was won, clears its value and releases it cold.
 fn clean<V: Pooled>(words: &Words<V>, pass: &mut Pass<V>, lease: Lease<V>)
-    requires own { IsPassOf V.room words.now pass.old }
-    requires won { HasWon V.fits V.room words.now pass.old lease }
+    requires own { IsPassOf words.now pass.old }
+    requires won { HasWon V.fits words.now pass.old lease }
     ensures same { IsSamePass pass.old pass.new }
     ensures idle { IsIdle pass.new }
     ensures trail { Grew (IsCleaned (lease_number lease) (lease_word lease)) (trail pass.old) (trail pass.new) }
@@ -40,7 +40,7 @@ fn clean<V: Pooled>(words: &Words<V>, pass: &mut Pass<V>, lease: Lease<V>)
 
 // Claims a number that was seen free and of the module. True exactly where it was won, still of the module, and cleaned.
 fn claim_own<V: Pooled>(words: &Words<V>, pass: &mut Pass<V>, tag: u32, n: u32) -> bool
-    requires own { IsPassOf V.room words.now pass.old }
+    requires own { IsPassOf words.now pass.old }
     requires idle { IsIdle pass.old }
     requires number { n < slots_of words.now }
     ensures same { IsSamePass pass.old pass.new }
@@ -62,7 +62,7 @@ fn claim_own<V: Pooled>(words: &Words<V>, pass: &mut Pass<V>, tag: u32, n: u32) 
 
 // One number of a sweep, and whether its slot was cleaned.
 fn sweep_number<V: Pooled>(words: &Words<V>, pass: &mut Pass<V>, tag: u32, n: u32) -> bool
-    requires own { IsPassOf V.room words.now pass.old }
+    requires own { IsPassOf words.now pass.old }
     requires idle { IsIdle pass.old }
     requires number { n < slots_of words.now }
     ensures same { IsSamePass pass.old pass.new }
@@ -78,7 +78,7 @@ fn sweep_number<V: Pooled>(words: &Words<V>, pass: &mut Pass<V>, tag: u32, n: u3
 
 /// Makes each slot cold that it sees free and of the module of this tag, warm or awaiting, and that it wins while it is so. A slot that it wins and that is not of the module any more is left as it was. Tells how many slots it cleaned. It takes no memory and waits for nobody: a slot that another pass holds meanwhile stays as it is.
 pub fn sweep<V: Pooled>(words: &Words<V>, pass: &mut Pass<V>, tag: u32) -> u32
-    requires own { IsPassOf V.room words.now pass.old }
+    requires own { IsPassOf words.now pass.old }
     requires idle { IsIdle pass.old }
     ensures same { IsSamePass pass.old pass.new }
     ensures idle { IsIdle pass.new }

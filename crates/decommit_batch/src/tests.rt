@@ -1,4 +1,4 @@
-ghost use Rattle.std.specs.Prelude.{◌≡◌, ◌<◌, ◌≤◌, [], false, IfOk};
+ghost use Rattle.std.specs.Prelude.{◌≡◌, ◌<◌, ◌≤◌, false, IfOk};
 ghost use Rattle.pool_core.specs.declared.limits.TheConstants.{TAG_LIMIT};
 ghost use Rattle.pool_core.specs.StateWords.{is_awaiting};
 ghost use Rattle.slot_words.specs.Passes.{IsIdle, IsSamePass, share_of};
@@ -20,8 +20,6 @@ struct Cell {
 
 impl Pooled for Cell {
     type Images = ();
-
-    ghost room = { λ x. [] };
 
     ghost own_tag = { λ x. x.tag };
 
@@ -50,7 +48,7 @@ const NEW: Cell = Cell {
 
 // Three slots and one pass.
 fn opened(alloc: Global, warm: u32) -> Result<(Words<Cell>, Pass<Cell>), NoMemory>
-    ensures { IfOk result (λ o. (slots_of o.0 ≡ 3) × IsNewPassOf (λ x. []) o.0 o.1) }
+    ensures { IfOk result (λ o. (slots_of o.0 ≡ 3) × IsNewPassOf o.0 o.1) }
 {
     let mut cells = Vec::with_capacity(alloc, 3)?;
     cells.push_reserved(NEW);
@@ -69,7 +67,7 @@ fn visit(
     tag: u32,
     batch: u32,
 ) -> Result<(), Held>
-    requires own { IsPassOf (λ x. []) words.now pass.old }
+    requires own { IsPassOf words.now pass.old }
     requires idle { IsIdle pass.old }
     requires number { n < slots_of words.now }
     requires tag { tag < TAG_LIMIT }
@@ -123,7 +121,7 @@ fn a_batch_is_flushed_with_the_hand_in_that_completes_it(rt: HostRuntime) -> Res
 
 // Five slots and two passes.
 fn shared(alloc: Global) -> Result<(Words<Cell>, Pass<Cell>, Pass<Cell>), NoMemory>
-    ensures { IfOk result (λ o. (slots_of o.0 ≡ 5) × IsNewPassOf (λ x. []) o.0 o.1 × IsNewPassOf (λ x. []) o.0 o.2) }
+    ensures { IfOk result (λ o. (slots_of o.0 ≡ 5) × IsNewPassOf o.0 o.1 × IsNewPassOf o.0 o.2) }
 {
     let mut cells = Vec::with_capacity(alloc, 5)?;
     cells.push_reserved(NEW);
@@ -139,7 +137,7 @@ fn shared(alloc: Global) -> Result<(Words<Cell>, Pass<Cell>, Pass<Cell>), NoMemo
 
 // Leaves slots 0 and 3 warm for module 5, slot 1 warm for module 6, and slot 2 awaiting for module 5.
 fn visit_four(words: &Words<Cell>, pass: &mut Pass<Cell>) -> Result<(), Held>
-    requires own { IsPassOf (λ x. []) words.now pass.old }
+    requires own { IsPassOf words.now pass.old }
     requires idle { IsIdle pass.old }
     requires slots { slots_of words.now ≡ 5 }
     ensures same { IsSamePass pass.old pass.new }
@@ -158,7 +156,7 @@ fn sweep_twice(
     other: &mut Pass<Cell>,
     tag: u32,
 ) -> Result<(u32, u32), Held>
-    requires own { IsPassOf (λ x. []) words.now pass.old × IsPassOf (λ x. []) words.now other.old }
+    requires own { IsPassOf words.now pass.old × IsPassOf words.now other.old }
     requires idle { IsIdle pass.old × IsIdle other.old }
     requires slots { slots_of words.now ≡ 5 }
     ensures same { IsSamePass pass.old pass.new × IsSamePass other.old other.new }

@@ -228,8 +228,8 @@ module _ (calls : List Due) (all rest more : List Worked) (first_board board : L
   here : CollectedLeft calls all (one ∷ more) first_board board
   here = subst (λ (r : List Worked). CollectedLeft calls all r first_board board) is h
 
-  first : (0 < one.number) × (one.number ≤ length first_board)
-  first = All-head (λ (w : Worked). (0 < w.number) × (w.number ≤ length first_board)) one more here.counted
+  pub is_there : (0 < one.number) × (one.number ≤ length first_board)
+  is_there = All-head (λ (w : Worked). (0 < w.number) × (w.number ≤ length first_board)) one more here.counted
 
   others : All (λ (w : Worked). (0 < w.number) × (w.number ≤ length first_board)) more
   others = All-tail (λ (w : Worked). (0 < w.number) × (w.number ≤ length first_board)) one more here.counted
@@ -239,20 +239,17 @@ module _ (calls : List Due) (all rest more : List Worked) (first_board board : L
 
   slot_is_none : slice_get board (one.number - 1) ≡ Some None
   slot_is_none =
-      let (o, got) = got_within board (one.number - 1) (let f = first in let m = here.many in omega (arith, f.0, f.1)) in
+      let (o, got) = got_within board (one.number - 1) (let f = is_there in let m = here.many in omega (arith, f.0, f.1)) in
       let b : (one.number == one.number) ≡ true = grind (arith, nat_tests) in
       let this : ◌≡◌ {A = ℕ} (cond (one.number == one.number) 1 0) 1 = rw b refl in
-      let most = here.once one.number first.0 in
+      let most = here.once one.number is_there.0 in
       let nought : stands (slice_get board (one.number - 1)) ≡ 0 = omega (arith, times one.number) in
       got ∙ open_slot o (ap stands (sym got) ∙ nought)
 
-  pub is_there : (0 < one.number) × (one.number ≤ length first_board)
-  is_there = first
-
   pub is_open : IsOpen board one.number
   is_open = record {
-    above = first.0;
-    within = (let f = first in let m = here.many in omega (arith, f.1));
+    above = is_there.0;
+    within = (let f = is_there in let m = here.many in omega (arith, f.1));
     free = rw (get_or_from_slice_get board (one.number - 1) None None slot_is_none) refl;
   }
 
@@ -290,7 +287,7 @@ module _ (calls : List Due) (all rest more : List Worked) (first_board board : L
   pub collected_more : (place : ℕ) (line : CallLine) (board' : Lines) → place + length rest ≡ length all → slice_get all place ≡ Some one → line_made calls one ≡ Some line
       → board' ≡ slice_set board (one.number - 1) (Some line) → CollectedLeft calls all more first_board board'
   collected_more place line board' this one_is line_is set_is =
-      let within : one.number - 1 < length board = let f = first in let m = here.many in omega (arith, f.0, f.1) in
+      let within : one.number - 1 < length board = let f = is_there in let m = here.many in omega (arith, f.0, f.1) in
       subst (CollectedLeft calls all more first_board) (sym set_is) (record {
         many = length-set board (one.number - 1) (Some line) ∙ h.many;
         counted = others;
@@ -303,7 +300,7 @@ module _ (calls : List Due) (all rest more : List Worked) (first_board board : L
             let now : stands (slice_get (slice_set board (one.number - 1) (Some line)) (number - 1)) ≡ 1 =
             ap (λ (n : ℕ). stands (slice_get (slice_set board (one.number - 1) (Some line)) (n - 1))) (sym same) ∙ ap stands (got_set_same board (one.number - 1) (Some line) within) in omega arith)
             (λ (apart : one.number ≢ number).
-            let away : one.number - 1 ≢ number - 1 = λ same. apart (let f = first in omega (arith, f.0)) in
+            let away : one.number - 1 ≢ number - 1 = λ same. apart (let f = is_there in omega (arith, f.0)) in
             let now : stands (slice_get (slice_set board (one.number - 1) (Some line)) (number - 1)) ≡ stands (slice_get board (number - 1)) =
             ap stands (got_set_other board (one.number - 1) (number - 1) (Some line) away) in omega arith)
             (cases_eq one.number number);
@@ -312,7 +309,7 @@ module _ (calls : List Due) (all rest more : List Worked) (first_board board : L
             (λ (same : one.number - 1 ≡ at).
             let both : Some (Some line) ≡ Some (Some line') = sym (got_set_same board (one.number - 1) (Some line) within) ∙ (ap (λ (k : ℕ). slice_get (slice_set board (one.number - 1) (Some line)) k) same ∙ got) in
             let lines_same : line ≡ line' = cc in
-            inr (record { place = place; one = one; one_is = one_is; number_is = (let f = first in omega (arith, f.0)); line_is = line_is ∙ ap (λ (l : CallLine). Some l) lines_same }))
+            inr (record { place = place; one = one; one_is = one_is; number_is = (let f = is_there in omega (arith, f.0)); line_is = line_is ∙ ap (λ (l : CallLine). Some l) lines_same }))
             (λ (apart : one.number - 1 ≢ at). h.lines at line' (sym (got_set_other board (one.number - 1) at (Some line) apart) ∙ got))
             (cases_eq (one.number - 1) at);
         done = λ at w line' before w_is line'_is. ⊎_elim

@@ -21,6 +21,7 @@ use Rattle.module_store.specs.declared.desk.TheConstants.{MOST_MODULES}
 use Rattle.host_report.specs.Report.{Limits, IsModuleLine, load_limits}
 use Rattle.host_report.specs.Entries.{AreEntries, AreKept, AreTagged, Entry, IsEntered, IsEntry, IsEntryOf, TakesTag, entry_line}
 use Rattle.host_report.specs.Rounds.{AreEntered}
+use Rattle.request_text.proofs.PlaceLemmas.{slice_get-append}
 use Rattle.host_report.proofs.PlaceLemmas.{module_counts, modules_next, no_module}
 
 pub entry_told : (limits : Limits) (bytes : List ℕ) (e : Entry) → IsEntry limits bytes e → IsModuleLine limits bytes (entry_line e)
@@ -71,14 +72,6 @@ entries_more limits (b ∷ modules) [] bytes e h is = absurd h
 entries_more limits (b ∷ modules) (f ∷ entries) bytes e h is = (h.0, entries_more limits modules entries bytes e h.1 is)
 
 -- ---- places in a list with one more
-
-pub got_left : {A : Type 0} (xs ys : List A) (i : ℕ) → i < length xs → slice_get (xs ++ ys) i ≡ slice_get xs i
-got_left [] ys i lt = absurd (omega arith)
-got_left (x ∷ xs) ys zero lt = refl
-got_left (x ∷ xs) ys (suc i) lt = got_left xs ys i (omega arith)
-
-pub stays_there : {A : Type 0} (xs ys : List A) (i : ℕ) (x : A) → slice_get xs i ≡ Some x → slice_get (xs ++ ys) i ≡ Some x
-stays_there xs ys i x got = got_left xs ys i (slice_get_within xs i x got) ∙ got
 
 -- it is one of the others, or the last
 there_or_last : {A : Type 0} (xs : List A) (y : A) (i : ℕ) (x : A) → slice_get (xs ++ y ∷ []) i ≡ Some x → (slice_get xs i ≡ Some x) ⊎ ((i ≡ length xs) × (y ≡ x))
@@ -162,7 +155,7 @@ module _ (limits : Limits) (all : List Directive) where
   module_of_front : (at place : ℕ) (bytes : List ℕ) → slice_get (modules_of (take at all)) place ≡ Some bytes → slice_get (modules_of all) place ≡ Some bytes
   module_of_front at place bytes got =
       let both : modules_of all ≡ modules_of (take at all) ++ modules_of (drop at all) = ap modules_of (sym (take-append-drop at all)) ∙ filter_map-append module_bytes (take at all) (drop at all) in
-      ap (λ (ms : List (List ℕ)). slice_get ms place) both ∙ stays_there (modules_of (take at all)) (modules_of (drop at all)) place bytes got
+      ap (λ (ms : List (List ℕ)). slice_get ms place) both ∙ slice_get-append (modules_of (take at all)) (modules_of (drop at all)) place bytes got
 
   pub entered_none : AreEntered limits all 0 [] 0
   entered_none = record {
@@ -208,4 +201,4 @@ pub kept_all : (entries : List Entry) → AreKept entries entries
 kept_all entries place e got = got
 
 pub kept_more : (limits : Limits) (bytes : List ℕ) (first before after : List Entry) (desk desk' : ℕ) → AreKept first before → IsEntered limits bytes before desk after desk' → AreKept first after
-kept_more limits bytes first before after desk desk' h e place x got = ap (λ (es : List Entry). slice_get es place) e.after_is ∙ stays_there before (e.entry ∷ []) place x (h place x got)
+kept_more limits bytes first before after desk desk' h e place x got = ap (λ (es : List Entry). slice_get es place) e.after_is ∙ slice_get-append before (e.entry ∷ []) place x (h place x got)

@@ -20,14 +20,14 @@ use Rattle.host_report.specs.Collected.{call_at}
 use Rattle.host_report.specs.Entries.{Entry}
 use Rattle.host_report.specs.Put.{HasPut, module_at, module_of, pairs_from, pairs_put}
 use Rattle.host_report.specs.Rounds.{IsSpan, directives_in}
-use Rattle.host_report.proofs.EntryLemmas.{got_left}
+use Rattle.wasm_spec.proofs.FunctionNumbers.{in_front}
 use Rattle.host_report.proofs.PlaceLemmas.{call_count-call, call_count-module, call_count-retire, call_of_part, calls_next, calls_part, fewer_calls, part_got, part_none}
 
 abbrev Puts : Type 0
 Puts = Account (Option Named)
 
 module_at_left : (entries more : List Entry) (place : ℕ) → place < length entries → module_at (entries ++ more) place ≡ module_at entries place
-module_at_left entries more place lt = rw (got_left entries more place lt) refl
+module_at_left entries more place lt = rw (in_front entries more place lt) refl
 
 pub module_there : (entries : List Entry) (place : ℕ) (e : Entry) (m : Option Named) → slice_get entries place ≡ Some e → m ≡ module_of e → m ≡ module_at entries place
 module_there entries place e m got is = rw got is

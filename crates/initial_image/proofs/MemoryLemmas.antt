@@ -37,10 +37,3 @@ module _ (at : ℕ) (items bytes : List ℕ) (fits : at + length items ≤ lengt
       | inr past ↦ is.after i past ∙ shows i ∙ sym (after i past)
     ]
   ]
-
--- zeros to a length are zeros without end
-pub zeros-at : (n i : ℕ) → slice_index (replicate n 0) i ≡ 0
-zeros-at n i = elim (cases_lt i n) [
-  | inl lt ↦ get_or-replicate n i 0 0 lt
-  | inr le ↦ get_or_past (replicate n 0) i 0 (omega (arith, length-replicate {A = ℕ} n 0, le))
-]

@@ -20,7 +20,8 @@ use Rattle.wasm_spec.specs.Store.{Store, fresh_store}
 use Rattle.wasm_spec.specs.Result.{answer_by, result_from}
 use Rattle.wasm_machine.specs.Calls.{IsCall}
 use Rattle.pool_limits.specs.declared.numbers.Numbers.{Numbers}
-use Rattle.pool_worlds.specs.Contents.{Contents, Kind, shown}
+use Rattle.pool_worlds.specs.Contents.{Contents, shown}
+use Rattle.pool_worlds.specs.declared.kinds.Kind.{Kind}
 use Rattle.instance_calls.specs.CallWords.{EndsWith, LacksTypes, MayCall, kept_by, run_limits}
 use Rattle.instance_calls.specs.Runs.{RanOn}
 use Rattle.instance_calls.proofs.RunLemmas.{gives}

@@ -18,7 +18,10 @@ use Rattle.wasm_machine.specs.TypedConfiguration.{IsTypedStore}
 use Rattle.slot_words.specs.declared.leases.Lease.{Lease}
 use Rattle.pool_limits.specs.declared.numbers.Numbers.{Numbers}
 use Rattle.pool_worlds.specs.Contents as contents
-use Rattle.pool_worlds.specs.Contents.{Contents, Kind, Memory, MemoryContents, Named, Table, TableContents, Ticket, needs, shown, shown_memory, shown_table, turned}
+use Rattle.pool_worlds.specs.declared.kinds.Kind.TheVariants as kind
+use Rattle.pool_worlds.specs.Contents.{Contents, MemoryContents, Named, TableContents, needs, shown, shown_memory, shown_table, turned}
+use Rattle.pool_worlds.specs.declared.kinds.Kind.{Kind}
+use Rattle.pool_worlds.specs.declared.kinds.Kind.TheVariants.{Memory, Table, Ticket}
 use Rattle.pool_worlds.specs.Runs.{Leaves, LeavesFrom, RunsFunction}
 use Rattle.memory_slots.specs.Lent.{parts, store_in}
 use Rattle.memory_slots.proofs.LentLemmas.{globals_left, globals_there}
@@ -131,7 +134,7 @@ module _ (pages : ℕ) (m : Module) (x : MemoryContents) (owner : Option Named) 
   parts_left : (s : Store) → s.table ≡ table → new ≡ s.globals ++ drop (length s.globals) old → (k : Kind) → needs k (module_tree m) ≡ true
       → parts x owner table new k ≡ turned pages s x.marks k (parts x owner table old k)
   parts_left s entries values Ticket needed = values
-  parts_left s entries values contents.Memory needed = absurd (unneeded needed)
+  parts_left s entries values kind.Memory needed = absurd (unneeded needed)
   parts_left s entries values Table needed = λ i. record { entries = sym entries i; holds = owner }
 
   pub leaves_bare : (result : ℕ → Option CallResult) (fuel : ℕ) (outcome : Outcome) (left : ℕ) (said says : List ℕ)

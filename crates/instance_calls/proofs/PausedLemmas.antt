@@ -21,7 +21,9 @@ use Rattle.wasm_machine.specs.TypedConfiguration.{IsRunnable}
 use Rattle.wasm_machine.proofs.OutsideLemmas.{outside_callee, own_call}
 use Rattle.slot_words.specs.declared.leases.Lease.{Lease}
 use Rattle.pool_limits.specs.declared.numbers.Numbers.{Numbers}
-use Rattle.pool_worlds.specs.Contents.{Contents, Kind, Memory, MemoryContents, Named, Table, needs, shown}
+use Rattle.pool_worlds.specs.Contents.{Contents, MemoryContents, Named, needs, shown}
+use Rattle.pool_worlds.specs.declared.kinds.Kind.{Kind}
+use Rattle.pool_worlds.specs.declared.kinds.Kind.TheVariants.{Memory, Table}
 use Rattle.pool_worlds.specs.Runs.{LeavesFrom}
 use Rattle.memory_slots.specs.Lent.{IsReady, parts, store_in}
 use Rattle.paused_call.specs.declared.call.PausedCall.{PausedCall}

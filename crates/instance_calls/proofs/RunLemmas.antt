@@ -8,7 +8,8 @@ use Rattle.wasm_spec.specs.Store.{Store}
 use Rattle.wasm_spec.specs.Execution.{Terms, answer_set, terms}
 use Rattle.wasm_spec.specs.Result.{CallResult, after_start, function_result, if_done, if_done_by}
 use Rattle.pool_limits.specs.declared.numbers.Numbers.{Numbers}
-use Rattle.pool_worlds.specs.Contents.{Contents, Kind, shown}
+use Rattle.pool_worlds.specs.Contents.{Contents, shown}
+use Rattle.pool_worlds.specs.declared.kinds.Kind.{Kind}
 use Rattle.pool_worlds.specs.Runs.{GoesOn, HostRunsBy, RunsFunction}
 use Rattle.instance_calls.specs.CallWords.{run_limits}
 use Rattle.instance_calls.specs.Runs.{RanOn}

@@ -8,7 +8,8 @@ use Rattle.wasm_spec.specs.Result.{CallResult}
 use Rattle.wasm_spec.specs.Store.{Store}
 use Rattle.wasm_machine.specs.Calls.{FitsFrame}
 use Rattle.pool_limits.specs.declared.numbers.Numbers.{Numbers}
-use Rattle.pool_worlds.specs.Contents.{Contents, Kind, Named, shown}
+use Rattle.pool_worlds.specs.Contents.{Contents, Named, shown}
+use Rattle.pool_worlds.specs.declared.kinds.Kind.{Kind}
 use Rattle.pool_worlds.specs.Runs.{LeavesFrom}
 use Rattle.memory_slots.specs.Lent.{IsReady}
 use Rattle.paused_call.specs.declared.call.PausedCall.{PausedCall}

@@ -6,7 +6,8 @@ use Rattle.wasm_types.specs.Tree.{ModuleTree}
 use Rattle.wasm_spec.specs.Execution.{terms}
 use Rattle.wasm_spec.specs.Result.{CallResult}
 use Rattle.pool_limits.specs.declared.numbers.Numbers.{Numbers}
-use Rattle.pool_worlds.specs.Contents.{Contents, Kind, shown}
+use Rattle.pool_worlds.specs.Contents.{Contents, shown}
+use Rattle.pool_worlds.specs.declared.kinds.Kind.{Kind}
 use Rattle.pool_worlds.specs.Runs.{HostRunsBy}
 use Rattle.instance_calls.specs.CallWords.{run_limits}
 

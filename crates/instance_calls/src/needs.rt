@@ -1,6 +1,7 @@
 //! Which slots an instance of a module has beside its ticket.
 ghost use Rattle.std.specs.Prelude.{◌≡◌, false, None};
-ghost use Rattle.pool_worlds.specs.Contents.{Memory, Table, needs};
+ghost use Rattle.pool_worlds.specs.Contents.{needs};
+ghost use Rattle.pool_worlds.specs.declared.kinds.Kind.TheVariants.{Memory, Table};
 ghost use Rattle.instance_calls.specs.Instances.{IsFreshMemory, IsFreshTable};
 
 use loaded_modules::laws::{

@@ -1,6 +1,6 @@
 //! A call that is paused on an instance, with its module.
 ghost use Rattle.std.specs.Prelude.{◌≡◌, ℕ, List, []};
-ghost use Rattle.pool_worlds.specs.Contents.{Kind};
+ghost use Rattle.pool_worlds.specs.declared.kinds.Kind.{Kind};
 ghost use Rattle.instance_calls.specs.CallWords.{MayCall};
 ghost use Rattle.instance_calls.specs.Instances.{IsFreshInstance, instance_contents};
 ghost use Rattle.instance_calls.specs.Parts.{BelongsTo, memory_slot, table_slot};

@@ -1,4 +1,1 @@
-pub mod Fits
-pub mod Handed
-pub mod Pools
 pub mod Tickets

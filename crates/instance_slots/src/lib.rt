@@ -7,6 +7,6 @@ mod pool;
 mod tests;
 mod ticket;
 
-pub use pool::TicketPool;
+pub use pool::take;
 pub use slot_pools::Full;
 pub use ticket::Ticket;

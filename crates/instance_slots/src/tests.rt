@@ -2,12 +2,13 @@
 ghost use Rattle.std.specs.Prelude.{◌≡◌, ◌<◌};
 ghost use Rattle.slot_words.specs.Passes.{IsIdle, IsSamePass};
 ghost use Rattle.module_store.specs.Names.{Bears};
-ghost use Rattle.instance_slots.specs.Pools.{IsTicketPass};
+ghost use Rattle.slot_words.specs.Owned.{IsPassOf};
 
-use crate::{Ticket, TicketPool};
+use crate::{Ticket, take};
 use module_store::{Desk, ModuleRef, ModuleStore, Naming, Opened};
 use pool_limits::{Numbers, PoolConfig};
-use slot_words::Pass;
+use slot_pools::{give_cold, open};
+use slot_words::{Pass, Words};
 use std::alloc::Global;
 use std::marker::Brand;
 use std::process::Abort;
@@ -82,40 +83,40 @@ fn a_ticket_goes_from_module_to_module(rt: HostRuntime) -> Result<(), Fail> {
 
 // The number of the slot that is taken for the module and given back, or none where the pool is full.
 fn visit<N: Naming>(
-    pool: &TicketPool<N>,
+    pool: &Words<Ticket<N>>,
     pass: &mut Pass<Ticket<N>>,
     store: &ModuleStore<N>,
     module: &ModuleRef<N>,
 ) -> Option<u32>
-    requires own { IsTicketPass pool.now pass.old }
+    requires own { IsPassOf pool.now pass.old }
     requires idle { IsIdle pass.old }
     ensures same { IsSamePass pass.old pass.new }
     ensures idle { IsIdle pass.new }
 {
-    let Ok(lease) = pool.take(pass, store, module) else {
+    let Ok(lease) = take(pool, pass, store, module) else {
         return None;
     };
     let number = lease.number();
-    pool.give(pass, lease, store);
+    give_cold(pool, pass, lease);
     Some(number)
 }
 
 // What a second pass gets while the first has a slot, and after the first gave it back.
 fn visits_beside<N: Naming>(
-    pool: &TicketPool<N>,
+    pool: &Words<Ticket<N>>,
     mut first: Pass<Ticket<N>>,
     mut second: Pass<Ticket<N>>,
     store: &ModuleStore<N>,
     module: &ModuleRef<N>,
 ) -> [Option<u32>; 2]
-    requires own { IsTicketPass pool.now first × IsTicketPass pool.now second }
+    requires own { IsPassOf pool.now first × IsPassOf pool.now second }
     requires idle { IsIdle first × IsIdle second }
 {
-    let Ok(lease) = pool.take(&mut first, store, module) else {
+    let Ok(lease) = take(pool, &mut first, store, module) else {
         return [Some(9); 2];
     };
     let beside = visit(pool, &mut second, store, module);
-    pool.give(&mut first, lease, store);
+    give_cold(pool, &mut first, lease);
     [beside, visit(pool, &mut second, store, module)]
 }
 
@@ -124,7 +125,7 @@ fn check_full<N: Naming, R: Abort + Wait>(rt: &R, alloc: Global, opened: Opened)
 {
     let (store, mut desk) = opened.named::<N>();
     let module = registered(rt, alloc, &store, &mut desk, &TWO);
-    let (pool, mut passes) = TicketPool::open(alloc, &store, 1, 1, 2).expect(rt, "opened");
+    let (pool, mut passes) = open::<Ticket<N>>(alloc, &store, 1, 1, 2).expect(rt, "opened");
     let first = passes.pop().unwrap();
     let second = passes.pop().unwrap();
     let got = visits_beside(&pool, first, second, &store, &module);
@@ -138,14 +139,14 @@ fn a_pool_is_full_until_its_ticket_is_given_back(rt: HostRuntime) -> Result<(), 
 }
 
 fn visit_often<N: Naming>(
-    pool: &TicketPool<N>,
+    pool: &Words<Ticket<N>>,
     mut pass: Pass<Ticket<N>>,
     store: &ModuleStore<N>,
     module: &ModuleRef<N>,
 ) -> Pass<Ticket<N>>
-    requires own { IsTicketPass pool.now pass }
+    requires own { IsPassOf pool.now pass }
     requires idle { IsIdle pass }
-    ensures own { IsTicketPass pool.now result }
+    ensures own { IsPassOf pool.now result }
     ensures idle { IsIdle result }
 {
     for _ in 0..300u32 {
@@ -164,19 +165,19 @@ fn check_threads<N: Naming + Send + Sync, R: Abort + Threads + Wait + Sync>(
     let (store, mut desk) = opened.named::<N>();
     let two = registered(rt, alloc, &store, &mut desk, &TWO);
     let one = registered(rt, alloc, &store, &mut desk, &ONE);
-    let (pool, mut passes) = TicketPool::open(alloc, &store, 2, 1, 2).expect(rt, "opened");
+    let (pool, mut passes) = open::<Ticket<N>>(alloc, &store, 2, 1, 2).expect(rt, "opened");
     let first = passes.pop().unwrap();
     let second = passes.pop().unwrap();
     let shared = &pool;
     let (mut first, second) = thread::join(
         rt,
         || -> Pass<Ticket<N>>
-            requires { IsTicketPass shared.now first × IsIdle first }
-            ensures { IsTicketPass shared.entry.now result × IsIdle result }
+            requires { IsPassOf shared.now first × IsIdle first }
+            ensures { IsPassOf shared.entry.now result × IsIdle result }
         { visit_often(shared, first, &store, &two) },
         || -> Pass<Ticket<N>>
-            requires { IsTicketPass shared.now second × IsIdle second }
-            ensures { IsTicketPass shared.entry.now result × IsIdle result }
+            requires { IsPassOf shared.now second × IsIdle second }
+            ensures { IsPassOf shared.entry.now result × IsIdle result }
         { visit_often(shared, second, &store, &one) },
     );
     pool.join_pass(&mut first, second);

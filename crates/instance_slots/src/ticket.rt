@@ -2,13 +2,14 @@
 ghost use Rattle.std.specs.Prelude.{◌≡◌, ◌≤◌, ◌++◌, IfOk, length, drop, replicate, take, vec_capacity};
 ghost use Rattle.wasm_values.specs.declared.outcome.Val.TheVariants.{I32};
 ghost use Rattle.wasm_spec.specs.Store.{fresh_store};
-ghost use Rattle.pool_worlds.specs.Contents as contents;
+ghost use Rattle.pool_worlds.specs.declared.kinds.Kind.TheVariants as kind;
 ghost use Rattle.pool_worlds.specs.Contents.{prepared, Matches};
-ghost use Rattle.instance_slots.specs.Fits.{room, own_tag, fits-own_tag};
+ghost use Rattle.pool_worlds.specs.Handed.{own_tag, fits-own_tag};
 
 use module_limits::MOST_GLOBALS;
 use module_store::{ModuleRef, ModuleStore, Naming};
-use slot_words::Pooled;
+use slot_pools::OpenSlot;
+use slot_words::{NoMemory as Refused, Pooled};
 use std::alloc::Global;
 use std::marker::{Model, PhantomData};
 use wasm_machine::{Memory, Stacks};
@@ -101,7 +102,7 @@ impl<N: Naming> Ticket<N> {
 
     /// Writes the first values of the module's globals. Takes no memory.
     pub fn prepare(&mut self, store: &ModuleStore<N>, module: &ModuleRef<N>)
-        ensures prepared { self.new.globals ≡ prepared N.config.pages «module».now contents.Ticket self.old.globals }
+        ensures prepared { self.new.globals ≡ prepared N.config.pages «module».now kind.Ticket self.old.globals }
         ensures globals { take (length «module».now.tree.globals) self.new.globals ≡ (fresh_store «module».now.tree).globals }
     {
         // A module of the store has no more globals than are there.
@@ -114,11 +115,9 @@ impl<N: Naming> Ticket<N> {
 impl<N: Naming> Pooled for Ticket<N> {
     type Images = ModuleStore<N>;
 
-    ghost room = { room };
+    ghost own_tag = { λ x. own_tag kind.Ticket x.globals };
 
-    ghost own_tag = { own_tag };
-
-    ghost fits = { λ s tag x. Matches N.config.pages contents.Ticket s tag x.globals };
+    ghost fits = { λ s tag x. Matches N.config.pages kind.Ticket s tag x.globals };
 
     // It is cold whatever it holds, since a call writes all that it reads.
     fn clear(&mut self) {}
@@ -134,5 +133,11 @@ impl<N: Naming> Pooled for Ticket<N> {
         0
     }
 
-    ghost fits_own_tag = { fits-own_tag N.config.pages };
+    ghost fits_own_tag = { λ s tag x. fits-own_tag N.config.pages kind.Ticket s tag x.globals };
+}
+
+impl<N: Naming> OpenSlot for Ticket<N> {
+    fn open(alloc: Global, images: &ModuleStore<N>) -> Result<Ticket<N>, Refused> {
+        Ticket::open(alloc, images).map_err(|_| Refused)
+    }
 }

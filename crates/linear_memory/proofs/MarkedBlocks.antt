@@ -37,6 +37,11 @@ block_of : (at n i : ℕ) → 0 < n → n ≤ 4096 → at ≤ i → i < at + n �
 block_of at n i p h l u = grind arith
 
 -- both marks are set, so a place that lies in no marked block lies outside the piece
+-- what does not lie within a part lies before it or past it
+outside_part : (at n i : ℕ) → (at ≤ i → i < at + n → ⊥) → (i < at) ⊎ (at + n ≤ i)
+outside_part at n i out =
+    ⊎_elim (λ (l : i < at). inl l) (λ (l : at ≤ i). ⊎_elim (λ (u : i < at + n). absurd (out l u)) (λ (u : at + n ≤ i). inr u) (cases_lt i (at + n))) (cases_lt i at)
+
 module _ (marks : List Bool) (at n i : ℕ) (some : 0 < n) (short : n ≤ 4096) (first : at / 4096 < length marks) (last : (at + n - 1) / 4096 < length marks) (unmarked : is_marked (set (set marks (at / 4096) true) ((at + n - 1) / 4096) true) i ≡ false) where
   not_last : i / 4096 ≡ (at + n - 1) / 4096 → ⊥
   not_last e =
@@ -51,11 +56,8 @@ module _ (marks : List Bool) (at n i : ℕ) (some : 0 < n) (short : n ≤ 4096) 
       ap (λ (b : ℕ). get_or (set marks (at / 4096) true) b false) e ∙ set_here marks (at / 4096) first in
       cc (is, unset_before (set marks (at / 4096) true) ((at + n - 1) / 4096) (i / 4096) unmarked)
 
-  not_within : at ≤ i → i < at + n → ⊥
-  not_within l u = ⊎_elim not_first not_last (block_of at n i some short l u)
-
   pub lies_outside : (i < at) ⊎ (at + n ≤ i)
-  lies_outside = ⊎_elim (λ (l : i < at). inl l) (λ (l : at ≤ i). ⊎_elim (λ (u : i < at + n). absurd (not_within l u)) (λ (u : at + n ≤ i). inr u) (cases_lt i (at + n))) (cases_lt i at)
+  lies_outside = outside_part at n i (λ l u. ⊎_elim not_first not_last (block_of at n i some short l u))
 
 -- ---- a row of marks that is set
 
@@ -106,18 +108,14 @@ touched_end at zero some = absurd (omega arith)
 touched_end at (suc n) some = omega arith
 
 -- all of its blocks are marked, so a place that lies in no marked block lies outside it
-module _ (marks : List Bool) (at n i : ℕ) (fits : at + n ≤ length marks * 4096) (unmarked : is_marked (written marks (at / 4096) (replicate (touched at n) true)) i ≡ false) where
-  part_not_within : at ≤ i → i < at + n → ⊥
-  part_not_within l u =
-      let some : 0 < n = omega arith in
-      let end = touched_end at n some in
-      let long : length (replicate (touched at n) true) ≡ touched at n = length-replicate (touched at n) true in
-      let is : get_or (written marks (at / 4096) (replicate (touched at n) true)) (i / 4096) false ≡ true =
-      row_here (at / 4096) (touched at n) (at / 4096 + length (replicate (touched at n) true)) marks (i / 4096) (omega arith) (omega arith) (omega arith) (omega arith) in
-      cc (is, unmarked)
-
-  pub part_outside : (i < at) ⊎ (at + n ≤ i)
-  part_outside = ⊎_elim (λ (l : i < at). inl l) (λ (l : at ≤ i). ⊎_elim (λ (u : i < at + n). absurd (part_not_within l u)) (λ (u : at + n ≤ i). inr u) (cases_lt i (at + n))) (cases_lt i at)
+pub part_outside : (marks : List Bool) (at n i : ℕ) → at + n ≤ length marks * 4096 → is_marked (written marks (at / 4096) (replicate (touched at n) true)) i ≡ false → (i < at) ⊎ (at + n ≤ i)
+part_outside marks at n i fits unmarked = outside_part at n i (λ l u.
+    let some : 0 < n = omega arith in
+    let end = touched_end at n some in
+    let long : length (replicate (touched at n) true) ≡ touched at n = length-replicate (touched at n) true in
+    let is : get_or (written marks (at / 4096) (replicate (touched at n) true)) (i / 4096) false ≡ true =
+    row_here (at / 4096) (touched at n) (at / 4096 + length (replicate (touched at n) true)) marks (i / 4096) (omega arith) (omega arith) (omega arith) (omega arith) in
+    cc (is, unmarked))
 
 -- no mark is set where there is no byte
 no_row : (marks : List Bool) (first : ℕ) → written marks first [] ≡ marks

@@ -12,7 +12,8 @@ use Rattle.wasm_types.specs.declared.instr.Instr.{Instr}
 use Rattle.wasm_types.specs.declared.instr.Instr.TheVariants as instr
 use Rattle.wasm_types.specs.Tree.{ModuleTree}
 use Rattle.wasm_spec.specs.Store.{Store, page_size}
-use Rattle.wasm_spec.specs.Execution.{State, Signal, Next, Trapped, Stuck, number, value, given, pop, pop_two, at_address, load_number, store_number, memory_set, most_pages, plain}
+use Rattle.wasm_spec.specs.Typing.{number}
+use Rattle.wasm_spec.specs.Execution.{State, Signal, Next, Trapped, Stuck, value, given, pop, pop_two, at_address, load_number, store_number, memory_set, most_pages, plain}
 use Rattle.wasm_spec.specs.Execution as execution
 use Rattle.machine_steps.specs.declared.machine.Machine.{Machine}
 use Rattle.linear_memory.specs.declared.memory.Memory.{Memory}

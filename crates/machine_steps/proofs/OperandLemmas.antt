@@ -5,7 +5,8 @@ use Rattle.wasm_values.specs.declared.outcome.Val.{Val}
 use Rattle.wasm_values.specs.declared.outcome.TrapKind.{TrapKind}
 use Rattle.wasm_types.specs.declared.instr.Width.{Width}
 use Rattle.wasm_spec.specs.Store.{Store}
-use Rattle.wasm_spec.specs.Execution.{Signal, Stuck, number, value, given, pop_two, or_trap, with_operands}
+use Rattle.wasm_spec.specs.Typing.{number}
+use Rattle.wasm_spec.specs.Execution.{Signal, Stuck, value, given, pop_two, or_trap, with_operands}
 use Rattle.machine_steps.specs.declared.machine.Machine.{Machine}
 use Rattle.machine_steps.specs.Configuration.{Configuration, state}
 use Rattle.machine_steps.specs.StackLayout.{Represents, operands_under, bottom_of}

@@ -7,7 +7,7 @@ use Rattle.wasm_spec.specs.Store.{fresh_store, minimum_of, page_size}
 use Rattle.wasm_spec.specs.Instances.{room_for}
 use Rattle.wasm_spec.proofs.ResultLaws.{length-fresh_memory}
 use Rattle.linear_memory.specs.declared.memory.Memory.{Memory}
-use Rattle.pool_worlds.specs.Contents as contents
+use Rattle.pool_worlds.specs.declared.kinds.Kind.TheVariants as kind
 use Rattle.pool_worlds.specs.Contents.{Named, MemoryContents, belongs_to, filled, memory_image, rewritten_from, prepared, restored, HasImageOutside, IsClean, IsFreshMemory}
 use Rattle.pool_worlds.proofs.Parts.{rewritten-is, filled-past}
 use Rattle.pool_worlds.proofs.Images.{clean_is}
@@ -23,7 +23,7 @@ pub record HasRoomOf (x new : MemoryContents) : Type 0 where
   pub marks : length new.marks ≡ length x.marks
 
 pub prepared_is : (config : Numbers) (m : Named) (x new : MemoryContents) → IsKept config x → IsFreshMemory config.pages new m → HasRoomOf x new
-    → (belongs_to m x.holds ≡ true → x.holds ≡ Some m) → new ≡ prepared config.pages m contents.Memory x
+    → (belongs_to m x.holds ≡ true → x.holds ≡ Some m) → new ≡ prepared config.pages m kind.Memory x
 prepared_is config m x new kept fresh room own =
     let image : List ℕ = memory_image config.pages (Some m) in
     let split : (b : Bool) → belongs_to m x.holds ≡ b → new.bytes ≡ cond b (rewritten_from 0 x.marks image x.bytes) image = elim [
@@ -82,8 +82,8 @@ module _ (config : Numbers) (m : Named) (x : MemoryContents) (within : IsWithin 
 -- what was made fresh for its own module is restored
 pub restored_is : (config : Numbers) (m : Named) (holds : Option Named) (old new : Memory) → holds ≡ Some m → IsKept config (contents_of old holds)
     → IsFreshMemory config.pages (contents_of new (Some m)) m → IsKept config (contents_of new (Some m)) → new.marks.items ≡ map (λ (marked : Bool). false) old.marks.items
-    → contents_of new holds ≡ restored config.pages contents.Memory (contents_of old holds)
+    → contents_of new holds ≡ restored config.pages kind.Memory (contents_of old holds)
 restored_is config m holds old new is kept fresh after marks =
-    let Q : Option Named → Type 0 = λ h. IsKept config (contents_of old h) → contents_of new h ≡ restored config.pages contents.Memory (contents_of old h) in
+    let Q : Option Named → Type 0 = λ h. IsKept config (contents_of old h) → contents_of new h ≡ restored config.pages kind.Memory (contents_of old h) in
     subst Q (sym is) (λ k. prepared_is config m (contents_of old (Some m)) (contents_of new (Some m)) k fresh
     (record { bytes = after.room ∙ sym k.room; marks = ap length marks ∙ length-map old.marks.items (λ (marked : Bool). false) }) (λ b. refl)) kept

@@ -16,8 +16,10 @@ use Rattle.linear_memory.specs.Bytes.{IsMemory, shown, size_of}
 use Rattle.linear_memory.specs.Marks.{HasSameRoom, KeepsUnmarked}
 use Rattle.wasm_machine.specs.Lent.{own}
 use Rattle.wasm_machine.specs.TypedConfiguration.{IsTypedStore}
-use Rattle.pool_worlds.specs.Contents as contents
-use Rattle.pool_worlds.specs.Contents.{Named, Kind, Ticket, Table, MemoryContents, Contents, filled, is_marked, memory_image, needs, turned, Marks}
+use Rattle.pool_worlds.specs.declared.kinds.Kind.TheVariants as kind
+use Rattle.pool_worlds.specs.Contents.{Named, MemoryContents, Contents, filled, is_marked, memory_image, needs, turned, Marks}
+use Rattle.pool_worlds.specs.declared.kinds.Kind.{Kind}
+use Rattle.pool_worlds.specs.declared.kinds.Kind.TheVariants.{Ticket, Table}
 use Rattle.pool_worlds.specs.Worlds.{IsZeroPast}
 use Rattle.pool_worlds.proofs.Images.{filled-at}
 use Rattle.pool_limits.specs.declared.numbers.Numbers.{Numbers}
@@ -92,7 +94,7 @@ module _ (config : Numbers) (most : ℕ) (old new : Memory) (holds : Option Name
   pages_are : new.pages ≡ length (shown new) / page_size
   pages_are = sym (ap (λ (n : ℕ). n / page_size) length-shown ∙ whole_pages new.pages)
 
-  pub memory_left : (s : Store) → s.memory ≡ shown new → contents_of new holds ≡ turned config.pages s new.marks.items contents.Memory (contents_of old holds)
+  pub memory_left : (s : Store) → s.memory ≡ shown new → contents_of new holds ≡ turned config.pages s new.marks.items kind.Memory (contents_of old holds)
   memory_left s is =
       let bytes = filled_is ∙ ap (filled config.pages) (sym is) in
       let pages = pages_are ∙ ap (λ (l : List ℕ). length l / page_size) (sym is) in
@@ -117,10 +119,10 @@ globals_there m s globals is typed =
 
 -- the parts after a run are those before it as its store leaves them
 pub parts_left : (pages : ℕ) (m : ModuleTree) (s : Store) (x y : MemoryContents) (owner : Option Named) (table : List (Option ℕ)) (globals new : List Val)
-    → y ≡ turned pages s y.marks contents.Memory x → s.table ≡ table → new ≡ s.globals ++ drop (length s.globals) globals
+    → y ≡ turned pages s y.marks kind.Memory x → s.table ≡ table → new ≡ s.globals ++ drop (length s.globals) globals
     → (k : Kind) → needs k m ≡ true → parts y owner table new k ≡ turned pages s y.marks k (parts x owner table globals k)
 parts_left pages m s x y owner table globals new memory entries values Ticket needed = values
-parts_left pages m s x y owner table globals new memory entries values contents.Memory needed = memory
+parts_left pages m s x y owner table globals new memory entries values kind.Memory needed = memory
 parts_left pages m s x y owner table globals new memory entries values Table needed = λ i. record { entries = sym entries i; holds = owner }
 
 -- what a run left unmarked, in the words of pools

@@ -4,7 +4,9 @@ use Rattle.wasm_values.specs.declared.outcome.Val.{Val}
 use Rattle.wasm_types.specs.declared.module.Module.{Module}
 use Rattle.wasm_spec.specs.Store.{Store, page_size}
 use Rattle.wasm_machine.specs.Lent.{own}
-use Rattle.pool_worlds.specs.Contents.{Named, Kind, Ticket, Memory, Table, MemoryContents, Contents}
+use Rattle.pool_worlds.specs.Contents.{Named, MemoryContents, Contents}
+use Rattle.pool_worlds.specs.declared.kinds.Kind.{Kind}
+use Rattle.pool_worlds.specs.declared.kinds.Kind.TheVariants.{Ticket, Memory, Table}
 use Rattle.pool_worlds.specs.Worlds.{IsZeroPast}
 
 -- it has at most so many pages, and zeros past its size

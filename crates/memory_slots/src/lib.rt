@@ -11,7 +11,7 @@ mod steps;
 mod tests;
 
 pub use linear_memory::Memory;
-pub use pool::MemoryPool;
+pub use pool::{give, take};
 pub use slot::MemSlot;
 pub use slot_pools::Full;
 pub use steps::Steps;

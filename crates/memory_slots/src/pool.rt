@@ -1,177 +1,78 @@
-//! Pools of memories.
-ghost use Rattle.std.specs.Prelude.{◌≡◌, ◌+◌, ◌<◌, ◌≤◌, ◌++◌, true, false, is_some, length, IfOk, OnErr};
-ghost use Rattle.std.specs.List.{All};
-ghost use Rattle.pool_core.specs.declared.limits.TheConstants.{MOST_SLOTS};
+//! Memories are taken out of their pool and given back.
+ghost use Rattle.std.specs.Prelude.{◌≡◌, ◌<◌, true, false, is_some, IfOk, OnErr};
 ghost use Rattle.pool_core.specs.declared.words.State.TheVariants.{Awaiting};
-ghost use Rattle.slot_words.specs.Closing.{ClosesAs, CountsLeft};
 ghost use Rattle.slot_words.specs.Leases.{lease_number, lease_word};
-ghost use Rattle.slot_words.specs.Owned.{slots_of, limit_of, passes_of};
+ghost use Rattle.slot_words.specs.Owned.{IsPassOf, limit_of, passes_of, slots_of};
 ghost use Rattle.slot_words.specs.Parts.{Grew};
-ghost use Rattle.slot_words.specs.Passes.{Holds, IsIdle, IsSamePass, joined_trails, operations, seat_number, share_of, trail, trails};
+ghost use Rattle.slot_words.specs.Passes.{Holds, IsIdle, IsSamePass, share_of, trail};
 ghost use Rattle.decommit_batch.specs.HandIn.{IsHandIn};
-ghost use Rattle.decommit_batch.specs.Sweep.{IsSweep};
 ghost use Rattle.slot_pools.specs.Takes.{IsBatchedTake, IsFullBatchedTake};
 ghost use Rattle.wasm_spec.specs.Instances.{room_for};
 ghost use Rattle.wasm_spec.specs.Store.{fresh_store};
-ghost use Rattle.pool_worlds.specs.Contents as contents;
-ghost use Rattle.pool_worlds.specs.Contents.{shown_memory, IsCold, IsFreshMemory, Matches};
-ghost use Rattle.memory_slots.specs.Fits.{own_tag};
-ghost use Rattle.memory_slots.specs.Handed.{IsHandedOut};
+ghost use Rattle.pool_worlds.specs.declared.kinds.Kind.TheVariants as kind;
+ghost use Rattle.pool_worlds.specs.Contents.{shown_memory, IsFreshMemory, Matches};
+ghost use Rattle.pool_worlds.specs.Handed.{own_tag, IsHandedOut};
 ghost use Rattle.memory_slots.specs.Lent.{IsReady};
-ghost use Rattle.memory_slots.specs.Pools.{IsMemoryPass, IsNewMemoryPass, words_of};
 
 use crate::slot::MemSlot;
-use decommit_batch::{hand_in, sweep};
+use decommit_batch::hand_in;
 use module_store::{ModuleRef, ModuleStore, Naming};
 use slot_pools::{Full, take_batched};
-use slot_words::{KindCounts, Lease, Pass, Words};
-use std::alloc::Global;
-use wasm_values::NoMemory;
+use slot_words::{Lease, Pass, Words};
 
-/// Memories that threads share, each of them for one call at a time. A memory that is given back awaits its decommit, and with a
-/// batch of them each becomes warm or cold.
-#[derive(Drop)]
-pub struct MemoryPool<N: Naming> {
-    pub(crate) words: Words<MemSlot<N>>,
-}
-
-// So many cold memories.
-fn cold_slots<N: Naming>(
-    alloc: Global,
+/// Takes a memory and makes it the module's fresh one: the first along the order of the module's tag that it wins, or else,
+/// after a flush, any. It allocates nothing.
+///
+/// # Errors
+///
+/// [`Full`] exactly where no claim was won, but for those of its flush: other passes held the memories. The pass holds nothing
+/// then. One that stands for all passes never meets it.
+pub fn take<N: Naming>(
+    pool: &Words<MemSlot<N>>,
+    pass: &mut Pass<MemSlot<N>>,
     store: &ModuleStore<N>,
-    count: u32,
-) -> Result<Vec<MemSlot<N>>, NoMemory>
-    ensures { IfOk result (λ s. (length s.items ≡ count) × All (IsCold N.config.pages contents.Memory) s.items) }
+    module: &ModuleRef<N>,
+) -> Result<Lease<MemSlot<N>>, Full>
+    requires own { IsPassOf pool.now pass.old }
+    requires idle { IsIdle pass.old }
+    ensures same { IsSamePass pass.old pass.new }
+
+    // the pass has the slot of the lease, whose value is the module's fresh memory
+    ensures number { IfOk result (λ l. lease_number l < slots_of pool.now) }
+    ensures holds { IfOk result (λ l. Holds pass.new (lease_number l) false false false) }
+    ensures fresh { IfOk result (λ l. IsFreshMemory N.config.pages l.value «module».now) }
+    ensures shown { IfOk result (λ l. shown_memory true l.value ≡ (fresh_store «module».now.tree).memory) }
+    ensures ready { IfOk result (λ l. IsReady (room_for «module».now.tree.memories N.config.pages) l.value) }
+    ensures handed { IfOk result (λ l. IsHandedOut N.config.pages kind.Memory «module».now (lease_word l) l.value) }
+    ensures trail { IfOk result (λ l. Grew (IsBatchedTake (limit_of pool.now) (slots_of pool.now) «module».now.tag (lease_number l) (lease_word l)) (trail pass.old) (trail pass.new)) }
+
+    // it won nothing
+    ensures full { OnErr result (IsIdle pass.new × Grew (IsFullBatchedTake (limit_of pool.now) (slots_of pool.now) «module».now.tag) (trail pass.old) (trail pass.new)) }
+    ensures another { OnErr result (share_of pass.old < passes_of pool.now) }
 {
-    let mut slots = Vec::with_capacity(alloc, count as usize).map_err(|_| NoMemory)?;
-    for _ in 0..count {
-        let slot = MemSlot::open(alloc, store)?;
-        slots.push_reserved(slot);
-    }
-    Ok(slots)
+    let mut lease = take_batched(pool, pass, store, module.tag())?;
+    lease.value.prepare(store, module);
+    Ok(lease)
 }
 
-impl<N: Naming> MemoryPool<N> {
-    /// A pool of so many cold memories, of which at most `warm` are warm while no pass has them, and as many passes as are asked
-    /// for. No other pass of this pool is ever made.
-    ///
-    /// # Errors
-    ///
-    /// `NoMemory` where memory is refused.
-    pub fn open(
-        alloc: Global,
-        store: &ModuleStore<N>,
-        count: u32,
-        warm: u32,
-        passes: u32,
-    ) -> Result<(MemoryPool<N>, Vec<Pass<MemSlot<N>>>), NoMemory>
-        requires count { (1 ≤ count) × (count ≤ MOST_SLOTS) }
-        requires passes { 1 ≤ passes }
-        ensures slots { IfOk result (λ o. slots_of (words_of o.0) ≡ count) }
-        ensures limit { IfOk result (λ o. limit_of (words_of o.0) ≡ warm) }
-        ensures count { IfOk result (λ o. passes_of (words_of o.0) ≡ passes) }
-        ensures passes { IfOk result (λ o. (length o.1.items ≡ passes) × All (IsNewMemoryPass o.0) o.1.items) }
-    {
-        let slots = cold_slots(alloc, store, count)?;
-        let (words, passes) = Words::open(alloc, store, slots, warm, passes).map_err(|_| NoMemory)?;
-        Ok((MemoryPool { words }, passes))
-    }
-
-    /// Takes a memory and makes it the module's fresh one: the first along the order of the module's tag that it wins, or else,
-    /// after a flush, any. It allocates nothing.
-    ///
-    /// # Errors
-    ///
-    /// [`Full`] exactly where no claim was won, but for those of its flush: other passes held the memories. The pass holds nothing
-    /// then. One that stands for all passes never meets it.
-    pub fn take(
-        &self,
-        pass: &mut Pass<MemSlot<N>>,
-        store: &ModuleStore<N>,
-        module: &ModuleRef<N>,
-    ) -> Result<Lease<MemSlot<N>>, Full>
-        requires own { IsMemoryPass self.now pass.old }
-        requires idle { IsIdle pass.old }
-        ensures same { IsSamePass pass.old pass.new }
-
-        // the pass has the slot of the lease, whose value is the module's fresh memory
-        ensures number { IfOk result (λ l. lease_number l < slots_of (words_of self.now)) }
-        ensures holds { IfOk result (λ l. Holds pass.new (lease_number l) false false false) }
-        ensures fresh { IfOk result (λ l. IsFreshMemory N.config.pages l.value «module».now) }
-        ensures shown { IfOk result (λ l. shown_memory true l.value ≡ (fresh_store «module».now.tree).memory) }
-        ensures ready { IfOk result (λ l. IsReady (room_for «module».now.tree.memories N.config.pages) l.value) }
-        ensures handed { IfOk result (λ l. IsHandedOut N.config.pages «module».now (lease_word l) l.value) }
-        ensures trail { IfOk result (λ l. Grew (IsBatchedTake (limit_of (words_of self.now)) (slots_of (words_of self.now)) «module».now.tag (lease_number l) (lease_word l)) (trail pass.old) (trail pass.new)) }
-
-        // it won nothing
-        ensures full { OnErr result (IsIdle pass.new × Grew (IsFullBatchedTake (limit_of (words_of self.now)) (slots_of (words_of self.now)) «module».now.tag) (trail pass.old) (trail pass.new)) }
-        ensures another { OnErr result (share_of pass.old < passes_of (words_of self.now)) }
-    {
-        let mut lease = take_batched(&self.words, pass, store, module.tag())?;
-        lease.value.prepare(store, module);
-        Ok(lease)
-    }
-
-    /// Gives a memory that belongs to a module back, to await its decommit. With the configured batch of them awaiting, a flush
-    /// follows. It allocates nothing.
-    pub fn give(
-        &self,
-        pass: &mut Pass<MemSlot<N>>,
-        lease: Lease<MemSlot<N>>,
-        store: &ModuleStore<N>,
-    )
-        requires own { IsMemoryPass self.now pass.old }
-        requires number { lease_number lease < slots_of (words_of self.now) }
-        requires holds { Holds pass.old (lease_number lease) false false false }
-        requires belongs { is_some lease.value.holds ≡ true }
-        ensures same { IsSamePass pass.old pass.new }
-        ensures idle { IsIdle pass.new }
-        ensures took { Matches N.config.pages contents.Memory Awaiting (own_tag lease.value) lease.value }
-        ensures trail { Grew (IsHandIn (limit_of (words_of self.now)) (slots_of (words_of self.now)) (lease_number lease) (own_tag lease.value) N.config.batch) (trail pass.old) (trail pass.new) }
-    {
-        lease.value.is_used();
-        let batch = store.config().numbers().batch;
-        hand_in(&self.words, pass, lease, store, batch);
-    }
-
-    /// Clears each memory that it sees free and of the module, warm or awaiting, and that it wins while it is so: it is cold then. Tells
-    /// how many. A memory that a pass holds meanwhile stays as it is. It allocates nothing and waits for nobody.
-    pub fn sweep(&self, pass: &mut Pass<MemSlot<N>>, module: &ModuleRef<N>) -> u32
-        requires own { IsMemoryPass self.now pass.old }
-        requires idle { IsIdle pass.old }
-        ensures same { IsSamePass pass.old pass.new }
-        ensures idle { IsIdle pass.new }
-        ensures few { result ≤ MOST_SLOTS }
-        ensures trail { Grew (IsSweep «module».now.tag (slots_of (words_of self.now)) result) (trail pass.old) (trail pass.new) }
-    {
-        sweep(&self.words, pass, module.tag())
-    }
-
-    /// Joins another pass of this pool into this one, which then stands for both. It allocates nothing.
-    pub fn join_pass(&self, pass: &mut Pass<MemSlot<N>>, other: Pass<MemSlot<N>>)
-        requires own { IsMemoryPass self.now pass.old }
-        requires idle { IsIdle pass.old }
-        requires other { IsMemoryPass self.now other × IsIdle other }
-        ensures own { IsMemoryPass self.now pass.new }
-        ensures idle { IsIdle pass.new }
-        ensures share { share_of pass.new ≡ share_of pass.old + share_of other }
-        ensures number { seat_number pass.new ≡ seat_number pass.old }
-        ensures trail { trail pass.new ≡ trail pass.old }
-        ensures joined { joined_trails pass.new ≡ joined_trails pass.old ++ trails other }
-    {
-        self.words.join_pass(pass, other);
-    }
-
-    /// Ends all passes and counts the slots as they stand. The memories are dropped. With all passes joined into this one, none
-    /// is held.
-    pub fn close(self, pass: Pass<MemSlot<N>>) -> KindCounts
-        requires own { IsMemoryPass self pass }
-        requires idle { IsIdle pass }
-        ensures counts { ClosesAs (slots_of (words_of self)) (limit_of (words_of self)) (passes_of (words_of self)) (share_of pass) (trails pass) result }
-        ensures joined { share_of pass ≡ passes_of (words_of self) → CountsLeft (slots_of (words_of self)) (operations pass) result }
-        ensures held { result.held + share_of pass ≤ passes_of (words_of self) }
-    {
-        let MemoryPool { words } = self;
-        words.close(pass)
-    }
+/// Gives a memory that belongs to a module back, to await its decommit. With the configured batch of them awaiting, a flush
+/// follows. It allocates nothing.
+pub fn give<N: Naming>(
+    pool: &Words<MemSlot<N>>,
+    pass: &mut Pass<MemSlot<N>>,
+    lease: Lease<MemSlot<N>>,
+    store: &ModuleStore<N>,
+)
+    requires own { IsPassOf pool.now pass.old }
+    requires number { lease_number lease < slots_of pool.now }
+    requires holds { Holds pass.old (lease_number lease) false false false }
+    requires belongs { is_some lease.value.holds ≡ true }
+    ensures same { IsSamePass pass.old pass.new }
+    ensures idle { IsIdle pass.new }
+    ensures took { Matches N.config.pages kind.Memory Awaiting (own_tag kind.Memory lease.value) lease.value }
+    ensures trail { Grew (IsHandIn (limit_of pool.now) (slots_of pool.now) (lease_number lease) (own_tag kind.Memory lease.value) N.config.batch) (trail pass.old) (trail pass.new) }
+{
+    lease.value.is_used();
+    let batch = store.config().numbers().batch;
+    hand_in(pool, pass, lease, store, batch);
 }

@@ -11,10 +11,11 @@ ghost use Rattle.wasm_machine.specs.Calls.{IsCall, FitsFrame, IsDone};
 ghost use Rattle.wasm_machine.specs.Lent.{others};
 ghost use Rattle.wasm_machine.specs.TypedConfiguration.{IsTypedStore};
 ghost use Rattle.pool_worlds.specs.Contents as contents;
+ghost use Rattle.pool_worlds.specs.declared.kinds.Kind.TheVariants as kind;
 ghost use Rattle.pool_worlds.specs.Contents.{Named, belongs_to, prepared, restored, shown_memory, IsCold, IsFreshMemory, Matches};
 ghost use Rattle.pool_worlds.specs.Runs.{Leaves, LeavesFrom};
 ghost use Rattle.paused_call.specs.Standing.{CanResume, HasTurned, Stands, upto, whole};
-ghost use Rattle.memory_slots.specs.Fits.{room, own_tag, fits-own_tag};
+ghost use Rattle.pool_worlds.specs.Handed.{own_tag, fits-own_tag};
 ghost use Rattle.memory_slots.specs.Lent.{IsReady, dirty_blocks, parts, store_in};
 ghost use Rattle.memory_slots.specs.Written.{WritesAtMost};
 
@@ -25,7 +26,8 @@ use call_payload::AnswerBuf;
 use linear_memory::Memory;
 use module_store::{ModuleRef, ModuleStore, Naming};
 use paused_call::{PausedCall, Turned};
-use slot_words::Pooled;
+use slot_pools::OpenSlot;
+use slot_words::{NoMemory as Refused, Pooled};
 use std::alloc::Global;
 use std::marker::{Brand, Model};
 use std::sync::ledger::{Blank, Ledger};
@@ -65,7 +67,7 @@ impl<N: Naming> MemSlot<N> {
     ///
     /// `NoMemory` where memory is refused.
     pub fn open(alloc: Global, store: &ModuleStore<N>) -> Result<MemSlot<N>, NoMemory>
-        ensures { IfOk result (IsCold N.config.pages contents.Memory) }
+        ensures { IfOk result (IsCold N.config.pages kind.Memory) }
     {
         let pages = store.config().numbers().pages;
         let memory = Memory::zeroed(alloc, pages)?;
@@ -80,7 +82,7 @@ impl<N: Naming> MemSlot<N> {
     /// Makes it the module's fresh memory. Where it belongs to that module already, the marked blocks alone are written. Takes
     /// no memory.
     pub fn prepare(&mut self, store: &ModuleStore<N>, module: &ModuleRef<N>)
-        ensures prepared { self.new ≡ prepared N.config.pages «module».now contents.Memory self.old }
+        ensures prepared { self.new ≡ prepared N.config.pages «module».now kind.Memory self.old }
         ensures fresh { IsFreshMemory N.config.pages self.new «module».now }
         ensures shown { shown_memory true self.new ≡ (fresh_store «module».now.tree).memory }
         ensures ready { IsReady (room_for «module».now.tree.memories N.config.pages) self.new }
@@ -97,7 +99,7 @@ impl<N: Naming> MemSlot<N> {
         blank: Blank,
     )
         requires name { (blank.name ≡ L.name) × (blank.parts ≡ L.parts) × (0 < blank.parts) }
-        ensures prepared { self.new ≡ prepared N.config.pages «module».now contents.Memory self.old }
+        ensures prepared { self.new ≡ prepared N.config.pages «module».now kind.Memory self.old }
         ensures fresh { IsFreshMemory N.config.pages self.new «module».now }
     {
         let mut steps = Steps::<L>::new(blank);
@@ -112,7 +114,7 @@ impl<N: Naming> MemSlot<N> {
         module: &ModuleRef<N>,
         steps: &mut Steps<L>,
     )
-        ensures prepared { self.new ≡ prepared N.config.pages «module».now contents.Memory self.old }
+        ensures prepared { self.new ≡ prepared N.config.pages «module».now kind.Memory self.old }
         ensures fresh { IsFreshMemory N.config.pages self.new «module».now }
         ensures own { belongs_to «module».now self.old.holds ≡ true → steps.new ≡ steps.old + dirty_blocks self.old }
         ensures steps { WritesAtMost self.old (Some «module».now) steps.old steps.new }
@@ -143,7 +145,7 @@ impl<N: Naming> MemSlot<N> {
 
     /// Makes it the fresh memory of its own module, if it has one: the marked blocks alone are written. Takes no memory.
     pub fn restore(&mut self, store: &ModuleStore<N>)
-        ensures restored { self.new ≡ restored N.config.pages contents.Memory self.old }
+        ensures restored { self.new ≡ restored N.config.pages kind.Memory self.old }
         ensures fresh { IfSome self.old.holds (IsFreshMemory N.config.pages self.new) }
     {
         self.restore_uncounted::<Brand>(store, Blank::new(1));
@@ -151,7 +153,7 @@ impl<N: Naming> MemSlot<N> {
 
     fn restore_uncounted<L: Ledger>(&mut self, store: &ModuleStore<N>, blank: Blank)
         requires name { (blank.name ≡ L.name) × (blank.parts ≡ L.parts) × (0 < blank.parts) }
-        ensures restored { self.new ≡ restored N.config.pages contents.Memory self.old }
+        ensures restored { self.new ≡ restored N.config.pages kind.Memory self.old }
         ensures fresh { IfSome self.old.holds (IsFreshMemory N.config.pages self.new) }
     {
         if self.holds.is_none() {
@@ -164,7 +166,7 @@ impl<N: Naming> MemSlot<N> {
     /// [`MemSlot::restore`] of a memory that has a module, with one step for each block that is written: as many as are marked.
     pub fn restore_counted<L: Ledger>(&mut self, store: &ModuleStore<N>, steps: &mut Steps<L>)
         requires { is_some self.old.holds ≡ true }
-        ensures restored { self.new ≡ restored N.config.pages contents.Memory self.old }
+        ensures restored { self.new ≡ restored N.config.pages kind.Memory self.old }
         ensures fresh { IfSome self.old.holds (IsFreshMemory N.config.pages self.new) }
         ensures steps { steps.new ≡ steps.old + dirty_blocks self.old }
     {
@@ -176,14 +178,14 @@ impl<N: Naming> MemSlot<N> {
 
     /// Makes it cold. Takes no memory.
     pub fn clear(&mut self)
-        ensures { IsCold N.config.pages contents.Memory self.new }
+        ensures { IsCold N.config.pages kind.Memory self.new }
     {
         self.clear_uncounted::<Brand>(Blank::new(1));
     }
 
     fn clear_uncounted<L: Ledger>(&mut self, blank: Blank)
         requires name { (blank.name ≡ L.name) × (blank.parts ≡ L.parts) × (0 < blank.parts) }
-        ensures { IsCold N.config.pages contents.Memory self.new }
+        ensures { IsCold N.config.pages kind.Memory self.new }
     {
         let mut steps = Steps::<L>::new(blank);
         self.clear_counted(&mut steps);
@@ -191,7 +193,7 @@ impl<N: Naming> MemSlot<N> {
 
     /// [`MemSlot::clear`] with one step for each block that is written: at most those that are marked or in which its module has data.
     pub fn clear_counted<L: Ledger>(&mut self, steps: &mut Steps<L>)
-        ensures cold { IsCold N.config.pages contents.Memory self.new }
+        ensures cold { IsCold N.config.pages kind.Memory self.new }
         ensures steps { WritesAtMost self.old None steps.old steps.new }
     {
         write_all(
@@ -318,7 +320,7 @@ impl<N: Naming> MemSlot<N> {
     // type keeps.
     pub(crate) fn is_used(&self)
         requires { is_some self.now.holds ≡ true }
-        ensures { Matches N.config.pages contents.Memory Awaiting (own_tag self.now) self.now }
+        ensures { Matches N.config.pages kind.Memory Awaiting (own_tag kind.Memory self.now) self.now }
     {
         let _ = &self.memory;
     }
@@ -327,11 +329,9 @@ impl<N: Naming> MemSlot<N> {
 impl<N: Naming> Pooled for MemSlot<N> {
     type Images = ModuleStore<N>;
 
-    ghost room = { room };
+    ghost own_tag = { own_tag kind.Memory };
 
-    ghost own_tag = { own_tag };
-
-    ghost fits = { λ s tag x. Matches N.config.pages contents.Memory s tag x };
+    ghost fits = { λ s tag x. Matches N.config.pages kind.Memory s tag x };
 
     fn clear(&mut self) {
         self.clear();
@@ -348,5 +348,11 @@ impl<N: Naming> Pooled for MemSlot<N> {
         }
     }
 
-    ghost fits_own_tag = { fits-own_tag N.config.pages };
+    ghost fits_own_tag = { fits-own_tag N.config.pages kind.Memory };
+}
+
+impl<N: Naming> OpenSlot for MemSlot<N> {
+    fn open(alloc: Global, images: &ModuleStore<N>) -> Result<MemSlot<N>, Refused> {
+        MemSlot::open(alloc, images).map_err(|_| Refused)
+    }
 }

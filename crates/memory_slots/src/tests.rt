@@ -4,12 +4,13 @@ ghost use Rattle.std.specs.List.{All};
 ghost use Rattle.slot_words.specs.Passes.{IsIdle, IsSamePass};
 ghost use Rattle.module_store.specs.Names.{Bears};
 ghost use Rattle.memory_slots.specs.Lent.{IsReady};
-ghost use Rattle.memory_slots.specs.Pools.{IsMemoryPass, IsNewMemoryPass};
+ghost use Rattle.slot_words.specs.Owned.{IsPassOf, IsNewPassOf};
 
-use crate::{MemSlot, MemoryPool};
+use crate::{MemSlot, give, take};
 use module_store::{Desk, ModuleRef, ModuleStore, Naming, Opened};
 use pool_limits::{Numbers, PoolConfig};
-use slot_words::{KindCounts, Pass};
+use slot_pools::{open, sweep};
+use slot_words::{KindCounts, Pass, Words};
 use std::alloc::Global;
 use std::marker::Brand;
 use std::process::Abort;
@@ -147,21 +148,21 @@ fn a_slot_goes_from_module_to_module(rt: HostRuntime) -> Result<(), Fail> {
 
 // The number of the slot that is taken for the module and given back, or none where the pool is full.
 fn visit<N: Naming>(
-    pool: &MemoryPool<N>,
+    pool: &Words<MemSlot<N>>,
     pass: &mut Pass<MemSlot<N>>,
     store: &ModuleStore<N>,
     module: &ModuleRef<N>,
 ) -> Option<u32>
-    requires own { IsMemoryPass pool.now pass.old }
+    requires own { IsPassOf pool.now pass.old }
     requires idle { IsIdle pass.old }
     ensures same { IsSamePass pass.old pass.new }
     ensures idle { IsIdle pass.new }
 {
-    let Ok(lease) = pool.take(pass, store, module) else {
+    let Ok(lease) = take(pool, pass, store, module) else {
         return None;
     };
     let number = lease.number();
-    pool.give(pass, lease, store);
+    give(pool, pass, lease, store);
     Some(number)
 }
 
@@ -183,7 +184,7 @@ fn check_visits<N: Naming, R: Abort + Wait>(rt: &R, alloc: Global, opened: Opene
     let second = registered(rt, alloc, &store, &mut desk, &BUMP);
     let third = registered(rt, alloc, &store, &mut desk, &BUMP);
     let modules = [&first, &second, &third];
-    let (pool, mut passes) = MemoryPool::open(alloc, &store, 3, row.warm, 1).expect(rt, "opened");
+    let (pool, mut passes) = open::<MemSlot<N>>(alloc, &store, 3, row.warm, 1).expect(rt, "opened");
     let mut pass = passes.pop().unwrap();
     for visited in row.visits {
         if let Some((module, number)) = visited {
@@ -239,20 +240,20 @@ fn modules_come_back_to_their_memories(rt: HostRuntime) -> Result<(), Fail> {
 
 // What a second pass gets while the first has a slot, and after the first gave it back.
 fn visits_beside<N: Naming>(
-    pool: &MemoryPool<N>,
+    pool: &Words<MemSlot<N>>,
     mut first: Pass<MemSlot<N>>,
     mut second: Pass<MemSlot<N>>,
     store: &ModuleStore<N>,
     module: &ModuleRef<N>,
 ) -> [Option<u32>; 2]
-    requires own { IsMemoryPass pool.now first × IsMemoryPass pool.now second }
+    requires own { IsPassOf pool.now first × IsPassOf pool.now second }
     requires idle { IsIdle first × IsIdle second }
 {
-    let Ok(lease) = pool.take(&mut first, store, module) else {
+    let Ok(lease) = take(pool, &mut first, store, module) else {
         return [Some(9); 2];
     };
     let beside = visit(pool, &mut second, store, module);
-    pool.give(&mut first, lease, store);
+    give(pool, &mut first, lease, store);
     [beside, visit(pool, &mut second, store, module)]
 }
 
@@ -261,7 +262,7 @@ fn check_full<N: Naming, R: Abort + Wait>(rt: &R, alloc: Global, opened: Opened)
 {
     let (store, mut desk) = opened.named::<N>();
     let module = registered(rt, alloc, &store, &mut desk, &BUMP);
-    let (pool, mut passes) = MemoryPool::open(alloc, &store, 1, 1, 2).expect(rt, "opened");
+    let (pool, mut passes) = open::<MemSlot<N>>(alloc, &store, 1, 1, 2).expect(rt, "opened");
     let first = passes.pop().unwrap();
     let second = passes.pop().unwrap();
     let got = visits_beside(&pool, first, second, &store, &module);
@@ -276,20 +277,20 @@ fn a_pool_is_full_until_its_memory_is_given_back(rt: HostRuntime) -> Result<(), 
 
 // How many blocks are marked in a slot whose memory was given back with one marked block.
 fn marked_after_give<N: Naming>(
-    pool: &MemoryPool<N>,
+    pool: &Words<MemSlot<N>>,
     mut pass: Pass<MemSlot<N>>,
     store: &ModuleStore<N>,
     module: &ModuleRef<N>,
 ) -> Option<u32>
-    requires { IsNewMemoryPass pool.now pass }
+    requires { IsNewPassOf pool.now pass }
 {
-    let Ok(mut lease) = pool.take(&mut pass, store, module) else {
+    let Ok(mut lease) = take(pool, &mut pass, store, module) else {
         return None;
     };
     let number = lease.number();
     let _scribbled = scribble(&mut lease.value);
-    pool.give(&mut pass, lease, store);
-    let Ok(lease) = pool.words.claim(&mut pass, number) else {
+    give(pool, &mut pass, lease, store);
+    let Ok(lease) = pool.claim(&mut pass, number) else {
         return None;
     };
     Some(lease.keep().dirty())
@@ -305,7 +306,7 @@ fn check_marks_after_give<N: Naming, R: Abort + Wait>(
 {
     let (store, mut desk) = opened.named::<N>();
     let module = registered(rt, alloc, &store, &mut desk, &BUMP);
-    let (pool, mut passes) = MemoryPool::open(alloc, &store, 1, 1, 1).expect(rt, "opened");
+    let (pool, mut passes) = open::<MemSlot<N>>(alloc, &store, 1, 1, 1).expect(rt, "opened");
     let pass = passes.pop().unwrap();
     let got = marked_after_give(&pool, pass, &store, &module);
     assert_eq!(rt; got, Some(marked));
@@ -322,21 +323,21 @@ fn a_memory_is_written_over_in_a_flush_and_not_as_it_is_given(rt: HostRuntime) -
 
 // The memories that visits of one module, of another and of the first again get, how many a sweep cleans then, and what is left.
 fn swept<N: Naming>(
-    pool: MemoryPool<N>,
+    pool: Words<MemSlot<N>>,
     mut pass: Pass<MemSlot<N>>,
     store: &ModuleStore<N>,
     first: &ModuleRef<N>,
     second: &ModuleRef<N>,
     module: &ModuleRef<N>,
 ) -> ([Option<u32>; 3], u32, KindCounts)
-    requires { IsNewMemoryPass pool pass }
+    requires { IsNewPassOf pool pass }
 {
     let visits = [
         visit(&pool, &mut pass, store, first),
         visit(&pool, &mut pass, store, second),
         visit(&pool, &mut pass, store, first),
     ];
-    let cleaned = pool.sweep(&mut pass, module);
+    let cleaned = sweep(&pool, &mut pass, module.tag());
     (visits, cleaned, pool.close(pass))
 }
 
@@ -354,7 +355,7 @@ fn check_sweep<N: Naming, R: Abort + Wait>(
     let zeros = registered(rt, alloc, &store, &mut desk, &ZEROS);
     let unused = registered(rt, alloc, &store, &mut desk, &LETTERS);
     let modules = [&letters, &zeros, &unused];
-    let (pool, mut passes) = MemoryPool::open(alloc, &store, 3, 3, 1).expect(rt, "opened");
+    let (pool, mut passes) = open::<MemSlot<N>>(alloc, &store, 3, 3, 1).expect(rt, "opened");
     let pass = passes.pop().unwrap();
     let (module, cleaned, left) = row;
     assert!(rt; module < 3);
@@ -381,21 +382,21 @@ fn a_sweep_cleans_the_memories_of_its_module(rt: HostRuntime) -> Result<(), Fail
 
 // How many memories a sweep cleans after one was given back dirty, and how many of its bytes are not zero then.
 fn filled_after_sweep<N: Naming>(
-    pool: &MemoryPool<N>,
+    pool: &Words<MemSlot<N>>,
     mut pass: Pass<MemSlot<N>>,
     store: &ModuleStore<N>,
     module: &ModuleRef<N>,
 ) -> Option<(u32, usize)>
-    requires { IsNewMemoryPass pool.now pass }
+    requires { IsNewPassOf pool.now pass }
 {
-    let Ok(mut lease) = pool.take(&mut pass, store, module) else {
+    let Ok(mut lease) = take(pool, &mut pass, store, module) else {
         return None;
     };
     let number = lease.number();
     let _scribbled = scribble(&mut lease.value);
-    pool.give(&mut pass, lease, store);
-    let cleaned = pool.sweep(&mut pass, module);
-    let Ok(lease) = pool.words.claim(&mut pass, number) else {
+    give(pool, &mut pass, lease, store);
+    let cleaned = sweep(pool, &mut pass, module.tag());
+    let Ok(lease) = pool.claim(&mut pass, number) else {
         return None;
     };
     let slot = lease.keep();
@@ -407,7 +408,7 @@ fn check_filled_after_sweep<N: Naming, R: Abort + Wait>(rt: &R, alloc: Global, o
 {
     let (store, mut desk) = opened.named::<N>();
     let module = registered(rt, alloc, &store, &mut desk, &LETTERS);
-    let (pool, mut passes) = MemoryPool::open(alloc, &store, 1, 1, 1).expect(rt, "opened");
+    let (pool, mut passes) = open::<MemSlot<N>>(alloc, &store, 1, 1, 1).expect(rt, "opened");
     let pass = passes.pop().unwrap();
     let got = filled_after_sweep(&pool, pass, &store, &module);
     assert_eq!(rt; got, Some((1, 0)));
@@ -423,14 +424,14 @@ fn a_sweep_leaves_nothing_of_a_warm_or_awaiting_memory(rt: HostRuntime) -> Resul
 }
 
 fn visit_often<N: Naming>(
-    pool: &MemoryPool<N>,
+    pool: &Words<MemSlot<N>>,
     mut pass: Pass<MemSlot<N>>,
     store: &ModuleStore<N>,
     module: &ModuleRef<N>,
 ) -> Pass<MemSlot<N>>
-    requires own { IsMemoryPass pool.now pass }
+    requires own { IsPassOf pool.now pass }
     requires idle { IsIdle pass }
-    ensures own { IsMemoryPass pool.now result }
+    ensures own { IsPassOf pool.now result }
     ensures idle { IsIdle result }
 {
     for _ in 0..300u32 {
@@ -441,12 +442,12 @@ fn visit_often<N: Naming>(
 
 // The two passes of a pool that was opened for two.
 fn both<N: Naming>(
-    pool: &MemoryPool<N>,
+    pool: &Words<MemSlot<N>>,
     mut passes: Vec<Pass<MemSlot<N>>>,
 ) -> (Pass<MemSlot<N>>, Pass<MemSlot<N>>)
     requires count { length passes.items ≡ 2 }
-    requires new { All (IsNewMemoryPass pool.now) passes.items }
-    ensures own { IsMemoryPass pool.now result.0 × IsMemoryPass pool.now result.1 }
+    requires new { All (IsNewPassOf pool.now) passes.items }
+    ensures own { IsPassOf pool.now result.0 × IsPassOf pool.now result.1 }
     ensures idle { IsIdle result.0 × IsIdle result.1 }
 {
     let first = passes.pop().unwrap();
@@ -464,18 +465,18 @@ fn check_threads<N: Naming + Send + Sync, R: Abort + Threads + Wait + Sync>(
     let (store, mut desk) = opened.named::<N>();
     let letters = registered(rt, alloc, &store, &mut desk, &LETTERS);
     let zeros = registered(rt, alloc, &store, &mut desk, &ZEROS);
-    let (pool, passes) = MemoryPool::open(alloc, &store, 2, 1, 2).expect(rt, "opened");
+    let (pool, passes) = open::<MemSlot<N>>(alloc, &store, 2, 1, 2).expect(rt, "opened");
     let (first, second) = both(&pool, passes);
     let shared = &pool;
     let (mut first, second) = thread::join(
         rt,
         || -> Pass<MemSlot<N>>
-            requires { IsMemoryPass shared.now first × IsIdle first }
-            ensures { IsMemoryPass shared.entry.now result × IsIdle result }
+            requires { IsPassOf shared.now first × IsIdle first }
+            ensures { IsPassOf shared.entry.now result × IsIdle result }
         { visit_often(shared, first, &store, &letters) },
         || -> Pass<MemSlot<N>>
-            requires { IsMemoryPass shared.now second × IsIdle second }
-            ensures { IsMemoryPass shared.entry.now result × IsIdle result }
+            requires { IsPassOf shared.now second × IsIdle second }
+            ensures { IsPassOf shared.entry.now result × IsIdle result }
         { visit_often(shared, second, &store, &zeros) },
     );
     pool.join_pass(&mut first, second);

@@ -4,9 +4,6 @@ use Rattle.slot_words.specs.Owned.{slots_of}
 use Rattle.slot_words.specs.Parts.{Grew}
 use Rattle.slot_words.specs.Passes.{trail}
 use Rattle.pool_limits.specs.declared.numbers.Numbers.{Numbers}
-use Rattle.instance_slots.specs.Pools as tickets
-use Rattle.memory_slots.specs.Pools as memories
-use Rattle.table_slots.specs.Pools as tables
 use Rattle.instance_calls.specs.declared.instance.Instance.{Instance}
 use Rattle.instance_calls.specs.Parts.{BelongsTo, Slot}
 use Rattle.instance_calls.specs.PausedViews.{PausedView}
@@ -24,9 +21,9 @@ use Rattle.pool_host.proofs.OutLemmas.{out_has}
 module _ {N : Type 0} (host : Host N) (p q : Passes N) (v : PausedView) (x : Instance N) (slots : HasSlotsOf x v) where
   pub slots_had : AreOfHost host p v → HasOut p.ticket (Some v.ticket) → HasOut p.memory v.memory → HasOut p.table v.table → SlotsBelong v → HaveSlots host v.named p x
   slots_had own ticket memory table belongs = record {
-    ticket = subst (λ (s : Slot). HasSlot (slots_of (tickets.words_of host.tickets)) p.ticket (Some s)) slots.ticket (out_has (slots_of (tickets.words_of host.tickets)) p.ticket (Some v.ticket) ticket own.ticket);
-    memory = subst (HasSlot (slots_of (memories.words_of host.memories)) p.memory) slots.memory (out_has (slots_of (memories.words_of host.memories)) p.memory v.memory memory own.memory);
-    table = subst (HasSlot (slots_of (tables.words_of host.tables)) p.table) slots.table (out_has (slots_of (tables.words_of host.tables)) p.table v.table table own.table);
+    ticket = subst (λ (s : Slot). HasSlot (slots_of host.tickets) p.ticket (Some s)) slots.ticket (out_has (slots_of host.tickets) p.ticket (Some v.ticket) ticket own.ticket);
+    memory = subst (HasSlot (slots_of host.memories) p.memory) slots.memory (out_has (slots_of host.memories) p.memory v.memory memory own.memory);
+    table = subst (HasSlot (slots_of host.tables) p.table) slots.table (out_has (slots_of host.tables) p.table v.table table own.table);
     memory_belongs = subst (BelongsTo v.named) slots.memory belongs.memory;
     table_belongs = subst (BelongsTo v.named) slots.table belongs.table;
   }

@@ -7,10 +7,8 @@ use Rattle.slot_words.specs.Owned.{slots_of}
 use Rattle.slot_words.specs.Parts.{Grew}
 use Rattle.slot_words.specs.Passes.{trail}
 use Rattle.pool_limits.specs.declared.numbers.Numbers.{Numbers}
-use Rattle.pool_worlds.specs.Contents.{Memory, Named, Table, TableContents, needs}
-use Rattle.instance_slots.specs.Pools as tickets
-use Rattle.memory_slots.specs.Pools as memories
-use Rattle.table_slots.specs.Pools as tables
+use Rattle.pool_worlds.specs.Contents.{Named, TableContents, needs}
+use Rattle.pool_worlds.specs.declared.kinds.Kind.TheVariants.{Memory, Table}
 use Rattle.instance_calls.specs.declared.instance.Instance.{Instance}
 use Rattle.instance_calls.specs.Instances.{IsFreshInstance, KeepsSlots}
 use Rattle.instance_calls.specs.Parts.{BelongsTo, Slot, memory_slot, table_slot}
@@ -26,9 +24,9 @@ module _ {N : Type 0} (config : Numbers) (host : Host N) (m : Named) (x y : Inst
   -- the passes still have the slots of the instance after its run
   pub still_have : (p : Passes N) → HaveSlots host m p x → HaveSlots host m p y
   still_have p have = record {
-    ticket = subst (λ (s : Slot). HasSlot (slots_of (tickets.words_of host.tickets)) p.ticket (Some s)) (sym keeps.ticket) have.ticket;
-    memory = subst (λ (o : Option Slot). HasSlot (slots_of (memories.words_of host.memories)) p.memory o) (sym keeps.memory) have.memory;
-    table = subst (λ (o : Option (Lease TableContents)). HasSlot (slots_of (tables.words_of host.tables)) p.table (table_slot o)) (sym keeps.table) have.table;
+    ticket = subst (λ (s : Slot). HasSlot (slots_of host.tickets) p.ticket (Some s)) (sym keeps.ticket) have.ticket;
+    memory = subst (λ (o : Option Slot). HasSlot (slots_of host.memories) p.memory o) (sym keeps.memory) have.memory;
+    table = subst (λ (o : Option (Lease TableContents)). HasSlot (slots_of host.tables) p.table (table_slot o)) (sym keeps.table) have.table;
     memory_belongs = subst (λ (o : Option Slot). BelongsTo m o) (sym keeps.memory) have.memory_belongs;
     table_belongs = subst (λ (o : Option (Lease TableContents)). BelongsTo m (table_slot o)) (sym keeps.table) have.table_belongs;
   }

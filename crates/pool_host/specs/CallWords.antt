@@ -4,9 +4,9 @@ use Rattle.wasm_values.specs.declared.outcome.Val.{Val}
 use Rattle.wasm_types.specs.declared.limits.RunLimits.{RunLimits}
 use Rattle.wasm_types.specs.Tree.{ModuleTree}
 use Rattle.instance_calls.specs.CallWords.{EndsWith, LacksExport, LacksTypes, MayCall}
+use Rattle.pool_worlds.specs.declared.kinds.Kind.{Kind}
 use Rattle.pool_host.specs.declared.answers.Answer.{Answer}
 use Rattle.pool_host.specs.declared.answers.Answer.TheVariants as answer
-use Rattle.pool_host.specs.declared.answers.Kind.{Kind}
 use Rattle.pool_host.specs.declared.finding.Refused.{Refused}
 use Rattle.pool_host.specs.declared.finding.Refused.TheVariants as refused
 use Rattle.pool_host.specs.declared.lane.LaneAnswer.{LaneAnswer}

@@ -8,9 +8,6 @@ use Rattle.slot_words.specs.Owned.{limit_of, passes_of, slots_of}
 use Rattle.slot_words.specs.Passes.{Pass, share_of, trails}
 use Rattle.slot_words.specs.Views.{in_one}
 use Rattle.module_store.specs.declared.naming.Naming.{Ghosts}
-use Rattle.instance_slots.specs.Pools as tickets
-use Rattle.memory_slots.specs.Pools as memories
-use Rattle.table_slots.specs.Pools as tables
 use Rattle.pool_host.specs.declared.closing.PoolCounts.{PoolCounts}
 use Rattle.pool_host.specs.declared.host.Host.{Host}
 use Rattle.pool_host.specs.declared.passes.HostPass.{HostPass}
@@ -49,9 +46,9 @@ module _ {N : Type 0} {G : Ghosts N} where
 
   -- what a host's pools leave that is closed with these passes
   pub record ArePoolCounts (host : Host N) (passes : List (HostPass N G)) (counts : PoolCounts) : Type 0 where
-    pub instance : AreCounts (tickets.words_of host.tickets) (length passes) (ticket_trails passes) counts.instance
-    pub memory : AreCounts (memories.words_of host.memories) (length passes) (memory_trails passes) counts.memory
-    pub table : AreCounts (tables.words_of host.tables) (length passes) (table_trails passes) counts.table
+    pub instance : AreCounts host.tickets (length passes) (ticket_trails passes) counts.instance
+    pub memory : AreCounts host.memories (length passes) (memory_trails passes) counts.memory
+    pub table : AreCounts host.tables (length passes) (table_trails passes) counts.table
 
 module _ {N : Type 0} where
   -- each of the passes stands for so many

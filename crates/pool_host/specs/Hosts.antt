@@ -2,12 +2,9 @@
 use Rattle.std.specs.Prelude.{◌≡◌, ℕ, ◌≤◌}
 use Rattle.pool_core.specs.declared.limits.TheConstants.{MOST_SLOTS}
 use Rattle.pool_limits.specs.declared.share.Share.{Share}
-use Rattle.slot_words.specs.Owned.{limit_of, passes_of, slots_of}
+use Rattle.slot_words.specs.Owned.{IsNewPassOf, IsPassOf, limit_of, passes_of, slots_of}
 use Rattle.slot_words.specs.Passes.{IsIdle, IsSamePass}
 use Rattle.module_store.specs.declared.naming.Naming.{Ghosts}
-use Rattle.instance_slots.specs.Pools as tickets
-use Rattle.memory_slots.specs.Pools as memories
-use Rattle.table_slots.specs.Pools as tables
 use Rattle.retired_tags.specs.Passes as retired
 use Rattle.pool_host.specs.declared.host.Host.{Host}
 use Rattle.pool_host.specs.declared.passes.HostPass.{HostPass}
@@ -22,9 +19,9 @@ pub record IsShare (share : Share) : Type 0 where
 module _ {N : Type 0} where
   -- these are passes of the host's pools
   pub record ArePassesOf (host : Host N) (p : Passes N) : Type 0 where
-    pub ticket : tickets.IsTicketPass host.tickets p.ticket
-    pub memory : memories.IsMemoryPass host.memories p.memory
-    pub table : tables.IsTablePass host.tables p.table
+    pub ticket : IsPassOf host.tickets p.ticket
+    pub memory : IsPassOf host.memories p.memory
+    pub table : IsPassOf host.tables p.table
 
   -- none of them holds a slot
   pub record AreIdle (p : Passes N) : Type 0 where
@@ -40,25 +37,25 @@ module _ {N : Type 0} where
 
   -- one as it is handed out: with no operation yet
   pub record AreNewPassesOf (host : Host N) (p : Passes N) : Type 0 where
-    pub ticket : tickets.IsNewTicketPass host.tickets p.ticket
-    pub memory : memories.IsNewMemoryPass host.memories p.memory
-    pub table : tables.IsNewTablePass host.tables p.table
+    pub ticket : IsNewPassOf host.tickets p.ticket
+    pub memory : IsNewPassOf host.memories p.memory
+    pub table : IsNewPassOf host.tables p.table
 
   -- so many passes of each of its pools, and of its retired tags, were handed out
   pub record HandedOut (host : Host N) (passes : ℕ) : Type 0 where
-    pub of_tickets : passes_of (tickets.words_of host.tickets) ≡ passes
-    pub of_memories : passes_of (memories.words_of host.memories) ≡ passes
-    pub of_tables : passes_of (tables.words_of host.tables) ≡ passes
+    pub of_tickets : passes_of host.tickets ≡ passes
+    pub of_memories : passes_of host.memories ≡ passes
+    pub of_tables : passes_of host.tables ≡ passes
     pub of_retired : retired.passes_of host.retired.tags ≡ passes
 
   -- it has as many slots as its share says, of which of each kind at most so many are warm while no call has them
   pub record HasShare (warm : ℕ) (share : Share) (host : Host N) : Type 0 where
-    pub of_tickets : slots_of (tickets.words_of host.tickets) ≡ share.instances
-    pub of_memories : slots_of (memories.words_of host.memories) ≡ share.memories
-    pub of_tables : slots_of (tables.words_of host.tables) ≡ share.tables
-    pub warm_tickets : limit_of (tickets.words_of host.tickets) ≡ warm
-    pub warm_memories : limit_of (memories.words_of host.memories) ≡ warm
-    pub warm_tables : limit_of (tables.words_of host.tables) ≡ warm
+    pub of_tickets : slots_of host.tickets ≡ share.instances
+    pub of_memories : slots_of host.memories ≡ share.memories
+    pub of_tables : slots_of host.tables ≡ share.tables
+    pub warm_tickets : limit_of host.tickets ≡ warm
+    pub warm_memories : limit_of host.memories ≡ warm
+    pub warm_tables : limit_of host.tables ≡ warm
 
 module _ {N : Type 0} {G : Ghosts N} where
   -- the pass is one of this host's: at its pools, and at its retired tags

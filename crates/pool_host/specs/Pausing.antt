@@ -9,16 +9,13 @@ use Rattle.retired_tags.specs.Passes.{IsTagPass, TagPass}
 use Rattle.module_store.specs.declared.naming.Naming.{Ghosts}
 use Rattle.pool_limits.specs.declared.numbers.Numbers.{Numbers}
 use Rattle.pool_worlds.specs.Contents.{Named}
-use Rattle.instance_slots.specs.Pools as tickets
-use Rattle.memory_slots.specs.Pools as memories
-use Rattle.table_slots.specs.Pools as tables
+use Rattle.pool_worlds.specs.declared.kinds.Kind.{Kind}
 use Rattle.paused_call.specs.Standing.{Waits}
 use Rattle.instance_calls.specs.CallWords.{LacksExport, LacksTypes, MayCall}
 use Rattle.instance_calls.specs.PausedInstances.{comes_to}
 use Rattle.instance_calls.specs.PausedViews.{PausedView}
 use Rattle.instance_calls.specs.Resumed.{EndsAs, HasMore, IsBegun}
 use Rattle.pool_host.specs.declared.answers.Answer.TheVariants as answer
-use Rattle.pool_host.specs.declared.answers.Kind.{Kind}
 use Rattle.pool_host.specs.declared.finding.Refused.{Refused}
 use Rattle.pool_host.specs.declared.finding.Refused.TheVariants as refused
 use Rattle.pool_host.specs.declared.host.Host.{Host}
@@ -50,9 +47,9 @@ module _ {N : Type 0} where
   -- these are passes of the host, and slots of its pools
   pub record AreOfHost (host : Host N) (p : Passes N) (v : PausedView) : Type 0 where
     pub own : ArePassesOf host p
-    pub ticket : v.ticket.number < slots_of (tickets.words_of host.tickets)
-    pub memory : IsWithin (slots_of (memories.words_of host.memories)) v.memory
-    pub table : IsWithin (slots_of (tables.words_of host.tables)) v.table
+    pub ticket : v.ticket.number < slots_of host.tickets
+    pub memory : IsWithin (slots_of host.memories) v.memory
+    pub table : IsWithin (slots_of host.tables) v.table
 
 module _ {N : Type 0} {G : Ghosts N} where
   -- the call is paused on this host: at its pools, and with a pass at its retired tags

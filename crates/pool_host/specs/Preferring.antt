@@ -8,13 +8,10 @@ use Rattle.slot_pools.specs.Causes.{FullAfterLook, FullAfterMark, FullAfterScan}
 use Rattle.slot_pools.specs.LastClaims.{EndsWithClaim}
 use Rattle.slot_pools.specs.Preferring.{PrefersOwn}
 use Rattle.pool_limits.specs.declared.numbers.Numbers.{Numbers}
-use Rattle.pool_worlds.specs.Contents.{Memory, Named, Table, needs}
-use Rattle.instance_slots.specs.Pools as tickets
-use Rattle.memory_slots.specs.Pools as memories
-use Rattle.table_slots.specs.Pools as tables
+use Rattle.pool_worlds.specs.Contents.{Named, needs}
+use Rattle.pool_worlds.specs.declared.kinds.Kind.{Kind}
+use Rattle.pool_worlds.specs.declared.kinds.Kind.TheVariants.{Memory, Table, Ticket}
 use Rattle.pool_host.specs.declared.answers.Answer.{Answer}
-use Rattle.pool_host.specs.declared.answers.Kind.{Kind}
-use Rattle.pool_host.specs.declared.answers.Kind.TheVariants as kind
 use Rattle.pool_host.specs.declared.host.Host.{Host}
 use Rattle.pool_host.specs.declared.passes.Passes.{Passes}
 use Rattle.pool_host.specs.Trails.{AddsTrails, HasCause, IsMemoryGive, IsTableGive, visit_if}
@@ -34,9 +31,9 @@ module _ {N : Type 0} (config : Numbers) (host : Host N) (m : Named) (before aft
 module _ {N : Type 0} (host : Host N) (m : Named) (before after : Passes N) where
   -- each slot of the kind was claimed and found held: a memory after the flush mark, a table after the look, a ticket after the scan
   abbrev pub FoundAllHeld : Kind → Type 0
-  FoundAllHeld kind.Instance = Grew (FullAfterScan (slots_of (tickets.words_of host.tickets))) (trail before.ticket) (trail after.ticket)
-  FoundAllHeld kind.Memory = Grew (FullAfterMark (slots_of (memories.words_of host.memories))) (trail before.memory) (trail after.memory)
-  FoundAllHeld kind.Table = Grew (FullAfterLook (limit_of (tables.words_of host.tables)) (slots_of (tables.words_of host.tables)) m.tag) (trail before.table) (trail after.table)
+  FoundAllHeld Ticket = Grew (FullAfterScan (slots_of host.tickets)) (trail before.ticket) (trail after.ticket)
+  FoundAllHeld Memory = Grew (FullAfterMark (slots_of host.memories)) (trail before.memory) (trail after.memory)
+  FoundAllHeld Table = Grew (FullAfterLook (limit_of host.tables) (slots_of host.tables) m.tag) (trail before.table) (trail after.table)
 
 module _ (N : Type 0) where
   -- each call prefers the slots of its module

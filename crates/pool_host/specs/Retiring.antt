@@ -5,8 +5,6 @@ use Rattle.slot_words.specs.Parts.{Grew}
 use Rattle.slot_words.specs.Passes.{trail}
 use Rattle.decommit_batch.specs.Sweep.{IsSweep}
 use Rattle.pool_worlds.specs.Contents.{Named}
-use Rattle.memory_slots.specs.Pools as memories
-use Rattle.table_slots.specs.Pools as tables
 use Rattle.pool_host.specs.declared.host.Host.{Host}
 use Rattle.pool_host.specs.declared.passes.Passes.{Passes}
 use Rattle.pool_host.specs.declared.retiring.Retire.{Retire}
@@ -23,8 +21,8 @@ module _ {N : Type 0} (host : Host N) (m : Named) where
     pub ticket : after.ticket ≡ before.ticket
     pub of_memories : ℕ
     pub of_tables : ℕ
-    pub memory : Grew (IsSweep m.tag (slots_of (memories.words_of host.memories)) of_memories) (trail before.memory) (trail after.memory)
-    pub table : Grew (IsSweep m.tag (slots_of (tables.words_of host.tables)) of_tables) (trail before.table) (trail after.table)
+    pub memory : Grew (IsSweep m.tag (slots_of host.memories) of_memories) (trail before.memory) (trail after.memory)
+    pub table : Grew (IsSweep m.tag (slots_of host.tables) of_tables) (trail before.table) (trail after.table)
     pub cleaned_is : cleaned ≡ of_memories + of_tables
 
   -- what a retirement so answered does there

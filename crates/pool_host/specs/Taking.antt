@@ -6,15 +6,9 @@ use Rattle.slot_words.specs.Parts.{Grew}
 use Rattle.slot_words.specs.Passes.{trail}
 use Rattle.pool_limits.specs.declared.numbers.Numbers.{Numbers}
 use Rattle.pool_core.specs.declared.words.State.TheVariants.{Awaiting, Warm}
-use Rattle.pool_worlds.specs.Contents.{Matches, Memory, Named, Table}
-use Rattle.instance_slots.specs.Handed as ticket
-use Rattle.instance_slots.specs.Pools as tickets
-use Rattle.memory_slots.specs.Fits as memory_fits
-use Rattle.memory_slots.specs.Handed as memory
-use Rattle.memory_slots.specs.Pools as memories
-use Rattle.table_slots.specs.Fits as table_fits
-use Rattle.table_slots.specs.Handed as table
-use Rattle.table_slots.specs.Pools as tables
+use Rattle.pool_worlds.specs.Contents.{Matches, Named}
+use Rattle.pool_worlds.specs.declared.kinds.Kind.TheVariants.{Memory, Table, Ticket}
+use Rattle.pool_worlds.specs.Handed.{own_tag, IsHandedOut}
 use Rattle.instance_calls.specs.declared.instance.Instance.{Instance}
 use Rattle.instance_calls.specs.Parts.{BelongsTo, memory_slot, table_slot, ticket_slot}
 use Rattle.pool_host.specs.declared.host.Host.{Host}
@@ -25,17 +19,17 @@ use Rattle.pool_host.specs.Trails.{IsMemoryGive, IsMemoryTake, IsTableGive, IsTa
 module _ {N : Type 0} where
   -- the passes have the slots of an instance, whose contents belong to the module
   pub record HaveSlots (host : Host N) (m : Named) (p : Passes N) (x : Instance N) : Type 0 where
-    pub ticket : HasSlot (slots_of (tickets.words_of host.tickets)) p.ticket (Some (ticket_slot x.ticket))
-    pub memory : HasSlot (slots_of (memories.words_of host.memories)) p.memory (memory_slot x.memory)
-    pub table : HasSlot (slots_of (tables.words_of host.tables)) p.table (table_slot x.table)
+    pub ticket : HasSlot (slots_of host.tickets) p.ticket (Some (ticket_slot x.ticket))
+    pub memory : HasSlot (slots_of host.memories) p.memory (memory_slot x.memory)
+    pub table : HasSlot (slots_of host.tables) p.table (table_slot x.table)
     pub memory_belongs : BelongsTo m (memory_slot x.memory)
     pub table_belongs : BelongsTo m (table_slot x.table)
 
   -- what its slots hold is what their takes handed out
   pub record IsHandedInstance (config : Numbers) (m : Named) (x : Instance N) : Type 0 where
-    pub ticket : ticket.IsHandedOut config.pages m (lease_word x.ticket) x.ticket.value.globals
-    pub memory : IfSome x.memory (λ l. memory.IsHandedOut config.pages m (lease_word l) l.value)
-    pub table : IfSome x.table (λ l. table.IsHandedOut config.pages m (lease_word l) l.value)
+    pub ticket : IsHandedOut config.pages Ticket m (lease_word x.ticket) x.ticket.value.globals
+    pub memory : IfSome x.memory (λ l. IsHandedOut config.pages Memory m (lease_word l) l.value)
+    pub table : IfSome x.table (λ l. IsHandedOut config.pages Table m (lease_word l) l.value)
 
   -- the trails grew by the takes of its slots
   pub record TookSlots (config : Numbers) (host : Host N) (m : Named) (before after : Passes N) (x : Instance N) : Type 0 where
@@ -51,5 +45,5 @@ module _ {N : Type 0} where
 
   -- what its slots hold fits the words that their gives write
   pub record FitsWords (config : Numbers) (x : Instance N) : Type 0 where
-    pub memory : IfSome x.memory (λ l. Matches config.pages Memory Awaiting (memory_fits.own_tag l.value) l.value)
-    pub table : IfSome x.table (λ l. Matches config.pages Table Warm (table_fits.own_tag l.value) l.value)
+    pub memory : IfSome x.memory (λ l. Matches config.pages Memory Awaiting (own_tag Memory l.value) l.value)
+    pub table : IfSome x.table (λ l. Matches config.pages Table Warm (own_tag Table l.value) l.value)

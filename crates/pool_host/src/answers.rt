@@ -1,13 +1,6 @@
 //! What a host answers.
+use pool_worlds::Kind;
 use wasm_values::Outcome;
-
-/// A kind of slot.
-#[derive(Clone, Copy, Debug, PartialEq, Eq)]
-pub enum Kind {
-    Instance,
-    Memory,
-    Table,
-}
 
 /// How a call on a host went.
 #[derive(Clone, Copy, Debug, PartialEq, Eq)]

@@ -5,12 +5,9 @@ ghost use Rattle.slot_words.specs.Leases.{lease_number};
 ghost use Rattle.slot_words.specs.Owned.{slots_of};
 ghost use Rattle.slot_words.specs.Parts.{Grew};
 ghost use Rattle.slot_words.specs.Passes.{Holds, IsIdle, trail};
-ghost use Rattle.pool_worlds.specs.Contents.{Matches, Memory, Named, Table};
-ghost use Rattle.instance_slots.specs.Pools as tickets;
-ghost use Rattle.memory_slots.specs.Fits as memory_fits;
-ghost use Rattle.memory_slots.specs.Pools as memories;
-ghost use Rattle.table_slots.specs.Fits as table_fits;
-ghost use Rattle.table_slots.specs.Pools as tables;
+ghost use Rattle.pool_worlds.specs.Contents.{Matches, Named};
+ghost use Rattle.pool_worlds.specs.declared.kinds.Kind.TheVariants.{Memory, Table};
+ghost use Rattle.pool_worlds.specs.Handed.{own_tag};
 ghost use Rattle.instance_calls.specs.Parts.{BelongsTo, memory_slot, table_slot};
 ghost use Rattle.pool_host.specs.Hosts.{ArePassesOf, AreSamePasses};
 ghost use Rattle.pool_host.specs.Leases.{Gave, HasSlot};
@@ -21,6 +18,7 @@ use crate::passes::Passes;
 use instance_slots::Ticket;
 use memory_slots::MemSlot;
 use module_store::{ModuleStore, Naming};
+use slot_pools::give_cold;
 use slot_words::Lease;
 use table_slots::TableSlot;
 
@@ -32,17 +30,17 @@ pub(crate) fn give_table<N: Naming>(
     table: Option<Lease<TableSlot<N>>>,
 )
     requires own { ArePassesOf host.now passes.old }
-    requires has { HasSlot (slots_of (tables.words_of host.now.tables)) passes.old.table (table_slot table) }
+    requires has { HasSlot (slots_of host.now.tables) passes.old.table (table_slot table) }
     requires belongs { (m : Named) × BelongsTo m (table_slot table) }
     ensures same { AreSamePasses passes.old passes.new }
     ensures others { passes.new ≡ record passes.old { table = passes.new.table } }
     ensures idle { IsIdle passes.new.table }
-    ensures took { IfSome table (λ l. Matches N.config.pages Table Warm (table_fits.own_tag l.value) l.value) }
+    ensures took { IfSome table (λ l. Matches N.config.pages Table Warm (own_tag Table l.value) l.value) }
     ensures gave { (m : Named) → BelongsTo m (table_slot table)
         → Grew (Gave (IsTableGive N.config host.now m) (table_slot table)) (trail passes.old.table) (trail passes.new.table) }
 {
     if let Some(lease) = table {
-        host.tables.give(&mut passes.table, lease, store);
+        table_slots::give(&host.tables, &mut passes.table, lease, store);
     }
 }
 
@@ -54,18 +52,18 @@ pub(crate) fn give_memory<N: Naming>(
     memory: Option<Lease<MemSlot<N>>>,
 )
     requires own { ArePassesOf host.now passes.old }
-    requires has { HasSlot (slots_of (memories.words_of host.now.memories)) passes.old.memory (memory_slot memory) }
+    requires has { HasSlot (slots_of host.now.memories) passes.old.memory (memory_slot memory) }
     requires belongs { (m : Named) × BelongsTo m (memory_slot memory) }
     requires table { IsIdle passes.old.table }
     ensures same { AreSamePasses passes.old passes.new }
     ensures others { passes.new ≡ record passes.old { memory = passes.new.memory } }
     ensures idle { IsIdle passes.new.memory }
-    ensures took { IfSome memory (λ l. Matches N.config.pages Memory Awaiting (memory_fits.own_tag l.value) l.value) }
+    ensures took { IfSome memory (λ l. Matches N.config.pages Memory Awaiting (own_tag Memory l.value) l.value) }
     ensures gave { (m : Named) → BelongsTo m (memory_slot memory)
         → Grew (Gave (IsMemoryGive N.config host.now m) (memory_slot memory)) (trail passes.old.memory) (trail passes.new.memory) }
 {
     if let Some(lease) = memory {
-        host.memories.give(&mut passes.memory, lease, store);
+        memory_slots::give(&host.memories, &mut passes.memory, lease, store);
     }
 }
 
@@ -73,12 +71,11 @@ pub(crate) fn give_memory<N: Naming>(
 pub(crate) fn give_ticket<N: Naming>(
     host: &Host<N>,
     passes: &mut Passes<N>,
-    store: &ModuleStore<N>,
     ticket: Lease<Ticket<N>>,
 )
     requires own { ArePassesOf host.now passes.old }
     requires holds { Holds passes.old.ticket (lease_number ticket) false false false }
-    requires number { lease_number ticket < slots_of (tickets.words_of host.now.tickets) }
+    requires number { lease_number ticket < slots_of host.now.tickets }
     requires memory { IsIdle passes.old.memory }
     requires table { IsIdle passes.old.table }
     ensures same { AreSamePasses passes.old passes.new }
@@ -86,5 +83,5 @@ pub(crate) fn give_ticket<N: Naming>(
     ensures idle { IsIdle passes.new.ticket }
     ensures gave { (m : Named) → Grew (IsTicketGive N.config host.now m (lease_number ticket)) (trail passes.old.ticket) (trail passes.new.ticket) }
 {
-    host.tickets.give(&mut passes.ticket, ticket, store);
+    give_cold(&host.tickets, &mut passes.ticket, ticket);
 }

@@ -9,20 +9,21 @@ ghost use Rattle.pool_host.specs.Trails.{AddsTrails, HasCause};
 ghost use Rattle.retired_tags.specs.Passes.{IsTagPass};
 
 use crate::answers::Answer;
-use crate::dealing::deal;
+use crate::dealing::{deal, open_kind};
 use crate::finding::{Refused, find};
 use crate::passes::{HostPass, Passes};
 use crate::retired::Retired;
 use crate::slots::{give_slots, take_slots};
 use call_payload::AnswerBuf;
 use host_edge::Gate;
-use instance_slots::TicketPool;
-use memory_slots::MemoryPool;
+use instance_slots::Ticket;
+use memory_slots::MemSlot;
 use module_store::{MOST_MODULES, ModuleRef, ModuleStore, Naming};
 use pool_limits::Share;
 use retired_tags::{RetiredTags, TagPass};
+use slot_words::{Pass, Words};
 use std::alloc::Global;
-use table_slots::TablePool;
+use table_slots::TableSlot;
 use wasm_values::{NoMemory, Val};
 
 /// The most passes of a host.
@@ -32,9 +33,9 @@ pub const MOST_PASSES: u32 = 32;
 /// is retired on a host is called on it no more.
 #[derive(Drop)]
 pub struct Host<N: Naming> {
-    pub(crate) tickets: TicketPool<N>,
-    pub(crate) memories: MemoryPool<N>,
-    pub(crate) tables: TablePool<N>,
+    pub(crate) tickets: Words<Ticket<N>>,
+    pub(crate) memories: Words<MemSlot<N>>,
+    pub(crate) tables: Words<TableSlot<N>>,
     pub(crate) retired: Retired,
 }
 
@@ -84,9 +85,9 @@ impl<N: Naming> Host<N> {
         ensures passes { IfOk result (λ o. All (IsNewHostPass o.0) o.1.items) }
         ensures own { IfOk result (λ o. All (IsHostPass o.0) o.1.items) }
     {
-        let (tickets, of_tickets) = TicketPool::open(alloc, store, share.instances, warm, passes)?;
-        let (memories, of_memories) = MemoryPool::open(alloc, store, share.memories, warm, passes)?;
-        let (tables, of_tables) = TablePool::open(alloc, store, share.tables, warm, passes)?;
+        let (tickets, of_tickets) = open_kind(alloc, store, share.instances, warm, passes)?;
+        let (memories, of_memories) = open_kind(alloc, store, share.memories, warm, passes)?;
+        let (tables, of_tables) = open_kind(alloc, store, share.tables, warm, passes)?;
         let (tags, of_tags) = RetiredTags::open(alloc, MOST_MODULES, passes).map_err(|_| NoMemory)?;
         let host = Host {
             tickets,
@@ -193,32 +194,5 @@ impl<N: Naming> Host<N> {
         );
         gate.answered(number);
         answer
-    }
-
-    /// The same with an empty request.
-    pub fn call<G: Gate>(
-        &self,
-        pass: &mut HostPass<N>,
-        store: &ModuleStore<N>,
-        module: &ModuleRef<N>,
-        export: &[u8],
-        args: &[Val],
-        fuel: u64,
-        number: u64,
-        gate: &G,
-    ) -> Answer
-        requires { IsHostPass self.now pass.old }
-        ensures own { IsHostPass self.now pass.new }
-        ensures same { IsSameHostPass pass.old pass.new }
-        ensures answer { IsHostAnswer «module».now.tree (run_limits N.config) export.now args.now [] fuel result pass.new.answer }
-
-        // to each pass of the kinds that it asked: one take and its give, or a take that won nothing
-        ensures trails { AddsTrails N.config self.now «module».now result pass.old.passes pass.new.passes }
-        ensures full { IfFull result (HasCause N.config self.now «module».now pass.old.passes pass.new.passes) }
-
-        // one look at the retired tags, after the checks and before any slot: retired is exactly what it read
-        ensures looked { Looked self.now.retired.tags «module».now.tag pass.old.retired pass.new.retired (look_of result) }
-    {
-        self.send(pass, store, module, export, args, &[], fuel, number, gate)
     }
 }

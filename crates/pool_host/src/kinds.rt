@@ -1,75 +1,71 @@
 //! Slots of a kind that a module may not need are taken.
 ghost use Rattle.std.specs.Prelude.{IfOk, IfSome, OnErr};
 ghost use Rattle.slot_words.specs.Leases.{lease_word};
-ghost use Rattle.slot_words.specs.Owned.{slots_of, limit_of, passes_of};
+ghost use Rattle.slot_words.specs.Owned.{IsPassOf, limit_of, passes_of, slots_of};
 ghost use Rattle.slot_words.specs.Parts.{Grew};
 ghost use Rattle.slot_words.specs.Passes.{IsIdle, IsSamePass, trail};
 ghost use Rattle.slot_pools.specs.Takes.{IsAffineTake, IsBatchedTake, IsFullAffineTake, IsFullBatchedTake};
-ghost use Rattle.pool_worlds.specs.Contents.{Memory, Table, needs};
-ghost use Rattle.memory_slots.specs.Handed as memory;
-ghost use Rattle.memory_slots.specs.Pools as memories;
-ghost use Rattle.memory_slots.specs.Pools.{IsMemoryPass};
-ghost use Rattle.table_slots.specs.Handed as table;
-ghost use Rattle.table_slots.specs.Pools as tables;
-ghost use Rattle.table_slots.specs.Pools.{IsTablePass};
+ghost use Rattle.pool_worlds.specs.Contents.{needs};
+ghost use Rattle.pool_worlds.specs.declared.kinds.Kind.TheVariants.{Memory, Table};
+ghost use Rattle.pool_worlds.specs.Handed.{IsHandedOut};
 ghost use Rattle.instance_calls.specs.Instances.{IsFreshMemory, IsFreshTable};
 ghost use Rattle.instance_calls.specs.Parts.{BelongsTo, memory_slot, table_slot};
 ghost use Rattle.pool_host.specs.Leases.{HasSlot, Took};
 ghost use Rattle.pool_host.specs.Visits.{IsTurnedAway};
 
 use instance_calls::{needs_memory, needs_table};
-use memory_slots::{MemSlot, MemoryPool};
+use memory_slots::MemSlot;
 use module_store::{ModuleRef, ModuleStore, Naming};
 use slot_pools::Full;
-use slot_words::{Lease, Pass};
-use table_slots::{TablePool, TableSlot};
+use slot_words::{Lease, Pass, Words};
+use table_slots::TableSlot;
 
 // Takes a memory for the module, if it has one.
 pub(crate) fn take_memory<N: Naming>(
-    pool: &MemoryPool<N>,
+    pool: &Words<MemSlot<N>>,
     pass: &mut Pass<MemSlot<N>>,
     store: &ModuleStore<N>,
     module: &ModuleRef<N>,
 ) -> Result<Option<Lease<MemSlot<N>>>, Full>
-    requires own { IsMemoryPass pool.now pass.old }
+    requires own { IsPassOf pool.now pass.old }
     requires idle { IsIdle pass.old }
     ensures same { IsSamePass pass.old pass.new }
-    ensures has { IfOk result (λ o. HasSlot (slots_of (memories.words_of pool.now)) pass.new (memory_slot o)) }
+    ensures has { IfOk result (λ o. HasSlot (slots_of pool.now) pass.new (memory_slot o)) }
     ensures belongs { IfOk result (λ o. BelongsTo «module».now (memory_slot o)) }
     ensures fresh { IfOk result (IsFreshMemory N.config «module».now.tree) }
-    ensures handed { IfOk result (λ o. IfSome o (λ l. memory.IsHandedOut N.config.pages «module».now (lease_word l) l.value)) }
-    ensures took { IfOk result (λ o. Grew (Took (IsBatchedTake (limit_of (memories.words_of pool.now)) (slots_of (memories.words_of pool.now)) «module».now.tag) (memory_slot o)) (trail pass.old) (trail pass.new)) }
+    ensures handed { IfOk result (λ o. IfSome o (λ l. IsHandedOut N.config.pages Memory «module».now (lease_word l) l.value)) }
+    ensures took { IfOk result (λ o. Grew (Took (IsBatchedTake (limit_of pool.now) (slots_of pool.now) «module».now.tag) (memory_slot o)) (trail pass.old) (trail pass.new)) }
     ensures idle { OnErr result (IsIdle pass.new) }
-    ensures full { OnErr result (IsTurnedAway (needs Memory «module».now.tree) (IsFullBatchedTake (limit_of (memories.words_of pool.now)) (slots_of (memories.words_of pool.now)) «module».now.tag) (passes_of (memories.words_of pool.now)) pass.old pass.new) }
+    ensures full { OnErr result (IsTurnedAway (needs Memory «module».now.tree) (IsFullBatchedTake (limit_of pool.now) (slots_of pool.now) «module».now.tag) (passes_of pool.now) pass.old pass.new) }
 {
     if !needs_memory(store, module) {
         return Ok(None);
     }
-    let lease = pool.take(pass, store, module)?;
+    let lease = memory_slots::take(pool, pass, store, module)?;
     Ok(Some(lease))
 }
 
 // Takes a table for the module, if it has one.
 pub(crate) fn take_table<N: Naming>(
-    pool: &TablePool<N>,
+    pool: &Words<TableSlot<N>>,
     pass: &mut Pass<TableSlot<N>>,
     store: &ModuleStore<N>,
     module: &ModuleRef<N>,
 ) -> Result<Option<Lease<TableSlot<N>>>, Full>
-    requires own { IsTablePass pool.now pass.old }
+    requires own { IsPassOf pool.now pass.old }
     requires idle { IsIdle pass.old }
     ensures same { IsSamePass pass.old pass.new }
-    ensures has { IfOk result (λ o. HasSlot (slots_of (tables.words_of pool.now)) pass.new (table_slot o)) }
+    ensures has { IfOk result (λ o. HasSlot (slots_of pool.now) pass.new (table_slot o)) }
     ensures belongs { IfOk result (λ o. BelongsTo «module».now (table_slot o)) }
     ensures fresh { IfOk result (IsFreshTable «module».now.tree) }
-    ensures handed { IfOk result (λ o. IfSome o (λ l. table.IsHandedOut N.config.pages «module».now (lease_word l) l.value)) }
-    ensures took { IfOk result (λ o. Grew (Took (IsAffineTake (limit_of (tables.words_of pool.now)) (slots_of (tables.words_of pool.now)) «module».now.tag) (table_slot o)) (trail pass.old) (trail pass.new)) }
+    ensures handed { IfOk result (λ o. IfSome o (λ l. IsHandedOut N.config.pages Table «module».now (lease_word l) l.value)) }
+    ensures took { IfOk result (λ o. Grew (Took (IsAffineTake (limit_of pool.now) (slots_of pool.now) «module».now.tag) (table_slot o)) (trail pass.old) (trail pass.new)) }
     ensures idle { OnErr result (IsIdle pass.new) }
-    ensures full { OnErr result (IsTurnedAway (needs Table «module».now.tree) (IsFullAffineTake (limit_of (tables.words_of pool.now)) (slots_of (tables.words_of pool.now)) «module».now.tag) (passes_of (tables.words_of pool.now)) pass.old pass.new) }
+    ensures full { OnErr result (IsTurnedAway (needs Table «module».now.tree) (IsFullAffineTake (limit_of pool.now) (slots_of pool.now) «module».now.tag) (passes_of pool.now) pass.old pass.new) }
 {
     if !needs_table(store, module) {
         return Ok(None);
     }
-    let lease = pool.take(pass, store, module)?;
+    let lease = table_slots::take(pool, pass, store, module)?;
     Ok(Some(lease))
 }

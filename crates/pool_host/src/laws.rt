@@ -5,14 +5,12 @@ ghost use Rattle.wasm_values.specs.declared.outcome.Val.{Val};
 ghost use Rattle.wasm_types.specs.Tree.{ModuleTree};
 ghost use Rattle.wasm_types.specs.declared.limits.RunLimits.{RunLimits};
 ghost use Rattle.wasm_spec.specs.Validity.{IsValid};
-ghost use Rattle.pool_worlds.specs.Worlds.{AlwaysShadow, TwoWorldsAgree, AnswersAgree, RunsAreTurns, SlicesAreTurns, PreparingTwiceIsOnce};
-ghost use Rattle.pool_worlds.specs.Fitting.{FreeSlotsFit, ClearedFitsCold, RestoredFitsWarm, UsedFitsAwaiting, TablesFitWarm};
-ghost use Rattle.pool_worlds.specs.Contents.{Matches, Memory, Named, Table};
+ghost use Rattle.pool_worlds.specs.Contents.{Matches, Named};
+ghost use Rattle.pool_worlds.specs.declared.kinds.Kind.TheVariants.{Memory, Table, Ticket};
+ghost use Rattle.pool_core.specs.declared.words.State.{State};
 ghost use Rattle.pool_limits.specs.declared.numbers.Numbers.{Numbers};
 ghost use Rattle.slot_pools.specs.Causes.{LostToAnother};
-ghost use Rattle.instance_slots.specs.Fits as tickets;
-ghost use Rattle.memory_slots.specs.Fits as memories;
-ghost use Rattle.table_slots.specs.Fits as tables;
+ghost use Rattle.instance_slots.specs.Tickets.{TicketView};
 ghost use Rattle.instance_calls.specs.CallWords.{EndsWith, MayCall, run_limits};
 ghost use Rattle.instance_calls.specs.PausedInstances.{comes_to};
 ghost use Rattle.instance_calls.specs.PausedViews.{PausedView};
@@ -26,7 +24,6 @@ ghost use Rattle.retired_tags.specs.Rule.{SetByOne, SetForGood};
 use instance_slots::Ticket as AnyTicket;
 use memory_slots::MemSlot;
 use module_store::Naming;
-use pool_worlds::laws as worlds;
 use retired_tags::laws as tags;
 use slot_pools::laws as pools;
 use table_slots::TableSlot;
@@ -47,59 +44,6 @@ pub fn slices_end_as_the_call()
         → EndsWith m.tree (run_limits config) export args [] fuel outcome bytes }
 {}
 
-/// Whatever events came to pools since their opening, each running call has the store of a fresh instance after as many turns,
-/// with nothing past its memory's size, and will be answered as that is.
-pub fn shadow()
-    ensures { AlwaysShadow }
-{
-    worlds::shadow();
-}
-
-/// In any two worlds with the same limits two calls of one request agree, after as many turns, on memory, size, table and
-/// globals, and on their answers. Modules' numbers, the slots and all other callers may differ.
-pub fn two_worlds()
-    ensures turns { TwoWorldsAgree }
-    ensures answers { AnswersAgree }
-{
-    worlds::two_worlds();
-}
-
-/// What a call's run does to its slots, as [`Instance::run`](instance_calls::Instance::run) tells it, is turns of the call, after
-/// which it ends.
-pub fn runs_are_turns()
-    ensures { RunsAreTurns }
-{
-    worlds::runs_are_turns();
-}
-
-/// What a slice of a paused call does to its slots, as [`PausedInstance::resume`](instance_calls::PausedInstance::resume) tells it, is
-/// turns of the call: as many as the slice has, where the call goes on, or those up to its end, and its end.
-pub fn slices_are_turns()
-    ensures { SlicesAreTurns }
-{
-    worlds::slices_are_turns();
-}
-
-/// To prepare what a take has prepared for the same module changes nothing, so a take may prepare before the call begins.
-pub fn preparing_twice_is_once()
-    ensures { PreparingTwiceIsOnce }
-{
-    worlds::preparing_twice_is_once();
-}
-
-/// Whatever events came to pools since their opening, if each release was made with contents that fit what it released to, the
-/// contents of every slot that nobody holds fit its word. What was cleared may be released as cold, what was restored as warm, and
-/// what belongs to a module as awaiting, each of the last two under that module's tag; a table of a module also as warm.
-pub fn contents_fit_their_words()
-    ensures free { FreeSlotsFit }
-    ensures cleared { ClearedFitsCold }
-    ensures restored { RestoredFitsWarm }
-    ensures used { UsedFitsAwaiting }
-    ensures tables { TablesFitWarm }
-{
-    worlds::contents_fit_their_words();
-}
-
 /// A call that is served with a memory wins one that its scan saw free and warm for its module, unless it lost the claim of each such
 /// memory; and likewise with a table. The last claim of its take is of the slot that it won.
 pub fn calls_prefer_their_own<N: Naming>()
@@ -119,9 +63,9 @@ pub fn full_has_its_cause<N: Naming>()
 
 /// Where a call lost the claim of a slot, another pass held that slot.
 pub fn lost_claims_are_lost_to_another<N: Naming>()
-    ensures tickets { LostToAnother (tickets.fits N.config.pages) tickets.room }
-    ensures memories { LostToAnother (λ s tag x. Matches N.config.pages Memory s tag x) memories.room }
-    ensures tables { LostToAnother (λ s tag x. Matches N.config.pages Table s tag x) tables.room }
+    ensures tickets { LostToAnother (λ (s : State) (tag : ℕ) (x : TicketView). Matches N.config.pages Ticket s tag x.globals) }
+    ensures memories { LostToAnother (λ s tag x. Matches N.config.pages Memory s tag x) }
+    ensures tables { LostToAnother (λ s tag x. Matches N.config.pages Table s tag x) }
 {
     pools::lost_claims_are_lost_to_another::<AnyTicket<N>>();
     pools::lost_claims_are_lost_to_another::<MemSlot<N>>();

@@ -18,13 +18,14 @@ mod retired;
 mod retiring;
 mod slots;
 
-pub use answers::{Answer, Kind};
+pub use answers::Answer;
 pub use closing::PoolCounts;
 pub use host::{Host, MOST_PASSES};
 pub use lane::{LaneAnswer, LaneHost};
 pub use passes::HostPass;
 pub use paused::Paused;
 pub use pausing::{Begun, Turned};
+pub use pool_worlds::Kind;
 pub use retiring::Retire;
 
 #[cfg(test)]

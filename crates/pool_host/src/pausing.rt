@@ -4,7 +4,6 @@ ghost use Rattle.pool_host.specs.Hosts.{IsHostPass};
 ghost use Rattle.pool_host.specs.Looks.{begun_look, refused_look, Looked};
 ghost use Rattle.pool_host.specs.Pausing.{begun_tags, refused_begun, HasBegun, HasTurnedTo, IsGivenUp, IsOfHost};
 
-use crate::answers::Kind;
 use crate::finding::{Refused, find};
 use crate::host::Host;
 use crate::passes::HostPass;
@@ -13,6 +12,7 @@ use crate::slots::{give_slots, take_slots};
 use host_edge::Gate;
 use instance_calls::{PausedInstance, Resumed};
 use module_store::{ModuleRef, ModuleStore, Naming};
+use pool_worlds::Kind;
 use wasm_values::{Outcome, Val};
 
 /// How a call began.
@@ -55,7 +55,7 @@ impl Refused {
 }
 
 impl<N: Naming> Host<N> {
-    /// Begins a call as [`Host::call`] does, with its pass and an empty request: the slots are taken, and no instruction has run. It
+    /// Begins a call as [`Host::send`] does, with its pass and an empty request: the slots are taken, and no instruction has run. It
     /// takes no memory.
     ///
     /// The gate is told of the call by its number: when all is taken, and after a refusal.

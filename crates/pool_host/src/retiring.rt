@@ -9,6 +9,7 @@ ghost use Rattle.retired_tags.specs.Steps.{Knows};
 use crate::host::Host;
 use crate::passes::{HostPass, Passes};
 use module_store::{ModuleRef, ModuleStore, Naming};
+use slot_pools::sweep;
 
 /// How a module was retired.
 #[derive(Clone, Copy, Debug, PartialEq, Eq)]
@@ -28,8 +29,8 @@ impl<N: Naming> Host<N> {
         ensures idle { AreIdle passes.new }
         ensures swept { SweptAll self.now «module».now result passes.old passes.new }
     {
-        let memories = self.memories.sweep(&mut passes.memory, module);
-        let tables = self.tables.sweep(&mut passes.table, module);
+        let memories = sweep(&self.memories, &mut passes.memory, module.tag());
+        let tables = sweep(&self.tables, &mut passes.table, module.tag());
         memories + tables
     }
 

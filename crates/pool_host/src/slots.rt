@@ -6,13 +6,14 @@ ghost use Rattle.pool_host.specs.Taking.{FitsWords, GaveSlots, HaveSlots, IsHand
 ghost use Rattle.pool_host.specs.Trails.{AddsTrails, HasCause};
 ghost use Rattle.pool_worlds.specs.Contents.{Named};
 
-use crate::answers::{Answer, Kind};
+use crate::answers::Answer;
 use crate::giving::{give_memory, give_table, give_ticket};
 use crate::host::Host;
 use crate::kinds::{take_memory, take_table};
 use crate::passes::Passes;
 use instance_calls::Instance;
 use module_store::{ModuleRef, ModuleStore, Naming};
+use pool_worlds::Kind;
 
 // Takes a ticket, and a memory and a table where the module has them, in this order, as a fresh instance of the module. Where a
 // kind is full, what was taken is given back.
@@ -33,16 +34,16 @@ pub(crate) fn take_slots<N: Naming>(
     ensures trails { IfErr result (λ kind. AddsTrails N.config host.now «module».now (Answer.Full kind) passes.old passes.new) }
     ensures full { IfErr result (HasCause N.config host.now «module».now passes.old passes.new) }
 {
-    let Ok(ticket) = host.tickets.take(&mut passes.ticket, store, module) else {
-        return Err(Kind::Instance);
+    let Ok(ticket) = instance_slots::take(&host.tickets, &mut passes.ticket, store, module) else {
+        return Err(Kind::Ticket);
     };
     let Ok(memory) = take_memory(&host.memories, &mut passes.memory, store, module) else {
-        give_ticket(host, passes, store, ticket);
+        give_ticket(host, passes, ticket);
         return Err(Kind::Memory);
     };
     let Ok(table) = take_table(&host.tables, &mut passes.table, store, module) else {
         give_memory(host, passes, store, memory);
-        give_ticket(host, passes, store, ticket);
+        give_ticket(host, passes, ticket);
         return Err(Kind::Table);
     };
     Ok(Instance {
@@ -73,5 +74,5 @@ pub(crate) fn give_slots<N: Naming>(
     } = instance;
     give_table(host, passes, store, table);
     give_memory(host, passes, store, memory);
-    give_ticket(host, passes, store, ticket);
+    give_ticket(host, passes, ticket);
 }

@@ -57,7 +57,8 @@ all_have k [] e i d h = absurd (omega arith)
 all_have k (w ∷ ws) e zero d h = has_slots w (map-none (λ (kind : Part). BadShare k kind) (empty_part w) (or-none _ (first_bad (k + 1) ws) e).0)
 all_have k (w ∷ ws) e (suc i) d h = all_have (k + 1) ws (or-none (option_map (λ (kind : Part). BadShare k kind) (empty_part w)) (first_bad (k + 1) ws) e).1 i d (omega arith)
 
-none_bad : (k : ℕ) (ws : List Want) → All HasSlots ws → first_bad k ws ≡ None
+-- where each wants slots of each kind, none is bad
+pub none_bad : (k : ℕ) (ws : List Want) → All HasSlots ws → first_bad k ws ≡ None
 none_bad k [] h = refl
 none_bad k (w ∷ ws) h = both-none (option_map (λ (kind : Part). BadShare k kind) (empty_part w)) (first_bad (k + 1) ws)
     (ap (option_map (λ (kind : Part). BadShare k kind)) (none_empty w (h 0 w (omega arith))))

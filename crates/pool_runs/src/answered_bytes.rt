@@ -63,7 +63,7 @@ fn echo_on_lane<N: Naming>(
             let request = request.bytes();
             lane.send(store, module, export, &[], request, fuel, 1, &OpenGate)
         }
-        None => lane.call(store, module, export, &[], fuel, 1, &OpenGate),
+        None => lane.send(store, module, export, &[], &[], fuel, 1, &OpenGate),
     }
 }
 
@@ -140,7 +140,7 @@ fn echo_on_host<N: Naming>(
                 &OpenGate,
             )
         }
-        None => host.call(pass, store, module, export, &[], fuel, 1, &OpenGate),
+        None => host.send(pass, store, module, export, &[], &[], fuel, 1, &OpenGate),
     }
 }
 

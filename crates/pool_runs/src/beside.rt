@@ -138,7 +138,7 @@ fn add<N: Naming, G: Gate>(
     requires { IsHostPass host.now pass }
 {
     let args = [Val::I32(2), Val::I32(3)];
-    host.call(&mut pass, store, module, b"add", &args, 100, 2, gate)
+    host.send(&mut pass, store, module, b"add", &args, &[], 100, 2, gate)
 }
 
 // What a call of `bump` is answered that is held until another module was registered and called, and what that one is

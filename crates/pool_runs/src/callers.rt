@@ -145,6 +145,16 @@ pub(crate) fn bump<N: Naming, G: Gate>(
     requires { IsHostPass host.now pass }
     ensures { IsHostPass host.now result.1 }
 {
-    let answer = host.call(&mut pass, store, module, b"bump", &[], 100, number, gate);
+    let answer = host.send(
+        &mut pass,
+        store,
+        module,
+        b"bump",
+        &[],
+        &[],
+        100,
+        number,
+        gate,
+    );
     (answer, pass)
 }

@@ -80,11 +80,12 @@ fn check_calls<N: Naming, R: Abort + Wait>(rt: &R, alloc: Global, opened: Opened
         ),
     ];
     for (module, export, args, fuel, expected) in rows {
-        let answer = lane.call(
+        let answer = lane.send(
             &store,
             &modules[module % 5],
             export,
             args,
+            &[],
             fuel,
             1,
             &OpenGate,
@@ -131,7 +132,7 @@ fn check_profile_2<N: Naming, R: Abort + Wait>(rt: &R, alloc: Global, opened: Op
     };
     let mut lane = LaneHost::open(alloc, &store, share).expect(rt, "opened");
     for (a, want) in [(127, 127), (128, 0xffff_ff80), (255, u32::MAX), (256, 0)] {
-        let got = lane.call(&store, &extend, b"e", &[Val::I32(a)], 2, 1, &OpenGate);
+        let got = lane.send(&store, &extend, b"e", &[Val::I32(a)], &[], 2, 1, &OpenGate);
         let want = Outcome::Done(Some(Val::I32(want)));
         assert_eq!(rt; got, LaneAnswer::Done(want), "{a}");
     }
@@ -147,7 +148,7 @@ fn check_profile_2<N: Naming, R: Abort + Wait>(rt: &R, alloc: Global, opened: Op
     ];
     for (to, count, fuel, want) in rows {
         let args = [Val::I32(to), Val::I32(count)];
-        let got = lane.call(&store, &fill, b"f", &args, fuel, 2, &OpenGate);
+        let got = lane.send(&store, &fill, b"f", &args, &[], fuel, 2, &OpenGate);
         assert_eq!(rt; got, LaneAnswer::Done(want), "{count} at {to}");
     }
 }
@@ -174,9 +175,9 @@ fn check_filled<N: Naming, R: Abort + Wait>(rt: &R, alloc: Global, opened: Opene
     let done = |value| LaneAnswer::Done(Outcome::Done(value));
     let all = [Val::I32(0), Val::I32(65_536)];
     for at in [0, 4_092, 4_096, 65_532] {
-        let filled = lane.call(&store, &fill, b"f", &all, 4, 1, &OpenGate);
+        let filled = lane.send(&store, &fill, b"f", &all, &[], 4, 1, &OpenGate);
         assert_eq!(rt; filled, done(None));
-        let seen = lane.call(&store, &peek, b"p", &[Val::I32(at)], 2, 2, &OpenGate);
+        let seen = lane.send(&store, &peek, b"p", &[Val::I32(at)], &[], 2, 2, &OpenGate);
         assert_eq!(rt; seen, done(Some(Val::I32(0))), "at {at}");
     }
 }

@@ -58,9 +58,19 @@ fn called<N: Naming>(
     ensures { IsHostPass host.now pass.new }
 {
     let gate = OpenGate;
-    let missing = host.call(pass, store, module, b"jump", &[], 100, 1, &gate);
-    let bad = host.call(pass, store, module, b"bump", &[Val::I32(1)], 100, 2, &gate);
-    let made = host.call(pass, store, module, b"bump", &[], 100, 3, &gate);
+    let missing = host.send(pass, store, module, b"jump", &[], &[], 100, 1, &gate);
+    let bad = host.send(
+        pass,
+        store,
+        module,
+        b"bump",
+        &[Val::I32(1)],
+        &[],
+        100,
+        2,
+        &gate,
+    );
+    let made = host.send(pass, store, module, b"bump", &[], &[], 100, 3, &gate);
     [missing, bad, made]
 }
 
@@ -116,14 +126,17 @@ fn check_lane<N: Naming, R: Abort + Wait>(rt: &R, alloc: Global, opened: Opened)
     let mut lane = LaneHost::open(alloc, &store, SHARE).expect(rt, "opened");
     let done = LaneAnswer::Done(ONE);
     let gate = OpenGate;
-    assert_eq!(rt; lane.call(&store, &one, b"bump", &[], 100, 1, &gate), done);
+    assert_eq!(rt;
+        lane.send(&store, &one, b"bump", &[], &[], 100, 1, &gate),
+        done
+    );
     assert_eq!(rt; lane.retire(&store, &one), FIRST);
-    let answer = lane.call(&store, &one, b"bump", &[], 100, 2, &gate);
+    let answer = lane.send(&store, &one, b"bump", &[], &[], 100, 2, &gate);
     assert_eq!(rt; answer, LaneAnswer::Retired);
-    let answer = lane.call(&store, &one, b"jump", &[], 100, 3, &gate);
+    let answer = lane.send(&store, &one, b"jump", &[], &[], 100, 3, &gate);
     assert_eq!(rt; answer, LaneAnswer::NoExport);
     assert_eq!(rt;
-        lane.call(&store, &other, b"bump", &[], 100, 4, &gate),
+        lane.send(&store, &other, b"bump", &[], &[], 100, 4, &gate),
         done
     );
     assert_eq!(rt; lane.retire(&store, &one), Retire::Already);
@@ -289,11 +302,11 @@ fn check_retired_for_one<N: Naming, R: Abort>(
 {
     let gate = OpenGate;
     let (share, mut first, mut second) = pass_of_each(rt, alloc, store, plan);
-    let before = share.call(&mut first, store, module, b"bump", &[], 100, 1, &gate);
+    let before = share.send(&mut first, store, module, b"bump", &[], &[], 100, 1, &gate);
     let retired = share.retire(&mut first, store, module);
-    let behind = share.call(&mut first, store, module, b"bump", &[], 100, 2, &gate);
+    let behind = share.send(&mut first, store, module, b"bump", &[], &[], 100, 2, &gate);
     let again = share.retire(&mut first, store, module);
-    let other = share.call(&mut second, store, module, b"bump", &[], 100, 3, &gate);
+    let other = share.send(&mut second, store, module, b"bump", &[], &[], 100, 3, &gate);
     let done = Answer::Done(ONE);
     assert_eq!(rt; (before, retired, behind), (done, FIRST, Answer::Retired));
     assert_eq!(rt; (again, other), (Retire::Already, done));

@@ -229,7 +229,7 @@ fn check_bytes<N: Naming, R: Abort + Wait>(rt: &R, alloc: Global, opened: Opened
     );
     assert_eq!(rt; sent, Answer::Done(wrote(3)));
     assert_eq!(rt; pass.answer(), b"abc".as_slice());
-    let called = share.call(&mut pass, &store, &module, b"e", &[], 6, 4, &OpenGate);
+    let called = share.send(&mut pass, &store, &module, b"e", &[], &[], 6, 4, &OpenGate);
     assert_eq!(rt; called, Answer::Done(wrote(0)));
     assert_eq!(rt; pass.answer(), b"".as_slice());
 }

@@ -4,15 +4,11 @@ use Rattle.std.specs.Prelude.{replicate, slice_index}
 use Rattle.std.proofs.lemmas.List.{length-replicate, length-take-le, get_or_append_left, get_or-append_right, get_or-take, ext_get_or}
 use Rattle.std.proofs.lemmas.Bool.{cases_lt}
 use Rattle.wasm_spec.specs.Store.{page_size}
+use Rattle.wasm_spec.proofs.StoreSizes.{zeros-at}
 use Rattle.pool_worlds.specs.Contents.{filled, is_marked, rewritten_from, HasImageOutside}
 
 pub length-filled : (pages : ℕ) (bytes : List ℕ) → length bytes ≤ pages * page_size → length (filled pages bytes) ≡ pages * page_size
 length-filled pages bytes le = length-append bytes (replicate (pages * page_size - length bytes) 0) ∙ ap (λ (k : ℕ). length bytes + k) (length-replicate (pages * page_size - length bytes) 0) ∙ omega arith
-
-zeros-at : (n i : ℕ) → slice_index (replicate n 0) i ≡ 0
-zeros-at zero i = refl
-zeros-at (suc n) zero = refl
-zeros-at (suc n) (suc i) = zeros-at n i
 
 pub filled-past : (pages : ℕ) (bytes : List ℕ) (i : ℕ) → length bytes ≤ i → slice_index (filled pages bytes) i ≡ 0
 filled-past pages bytes i le = get_or-append_right bytes (replicate (pages * page_size - length bytes) 0) (length bytes) i 0 refl le ∙ zeros-at (pages * page_size - length bytes) (i - length bytes)

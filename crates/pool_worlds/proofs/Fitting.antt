@@ -17,7 +17,9 @@ use Rattle.pool_core.proofs.ChangeLemmas.{changes_only}
 use Rattle.pool_core.proofs.Holders.{holds_held_word}
 use Rattle.pool_core.proofs.LawfulOpening.{opens_cold}
 use Rattle.pool_core.proofs.LawfulSteps.{no_rule_broken}
-use Rattle.pool_worlds.specs.Contents.{Named, Kind, Ticket, Memory, Table, Contents, owner, memory_image, table_image, prepared, restored_for, restored, replaced, needs, turned, IsClean, IsCold, HasImageOutside, Matches}
+use Rattle.pool_worlds.specs.Contents.{Named, Contents, owner, memory_image, table_image, prepared, restored_for, restored, replaced, needs, turned, IsClean, IsCold, HasImageOutside, Matches}
+use Rattle.pool_worlds.specs.declared.kinds.Kind.{Kind}
+use Rattle.pool_worlds.specs.declared.kinds.Kind.TheVariants.{Ticket, Memory, Table}
 use Rattle.pool_worlds.specs.PoolMachine.{World, Running, Machine, WorldEvent, Step, Prepare, Restore, Clear, Begin, Turn, End, Cancel, held_by, slot_of, same_kind, is_slot_of_seat, is_slot_of_call, with_contents, with_core, store_after, last_store, after_turn, after_end, after, after_all, HasOut, IsModule, MayHappen, AllMayHappen, IsOpening}
 use Rattle.pool_worlds.specs.FreshMachine.{FreshMachine, fresh_after, nothing_runs}
 use Rattle.pool_worlds.specs.Fitting.{held_contents, ReleaseFits, AllReleasesFit, FitsWhileFree, FreeSlotsFit, ClearedFitsCold, RestoredFitsWarm, UsedFitsAwaiting, TablesFitWarm}

@@ -5,7 +5,7 @@ use Rattle.pool_core.specs.declared.events.Event.{Event}
 use Rattle.pool_core.specs.PoolCore.{PoolCore}
 use Rattle.pool_core.specs.EventEffects.{core_after}
 use Rattle.pool_core.specs.RefusalRules.{refusal_of}
-use Rattle.pool_worlds.specs.Contents.{Kind}
+use Rattle.pool_worlds.specs.declared.kinds.Kind.{Kind}
 use Rattle.pool_worlds.specs.PoolMachine.{World, Running, Machine, WorldEvent, Step, Prepare, Restore, Clear, Begin, Turn, End, Cancel, same_kind, with_core, after_turn, after_end, after, after_all, AllMayHappen}
 use Rattle.pool_worlds.specs.Histories.{steps_of, LeadTo, StepsAreHistories}
 use Rattle.pool_worlds.proofs.Steps.{same_kind-is}

@@ -12,7 +12,9 @@ use Rattle.wasm_spec.specs.Instances.{IsInstance, room_for}
 use Rattle.wasm_spec.proofs.StoreSizes.{whole_pages, pages_within, minimum_within}
 use Rattle.wasm_spec.proofs.Loading.{no_refusal, first_keeps}
 use Rattle.wasm_spec.proofs.ResultLaws.{length-fresh_memory, length-fresh_table, fresh-instance}
-use Rattle.pool_worlds.specs.Contents.{Named, Kind, Ticket, Memory, Table, MemoryContents, TableContents, Contents, owner, belongs_to, filled, memory_image, table_image, rewritten_from, prepared, restored_for, restored, replaced, needs, shown_memory, shown_table, shown, turned, Marks, IsCold, HasImageOutside}
+use Rattle.pool_worlds.specs.Contents.{Named, MemoryContents, TableContents, Contents, owner, belongs_to, filled, memory_image, table_image, rewritten_from, prepared, restored_for, restored, replaced, needs, shown_memory, shown_table, shown, turned, Marks, IsCold, HasImageOutside}
+use Rattle.pool_worlds.specs.declared.kinds.Kind.{Kind}
+use Rattle.pool_worlds.specs.declared.kinds.Kind.TheVariants.{Ticket, Memory, Table}
 use Rattle.pool_worlds.specs.PoolMachine.{World, IsModule, load_limits}
 use Rattle.pool_worlds.specs.Worlds.{IsZeroPast, in_slots}
 use Rattle.pool_worlds.proofs.Bytes.{filled-is}

@@ -6,7 +6,8 @@ use Rattle.wasm_spec.specs.Store.{Store, fresh_store, page_size}
 use Rattle.wasm_spec.specs.Result.{result_from}
 use Rattle.pool_core.specs.Lawful.{Lawful}
 use Rattle.pool_core.proofs.LawfulOpening.{lawful_opening}
-use Rattle.pool_worlds.specs.Contents.{shown, Memory, needs}
+use Rattle.pool_worlds.specs.Contents.{shown, needs}
+use Rattle.pool_worlds.specs.declared.kinds.Kind.TheVariants.{Memory}
 use Rattle.pool_worlds.specs.PoolMachine.{World, InstanceLimits, Request, Running, Machine, WorldEvent, slots_of, answer, store_or, told, after, after_all, AllMayHappen, IsOpening, terms_of, Step, Prepare, Restore, Clear, Begin, Turn, End, Cancel, slot_of}
 use Rattle.pool_worlds.specs.FreshMachine.{FreshCall, FreshMachine, fresh_store_after, fresh_answer, fresh_after, fresh_after_all, nothing_runs}
 use Rattle.pool_worlds.specs.Worlds.{in_slots, ShadowsCall, AlwaysShadow, IsSameRequest, Reached, Calls, TwoWorldsAgree, answered_by, answered, answers, AnswersAgree}

@@ -5,7 +5,8 @@ use Rattle.wasm_spec.specs.Store.{Store}
 use Rattle.wasm_spec.specs.Result.{CallResult}
 use Rattle.wasm_spec.specs.MoreFuel.{is_fuel, is_fuel_end}
 use Rattle.wasm_spec.proofs.ResultLaws.{result-unfinished}
-use Rattle.pool_worlds.specs.Contents.{Kind, Contents, shown, turned}
+use Rattle.pool_worlds.specs.Contents.{Contents, shown, turned}
+use Rattle.pool_worlds.specs.declared.kinds.Kind.{Kind}
 use Rattle.pool_worlds.specs.PoolMachine.{World, Request, Running, Machine, slot_of, slots_of, terms_of, result, store_or, store_after}
 use Rattle.pool_worlds.specs.FreshMachine.{fresh_store_after, fresh_store_on}
 use Rattle.pool_worlds.specs.Runs.{HostResumes, AreTurnsTo}

@@ -15,7 +15,9 @@ use Rattle.pool_core.specs.RefusalRules.{refusal_of, seat_of}
 use Rattle.pool_core.specs.Lawful.{Lawful}
 use Rattle.pool_core.proofs.Holders.{one_holder}
 use Rattle.pool_core.proofs.LawfulSteps.{lawful_after}
-use Rattle.pool_worlds.specs.Contents.{Named, Kind, Ticket, Memory, Table, Contents, prepared, restored, replaced, needs, shown, turned}
+use Rattle.pool_worlds.specs.Contents.{Named, Contents, prepared, restored, replaced, needs, shown, turned}
+use Rattle.pool_worlds.specs.declared.kinds.Kind.{Kind}
+use Rattle.pool_worlds.specs.declared.kinds.Kind.TheVariants.{Ticket, Memory, Table}
 use Rattle.pool_worlds.specs.PoolMachine.{World, Request, Running, Machine, WorldEvent, Step, Prepare, Restore, Clear, Begin, Turn, End, Cancel, held_by, slot_of, slots_of, same_kind, is_slot_of_seat, is_slot_of_call, with_contents, with_core, with_call, store_or, store_after, begun, after_turn, after, IsFree, HasOut, IsModule, MarksTurn, MarksEnd, MayHappen, terms_of, last_store, after_end}
 use Rattle.pool_worlds.specs.FreshMachine.{FreshCall, FreshMachine, fresh_store_on, fresh_store_after, fresh_turn, with_fresh_call, fresh_after}
 use Rattle.pool_worlds.specs.Worlds.{IsZeroPast, in_slots}

@@ -12,7 +12,9 @@ use Rattle.pool_core.specs.declared.events.Event.{Event}
 use Rattle.pool_core.specs.PoolCore.{PoolCore, seat_at, word_at}
 use Rattle.pool_core.specs.EventEffects.{core_after, core_after_claim, winning_seat, with_seat, with_word}
 use Rattle.pool_core.specs.Lawful.{Lawful}
-use Rattle.pool_worlds.specs.Contents.{Kind, Memory, needs}
+use Rattle.pool_worlds.specs.Contents.{needs}
+use Rattle.pool_worlds.specs.declared.kinds.Kind.{Kind}
+use Rattle.pool_worlds.specs.declared.kinds.Kind.TheVariants.{Memory}
 use Rattle.pool_worlds.specs.PoolMachine.{World, InstanceLimits, Request, Running, Machine, WorldEvent, Step, Prepare, Restore, Clear, Begin, Turn, End, Cancel, slots_of, slot_of, same_kind, after, after_all, after_turn, after_end, MayHappen, AllMayHappen, IsOpening}
 use Rattle.pool_worlds.specs.FreshMachine.{FreshCall, FreshMachine, fresh_after, fresh_answer, fresh_store_after, nothing_runs}
 use Rattle.pool_worlds.specs.Worlds.{answered, answered_by, answers, in_slots}

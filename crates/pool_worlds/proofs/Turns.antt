@@ -11,9 +11,11 @@ use Rattle.wasm_spec.specs.Result.{CallResult, answer_of, function_result, if_do
 use Rattle.wasm_spec.specs.MoreFuel.{is_fuel, is_fuel_end, with_more}
 use Rattle.wasm_spec.specs.Instances.{IsInstance}
 use Rattle.wasm_spec.proofs.ResultLaws.{function-spends, function-keeps, instance-kept, fresh-instance}
-use Rattle.wasm_spec.proofs.MoreFuel.{result-more, function-more}
+use Rattle.wasm_spec.proofs.MoreFuel.{result-more, function-more, with_more-end}
 use Rattle.wasm_values.specs.declared.outcome.Val.{Val}
-use Rattle.pool_worlds.specs.Contents.{Kind, Memory, MemoryContents, Contents, needs, filled, turned, Marks, is_marked}
+use Rattle.pool_worlds.specs.Contents.{MemoryContents, Contents, needs, filled, turned, Marks, is_marked}
+use Rattle.pool_worlds.specs.declared.kinds.Kind.{Kind}
+use Rattle.pool_worlds.specs.declared.kinds.Kind.TheVariants.{Memory}
 use Rattle.pool_worlds.specs.PoolMachine.{World, Request, Running, Machine, Turn, End, slots_of, result, answer, store_or, store_after, last_store, after_end, told, IsFuelEnd, CanTurn, after_turn, after, after_all, AllMayHappen, MayHappen, terms_of}
 use Rattle.pool_worlds.specs.FreshMachine.{FreshCall, FreshMachine}
 use Rattle.pool_worlds.specs.Runs.{Leaves, RunsFunction, GoesOn, StartsAndGoesOn, HostRunsBy, AreItsTurns}
@@ -92,10 +94,6 @@ at_turn r t = record r { turns = t }
 with_more-some : (d : ℕ) (o : Option CallResult) → is_some (with_more d o) ≡ true → is_some o ≡ true
 with_more-some d None h = h
 with_more-some d (Some r) h = refl
-
-with_more-end : (d : ℕ) (o : Option CallResult) → is_fuel_end (with_more d o) ≡ is_fuel_end o
-with_more-end d None = refl
-with_more-end d (Some r) = refl
 
 -- turns up to this one, of which the last may be its end
 module _ (w : World) (r : Running) (to : ℕ) (within : to ≤ r.request.fuel) (given : is_some (result w r to) ≡ true) (l : Lasts w r to) where

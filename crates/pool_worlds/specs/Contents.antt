@@ -4,6 +4,8 @@ use Rattle.wasm_values.specs.declared.outcome.Val.{Val}
 use Rattle.wasm_types.specs.declared.module.Module.{Module}
 use Rattle.wasm_types.specs.Tree.{ModuleTree}
 use Rattle.wasm_spec.specs.Store.{Store, fresh_store, minimum_of, page_size}
+use Rattle.pool_worlds.specs.declared.kinds.Kind.{Kind}
+use Rattle.pool_worlds.specs.declared.kinds.Kind.TheVariants.{Ticket, Memory, Table}
 use Rattle.pool_core.specs.declared.words.State.{State}
 use Rattle.pool_core.specs.declared.words.State.TheVariants.{Cold, Warm, Awaiting}
 
@@ -13,12 +15,6 @@ pub record Named : Type 0 where
   pub tag : ℕ
   pub tree : ModuleTree
   pub code : Module
-
--- an instance's ticket has its globals; beside it an instance has a memory and a table, or one of them, or neither
-pub data Kind : Type 0 where
-  Ticket : Kind
-  Memory : Kind
-  Table : Kind
 
 -- bytes to the configured maximum, the size in pages, a mark for each block of 4,096 bytes, and the module that it belongs to
 pub record MemoryContents : Type 0 where
@@ -31,6 +27,7 @@ pub record TableContents : Type 0 where
   pub entries : List (Option ℕ)
   pub holds : Option Named
 
+-- an instance's ticket has its globals; beside it an instance has a memory and a table, or one of them, or neither
 abbrev pub Contents : Kind → Type 0
 Contents Ticket = List Val
 Contents Memory = MemoryContents

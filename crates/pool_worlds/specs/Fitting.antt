@@ -4,7 +4,9 @@ use Rattle.pool_core.specs.declared.words.State.TheVariants.{Cold, Warm, Awaitin
 use Rattle.pool_core.specs.declared.words.StateWord.{StateWord}
 use Rattle.pool_core.specs.declared.events.Event.TheVariants.{Release}
 use Rattle.pool_core.specs.PoolCore.{word_at}
-use Rattle.pool_worlds.specs.Contents.{Named, Kind, Table, Contents, owner, Matches}
+use Rattle.pool_worlds.specs.Contents.{Named, Contents, owner, Matches}
+use Rattle.pool_worlds.specs.declared.kinds.Kind.{Kind}
+use Rattle.pool_worlds.specs.declared.kinds.Kind.TheVariants.{Table}
 use Rattle.pool_worlds.specs.PoolMachine.{World, Machine, WorldEvent, Step, Restore, Clear, held_by, after, after_all, MayHappen, AllMayHappen, IsOpening}
 use Rattle.pool_worlds.specs.Worlds.{Reached}
 

@@ -3,7 +3,7 @@ use Rattle.std.specs.Prelude.{◌≡◌, List, [], ◌∷◌, if◌then◌else�
 use Rattle.pool_core.specs.declared.events.Event.{Event}
 use Rattle.pool_core.specs.PoolCore.{PoolCore, opening_core}
 use Rattle.pool_core.specs.Runs.{core_after_all, AllAllowed}
-use Rattle.pool_worlds.specs.Contents.{Kind}
+use Rattle.pool_worlds.specs.declared.kinds.Kind.{Kind}
 use Rattle.pool_worlds.specs.PoolMachine.{World, Machine, WorldEvent, Step, same_kind, after_all, AllMayHappen, IsOpening}
 
 -- of these events the steps of one kind, in their order

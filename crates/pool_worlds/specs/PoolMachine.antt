@@ -19,7 +19,9 @@ use Rattle.pool_core.specs.declared.events.Event.{Event}
 use Rattle.pool_core.specs.PoolCore.{PoolCore, seat_at, opening_core}
 use Rattle.pool_core.specs.EventEffects.{core_after}
 use Rattle.pool_core.specs.RefusalRules.{refusal_of, seat_of}
-use Rattle.pool_worlds.specs.Contents.{Named, Kind, Ticket, Memory, Table, MemoryContents, Contents, owner, prepared, restored, replaced, needs, shown, turned, Marks, IsCold}
+use Rattle.pool_worlds.specs.Contents.{Named, MemoryContents, Contents, owner, prepared, restored, replaced, needs, shown, turned, Marks, IsCold}
+use Rattle.pool_worlds.specs.declared.kinds.Kind.{Kind}
+use Rattle.pool_worlds.specs.declared.kinds.Kind.TheVariants.{Ticket, Memory, Table}
 
 pub record InstanceLimits : Type 0 where
   pub pages : ℕ

@@ -8,7 +8,9 @@ use Rattle.wasm_types.specs.Tree.{ModuleTree}
 use Rattle.wasm_spec.specs.MoreFuel.{is_fuel}
 use Rattle.wasm_spec.specs.Store.{Store}
 use Rattle.wasm_spec.specs.Result.{CallResult, function_result}
-use Rattle.pool_worlds.specs.Contents.{Kind, Memory, Contents, needs, filled, turned, Marks}
+use Rattle.pool_worlds.specs.Contents.{Contents, needs, filled, turned, Marks}
+use Rattle.pool_worlds.specs.declared.kinds.Kind.{Kind}
+use Rattle.pool_worlds.specs.declared.kinds.Kind.TheVariants.{Memory}
 use Rattle.pool_worlds.specs.PoolMachine.{World, Running, Machine, Turn, End, slots_of, terms_of, result, after, after_all, AllMayHappen, MayHappen}
 
 -- What comes of a run that gives `result` on each fuel, where it is made on this fuel from these contents.

@@ -6,7 +6,9 @@ use Rattle.pool_core.specs.StateWords.{packed}
 use Rattle.pool_core.specs.Lawful.{is_free_warm}
 use Rattle.pool_core.specs.PoolCore.{PoolCore, word_at}
 use Rattle.pool_core.specs.declared.events.Event.TheVariants.{Claim}
-use Rattle.pool_worlds.specs.Contents.{Kind, Memory, needs, shown}
+use Rattle.pool_worlds.specs.Contents.{needs, shown}
+use Rattle.pool_worlds.specs.declared.kinds.Kind.{Kind}
+use Rattle.pool_worlds.specs.declared.kinds.Kind.TheVariants.{Memory}
 use Rattle.pool_worlds.specs.PoolMachine.{World, Request, Running, Machine, WorldEvent, Step, slots_of, answer, after, MayHappen, IsOpening}
 use Rattle.pool_worlds.specs.Worlds.{answered}
 

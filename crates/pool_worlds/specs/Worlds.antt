@@ -3,7 +3,9 @@ use Rattle.std.specs.Prelude.{◌≡◌, ℕ, ◌*◌, ◌≤◌, ◌⊎◌, Boo
 use Rattle.wasm_values.specs.declared.outcome.Outcome.{Outcome}
 use Rattle.wasm_spec.specs.Store.{Store, page_size}
 use Rattle.wasm_spec.specs.Result.{CallResult, answer_of}
-use Rattle.pool_worlds.specs.Contents.{Named, Kind, Memory, MemoryContents, Contents, prepared, needs, shown}
+use Rattle.pool_worlds.specs.Contents.{Named, MemoryContents, Contents, prepared, needs, shown}
+use Rattle.pool_worlds.specs.declared.kinds.Kind.{Kind}
+use Rattle.pool_worlds.specs.declared.kinds.Kind.TheVariants.{Memory}
 use Rattle.pool_worlds.specs.PoolMachine.{World, Request, Running, Machine, WorldEvent, slots_of, answer, after_all, AllMayHappen, IsOpening, IsModule, End, after, result, IsFuelEnd, CanTurn}
 use Rattle.pool_worlds.specs.Runs.{HostRuns, AreItsTurns, HostResumes, AreTurnsTo}
 use Rattle.pool_worlds.specs.FreshMachine.{FreshCall, FreshMachine, fresh_answer, fresh_after_all, nothing_runs}

@@ -6,7 +6,7 @@ use Rattle.std.specs.Ordering.{is_eq, nat_cmp}
 use Rattle.std.specs.Cmp.{eq_by_cmp_equiv}
 use Rattle.std.specs.Cmp.Lexicographic.{slice_cmp, bytes_decides, nat_list_cmp_total, nat_list_eq_equiv}
 use Rattle.std.specs.BTreeMap.{BTreeMap, UpdatesBy, get_by}
-use Rattle.std.specs.Map.{lookup, IsKeyTest, AreApart, KeepsOthers}
+use Rattle.std.specs.Map.{KeepsOthers}
 use Rattle.std.specs.List.{position_or_len, slice_get}
 use Rattle.std.specs.Str.{bytes_eq}
 use Rattle.std.proofs.Math.Dec.{eqb}
@@ -75,23 +75,16 @@ slice_get-append {A = A} xs ys k x at =
 
 -- ---- a map with keys of bytes
 
-apart : (bs cs ks : List ℕ) → bytes_eq bs cs ≡ false → is_eq (slice_cmp nat_cmp bs ks) ≡ true → is_eq (slice_cmp nat_cmp cs ks) ≡ false
-apart bs cs ks n y =
-    let z : bytes_eq bs ks ≡ true = sym (is_eq-slice_cmp bs ks) ∙ y in
-    is_eq-slice_cmp cs ks ∙ nat_list_eq_equiv.symm cs ks ∙ sym (nat_list_eq_equiv.congr bs ks cs z) ∙ n
-
-module _ {K : Type 0} (eq : K → K → Bool) (test : K → Bool) where
-  other_entries : {X : Type 0} (old new : List (K × X)) → KeepsOthers eq test old new → (other : K → Bool) → IsKeyTest eq other → AreApart test other → lookup other new ≡ lookup other old
-  unfolding KeepsOthers
-  other_entries old new h = h
-
 -- what a change at the bytes bs leaves at any bytes cs
 pub updated_at : {X : Type 0} (bs : List ℕ) (m n : BTreeMap (Vec ℕ Global) X) (w : Option X) → UpdatesBy (λ x y. slice_cmp nat_cmp x.items y.items) (λ key. slice_cmp nat_cmp bs key.items) m n w
     → (cs : List ℕ) → get_by (λ key. slice_cmp nat_cmp cs key.items) n ≡ cond (bytes_eq bs cs) w (get_by (λ key. slice_cmp nat_cmp cs key.items) m)
+unfolding KeepsOthers
 updated_at bs m n w h cs =
     ⊎_elim
     (λ y. subst (λ (l : List ℕ). get_by (λ key. slice_cmp nat_cmp l key.items) n ≡ w) ((bytes_decides bs cs).0 y) h.1 ∙ sym (cond-true (bytes_eq bs cs) w _ y))
-    (λ e. other_entries _ _ _ _ h.3 _ (λ x y. (eq_by_cmp_equiv nat_list_cmp_total).congr cs x.items y.items) (λ k. apart bs cs k.items e) ∙ sym (cond-false (bytes_eq bs cs) w _ e))
+    (λ e. h.3 _ (λ x y. (eq_by_cmp_equiv nat_list_cmp_total).congr cs x.items y.items)
+    (λ k y. is_eq-slice_cmp cs k.items ∙ nat_list_eq_equiv.symm cs k.items ∙ sym (nat_list_eq_equiv.congr bs k.items cs (sym (is_eq-slice_cmp bs k.items) ∙ y)) ∙ e)
+    ∙ sym (cond-false (bytes_eq bs cs) w _ e))
     (cases_Bool (bytes_eq bs cs))
 
 -- one more name, at the next place

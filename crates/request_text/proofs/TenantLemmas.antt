@@ -11,22 +11,14 @@ use Rattle.pool_limits.specs.declared.wants.Part.{Part}
 use Rattle.pool_limits.specs.declared.wants.PlanFault.{PlanFault}
 use Rattle.pool_limits.specs.declared.wants.PlanFault.TheVariants.{BadShare}
 use Rattle.pool_limits.specs.declared.wants.Want.{Want}
-use Rattle.pool_limits.specs.Plans.{empty_part, first_bad, first_over, plan_fault, HasSlots}
+use Rattle.pool_limits.specs.Plans.{first_over, plan_fault, HasSlots}
+use Rattle.pool_limits.proofs.WantLemmas.{none_bad}
 use Rattle.request_text.specs.declared.request.Reason.{Reason}
 use Rattle.request_text.specs.declared.request.Reason.TheVariants as why
 use Rattle.request_text.specs.Words.{◌>>=◌, demand}
 use Rattle.request_text.specs.Tenants.{Tenants, for_after, share_number, share_of, slots_of, tenant_after, tenant_named, tenants_with}
 
 -- ---- what can't be had
-
-none_empty : (w : Want) → HasSlots w → empty_part w ≡ None
-none_empty w h = grind (arith, nat_tests)
-
-none_bad : (tenant : ℕ) (ws : List Want) → All HasSlots ws → first_bad tenant ws ≡ None
-none_bad tenant [] h = refl
-none_bad tenant (w ∷ ws) h =
-    ap (λ (kind : Option Part). option_or (option_map (λ (k : Part). BadShare tenant k) kind) (first_bad (tenant + 1) ws)) (none_empty w (All-head HasSlots w ws h))
-    ∙ none_bad (tenant + 1) ws (All-tail HasSlots w ws h)
 
 -- where few tenants want slots of each kind each, they can't have what they want exactly where that is too much together
 pub fault_is_over : (n : Numbers) (ws : List Want) → length ws ≤ 15 → All HasSlots ws → plan_fault n ws ≡ first_over n ws

@@ -57,6 +57,6 @@ any_cause slots done full = let scan = full.1 in let loss = scan.is_second in re
 lost_is_held : (n r read : ℕ) → Claim n r ∷ [] ≡ Claim n read ∷ [] → (w : StateWord) → LowestBitSaysHeld → IsWordOf read w → w.held ≡ true → r % 2 ≡ 1
 lost_is_held n r read same w says is_word held = let e : r ≡ read = cc in ap (λ (k : ℕ). k % 2) (e ∙ is_word.packed_is) ∙ says w ∙ ap bit held
 
-pub lost_to_another : {V : Type 0} (fits : State → ℕ → V → Type 0) (room : V → List ℕ) → HeldByAnother fits room → LowestBitSaysHeld → LostToAnother fits room
-lost_to_another fits room another says bounds s shows n i within lost idle =
+pub lost_to_another : {V : Type 0} (fits : State → ℕ → V → Type 0) → HeldByAnother fits → LowestBitSaysHeld → LostToAnother fits
+lost_to_another fits another says bounds s shows n i within lost idle =
     another bounds s shows n i within (lost_is_held n (slice_index_or s.words n 0) lost.read lost.done_is lost.word says lost.is_word lost.held) idle

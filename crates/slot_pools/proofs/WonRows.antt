@@ -15,9 +15,6 @@ use Rattle.slot_words.specs.Rows.{IsLost}
 use Rattle.slot_words.proofs.Parts.{one_part_more, one_place_more}
 use Rattle.slot_pools.specs.Rows.{AreLost, IsWonAlong}
 
-pub take-range : (a n k : ℕ) → k ≤ n → take k (range_with_len a n) ≡ range_with_len a k
-take-range a n k h = ap (take k) (sym (map-id (range_with_len a n))) ∙ take-map-range_with_len (λ (i : ℕ). i) a n k h ∙ map-id (range_with_len a k)
-
 pub won_at_number : (slots n m read : ℕ) (t u v : List Operation) → n < slots → m ≡ n → Grew (AreLost (range_with_len 0 n)) t u → v ≡ u ++ Claim n read ∷ [] → Grew (IsWonAlong (range_with_len 0 slots) m read) t v
 won_at_number slots n m read t u v within same lost won = record {
   done = lost.done ++ Claim m read ∷ [];
@@ -27,7 +24,8 @@ won_at_number slots n m read t u v within same lost won = record {
     within = let e = length-range_with_len 0 slots in omega arith;
     number_is = same ∙ sym (get_or-range_with_len 0 slots n 0 within ∙ (let z : 0 + n ≡ n = omega arith in z));
     lost = lost.done;
-    are_lost = subst (λ (ns : List ℕ). AreLost ns lost.done) (sym (take-range 0 slots n (omega arith))) lost.is;
+    are_lost = subst (λ (ns : List ℕ). AreLost ns lost.done)
+        (sym (map-id (range_with_len 0 n)) ∙ sym (take-map-range_with_len (λ (i : ℕ). i) 0 slots n (omega arith)) ∙ ap (take n) (map-id (range_with_len 0 slots))) lost.is;
     done_is = refl;
   };
 }

@@ -39,9 +39,9 @@ FullAfterLook limit slots tag done = Then (λ first. (order : List ℕ) × IsLoo
 abbrev pub FullAfterScan : ℕ → List Operation → Type 0
 FullAfterScan slots done = Then (λ first. (order : List ℕ) × IsScan slots order first) (AllFoundHeld slots) done
 
-module _ {V : Type 0} (fits : State → ℕ → V → Type 0) (room : V → List ℕ) where
+module _ {V : Type 0} (fits : State → ℕ → V → Type 0) where
   -- Whatever passes share: where the claim of a slot is lost by a pass that holds nothing, another pass holds that slot.
   abbrev pub LostToAnother : Type 0
-  LostToAnother = (bounds : Bounds) (s : TableState (Option V) PassView) → ShowsLawful fits room bounds s
+  LostToAnother = (bounds : Bounds) (s : TableState (Option V) PassView) → ShowsLawful fits bounds s
       → (n i : ℕ) → n < length s.homes → IsLost n (Claim n (slice_index_or s.words n 0) ∷ []) → (shown_seat s.views i).holds ≡ None
       → (j : ℕ) × ¬ (j ≡ i) × ((shown_seat s.views j).holds ≡ Some n)

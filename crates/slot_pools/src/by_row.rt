@@ -22,11 +22,11 @@ pub(crate) fn batched_by_row<V: Pooled, const ROOM: usize>(
     images: &V::Images,
     tag: u32,
 ) -> Result<Lease<V>, Full>
-    requires own { IsPassOf V.room words.now pass.old }
+    requires own { IsPassOf words.now pass.old }
     requires idle { IsIdle pass.old }
     requires room { (slots_of words.now ≤ ROOM) × (ROOM ≤ MOST_SLOTS) }
     ensures same { IsSamePass pass.old pass.new }
-    ensures taken { IfOk result (HasTaken V.fits V.room words.now pass.new) }
+    ensures taken { IfOk result (HasTaken V.fits words.now pass.new) }
     ensures trail { IfOk result (λ l. Grew (IsBatchedTake (limit_of words.now) (slots_of words.now) tag (lease_number l) (lease_word l)) (trail pass.old) (trail pass.new)) }
     ensures full { OnErr result (IsIdle pass.new × Grew (IsFullBatchedTake (limit_of words.now) (slots_of words.now) tag) (trail pass.old) (trail pass.new)) }
     ensures another { OnErr result (share_of pass.old < passes_of words.now) }
@@ -45,11 +45,11 @@ pub(crate) fn affine_by_row<V: Pooled, const ROOM: usize>(
     pass: &mut Pass<V>,
     tag: u32,
 ) -> Result<Lease<V>, Full>
-    requires own { IsPassOf V.room words.now pass.old }
+    requires own { IsPassOf words.now pass.old }
     requires idle { IsIdle pass.old }
     requires room { (slots_of words.now ≤ ROOM) × (ROOM ≤ MOST_SLOTS) }
     ensures same { IsSamePass pass.old pass.new }
-    ensures taken { IfOk result (HasTaken V.fits V.room words.now pass.new) }
+    ensures taken { IfOk result (HasTaken V.fits words.now pass.new) }
     ensures trail { IfOk result (λ l. Grew (IsAffineTake (limit_of words.now) (slots_of words.now) tag (lease_number l) (lease_word l)) (trail pass.old) (trail pass.new)) }
     ensures full { OnErr result (IsIdle pass.new × Grew (IsFullAffineTake (limit_of words.now) (slots_of words.now) tag) (trail pass.old) (trail pass.new)) }
     ensures another { OnErr result (share_of pass.old < passes_of words.now) }
@@ -67,11 +67,11 @@ pub(crate) fn any_by_row<V: Pooled, const ROOM: usize>(
     words: &Words<V>,
     pass: &mut Pass<V>,
 ) -> Result<Lease<V>, Full>
-    requires own { IsPassOf V.room words.now pass.old }
+    requires own { IsPassOf words.now pass.old }
     requires idle { IsIdle pass.old }
     requires room { (slots_of words.now ≤ ROOM) × (ROOM ≤ MOST_SLOTS) }
     ensures same { IsSamePass pass.old pass.new }
-    ensures taken { IfOk result (HasTaken V.fits V.room words.now pass.new) }
+    ensures taken { IfOk result (HasTaken V.fits words.now pass.new) }
     ensures trail { IfOk result (λ l. Grew (IsAnyTake (slots_of words.now) (lease_number l) (lease_word l)) (trail pass.old) (trail pass.new)) }
     ensures full { OnErr result (IsIdle pass.new × Grew (IsFullAnyTake (slots_of words.now)) (trail pass.old) (trail pass.new)) }
     ensures another { OnErr result (share_of pass.old < passes_of words.now) }

@@ -24,11 +24,11 @@ pub(crate) fn claim_in_order<V: Pooled>(
     warm: u64,
     tag: u32,
 ) -> Result<Lease<V>, AllHeld>
-    requires own { IsPassOf V.room words.now pass.old }
+    requires own { IsPassOf words.now pass.old }
     requires idle { IsIdle pass.old }
     requires words { AreWords (slots_of words.now) seen.now }
     ensures same { IsSamePass pass.old pass.new }
-    ensures won { IfOk result (HasWon V.fits V.room words.now pass.new) }
+    ensures won { IfOk result (HasWon V.fits words.now pass.new) }
     ensures trail { IfOk result (λ l. Grew (AlongOrder words.now tag warm seen.now (WinsAlong l)) (trail pass.old) (trail pass.new)) }
     ensures held { OnErr result (IsIdle pass.new × Grew (AlongOrder words.now tag warm seen.now AreLost) (trail pass.old) (trail pass.new)) }
 {
@@ -54,11 +54,11 @@ fn claim_unheld<V: Pooled>(
     n: u32,
     word: u64,
 ) -> Result<Lease<V>, Held>
-    requires own { IsPassOf V.room words.now pass.old }
+    requires own { IsPassOf words.now pass.old }
     requires idle { IsIdle pass.old }
     requires number { n < slots_of words.now }
     ensures same { IsSamePass pass.old pass.new }
-    ensures won { IfOk result (HasWon V.fits V.room words.now pass.new) }
+    ensures won { IfOk result (HasWon V.fits words.now pass.new) }
     ensures number { IfOk result (λ l. (lease_number l ≡ n) × (word % 2 ≡ 0)) }
     ensures trail { IfOk result (λ l. trail pass.new ≡ trail pass.old ++ Claim n (lease_word l) ∷ []) }
     ensures idle { OnErr result (IsIdle pass.new) }
@@ -78,11 +78,11 @@ pub(crate) fn claim_first_unheld<V: Pooled>(
     pass: &mut Pass<V>,
     seen: &[u64],
 ) -> Result<Lease<V>, AllHeld>
-    requires own { IsPassOf V.room words.now pass.old }
+    requires own { IsPassOf words.now pass.old }
     requires idle { IsIdle pass.old }
     requires seen { length seen.now ≡ slots_of words.now }
     ensures same { IsSamePass pass.old pass.new }
-    ensures won { IfOk result (HasWon V.fits V.room words.now pass.new) }
+    ensures won { IfOk result (HasWon V.fits words.now pass.new) }
     ensures trail { IfOk result (λ l. Grew (WinsAlong l (unheld seen.now)) (trail pass.old) (trail pass.new)) }
     ensures held { OnErr result (IsIdle pass.new × Grew (AreLost (unheld seen.now)) (trail pass.old) (trail pass.new)) }
 {

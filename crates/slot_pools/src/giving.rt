@@ -5,7 +5,7 @@ ghost use Rattle.pool_core.specs.StateWords.{is_cold};
 ghost use Rattle.slot_words.specs.Leases.{lease_number};
 ghost use Rattle.slot_words.specs.Parts.{Grew};
 ghost use Rattle.slot_words.specs.Passes.{IsIdle, IsSamePass, Holds, trail};
-ghost use Rattle.slot_words.specs.Owned.{IsPassOf, slots_of, limit_of, room_of};
+ghost use Rattle.slot_words.specs.Owned.{IsPassOf, slots_of, limit_of};
 ghost use Rattle.slot_pools.specs.Gives.{IsWarmGive, IsColdGive};
 
 use pool_core::{State, Target};
@@ -18,11 +18,10 @@ pub fn give_warm<V: Pooled>(
     lease: Lease<V>,
     images: &V::Images,
 )
-    requires own { IsPassOf V.room words.now pass.old }
+    requires own { IsPassOf words.now pass.old }
     requires number { lease_number lease < slots_of words.now }
     requires holds { Holds pass.old (lease_number lease) false false false }
     requires used { (s : AnyState) × (tag : ℕ) × (is_cold s ≡ false) × V.fits s tag lease.value }
-    requires room { V.room lease.value ≡ room_of V.room words.now }
     ensures same { IsSamePass pass.old pass.new }
     ensures idle { IsIdle pass.new }
     ensures trail { Grew (IsWarmGive (limit_of words.now) (lease_number lease) (V.own_tag lease.value)) (trail pass.old) (trail pass.new) }
@@ -45,10 +44,9 @@ pub fn give_warm<V: Pooled>(
 
 /// Gives back a slot, cleared and cold.
 pub fn give_cold<V: Pooled>(words: &Words<V>, pass: &mut Pass<V>, lease: Lease<V>)
-    requires own { IsPassOf V.room words.now pass.old }
+    requires own { IsPassOf words.now pass.old }
     requires number { lease_number lease < slots_of words.now }
     requires holds { Holds pass.old (lease_number lease) false false false }
-    requires room { V.room lease.value ≡ room_of V.room words.now }
     ensures same { IsSamePass pass.old pass.new }
     ensures idle { IsIdle pass.new }
     ensures trail { Grew (IsColdGive (lease_number lease)) (trail pass.old) (trail pass.new) }

@@ -22,7 +22,7 @@ pub fn full_has_its_cause()
 
 /// And each time it was another pass that held the slot.
 pub fn lost_claims_are_lost_to_another<V: Pooled>()
-    ensures { LostToAnother V.fits V.room }
+    ensures { LostToAnother V.fits }
 {
     passes_share_the_words::<V>();
     the_lowest_bit_says_held();

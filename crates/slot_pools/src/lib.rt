@@ -9,12 +9,15 @@ mod claiming;
 mod giving;
 pub mod laws;
 mod looking;
+mod opening;
 mod rows;
 mod taking;
 mod winning;
 
 pub use answers::Full;
+pub use decommit_batch::sweep;
 pub use giving::{give_cold, give_warm};
+pub use opening::{OpenSlot, open};
 pub use taking::{take_affine, take_any, take_batched};
 
 #[cfg(test)]

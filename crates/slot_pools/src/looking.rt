@@ -15,7 +15,7 @@ pub(crate) const MANY_SLOTS: usize = 128;
 
 // Reads the warm word, and then each slot's word into the row.
 pub(crate) fn look<V: Pooled>(words: &Words<V>, pass: &mut Pass<V>, row: &mut [u64]) -> u64
-    requires own { IsPassOf V.room words.now pass.old }
+    requires own { IsPassOf words.now pass.old }
     requires room { slots_of words.now ≤ length row.old }
     ensures same { IsSamePass pass.old pass.new }
     ensures keeps { KeepsAll pass.old pass.new }

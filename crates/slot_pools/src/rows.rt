@@ -19,10 +19,10 @@ pub(crate) fn claim_any<V: Pooled>(
     words: &Words<V>,
     pass: &mut Pass<V>,
 ) -> Result<Lease<V>, AllHeld>
-    requires own { IsPassOf V.room words.now pass.old }
+    requires own { IsPassOf words.now pass.old }
     requires idle { IsIdle pass.old }
     ensures same { IsSamePass pass.old pass.new }
-    ensures won { IfOk result (HasWon V.fits V.room words.now pass.new) }
+    ensures won { IfOk result (HasWon V.fits words.now pass.new) }
     ensures trail { IfOk result (λ l. Grew (IsWonAlong (range_with_len 0 (slots_of words.now)) (lease_number l) (lease_word l)) (trail pass.old) (trail pass.new)) }
     ensures held { OnErr result (IsIdle pass.new × Grew (AreLost (range_with_len 0 (slots_of words.now))) (trail pass.old) (trail pass.new)) }
     ensures another { OnErr result (share_of pass.old < passes_of words.now) }

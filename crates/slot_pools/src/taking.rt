@@ -24,12 +24,12 @@ pub fn take_batched<V: Pooled>(
     images: &V::Images,
     tag: u32,
 ) -> Result<Lease<V>, Full>
-    requires own { IsPassOf V.room words.now pass.old }
+    requires own { IsPassOf words.now pass.old }
     requires idle { IsIdle pass.old }
     ensures same { IsSamePass pass.old pass.new }
 
     // a claim was won, of the slot that the lease names
-    ensures taken { IfOk result (HasTaken V.fits V.room words.now pass.new) }
+    ensures taken { IfOk result (HasTaken V.fits words.now pass.new) }
     ensures trail { IfOk result (λ l. Grew (IsBatchedTake (limit_of words.now) (slots_of words.now) tag (lease_number l) (lease_word l)) (trail pass.old) (trail pass.new)) }
 
     // none was won, and other passes held the slots
@@ -56,12 +56,12 @@ pub fn take_affine<V: Pooled>(
     pass: &mut Pass<V>,
     tag: u32,
 ) -> Result<Lease<V>, Full>
-    requires own { IsPassOf V.room words.now pass.old }
+    requires own { IsPassOf words.now pass.old }
     requires idle { IsIdle pass.old }
     ensures same { IsSamePass pass.old pass.new }
 
     // a claim was won, of the slot that the lease names
-    ensures taken { IfOk result (HasTaken V.fits V.room words.now pass.new) }
+    ensures taken { IfOk result (HasTaken V.fits words.now pass.new) }
     ensures trail { IfOk result (λ l. Grew (IsAffineTake (limit_of words.now) (slots_of words.now) tag (lease_number l) (lease_word l)) (trail pass.old) (trail pass.new)) }
 
     // none was won, and other passes held the slots
@@ -84,12 +84,12 @@ pub fn take_affine<V: Pooled>(
 ///
 /// [`Full`] exactly where no claim was won. A pass that stands for all never meets it.
 pub fn take_any<V: Pooled>(words: &Words<V>, pass: &mut Pass<V>) -> Result<Lease<V>, Full>
-    requires own { IsPassOf V.room words.now pass.old }
+    requires own { IsPassOf words.now pass.old }
     requires idle { IsIdle pass.old }
     ensures same { IsSamePass pass.old pass.new }
 
     // a claim was won, of the slot that the lease names
-    ensures taken { IfOk result (HasTaken V.fits V.room words.now pass.new) }
+    ensures taken { IfOk result (HasTaken V.fits words.now pass.new) }
     ensures trail { IfOk result (λ l. Grew (IsAnyTake (slots_of words.now) (lease_number l) (lease_word l)) (trail pass.old) (trail pass.new)) }
 
     // none was won, and other passes held the slots

@@ -1,4 +1,4 @@
-ghost use Rattle.std.specs.Prelude.{◌≡◌, ◌<◌, ◌≤◌, [], false, length, IfOk, OnErr};
+ghost use Rattle.std.specs.Prelude.{◌≡◌, ◌<◌, ◌≤◌, false, length, IfOk, OnErr};
 ghost use Rattle.pool_core.specs.declared.limits.TheConstants.{TAG_LIMIT};
 ghost use Rattle.std.specs.List.{All};
 ghost use Rattle.pool_core.specs.declared.words.State.TheVariants.{Cold};
@@ -28,8 +28,6 @@ struct Cell {
 
 impl Pooled for Cell {
     type Images = ();
-
-    ghost room = { λ x. [] };
 
     ghost own_tag = { λ x. x.tag };
 
@@ -123,7 +121,7 @@ fn opened(
     requires slots { (1 ≤ slots) × (slots ≤ 1024) }
     requires passes { 1 ≤ passes }
     ensures slots { IfOk result (λ o. slots_of o.0 ≡ slots) }
-    ensures passes { IfOk result (λ o. (length o.1.items ≡ passes) × All (IsNewPassOf (λ x. []) o.0) o.1.items) }
+    ensures passes { IfOk result (λ o. (length o.1.items ≡ passes) × All (IsNewPassOf o.0) o.1.items) }
 {
     let cells = cells(alloc, slots)?;
     Words::open(alloc, &(), cells, warm, passes)
@@ -135,7 +133,7 @@ fn take(
     kind: Kind,
     module: Module,
 ) -> Result<Lease<Cell>, Full>
-    requires own { IsPassOf (λ x. []) words.now pass.old }
+    requires own { IsPassOf words.now pass.old }
     requires idle { IsIdle pass.old }
     ensures same { IsSamePass pass.old pass.new }
     ensures number { IfOk result (λ l. lease_number l < slots_of words.now) }
@@ -157,7 +155,7 @@ fn give(
     kind: Kind,
     module: Module,
 )
-    requires own { IsPassOf (λ x. []) words.now pass.old }
+    requires own { IsPassOf words.now pass.old }
     requires number { lease_number lease < slots_of words.now }
     requires holds { Holds pass.old (lease_number lease) false false false }
     ensures same { IsSamePass pass.old pass.new }
@@ -175,7 +173,7 @@ fn give(
 
 // The number of the slot that was taken for the module and given back, or 9.
 fn visit(words: &Words<Cell>, pass: &mut Pass<Cell>, kind: Kind, module: Module) -> u32
-    requires own { IsPassOf (λ x. []) words.now pass.old }
+    requires own { IsPassOf words.now pass.old }
     requires idle { IsIdle pass.old }
     ensures same { IsSamePass pass.old pass.new }
     ensures idle { IsIdle pass.new }
@@ -309,9 +307,9 @@ fn rows_of_claims_pass_over_a_held_slot(rt: HostRuntime) -> Result<(), Fail> {
 
 // Takes a slot and gives it back a thousand times, and counts how often it was won.
 fn visit_often(words: &Words<Cell>, mut pass: Pass<Cell>, module: Module) -> (u32, Pass<Cell>)
-    requires own { IsPassOf (λ x. []) words.now pass }
+    requires own { IsPassOf words.now pass }
     requires idle { IsIdle pass }
-    ensures own { IsPassOf (λ x. []) words.now result.1 }
+    ensures own { IsPassOf words.now result.1 }
     ensures idle { IsIdle result.1 }
 {
     let mut won = 0u32;
@@ -332,12 +330,12 @@ fn two_threads_never_have_one_slot_at_once(rt: HostRuntime) -> Result<(), Fail> 
     let ((won, mut first), (won_too, second)) = thread::join(
         &rt,
         || -> (u32, Pass<Cell>)
-            requires { IsPassOf (λ x. []) shared.now first × IsIdle first }
-            ensures { IsPassOf (λ x. []) shared.entry.now result.1 × IsIdle result.1 }
+            requires { IsPassOf shared.now first × IsIdle first }
+            ensures { IsPassOf shared.entry.now result.1 × IsIdle result.1 }
         { visit_often(shared, first, Module::A) },
         || -> (u32, Pass<Cell>)
-            requires { IsPassOf (λ x. []) shared.now second × IsIdle second }
-            ensures { IsPassOf (λ x. []) shared.entry.now result.1 × IsIdle result.1 }
+            requires { IsPassOf shared.now second × IsIdle second }
+            ensures { IsPassOf shared.entry.now result.1 × IsIdle result.1 }
         { visit_often(shared, second, Module::B) },
     );
     words.join_pass(&mut first, second);

@@ -22,10 +22,10 @@ fn claim_after_flush<V: Pooled>(
     pass: &mut Pass<V>,
     images: &V::Images,
 ) -> Result<Lease<V>, AllHeld>
-    requires own { IsPassOf V.room words.now pass.old }
+    requires own { IsPassOf words.now pass.old }
     requires idle { IsIdle pass.old }
     ensures same { IsSamePass pass.old pass.new }
-    ensures won { IfOk result (HasWon V.fits V.room words.now pass.new) }
+    ensures won { IfOk result (HasWon V.fits words.now pass.new) }
     ensures trail { IfOk result (λ l. Grew (IsAfterFlush (limit_of words.now) (slots_of words.now) (IsWonAlong (all_numbers (slots_of words.now)) (lease_number l) (lease_word l))) (trail pass.old) (trail pass.new)) }
     ensures held { OnErr result (IsIdle pass.new × Grew (IsAfterFlush (limit_of words.now) (slots_of words.now) (AreLost (all_numbers (slots_of words.now)))) (trail pass.old) (trail pass.new)) }
     ensures another { OnErr result (share_of pass.old < passes_of words.now) }
@@ -44,11 +44,11 @@ pub(crate) fn win_after_flush<V: Pooled>(
     warm: u64,
     tag: u32,
 ) -> Result<Lease<V>, AllHeld>
-    requires own { IsPassOf V.room words.now pass.old }
+    requires own { IsPassOf words.now pass.old }
     requires idle { IsIdle pass.old }
     requires words { AreWords (slots_of words.now) seen.now }
     ensures same { IsSamePass pass.old pass.new }
-    ensures won { IfOk result (HasWon V.fits V.room words.now pass.new) }
+    ensures won { IfOk result (HasWon V.fits words.now pass.new) }
     ensures trail { IfOk result (λ l. Grew (AlongOrder words.now tag warm seen.now (WinsByFlush words.now l)) (trail pass.old) (trail pass.new)) }
     ensures idle { OnErr result (IsIdle pass.new) }
     ensures held { OnErr result (Grew (AlongOrder words.now tag warm seen.now (IsFlushLoss (limit_of words.now) (slots_of words.now))) (trail pass.old) (trail pass.new)) }
@@ -68,11 +68,11 @@ pub(crate) fn win<V: Pooled>(
     warm: u64,
     tag: u32,
 ) -> Result<Lease<V>, AllHeld>
-    requires own { IsPassOf V.room words.now pass.old }
+    requires own { IsPassOf words.now pass.old }
     requires idle { IsIdle pass.old }
     requires words { AreWords (slots_of words.now) seen.now }
     ensures same { IsSamePass pass.old pass.new }
-    ensures won { IfOk result (HasWon V.fits V.room words.now pass.new) }
+    ensures won { IfOk result (HasWon V.fits words.now pass.new) }
     ensures trail { IfOk result (λ l. Grew (AlongOrder words.now tag warm seen.now (WinsDirectly words.now l)) (trail pass.old) (trail pass.new)) }
     ensures idle { OnErr result (IsIdle pass.new) }
     ensures held { OnErr result (Grew (AlongOrder words.now tag warm seen.now (IsDirectLoss (slots_of words.now))) (trail pass.old) (trail pass.new)) }
@@ -90,11 +90,11 @@ pub(crate) fn win_any<V: Pooled>(
     pass: &mut Pass<V>,
     seen: &[u64],
 ) -> Result<Lease<V>, AllHeld>
-    requires own { IsPassOf V.room words.now pass.old }
+    requires own { IsPassOf words.now pass.old }
     requires idle { IsIdle pass.old }
     requires seen { length seen.now ≡ slots_of words.now }
     ensures same { IsSamePass pass.old pass.new }
-    ensures won { IfOk result (HasWon V.fits V.room words.now pass.new) }
+    ensures won { IfOk result (HasWon V.fits words.now pass.new) }
     ensures trail { IfOk result (λ l. Grew (WinsDirectly words.now l (unheld seen.now)) (trail pass.old) (trail pass.new)) }
     ensures idle { OnErr result (IsIdle pass.new) }
     ensures held { OnErr result (Grew (IsDirectLoss (slots_of words.now) (unheld seen.now)) (trail pass.old) (trail pass.new)) }

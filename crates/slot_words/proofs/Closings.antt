@@ -115,7 +115,7 @@ closing slots limit passes core views h id v at lives stands may = let opening :
   counted = ap (λ (c : PoolCore). kind_counts c.words) h.leads ∙ sym (ap (λ (c : PoolCore). kind_counts c.words) (core_after_all-more opening h.events (Close v.number)));
 }
 
-module _ (laws : CoreLaws) {V : Type 0} (fits : State → ℕ → V → Type 0) (room : V → List ℕ) (bounds : Bounds) where
+module _ (laws : CoreLaws) {V : Type 0} (fits : State → ℕ → V → Type 0) (bounds : Bounds) where
   -- a lawful core whose words are those of the table, as this pass closes it
   pub record IsLast (v : PassView) (slots : ℕ) (ws : List ℕ) : Type 0 where
     pub core : PoolCore
@@ -127,21 +127,21 @@ module _ (laws : CoreLaws) {V : Type 0} (fits : State → ℕ → V → Type 0) 
     pub left : v.share ≡ bounds.passes → AreLeft (operations_of v) core.words × AreKept (operations_of v) (kind_counts core.words).held
 
   pub last_core : (id : ℕ) (v : PassView) (slots : ℕ) (ws : List ℕ) (ss : List (Option V)) → length ws ≡ slots + 3 → v.seat ≡ idle_seat Live → v.unsplit ≡ 0
-      → Final (Seen (IsKept fits room bounds) id v) ws ss → IsLast v slots ws
+      → Final (Seen (IsKept fits bounds) id v) ws ss → IsLast v slots ws
   last_core id v slots ws ss wide rest none_left fin =
       let s = fin.0 in let r = fin.1.0 in let at = fin.1.1 in let c : PoolCore = r.rule.core in let same : s.words ≡ ws = fin.2 in let o = r.rule.shows in
       let w : length s.words ≡ length c.words + 3 = o.words_are in let l : length s.words ≡ length ws = ap length same in let slots_are : length c.words ≡ slots = omega arith in
       let lives : is_away v.seat.stage ≡ false = ap (λ (q : Seat). is_away q.stage) rest in let share = (o.each id v at).share_is lives in let h = r.history in
-      let by = beside bounds bounds.passes s.views id v (count_by is_held c.words) (λ j u e. let seat = seat_here fits room bounds c s o j u e in
+      let by = beside bounds bounds.passes s.views id v (count_by is_held c.words) (λ j u e. let seat = seat_here fits bounds c s o j u e in
       (o.each j u e, λ away. ap (λ (q : Seat). q.holds) (sym seat) ∙ (r.rule.lawful.seats j).away (ap (λ (q : Seat). is_away q.stage) seat ∙ away)))
-      o.shared.share_sum at rest (held-are-holdings laws fits room bounds c s r.rule.lawful o) in
+      o.shared.share_sum at rest (held-are-holdings laws fits bounds c s r.rule.lawful o) in
       record {
         core = c;
         lawful = r.rule.lawful;
         slots_are = slots_are;
         begins = record { each = λ k h. record { packed_is = ap (λ (xs : List ℕ). get_or xs k 0) (sym same) ∙ o.word_shows k h; well_formed = r.rule.lawful.words k } };
         closes = closing slots bounds.limit bounds.passes c s.views (subst (λ (k : ℕ). IsHistory (opening_core k bounds.limit bounds.passes) c s.views) slots_are r.history) id v at lives (omega arith)
-            (closes_are_events laws fits room id v rest bounds c s r.rule.lawful o at).0;
+            (closes_are_events laws fits id v rest bounds c s r.rule.lawful o at).0;
         held_is = by.held_is;
         left = λ whole. let same : (p : Operation → Bool) → count_by p (all_noted (opening_of bounds c) h.events) ≡ count_by p (operations_of v) = λ p. sym (operations_are_noted (opening_of bounds c) c s.views h p) ∙ by.alone whole p in
             let did = histories_account laws (length c.words) bounds.limit bounds.passes h.events h.allowed in let end : PoolCore = core_after_all (opening_of bounds c) h.events in

@@ -1,5 +1,5 @@
 -- Steps on the count words are events.
-use Rattle.std.proofs.Common.{◌≡◌, ℕ, ◌+◌, ◌-◌, ◌*◌, ◌%◌, ◌^◌, ◌<◌, ◌≤◌, Bool, true, false, true≢false, not, ltb, ◌||◌, List, length, get_or, set, refl, sym, ap, ◌∙◌, subst, arith, get_or-set_same, get_or-set_other}
+use Rattle.std.proofs.Common.{◌≡◌, ℕ, ◌+◌, ◌-◌, ◌*◌, ◌%◌, ◌^◌, ◌<◌, ◌≤◌, Bool, true, false, true≢false, not, ltb, ◌||◌, length, get_or, set, refl, sym, ap, ◌∙◌, subst, arith, get_or-set_same, get_or-set_other}
 use mathlib.Core.Option.{some}
 use lib.ListN.{get_elem?}
 use Rattle.std.specs.Prelude.{Option, Some}
@@ -78,34 +78,34 @@ up x small = omega arith
 down : (x : ℕ) → 1 ≤ x → x < 2 ^ 64 → (x + (2 ^ 64 - 1)) % 2 ^ 64 ≡ x - 1
 down x positive small = omega arith
 
-module _ {V : Type 0} (fits : State → ℕ → V → Type 0) (room : V → List ℕ) (bounds : Bounds) (core : PoolCore) (s : TableState (Option V) PassView) (shows : Shows fits room bounds core s) (slots id : ℕ) (v : PassView)
+module _ {V : Type 0} (fits : State → ℕ → V → Type 0) (bounds : Bounds) (core : PoolCore) (s : TableState (Option V) PassView) (shows : Shows fits bounds core s) (slots id : ℕ) (v : PassView)
     (wide : length s.homes ≡ slots) (at : get_elem? s.views id ≡ some v) (live : is_live v.seat.stage ≡ true) where
   slots_is : length core.words ≡ slots
   slots_is = sym shows.slots_are ∙ wide
 
   -- a step on the warm word
   on_warm : (x : ℕ) (q : Seat) (o : _) → q.stage ≡ v.seat.stage → (v.seat.out ≡ false → q.out ≡ false)
-      → Shows fits room bounds (core_recounted core id q x core.awaiting core.clock) record { words = set s.words slots x; homes = s.homes; views = set s.views id (view_after v q o) }
+      → Shows fits bounds (core_recounted core id q x core.awaiting core.clock) record { words = set s.words slots x; homes = s.homes; views = set s.views id (view_after v q o) }
   on_warm x q o stays inside = let is = slots_is in let ww = shows.words_are in
-      shows_recounted fits room bounds core s shows id slots x v (view_after v q o) x core.awaiting core.clock at live (omega arith) (same_view v q o stays inside)
+      shows_recounted fits bounds core s shows id slots x v (view_after v q o) x core.awaiting core.clock at live (omega arith) (same_view v q o stays inside)
       (ap (λ (j : ℕ). get_or (set s.words slots x) j 0) is ∙ get_or-set_same s.words slots x 0 (omega arith))
       (get_or-set_other s.words slots (length core.words + 1) x 0 (λ e. omega arith) ∙ shows.await_shows)
       (get_or-set_other s.words slots (length core.words + 2) x 0 (λ e. omega arith) ∙ shows.clock_shows)
 
   -- a step on the await word
   on_await : (x : ℕ) (q : Seat) (o : _) → q.stage ≡ v.seat.stage → (v.seat.out ≡ false → q.out ≡ false)
-      → Shows fits room bounds (core_recounted core id q core.warm x core.clock) record { words = set s.words (slots + 1) x; homes = s.homes; views = set s.views id (view_after v q o) }
+      → Shows fits bounds (core_recounted core id q core.warm x core.clock) record { words = set s.words (slots + 1) x; homes = s.homes; views = set s.views id (view_after v q o) }
   on_await x q o stays inside = let is = slots_is in let ww = shows.words_are in
-      shows_recounted fits room bounds core s shows id (slots + 1) x v (view_after v q o) core.warm x core.clock at live (omega arith) (same_view v q o stays inside)
+      shows_recounted fits bounds core s shows id (slots + 1) x v (view_after v q o) core.warm x core.clock at live (omega arith) (same_view v q o stays inside)
       (get_or-set_other s.words (slots + 1) (length core.words) x 0 (λ e. omega arith) ∙ shows.warm_shows)
       (ap (λ (j : ℕ). get_or (set s.words (slots + 1) x) (j + 1) 0) is ∙ get_or-set_same s.words (slots + 1) x 0 (omega arith))
       (get_or-set_other s.words (slots + 1) (length core.words + 2) x 0 (λ e. omega arith) ∙ shows.clock_shows)
 
   -- a step on the clock word
   on_clock : (x : ℕ) (q : Seat) (o : _) → q.stage ≡ v.seat.stage → (v.seat.out ≡ false → q.out ≡ false)
-      → Shows fits room bounds (core_recounted core id q core.warm core.awaiting x) record { words = set s.words (slots + 2) x; homes = s.homes; views = set s.views id (view_after v q o) }
+      → Shows fits bounds (core_recounted core id q core.warm core.awaiting x) record { words = set s.words (slots + 2) x; homes = s.homes; views = set s.views id (view_after v q o) }
   on_clock x q o stays inside = let is = slots_is in let ww = shows.words_are in
-      shows_recounted fits room bounds core s shows id (slots + 2) x v (view_after v q o) core.warm core.awaiting x at live (omega arith) (same_view v q o stays inside)
+      shows_recounted fits bounds core s shows id (slots + 2) x v (view_after v q o) core.warm core.awaiting x at live (omega arith) (same_view v q o stays inside)
       (get_or-set_other s.words (slots + 2) (length core.words) x 0 (λ e. omega arith) ∙ shows.warm_shows)
       (get_or-set_other s.words (slots + 2) (length core.words + 1) x 0 (λ e. omega arith) ∙ shows.await_shows)
       (ap (λ (j : ℕ). get_or (set s.words (slots + 2) x) (j + 2) 0) is ∙ get_or-set_same s.words (slots + 2) x 0 (omega arith))
@@ -119,46 +119,46 @@ module _ {V : Type 0} (fits : State → ℕ → V → Type 0) (room : V → List
   clock_read : get_or s.words (slots + 2) 0 ≡ core.clock
   clock_read = ap (λ (k : ℕ). get_or s.words (k + 2) 0) (sym slots_is) ∙ shows.clock_shows
 
-module _ {V : Type 0} (fits : State → ℕ → V → Type 0) (room : V → List ℕ) where
-  pub warm_loads_are_events : WarmLoadsAreEvents fits room
+module _ {V : Type 0} (fits : State → ℕ → V → Type 0) where
+  pub warm_loads_are_events : WarmLoadsAreEvents fits
   warm_loads_are_events slots id me live bounds core s law shows wide at =
-      let seat = seat_here fits room bounds core s shows id me.0 at in
+      let seat = seat_here fits bounds core s shows id me.0 at in
       let x : ℕ = get_or s.words slots 0 in let u : PassView = view_after me.0 me.0.seat (operation.WarmLoad x) in
-      let x_is : x ≡ core.warm = warm_read fits room bounds core s shows slots id me.0 wide at live in
+      let x_is : x ≡ core.warm = warm_read fits bounds core s shows slots id me.0 wide at live in
       let to : core_recounted core id me.0.seat x core.awaiting core.clock ≡ core = λ i. record core { seats = reseated core id me.0.seat seat i; warm = x_is i } in (
         may_warm_load core id (ap (λ (p : Seat). is_live p.stage) seat ∙ live),
         (
           u,
           keeps,
           tt,
-          subst (λ (c : PoolCore). Shows fits room bounds c (stepped s slots x id me.1 u keeps)) to
-              (on_warm fits room bounds core s shows slots id me.0 wide at live x me.0.seat (operation.WarmLoad x) refl (λ e. e)),
+          subst (λ (c : PoolCore). Shows fits bounds c (stepped s slots x id me.1 u keeps)) to
+              (on_warm fits bounds core s shows slots id me.0 wide at live x me.0.seat (operation.WarmLoad x) refl (λ e. e)),
           record { word_is = here slots; amount_is = refl; notes = (refl, refl) },
         ),
       )
 
-  pub await_loads_are_events : AwaitLoadsAreEvents fits room
+  pub await_loads_are_events : AwaitLoadsAreEvents fits
   await_loads_are_events slots id me live bounds core s law shows wide at =
-      let seat = seat_here fits room bounds core s shows id me.0 at in
+      let seat = seat_here fits bounds core s shows id me.0 at in
       let x : ℕ = get_or s.words (slots + 1) 0 in let u : PassView = view_after me.0 me.0.seat (operation.AwaitLoad x) in
-      let x_is : x ≡ core.awaiting = await_read fits room bounds core s shows slots id me.0 wide at live in
+      let x_is : x ≡ core.awaiting = await_read fits bounds core s shows slots id me.0 wide at live in
       let to : core_recounted core id me.0.seat core.warm x core.clock ≡ core = λ i. record core { seats = reseated core id me.0.seat seat i; awaiting = x_is i } in (
         may_await_load core id (ap (λ (p : Seat). is_live p.stage) seat ∙ live),
         (
           u,
           keeps,
           tt,
-          subst (λ (c : PoolCore). Shows fits room bounds c (stepped s (slots + 1) x id me.1 u keeps)) to
-              (on_await fits room bounds core s shows slots id me.0 wide at live x me.0.seat (operation.AwaitLoad x) refl (λ e. e)),
+          subst (λ (c : PoolCore). Shows fits bounds c (stepped s (slots + 1) x id me.1 u keeps)) to
+              (on_await fits bounds core s shows slots id me.0 wide at live x me.0.seat (operation.AwaitLoad x) refl (λ e. e)),
           record { word_is = refl; amount_is = refl; notes = (refl, refl) },
         ),
       )
 
-  pub warm_ups_are_events : WarmUpsAreEvents fits room
+  pub warm_ups_are_events : WarmUpsAreEvents fits
   warm_ups_are_events slots id n me live holds no_permit no_refusal bounds core s law shows wide at =
-      let seat = seat_here fits room bounds core s shows id me.0 at in
+      let seat = seat_here fits bounds core s shows id me.0 at in
       let x : ℕ = get_or s.words slots 0 in
-      let x_is : x ≡ core.warm = warm_read fits room bounds core s shows slots id me.0 wide at live in
+      let x_is : x ≡ core.warm = warm_read fits bounds core s shows slots id me.0 wide at live in
       let small : x + 1 < 2 ^ 64 = let w = warm_small core bounds.passes law shows.seats_are shows.countable in omega arith in
       let y : ℕ = (x + 1) % 2 ^ 64 in let y_is : y ≡ core.warm + 1 = up x small ∙ ap (λ (k : ℕ). k + 1) x_is in
       let k = (shows.each id me.0 at).bounds_is (live_not_away me.0.seat.stage live) in
@@ -173,19 +173,19 @@ module _ {V : Type 0} (fits : State → ℕ → V → Type 0) (room : V → List
           u,
           keeps,
           tt,
-          subst (λ (c : PoolCore). Shows fits room bounds c (stepped s slots y id me.1 u keeps)) to
-              (on_warm fits room bounds core s shows slots id me.0 wide at live y q (operation.WarmUp x) refl (λ e. e)),
+          subst (λ (c : PoolCore). Shows fits bounds c (stepped s slots y id me.1 u keeps)) to
+              (on_warm fits bounds core s shows slots id me.0 wide at live y q (operation.WarmUp x) refl (λ e. e)),
           record { word_is = here slots; amount_is = refl; notes = (refl, refl) },
         ),
       )
 
-  pub warm_downs_are_events : WarmDownsAreEvents fits room
+  pub warm_downs_are_events : WarmDownsAreEvents fits
   warm_downs_are_events slots id n me live holds has bounds core s law shows wide at =
-      let seat = seat_here fits room bounds core s shows id me.0 at in
+      let seat = seat_here fits bounds core s shows id me.0 at in
       let has' : ((seat_at core id).permit || (seat_at core id).refusal) ≡ true = ap (λ (p : Seat). p.permit || p.refusal) seat ∙ has in
       let x : ℕ = get_or s.words slots 0 in
-      let x_is : x ≡ core.warm = warm_read fits room bounds core s shows slots id me.0 wide at live in
-      let some_warm : 1 ≤ core.warm = warm_positive core id law (seat_within fits room bounds core s shows id me.0 at live) has' in
+      let x_is : x ≡ core.warm = warm_read fits bounds core s shows slots id me.0 wide at live in
+      let some_warm : 1 ≤ core.warm = warm_positive core id law (seat_within fits bounds core s shows id me.0 at live) has' in
       let small = warm_small core bounds.passes law shows.seats_are shows.countable in
       let y : ℕ = (x + (2 ^ 64 - 1)) % 2 ^ 64 in let y_is : y ≡ core.warm - 1 = down x (omega arith) (omega arith) ∙ ap (λ (k : ℕ). k - 1) x_is in
       let q : Seat = record (me.0.seat) { permit = false; refusal = false } in
@@ -196,17 +196,17 @@ module _ {V : Type 0} (fits : State → ℕ → V → Type 0) (room : V → List
           u,
           keeps,
           tt,
-          subst (λ (c : PoolCore). Shows fits room bounds c (stepped s slots y id me.1 u keeps)) to
-              (on_warm fits room bounds core s shows slots id me.0 wide at live y q (operation.WarmDown x) refl (λ e. e)),
+          subst (λ (c : PoolCore). Shows fits bounds c (stepped s slots y id me.1 u keeps)) to
+              (on_warm fits bounds core s shows slots id me.0 wide at live y q (operation.WarmDown x) refl (λ e. e)),
           record { word_is = here slots; amount_is = refl; notes = (refl, refl) },
         ),
       )
 
-  pub stamps_are_events : StampsAreEvents fits room
+  pub stamps_are_events : StampsAreEvents fits
   stamps_are_events slots id n me live holds bounds core s law shows wide at =
-      let seat = seat_here fits room bounds core s shows id me.0 at in
+      let seat = seat_here fits bounds core s shows id me.0 at in
       let x : ℕ = get_or s.words (slots + 2) 0 in
-      let x_is : x ≡ core.clock = clock_read fits room bounds core s shows slots id me.0 wide at live in
+      let x_is : x ≡ core.clock = clock_read fits bounds core s shows slots id me.0 wide at live in
       let y : ℕ = (x + 1) % 2 ^ 64 in
       let u : PassView = view_after me.0 me.0.seat (operation.Stamp x) in
       let to : core_recounted core id me.0.seat core.warm core.awaiting y ≡ core_after core (Stamp id) = λ i. record core { seats = reseated core id me.0.seat seat i; clock = (x_is i + 1) % 2 ^ 64 } in (
@@ -215,17 +215,17 @@ module _ {V : Type 0} (fits : State → ℕ → V → Type 0) (room : V → List
           u,
           keeps,
           tt,
-          subst (λ (c : PoolCore). Shows fits room bounds c (stepped s (slots + 2) y id me.1 u keeps)) to
-              (on_clock fits room bounds core s shows slots id me.0 wide at live y me.0.seat (operation.Stamp x) refl (λ e. e)),
+          subst (λ (c : PoolCore). Shows fits bounds c (stepped s (slots + 2) y id me.1 u keeps)) to
+              (on_clock fits bounds core s shows slots id me.0 wide at live y me.0.seat (operation.Stamp x) refl (λ e. e)),
           record { word_is = refl; amount_is = refl; notes = (refl, refl) },
         ),
       )
 
-  pub await_ups_are_events : AwaitUpsAreEvents fits room
+  pub await_ups_are_events : AwaitUpsAreEvents fits
   await_ups_are_events slots id n me live holds unmarked bounds core s law shows wide at =
-      let seat = seat_here fits room bounds core s shows id me.0 at in
+      let seat = seat_here fits bounds core s shows id me.0 at in
       let x : ℕ = get_or s.words (slots + 1) 0 in
-      let x_is : x ≡ core.awaiting = await_read fits room bounds core s shows slots id me.0 wide at live in
+      let x_is : x ≡ core.awaiting = await_read fits bounds core s shows slots id me.0 wide at live in
       let small : x + 1 < 2 ^ 64 = let w = await_small core bounds.passes law shows.seats_are shows.countable in omega arith in
       let y : ℕ = (x + 1) % 2 ^ 64 in let y_is : y ≡ core.awaiting + 1 = up x small ∙ ap (λ (k : ℕ). k + 1) x_is in
       let q : Seat = record (me.0.seat) { mark = true } in
@@ -236,19 +236,19 @@ module _ {V : Type 0} (fits : State → ℕ → V → Type 0) (room : V → List
           u,
           keeps,
           tt,
-          subst (λ (c : PoolCore). Shows fits room bounds c (stepped s (slots + 1) y id me.1 u keeps)) to
-              (on_await fits room bounds core s shows slots id me.0 wide at live y q (operation.AwaitUp x) refl (λ e. e)),
+          subst (λ (c : PoolCore). Shows fits bounds c (stepped s (slots + 1) y id me.1 u keeps)) to
+              (on_await fits bounds core s shows slots id me.0 wide at live y q (operation.AwaitUp x) refl (λ e. e)),
           record { word_is = refl; amount_is = refl; notes = (refl, refl) },
         ),
       )
 
-  pub await_downs_are_events : AwaitDownsAreEvents fits room
+  pub await_downs_are_events : AwaitDownsAreEvents fits
   await_downs_are_events slots id n me live holds marked bounds core s law shows wide at =
-      let seat = seat_here fits room bounds core s shows id me.0 at in
+      let seat = seat_here fits bounds core s shows id me.0 at in
       let marked' : (seat_at core id).mark ≡ true = ap (λ (p : Seat). p.mark) seat ∙ marked in
       let x : ℕ = get_or s.words (slots + 1) 0 in
-      let x_is : x ≡ core.awaiting = await_read fits room bounds core s shows slots id me.0 wide at live in
-      let some_await : 1 ≤ core.awaiting = await_positive core id law (seat_within fits room bounds core s shows id me.0 at live) marked' in
+      let x_is : x ≡ core.awaiting = await_read fits bounds core s shows slots id me.0 wide at live in
+      let some_await : 1 ≤ core.awaiting = await_positive core id law (seat_within fits bounds core s shows id me.0 at live) marked' in
       let small = await_small core bounds.passes law shows.seats_are shows.countable in
       let y : ℕ = (x + (2 ^ 64 - 1)) % 2 ^ 64 in let y_is : y ≡ core.awaiting - 1 = down x (omega arith) (omega arith) ∙ ap (λ (k : ℕ). k - 1) x_is in
       let q : Seat = record (me.0.seat) { mark = false } in
@@ -259,8 +259,8 @@ module _ {V : Type 0} (fits : State → ℕ → V → Type 0) (room : V → List
           u,
           keeps,
           tt,
-          subst (λ (c : PoolCore). Shows fits room bounds c (stepped s (slots + 1) y id me.1 u keeps)) to
-              (on_await fits room bounds core s shows slots id me.0 wide at live y q (operation.AwaitDown x) refl (λ e. e)),
+          subst (λ (c : PoolCore). Shows fits bounds c (stepped s (slots + 1) y id me.1 u keeps)) to
+              (on_await fits bounds core s shows slots id me.0 wide at live y q (operation.AwaitDown x) refl (λ e. e)),
           record { word_is = refl; amount_is = refl; notes = (refl, refl) },
         ),
       )

@@ -79,9 +79,9 @@ numbers-are-holdings (p ∷ ps) n below =
     let f = total-same (λ k. count_by (λ q. is_holding q.holds k) (p ∷ ps)) (λ k. bit (is_holding p.holds k) + count_by (λ q. is_holding q.holds k) ps) n (λ k. sum_by-cons (λ (q : Seat). bit (is_holding q.holds k)) p ps) in
     let g = total-plus (λ k. bit (is_holding p.holds k)) (λ k. count_by (λ q. is_holding q.holds k) ps) n in omega arith
 
-module _ (laws : CoreLaws) {V : Type 0} (fits : State → ℕ → V → Type 0) (room : V → List ℕ) (bounds : Bounds) where
+module _ (laws : CoreLaws) {V : Type 0} (fits : State → ℕ → V → Type 0) (bounds : Bounds) where
   -- what is summed over the seats is summed over the views that show them
-  pub seats-are-shown : (c : PoolCore) (s : TableState (Option V) PassView) → Shows fits room bounds c s → (f : Seat → ℕ) → f (idle_seat Unmade) ≡ 0 → sum_by f c.seats ≡ sum_by (λ v. f v.seat) s.views
+  pub seats-are-shown : (c : PoolCore) (s : TableState (Option V) PassView) → Shows fits bounds c s → (f : Seat → ℕ) → f (idle_seat Unmade) ≡ 0 → sum_by f c.seats ≡ sum_by (λ v. f v.seat) s.views
   seats-are-shown c s o f none =
       let seats : sum_by f c.seats ≡ total (λ n. f (seat_at c n)) (length c.seats) = sum_by-total f c.seats (idle_seat Unmade) in
       let shown : total (λ n. f (seat_at c n)) (length c.seats) ≡ total (λ n. f (get_or s.views n no_view).seat) (length c.seats) = total-same _ _ (length c.seats) (λ n. ap f (o.seat_shows n)) in
@@ -89,7 +89,7 @@ module _ (laws : CoreLaws) {V : Type 0} (fits : State → ℕ → V → Type 0) 
       seats ∙ shown ∙ total-is-sum_by (λ (v : PassView). f v.seat) s.views no_view (length c.seats) none few
 
   -- the held words are as many as the passes that hold one
-  pub held-are-holdings : (c : PoolCore) (s : TableState (Option V) PassView) → Lawful c → Shows fits room bounds c s → count_by is_held c.words ≡ sum_by (λ v. holdings v.seat) s.views
+  pub held-are-holdings : (c : PoolCore) (s : TableState (Option V) PassView) → Lawful c → Shows fits bounds c s → count_by is_held c.words ≡ sum_by (λ v. holdings v.seat) s.views
   held-are-holdings c s law o = let f : PassView → ℕ = λ v. holdings v.seat in
       let words : count_by is_held c.words ≡ total (λ n. bit (word_at c n).held) (length c.words) = sum_by-total (λ (w : StateWord). bit w.held) c.words cold_word in
       let held : total (λ n. count_by (λ p. is_holding p.holds n) c.seats) (length c.words) ≡ total (λ n. bit (word_at c n).held) (length c.words) = total-same _ _ (length c.words) law.holders in

@@ -16,7 +16,7 @@ use Rattle.slot_words.specs.CoreLaws.{CoreLaws}
 use Rattle.slot_words.specs.declared.views.Bounds.{Bounds}
 use Rattle.slot_words.specs.Views.{first_view, no_view}
 use Rattle.slot_words.specs.History.{IsHistory}
-use Rattle.slot_words.specs.Shows.{IsCounted, IsKept, Suits, view_share, view_unsplit}
+use Rattle.slot_words.specs.Shows.{IsCounted, IsKept, view_share, view_unsplit}
 use Rattle.slot_words.proofs.HistorySteps.{history_at_opening}
 use Rattle.slot_words.proofs.SharedPasses.{shared_at_start}
 
@@ -30,10 +30,10 @@ module _ {V : Type 0} where
   home_of P (x ∷ xs) all zero h = (x, refl, all 0 x (omega arith))
   home_of P (x ∷ xs) all (suc n) h = home_of P xs (λ k d inside. all (suc k) d (omega arith)) n (omega arith)
 
-  shows_opening : CoreLaws → (fits : State → ℕ → V → Type 0) (room : V → List ℕ) (bounds : Bounds) (xs : List V) → 1 ≤ bounds.passes → length xs + 2 * bounds.passes < 2 ^ 63
-      → All (λ x. fits Cold 0 x × (room x ≡ bounds.room)) xs
-      → IsKept fits room bounds (opening (replicate (length xs + 3) 0) (map Some xs) (first_view bounds))
-  shows_opening laws fits room bounds xs some_pass few suits =
+  shows_opening : CoreLaws → (fits : State → ℕ → V → Type 0) (bounds : Bounds) (xs : List V) → 1 ≤ bounds.passes → length xs + 2 * bounds.passes < 2 ^ 63
+      → All (λ x. fits Cold 0 x) xs
+      → IsKept fits bounds (opening (replicate (length xs + 3) 0) (map Some xs) (first_view bounds))
+  shows_opening laws fits bounds xs some_pass few suits =
       let n : ℕ = length xs in let passes : ℕ = bounds.passes in let c : PoolCore = opening_core n bounds.limit passes in
       let lw : length c.words ≡ n = length-replicate n cold_word in let cold = laws.opens_cold n bounds.limit passes in
       record {
@@ -51,8 +51,8 @@ module _ {V : Type 0} where
             await_shows = zero_at (n + 3) (length c.words + 1) (omega arith);
             clock_shows = zero_at (n + 3) (length c.words + 2) (omega arith);
             seat_shows = elim [ zero ↦ refl | suc j ↦ laws.opens_unmade n bounds.limit passes (suc j) (omega arith) ];
-            at_home = λ m h free. let o = home_of (λ x. fits Cold 0 x × (room x ≡ bounds.room)) xs suits m (omega arith) in
-                (o.0, o.1, subst (λ (w : StateWord). Suits fits room bounds.room w.target o.0) (sym (cold m)) o.2);
+            at_home = λ m h free. let o = home_of (λ x. fits Cold 0 x) xs suits m (omega arith) in
+                (o.0, o.1, subst (λ (w : StateWord). fits w.target.state w.target.tag o.0) (sym (cold m)) o.2);
             away = λ m h held. absurd (true≢false (sym held ∙ ap (λ (w : StateWord). w.held) (cold m)));
             shared = shared_at_start no_view view_share view_unsplit passes (first_view bounds) refl (omega arith);
             each = elim [
@@ -65,10 +65,10 @@ module _ {V : Type 0} where
       }
 
   -- the same of lists that are those
-  pub shows_opening_of : CoreLaws → (fits : State → ℕ → V → Type 0) (room : V → List ℕ) (bounds : Bounds) (ws : List ℕ) (ss : List (Option V)) (xs : List V) (n : ℕ)
+  pub shows_opening_of : CoreLaws → (fits : State → ℕ → V → Type 0) (bounds : Bounds) (ws : List ℕ) (ss : List (Option V)) (xs : List V) (n : ℕ)
       → ws ≡ replicate (n + 3) 0 → ss ≡ map (λ x. Some x) xs → length xs ≡ n → 1 ≤ bounds.passes → n + 2 * bounds.passes < 2 ^ 63
-      → All (λ x. fits Cold 0 x × (room x ≡ bounds.room)) xs → IsKept fits room bounds (opening ws ss (first_view bounds))
-  shows_opening_of laws fits room bounds ws ss xs n w e l p few suits =
-      subst (λ (t : List ℕ × List (Option V)). IsKept fits room bounds (opening t.0 t.1 (first_view bounds))) (λ i. ((sym w) i, (sym e) i))
-      (subst (λ (k : ℕ). IsKept fits room bounds (opening (replicate (k + 3) 0) (map (λ x. Some x) xs) (first_view bounds))) l
-      (shows_opening laws fits room bounds xs p (subst (λ (k : ℕ). k + 2 * bounds.passes < 2 ^ 63) (sym l) few) suits))
+      → All (λ x. fits Cold 0 x) xs → IsKept fits bounds (opening ws ss (first_view bounds))
+  shows_opening_of laws fits bounds ws ss xs n w e l p few suits =
+      subst (λ (t : List ℕ × List (Option V)). IsKept fits bounds (opening t.0 t.1 (first_view bounds))) (λ i. ((sym w) i, (sym e) i))
+      (subst (λ (k : ℕ). IsKept fits bounds (opening (replicate (k + 3) 0) (map (λ x. Some x) xs) (first_view bounds))) l
+      (shows_opening laws fits bounds xs p (subst (λ (k : ℕ). k + 2 * bounds.passes < 2 ^ 63) (sym l) few) suits))

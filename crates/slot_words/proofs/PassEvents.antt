@@ -48,8 +48,8 @@ may_out c s n live h at inside = let self : (n == n) ≡ true = eq-eqb n n refl 
 may_home : (c : PoolCore) (s n : ℕ) → is_live (seat_at c s).stage ≡ true → n < length c.words → (seat_at c s).holds ≡ Some n → (seat_at c s).out ≡ true → refusal_of c (Home s n) ≡ 0
 may_home c s n live h at out = let self : (n == n) ≡ true = eq-eqb n n refl in rw (live, lt-ltb n (length c.words) h, at, self, out) refl
 
-module _ (laws : CoreLaws) {V : Type 0} (fits : State → ℕ → V → Type 0) (room : V → List ℕ) where
-  pub splits_are_events : SplitsAreEvents fits room
+module _ (laws : CoreLaws) {V : Type 0} (fits : State → ℕ → V → Type 0) where
+  pub splits_are_events : SplitsAreEvents fits
   splits_are_events id v rest unsplit share bounds core s law shows at =
       let c : PoolCore = core in let o = shows in let vs : List PassView = s.views in let t : ℕ = length vs in let l : PassView = view_left v in let g : PassView = view_given v in
       let ls : List PassView = set vs id l in let inside = (found vs id v no_view at).0 in let was : get_or vs id no_view ≡ v = (found vs id v no_view at).1 in
@@ -59,7 +59,7 @@ module _ (laws : CoreLaws) {V : Type 0} (fits : State → ℕ → V → Type 0) 
       let e3 : length c.seats ≡ bounds.passes = o.seats_are in let here : t < length c.seats = omega arith in
       let unmade : seat_at c t ≡ idle_seat Unmade = o.seat_shows t ∙ ap (λ (k : PassView). k.seat) (get_or_past vs t no_view (omega arith)) in
       let lt : length ls ≡ t = length-set vs id l in
-      let seat = seat_here fits room bounds core s shows id v at in (
+      let seat = seat_here fits bounds core s shows id v at in (
         may_split c id t (seat ∙ rest) here unmade,
         record {
           limit_is = o.limit_is;
@@ -91,18 +91,18 @@ module _ (laws : CoreLaws) {V : Type 0} (fits : State → ℕ → V → Type 0) 
         },
       )
 
-  pub joins_are_events : JoinsAreEvents fits room
+  pub joins_are_events : JoinsAreEvents fits
   joins_are_events id other v w mine rest bounds core s law shows at apart at' =
       let live' : is_live w.seat.stage ≡ true = ap (λ (p : Seat). is_live p.stage) rest in
       let c : PoolCore = core in let o = shows in let vs : List PassView = s.views in let b : PassView = view_joined v w in let bs : List PassView = set vs id b in
       let was' : get_elem? vs other ≡ some w = ⊎_elim (λ (t : (other ≡ id) × (b ≡ w)). absurd (apart t.0)) (λ (t : (other ≢ id) × (get_elem? vs other ≡ some w)). t.1) (at_set vs id other b w at') in
       let inside = (found vs id v no_view at).0 in let was : get_or vs id no_view ≡ v = (found vs id v no_view at).1 in
       let inside' = (found bs other w no_view at').0 in let wis : get_or bs other no_view ≡ w = (found bs other w no_view at').1 in
-      let here : other < length c.seats = seat_within fits room bounds core s shows other w was' live' in
-      let seat : seat_at c other ≡ w.seat = seat_here fits room bounds core s shows other w was' in
+      let here : other < length c.seats = seat_within fits bounds core s shows other w was' live' in
+      let seat : seat_at c other ≡ w.seat = seat_here fits bounds core s shows other w was' in
       let e3 : length c.seats ≡ bounds.passes = o.seats_are in
       let lt : length (set bs other spent_view) ≡ length vs = length-set bs other spent_view ∙ length-set vs id b in
-      let own = seat_here fits room bounds core s shows id v at in (
+      let own = seat_here fits bounds core s shows id v at in (
         may_join c id other (λ e. apart (sym e)) (own ∙ mine) (seat ∙ rest),
         record {
           limit_is = o.limit_is;
@@ -135,14 +135,14 @@ module _ (laws : CoreLaws) {V : Type 0} (fits : State → ℕ → V → Type 0) 
         },
       )
 
-  pub closes_are_events : ClosesAreEvents fits room
+  pub closes_are_events : ClosesAreEvents fits
   closes_are_events id v rest bounds core s law shows at =
-      let own = seat_here fits room bounds core s shows id v at in let may = may_close core id (own ∙ rest) in (may, refl, laws.live core (Close id) law may)
+      let own = seat_here fits bounds core s shows id v at in let may = may_close core id (own ∙ rest) in (may, refl, laws.live core (Close id) law may)
 
-  pub exchanges_are_events : ExchangesAreEvents fits room
+  pub exchanges_are_events : ExchangesAreEvents fits
   exchanges_are_events id n v live at bounds core s law shows at_id =
-      let seat : seat_at core id ≡ v.seat = seat_here fits room bounds core s shows id v at_id in
-      let here : id < length core.seats = seat_within fits room bounds core s shows id v at_id live in
+      let seat : seat_at core id ≡ v.seat = seat_here fits bounds core s shows id v at_id in
+      let here : id < length core.seats = seat_within fits bounds core s shows id v at_id live in
       let holds : (seat_at core id).holds ≡ Some n = ap (λ (p : Seat). p.holds) seat ∙ at in
       let alive : is_live (seat_at core id).stage ≡ true = ap (λ (p : Seat). is_live p.stage) seat ∙ live in
       let in' : (seat_at core id).out ≡ false = ap (λ (p : Seat). p.out) seat ∙ (shows.each id v at_id).inside in

@@ -11,7 +11,6 @@ pub mod Parts
 pub mod Passes
 pub mod Rows
 pub mod Rule
-pub mod Setups
 pub mod SharedPasses
 pub mod Shows
 pub mod Trails

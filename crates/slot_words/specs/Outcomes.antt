@@ -1,5 +1,5 @@
 -- What each step tells its pass: the pass before it, the number that was read, and the pass after it.
-use Rattle.std.specs.Prelude.{◌≡◌, ℕ, ◌+◌, ◌<◌, Option, Some, List, ◌∷◌, MatchBool, ltb, not, true, false}
+use Rattle.std.specs.Prelude.{◌≡◌, ℕ, ◌+◌, ◌<◌, Option, Some, ◌∷◌, MatchBool, ltb, not, true, false}
 use Rattle.atomic_table.specs.Table.{Me, Step, rest}
 use Rattle.pool_core.specs.declared.words.State.{State}
 use Rattle.pool_core.specs.declared.words.StateWord.{StateWord}
@@ -11,7 +11,6 @@ use Rattle.slot_words.specs.declared.views.PassView.{PassView}
 use Rattle.slot_words.specs.declared.views.Operation.{Operation}
 use Rattle.slot_words.specs.declared.views.Operation.TheVariants.{Load, Claim, Release, WarmLoad, WarmUp, WarmDown, Stamp, AwaitUp, AwaitDown, AwaitLoad}
 use Rattle.slot_words.specs.Views.{view_after}
-use Rattle.slot_words.specs.Shows.{Suits}
 
 -- a pass with what it carries: its view, and the slots that it has out
 abbrev pub Carrier : Type 0 → Type 0
@@ -35,12 +34,12 @@ module _ {V : Type 0} where
   abbrev pub Loses : Carrier V → ℕ → ℕ → Carrier V → Type 0
   Loses m n r m' = Notes m m.0.seat (Claim n r) m' × (m.0.share < m.0.bounds.passes)
 
-  abbrev pub Wins : (State → ℕ → V → Type 0) → (V → List ℕ) → Carrier V → ℕ → ℕ → StateWord → Carrier V → Type 0
-  Wins fits room m n r w m' = (m'.0 ≡ view_after m.0 (winning_seat m.0.seat n w) (Claim n r)) × ((x : V) × (m'.1 ≡ (n, Some x) ∷ m.1) × Suits fits room m.0.bounds.room w.target x)
+  abbrev pub Wins : (State → ℕ → V → Type 0) → Carrier V → ℕ → ℕ → StateWord → Carrier V → Type 0
+  Wins fits m n r w m' = (m'.0 ≡ view_after m.0 (winning_seat m.0.seat n w) (Claim n r)) × ((x : V) × (m'.1 ≡ (n, Some x) ∷ m.1) × fits w.target.state w.target.tag x)
 
   -- lost where the word read was held, and else won
-  abbrev pub Claims : (State → ℕ → V → Type 0) → (V → List ℕ) → Step (Option V) → Carrier V → ℕ → Carrier V → Type 0
-  Claims fits room st m r m' = (w : StateWord) × IsWordOf r w × MatchBool w.held (Loses m st.word r m') (Wins fits room m st.word r w m')
+  abbrev pub Claims : (State → ℕ → V → Type 0) → Step (Option V) → Carrier V → ℕ → Carrier V → Type 0
+  Claims fits st m r m' = (w : StateWord) × IsWordOf r w × MatchBool w.held (Loses m st.word r m') (Wins fits m st.word r w m')
 
   abbrev pub Releases : Step (Option V) → Carrier V → ℕ → Carrier V → Type 0
   Releases st m r m' = (m'.1 ≡ rest m.1) × (m'.0 ≡ view_after m.0 (idle_seat m.0.seat.stage) (Release st.word r))

@@ -4,7 +4,6 @@ use mathlib.Core.Option.{none, some}
 use lib.ListN.{get_elem?}
 use Rattle.atomic_table.specs.Table.{State as TableState}
 use Rattle.pool_core.specs.declared.words.State.{State}
-use Rattle.pool_core.specs.declared.words.Target.{Target}
 use Rattle.pool_core.specs.declared.seats.Seat.{Seat}
 use Rattle.pool_core.specs.StateWords.{packed}
 use Rattle.pool_core.specs.PoolCore.{PoolCore, word_at, seat_at, is_away}
@@ -36,11 +35,7 @@ pub record IsCounted (bounds : Bounds) (v : PassView) : Type 0 where
   pub bounds_is : is_away v.seat.stage ≡ false → v.bounds ≡ bounds
   pub share_is : is_away v.seat.stage ≡ false → v.share ≡ v.unsplit + length (trails_of v)
 
-module _ {V : Type 0} (fits : State → ℕ → V → Type 0) (room : V → List ℕ) where
-  -- the value may lie in a slot whose word says this
-  abbrev pub Suits : List ℕ → Target → V → Type 0
-  Suits r to x = fits to.state to.tag x × (room x ≡ r)
-
+module _ {V : Type 0} (fits : State → ℕ → V → Type 0) where
   -- the words, the values at home and the views of the seats show this core
   pub record Shows (bounds : Bounds) (core : PoolCore) (s : TableState (Option V) PassView) : Type 0 where
     pub limit_is : core.limit ≡ bounds.limit
@@ -55,7 +50,7 @@ module _ {V : Type 0} (fits : State → ℕ → V → Type 0) (room : V → List
     pub seat_shows : (j : ℕ) → seat_at core j ≡ shown_seat s.views j
     -- the value of a number that is not held is at home, and fits its word
     pub at_home : (n : ℕ) → n < length core.words → (word_at core n).held ≡ false
-        → (x : V) × (get_elem? s.homes n ≡ some (some (Some x))) × Suits bounds.room (word_at core n).target x
+        → (x : V) × (get_elem? s.homes n ≡ some (some (Some x))) × fits (word_at core n).target.state (word_at core n).target.tag x
     -- the slot of a held number is empty: its holder has the value, or what stands in its place
     pub away : (n : ℕ) → n < length core.words → (word_at core n).held ≡ true → get_elem? s.homes n ≡ some none
     pub shared : AreShared view_share view_unsplit bounds.passes s.views

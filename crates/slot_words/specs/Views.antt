@@ -29,7 +29,7 @@ abbrev pub first_view : Bounds → PassView
 first_view b = new_view b 0 (b.passes - 1) b.passes
 
 abbrev pub no_bounds : Bounds
-no_bounds = record { room = []; limit = 0; passes = 0 }
+no_bounds = record { limit = 0; passes = 0 }
 
 -- the view of a seat that no pass has
 abbrev pub no_view : PassView

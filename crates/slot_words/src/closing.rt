@@ -29,7 +29,7 @@ impl<V: Pooled + Drop> Words<V> {
     ///
     /// The words are those at the end of one list of events from the opening, of which this pass's trail, and each that was joined into it, is what its seat noted. The held ones are what the other passes kept, each one slot at most. With all passes joined into this one, the words are those that their operations left, and none is held.
     pub fn close(self, pass: Pass<V>) -> KindCounts
-        requires own { IsPassOf V.room self pass }
+        requires own { IsPassOf self pass }
         requires idle { IsIdle pass }
         ensures counts { ClosesAs (slots_of self) (limit_of self) (passes_of self) (share_of pass) (trails pass) result }
         ensures joined { share_of pass ≡ passes_of self → CountsLeft (slots_of self) (operations pass) result }

@@ -14,7 +14,7 @@ use pool_core::STAMP_LIMIT;
 impl<V: Pooled> Words<V> {
     /// Counts one more warm slot. True exactly where the word read was below the limit: the pass then has a permit, and else a refusal.
     pub fn warm_up(&self, pass: &mut Pass<V>) -> bool
-        requires own { IsPassOf V.room self.now pass.old }
+        requires own { IsPassOf self.now pass.old }
         requires holds { IsHolding pass.old }
         requires none { (pass_permit pass.old ≡ false) × (pass_refusal pass.old ≡ false) }
         ensures same { IsSamePass pass.old pass.new }
@@ -31,7 +31,7 @@ impl<V: Pooled> Words<V> {
 
     /// Counts one warm slot less: the pass has neither permit nor refusal any more.
     pub fn warm_down(&self, pass: &mut Pass<V>)
-        requires own { IsPassOf V.room self.now pass.old }
+        requires own { IsPassOf self.now pass.old }
         requires holds { IsHolding pass.old }
         requires some { (pass_permit pass.old || pass_refusal pass.old) ≡ true }
         ensures same { IsSamePass pass.old pass.new }
@@ -46,7 +46,7 @@ impl<V: Pooled> Words<V> {
 
     /// The next stamp: the clock word read, modulo [`STAMP_LIMIT`].
     pub fn stamp(&self, pass: &mut Pass<V>) -> u64
-        requires own { IsPassOf V.room self.now pass.old }
+        requires own { IsPassOf self.now pass.old }
         requires holds { IsHolding pass.old }
         ensures same { IsSamePass pass.old pass.new }
         ensures keeps { KeepsAll pass.old pass.new }
@@ -62,7 +62,7 @@ impl<V: Pooled> Words<V> {
 
     /// Counts one more awaiting slot, and gives the word that it read: the pass has an await mark.
     pub fn await_up(&self, pass: &mut Pass<V>) -> u64
-        requires own { IsPassOf V.room self.now pass.old }
+        requires own { IsPassOf self.now pass.old }
         requires holds { IsHolding pass.old }
         requires none { pass_mark pass.old ≡ false }
         ensures same { IsSamePass pass.old pass.new }
@@ -77,7 +77,7 @@ impl<V: Pooled> Words<V> {
 
     /// Counts one awaiting slot less: the pass has no await mark any more.
     pub fn await_down(&self, pass: &mut Pass<V>)
-        requires own { IsPassOf V.room self.now pass.old }
+        requires own { IsPassOf self.now pass.old }
         requires holds { IsHolding pass.old }
         requires some { pass_mark pass.old ≡ true }
         ensures same { IsSamePass pass.old pass.new }

@@ -13,40 +13,40 @@ use crate::pooled::Pooled;
 
 /// Each step of a pass is one event of the core that the words show, by that pass's seat.
 pub fn steps_are_events<V: Pooled>()
-    ensures loads { LoadsAreEvents V.fits V.room }
-    ensures claims { ClaimsAreEvents V.fits V.room }
-    ensures releases { ReleasesAreEvents V.fits V.room }
-    ensures exchanges { ExchangesAreEvents V.fits V.room }
-    ensures splits { SplitsAreEvents V.fits V.room }
-    ensures joins { JoinsAreEvents V.fits V.room }
-    ensures closes { ClosesAreEvents V.fits V.room }
-    ensures warm_loads { WarmLoadsAreEvents V.fits V.room }
-    ensures warm_ups { WarmUpsAreEvents V.fits V.room }
-    ensures warm_downs { WarmDownsAreEvents V.fits V.room }
-    ensures stamps { StampsAreEvents V.fits V.room }
-    ensures await_ups { AwaitUpsAreEvents V.fits V.room }
-    ensures await_downs { AwaitDownsAreEvents V.fits V.room }
-    ensures await_loads { AwaitLoadsAreEvents V.fits V.room }
+    ensures loads { LoadsAreEvents V.fits }
+    ensures claims { ClaimsAreEvents V.fits }
+    ensures releases { ReleasesAreEvents V.fits }
+    ensures exchanges { ExchangesAreEvents V.fits }
+    ensures splits { SplitsAreEvents V.fits }
+    ensures joins { JoinsAreEvents V.fits }
+    ensures closes { ClosesAreEvents V.fits }
+    ensures warm_loads { WarmLoadsAreEvents V.fits }
+    ensures warm_ups { WarmUpsAreEvents V.fits }
+    ensures warm_downs { WarmDownsAreEvents V.fits }
+    ensures stamps { StampsAreEvents V.fits }
+    ensures await_ups { AwaitUpsAreEvents V.fits }
+    ensures await_downs { AwaitDownsAreEvents V.fits }
+    ensures await_loads { AwaitLoadsAreEvents V.fits }
 {
     core_laws();
 }
 
 /// What the rule says of each moment, for all passes together.
 pub fn passes_share_the_words<V: Pooled>()
-    ensures one_holder { OneHolder V.fits V.room }
-    ensures held_by_another { HeldByAnother V.fits V.room }
-    ensures no_hidden_seat { NoHiddenSeat V.fits V.room }
-    ensures alone_with_all { AloneWithAll V.fits V.room }
-    ensures within_limit { WithinLimit V.fits V.room }
-    ensures free_values_fit { FreeValuesFit V.fits V.room }
-    ensures clock { ClockCountsStamps V.fits V.room }
+    ensures one_holder { OneHolder V.fits }
+    ensures held_by_another { HeldByAnother V.fits }
+    ensures no_hidden_seat { NoHiddenSeat V.fits }
+    ensures alone_with_all { AloneWithAll V.fits }
+    ensures within_limit { WithinLimit V.fits }
+    ensures free_values_fit { FreeValuesFit V.fits }
+    ensures clock { ClockCountsStamps V.fits }
 {
     core_laws();
 }
 
 /// At any moment there is one list of events from the opening, none of which is refused where it comes, that leads to what is shown. Each pass's trail is what its seat noted of it.
 pub fn passes_make_one_history<V: Pooled>()
-    ensures { OneHistory V.fits V.room }
+    ensures { OneHistory V.fits }
 {}
 
 /// What the seats noted of a list of events accounts for the pool that it leads to: for its words, for what is held, and for its clock.

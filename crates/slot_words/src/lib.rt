@@ -17,7 +17,6 @@ mod pooled;
 mod rule;
 mod scans;
 mod seen;
-mod setup;
 mod sizes;
 mod views;
 mod words;
@@ -28,7 +27,6 @@ pub use pool_core::NoMemory;
 pub use pooled::Pooled;
 pub use rule::Ruled;
 pub use seen::Seen;
-pub use setup::Setup;
 pub use views::{Bounds, Operation, Pass, PassView, SeatTrail};
 pub use words::Words;
 

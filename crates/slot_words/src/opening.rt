@@ -1,20 +1,17 @@
 //! How a `Words` is opened.
-ghost use Rattle.std.specs.Prelude.{◌≡◌, ℕ, List, ◌+◌, ◌-◌, ◌^◌, ◌<◌, ◌≤◌, Some, [], map, length, vec_capacity, IfOk};
+ghost use Rattle.std.specs.Prelude.{◌≡◌, List, ◌+◌, ◌-◌, ◌^◌, ◌<◌, ◌≤◌, Some, [], map, length, vec_capacity, IfOk};
 ghost use Rattle.std.specs.List.{All};
 ghost use Rattle.pool_core.specs.declared.words.State.TheVariants.{Cold};
 ghost use Rattle.slot_words.specs.Views.{first_view};
-ghost use Rattle.slot_words.specs.Setups.{bounds_at};
-ghost use Rattle.slot_words.specs.Owned.{IsNewPassOf, slots_of, limit_of, passes_of, room_of};
+ghost use Rattle.slot_words.specs.Owned.{IsNewPassOf, slots_of, limit_of, passes_of};
 
 use crate::cores::core_laws;
 use crate::pooled::Pooled;
-use crate::setup::Setup;
-use crate::views::Pass;
+use crate::views::{Bounds, Pass};
 use crate::words::Words;
 use atomic_table::{Refused, Table};
 use pool_core::{MOST_SLOTS, NoMemory};
 use std::alloc::{AllocError, Global};
-use std::snapshot::Snapshot;
 
 // A slot for each value.
 fn in_slots<V: Drop>(alloc: Global, mut values: Vec<V>) -> Result<Vec<Option<V>>, AllocError>
@@ -44,47 +41,43 @@ impl<V: Pooled + Drop> Words<V> {
         requires count { (1 ≤ length values.items) × (length values.items ≤ MOST_SLOTS) }
         requires passes { 1 ≤ passes }
         requires cold { All (λ x. V.fits Cold 0 x) values.items }
-        requires room { (r : List ℕ) × All (λ x. V.room x ≡ r) values.items }
         ensures slots { IfOk result (λ o. slots_of o.0 ≡ length values.items) }
         ensures limit { IfOk result (λ o. limit_of o.0 ≡ warm) }
         ensures count { IfOk result (λ o. passes_of o.0 ≡ passes) }
-        ensures room { IfOk result (λ o. All (λ x. V.room x ≡ room_of V.room o.0) values.items) }
-        ensures passes { IfOk result (λ o. (length o.1.items ≡ passes) × All (IsNewPassOf V.room o.0) o.1.items) }
+        ensures passes { IfOk result (λ o. (length o.1.items ≡ passes) × All (IsNewPassOf o.0) o.1.items) }
     {
         let count = values.len();
-        let setup: Setup<V> = Setup {
-            sample: Snapshot::of(&values[0]),
+        let bounds = Bounds {
             limit: warm as u64,
             passes: passes as u64,
         };
         let slots = in_slots(alloc, values)?;
         let mut all = Vec::with_capacity(alloc, passes as usize)?;
-        let (words, first) = Words::start(alloc, &setup, slots, count)?;
+        let (words, first) = Words::start(alloc, &bounds, slots, count)?;
         words.deal(first, passes, &mut all);
         Ok((words, all))
     }
 
     fn start(
         alloc: Global,
-        setup: &Setup<V>,
+        bounds: &Bounds,
         slots: Vec<Option<V>>,
         count: usize,
     ) -> Result<(Words<V>, Pass<V>), AllocError>
         requires count { (1 ≤ count) × (count ≤ MOST_SLOTS) }
-        requires passes { (1 ≤ setup.now.passes) × (setup.now.passes < 2 ^ 32) }
-        requires values { (xs : List V) × (slots.items ≡ map (λ x. Some x) xs) × (length xs ≡ count)
-            × All (λ x. V.fits Cold 0 x × (V.room x ≡ V.room setup.now.sample.value)) xs }
-        ensures words { IfOk result (λ o. (o.0.table.shared.key ≡ setup.now) × (o.0.slots ≡ count)) }
-        ensures pass { IfOk result (λ o. (o.1.table_id ≡ o.0.table.shared.table_id) × (o.1.me ≡ (first_view (bounds_at V.room setup.now), []))) }
+        requires passes { (1 ≤ bounds.now.passes) × (bounds.now.passes < 2 ^ 32) }
+        requires values { (xs : List V) × (slots.items ≡ map (λ x. Some x) xs) × (length xs ≡ count) × All (λ x. V.fits Cold 0 x) xs }
+        ensures words { IfOk result (λ o. (o.0.table.shared.key ≡ bounds.now) × (o.0.slots ≡ count)) }
+        ensures pass { IfOk result (λ o. (o.1.table_id ≡ o.0.table.shared.table_id) × (o.1.me ≡ (first_view bounds.now, []))) }
     {
         core_laws();
         let words = Vec::from_elem(alloc, 0u64, count + 3)?;
-        match Table::new(alloc, words.as_slice(), slots, setup) {
+        match Table::new(alloc, words.as_slice(), slots, bounds) {
             Ok((table, pass)) => Ok((
                 Words {
                     table,
                     slots: count,
-                    limit: setup.limit,
+                    limit: bounds.limit,
                 },
                 pass,
             )),
@@ -94,11 +87,11 @@ impl<V: Pooled + Drop> Words<V> {
 
     // Splits the first pass, which stands for all, into one pass for each.
     fn deal(&self, mut first: Pass<V>, passes: u32, all: &mut Vec<Pass<V>>)
-        requires first { (first.table_id ≡ self.now.table.shared.table_id) × (first.me ≡ (first_view (bounds_at V.room self.now.table.shared.key), [])) }
+        requires first { (first.table_id ≡ self.now.table.shared.table_id) × (first.me ≡ (first_view self.now.table.shared.key, [])) }
         requires passes { passes_of self.now ≡ passes }
         requires room { (1 ≤ passes) × (all.old.items ≡ []) × (passes ≤ vec_capacity all.old) }
         ensures count { length all.new.items ≡ passes }
-        ensures each { All (IsNewPassOf V.room self.now) all.new.items }
+        ensures each { All (IsNewPassOf self.now) all.new.items }
     {
         for _ in 1..passes {
             let next = self.split_pass(&mut first);

@@ -14,7 +14,7 @@ impl<V> Play<Option<V>, PassView> for Loading {
 pub(crate) struct Claiming;
 
 impl<V: Pooled> Play<Option<V>, PassView> for Claiming {
-    ghost then = { Claims V.fits V.room };
+    ghost then = { Claims V.fits };
 }
 
 pub(crate) struct Releasing;

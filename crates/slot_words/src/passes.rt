@@ -40,10 +40,10 @@ impl<V: Pooled> Words<V> {
 
     /// Joins another pass of these words into this one, which then stands for both.
     pub fn join_pass(&self, pass: &mut Pass<V>, other: Pass<V>)
-        requires own { IsPassOf V.room self.now pass.old }
+        requires own { IsPassOf self.now pass.old }
         requires idle { IsIdle pass.old }
-        requires other { IsPassOf V.room self.now other × IsIdle other }
-        ensures own { IsPassOf V.room self.now pass.new }
+        requires other { IsPassOf self.now other × IsIdle other }
+        ensures own { IsPassOf self.now pass.new }
         ensures idle { IsIdle pass.new }
         ensures share { share_of pass.new ≡ share_of pass.old + share_of other }
         ensures number { seat_number pass.new ≡ seat_number pass.old }

@@ -1,5 +1,5 @@
 //! What a slot can hold.
-ghost use Rattle.std.specs.Prelude.{◌≡◌, ◌<◌, ℕ, List, false};
+ghost use Rattle.std.specs.Prelude.{◌≡◌, ◌<◌, ℕ, false};
 ghost use Rattle.pool_core.specs.declared.words.State.{State};
 ghost use Rattle.pool_core.specs.declared.words.State.TheVariants.{Cold, Warm};
 ghost use Rattle.pool_core.specs.StateWords.{is_cold};
@@ -13,9 +13,6 @@ pub trait Pooled {
     /// What a value is restored from.
     type Images;
 
-    /// The value's sizes, which no call of this trait changes.
-    ghost room: { Self → List ℕ };
-
     /// The tag of the module that the value belongs to.
     ghost own_tag: { Self → ℕ };
 
@@ -24,15 +21,13 @@ pub trait Pooled {
 
     /// Makes it a value of no module.
     fn clear(&mut self)
-        ensures cold { fits Cold 0 self.new }
-        ensures room { room self.new ≡ room self.old };
+        ensures cold { fits Cold 0 self.new };
 
     /// Makes it what its own module's image says.
     fn restore(&mut self, images: &Self::Images)
         requires { (s : State) × (tag : ℕ) × (is_cold s ≡ false) × fits s tag self.old }
         ensures warm { fits Warm (own_tag self.old) self.new }
-        ensures tag { own_tag self.new ≡ own_tag self.old }
-        ensures room { room self.new ≡ room self.old };
+        ensures tag { own_tag self.new ≡ own_tag self.old };
 
     /// Its own tag, which a state word can say.
     fn tag(&self) -> u32

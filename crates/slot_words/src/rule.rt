@@ -1,11 +1,9 @@
 //! The rule that the words, the values and the passes keep at each moment.
 ghost use Rattle.slot_words.specs.Shows.{IsKept};
 ghost use Rattle.slot_words.specs.Views.{first_view};
-ghost use Rattle.slot_words.specs.Setups.{bounds_at};
 
 use crate::pooled::Pooled;
-use crate::setup::Setup;
-use crate::views::PassView;
+use crate::views::{Bounds, PassView};
 use atomic_table::TableRule;
 use std::marker::PhantomData;
 
@@ -14,8 +12,8 @@ pub struct Ruled<V> {
     marker: PhantomData<V>,
 }
 
-impl<V: Pooled> TableRule<Option<V>, PassView, Setup<V>> for Ruled<V> {
-    ghost holds = { λ k s. IsKept V.fits V.room (bounds_at V.room k) s };
+impl<V: Pooled> TableRule<Option<V>, PassView, Bounds> for Ruled<V> {
+    ghost holds = { λ k s. IsKept V.fits k s };
 
-    ghost first = { λ k. first_view (bounds_at V.room k) };
+    ghost first = { λ k. first_view k };
 }

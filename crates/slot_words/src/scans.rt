@@ -19,7 +19,7 @@ use pool_core::MOST_SLOTS;
 impl<V: Pooled> Words<V> {
     /// Reads the state word of slot n.
     pub fn load(&self, pass: &mut Pass<V>, n: u32) -> u64
-        requires own { IsPassOf V.room self.now pass.old }
+        requires own { IsPassOf self.now pass.old }
         requires number { n < slots_of self.now }
         ensures same { IsSamePass pass.old pass.new }
         ensures keeps { KeepsAll pass.old pass.new }
@@ -32,7 +32,7 @@ impl<V: Pooled> Words<V> {
 
     /// Reads the state word of each slot, by rising number: one load each.
     pub fn scan(&self, pass: &mut Pass<V>, seen: &mut Seen)
-        requires own { IsPassOf V.room self.now pass.old }
+        requires own { IsPassOf self.now pass.old }
         ensures same { IsSamePass pass.old pass.new }
         ensures keeps { KeepsAll pass.old pass.new }
         ensures seen { length seen.new ≡ slots_of self.now }
@@ -46,7 +46,7 @@ impl<V: Pooled> Words<V> {
 
     /// The same scan into the first places of a row, which has one for each slot at least.
     pub fn scan_into(&self, pass: &mut Pass<V>, row: &mut [u64])
-        requires own { IsPassOf V.room self.now pass.old }
+        requires own { IsPassOf self.now pass.old }
         requires room { slots_of self.now ≤ length row.old }
         ensures same { IsSamePass pass.old pass.new }
         ensures keeps { KeepsAll pass.old pass.new }
@@ -62,7 +62,7 @@ impl<V: Pooled> Words<V> {
 
     /// Reads the warm word: how many slots are counted as warm.
     pub fn warm_load(&self, pass: &mut Pass<V>) -> u64
-        requires own { IsPassOf V.room self.now pass.old }
+        requires own { IsPassOf self.now pass.old }
         ensures same { IsSamePass pass.old pass.new }
         ensures keeps { KeepsAll pass.old pass.new }
         ensures trail { trail pass.new ≡ trail pass.old ++ WarmLoad result ∷ [] }
@@ -73,7 +73,7 @@ impl<V: Pooled> Words<V> {
 
     /// Reads the await word: how many slots are counted as awaiting.
     pub fn await_load(&self, pass: &mut Pass<V>) -> u64
-        requires own { IsPassOf V.room self.now pass.old }
+        requires own { IsPassOf self.now pass.old }
         ensures same { IsSamePass pass.old pass.new }
         ensures keeps { KeepsAll pass.old pass.new }
         ensures trail { trail pass.new ≡ trail pass.old ++ AwaitLoad result ∷ [] }

@@ -1,4 +1,4 @@
-ghost use Rattle.std.specs.Prelude.{◌≡◌, ◌<◌, [], true, false, length, IfOk, OnErr};
+ghost use Rattle.std.specs.Prelude.{◌≡◌, ◌<◌, true, false, length, IfOk, OnErr};
 ghost use Rattle.std.specs.List.{All};
 ghost use Rattle.pool_core.specs.declared.words.State.TheVariants.{Cold};
 ghost use Rattle.std.proofs.lemmas.Bool.{both_ways};
@@ -26,8 +26,6 @@ struct Cell {
 
 impl Pooled for Cell {
     type Images = ();
-
-    ghost room = { λ x. [] };
 
     ghost own_tag = { λ x. x.tag };
 
@@ -66,7 +64,7 @@ fn kinds(cold: u32, warm: u32, awaiting: u32, held: u32) -> KindCounts {
 
 // Two slots and two passes.
 fn opened(alloc: Global, warm: u32) -> Result<(Words<Cell>, Pass<Cell>, Pass<Cell>), NoMemory>
-    ensures { IfOk result (λ o. (slots_of o.0 ≡ 2) × (passes_of o.0 ≡ 2) × IsNewPassOf (λ x. []) o.0 o.1 × IsNewPassOf (λ x. []) o.0 o.2) }
+    ensures { IfOk result (λ o. (slots_of o.0 ≡ 2) × (passes_of o.0 ≡ 2) × IsNewPassOf o.0 o.1 × IsNewPassOf o.0 o.2) }
 {
     let mut cells = Vec::with_capacity(alloc, 2)?;
     cells.push_reserved(NEW);
@@ -79,10 +77,10 @@ fn opened(alloc: Global, warm: u32) -> Result<(Words<Cell>, Pass<Cell>, Pass<Cel
 
 // Claims a slot, and gives back the permit or the mark that came with it.
 fn take<V: Pooled>(words: &Words<V>, pass: &mut Pass<V>, n: u32) -> Result<Lease<V>, Held>
-    requires own { IsPassOf V.room words.now pass.old }
+    requires own { IsPassOf words.now pass.old }
     requires idle { IsIdle pass.old }
     requires number { n < slots_of words.now }
-    ensures own { IsPassOf V.room words.now pass.new }
+    ensures own { IsPassOf words.now pass.new }
     ensures won { IfOk result (λ l. Holds pass.new n false false false × (lease_number l ≡ n)) }
     ensures held { OnErr result (IsIdle pass.new) }
     ensures another { OnErr result (share_of pass.old < passes_of words.now) }
@@ -99,10 +97,10 @@ fn take<V: Pooled>(words: &Words<V>, pass: &mut Pass<V>, n: u32) -> Result<Lease
 
 // Clears the value and gives the slot back cold.
 fn give(words: &Words<Cell>, pass: &mut Pass<Cell>, mut lease: Lease<Cell>)
-    requires own { IsPassOf (λ x. []) words.now pass.old }
+    requires own { IsPassOf words.now pass.old }
     requires number { lease_number lease < slots_of words.now }
     requires holds { Holds pass.old (lease_number lease) false false false }
-    ensures own { IsPassOf (λ x. []) words.now pass.new }
+    ensures own { IsPassOf words.now pass.new }
     ensures idle { IsIdle pass.new }
 {
     lease.value.clear();
@@ -117,7 +115,7 @@ struct Ending {
 
 // Claims slot 1 by the second pass, and gives it back or keeps it.
 fn take_slot_1(words: &Words<Cell>, mut second: Pass<Cell>, keeps: bool) -> bool
-    requires own { IsPassOf (λ x. []) words.now second }
+    requires own { IsPassOf words.now second }
     requires idle { IsIdle second }
     requires number { 1 < slots_of words.now }
 {
@@ -169,10 +167,10 @@ fn closing_counts_what_was_given_back_and_what_was_kept(rt: HostRuntime) -> Resu
 
 // Uses slot 0 for module 5 and gives it back awaiting. What the await word and the clock said.
 fn leave_awaiting(words: &Words<Cell>, pass: &mut Pass<Cell>) -> Result<[u64; 2], Held>
-    requires own { IsPassOf (λ x. []) words.now pass.old }
+    requires own { IsPassOf words.now pass.old }
     requires idle { IsIdle pass.old }
     requires number { 0 < slots_of words.now }
-    ensures own { IsPassOf (λ x. []) words.now pass.new }
+    ensures own { IsPassOf words.now pass.new }
     ensures idle { IsIdle pass.new }
 {
     let mut lease = take(words, pass, 0)?;
@@ -194,10 +192,10 @@ fn leave_awaiting(words: &Words<Cell>, pass: &mut Pass<Cell>) -> Result<[u64; 2]
 
 // Restores a slot for module 5 and gives it back warm, or else clears it and gives it back cold. Whether there was a permit.
 fn make_warm(words: &Words<Cell>, pass: &mut Pass<Cell>, n: u32) -> Result<bool, Held>
-    requires own { IsPassOf (λ x. []) words.now pass.old }
+    requires own { IsPassOf words.now pass.old }
     requires idle { IsIdle pass.old }
     requires number { n < slots_of words.now }
-    ensures own { IsPassOf (λ x. []) words.now pass.new }
+    ensures own { IsPassOf words.now pass.new }
     ensures idle { IsIdle pass.new }
 {
     let mut lease = take(words, pass, n)?;
@@ -223,10 +221,10 @@ fn make_warm(words: &Words<Cell>, pass: &mut Pass<Cell>, n: u32) -> Result<bool,
 
 // All words of two slots but the clock: the warm word, the await word and the state words.
 fn read_all(words: &Words<Cell>, pass: &mut Pass<Cell>) -> (u64, u64, [u64; 2])
-    requires own { IsPassOf (λ x. []) words.now pass.old }
+    requires own { IsPassOf words.now pass.old }
     requires slots { slots_of words.now ≡ 2 }
     requires idle { IsIdle pass.old }
-    ensures own { IsPassOf (λ x. []) words.now pass.new }
+    ensures own { IsPassOf words.now pass.new }
     ensures idle { IsIdle pass.new }
 {
     let mut seen = Seen::new();
@@ -299,8 +297,6 @@ struct Ticket {
 impl Pooled for Ticket {
     type Images = ();
 
-    ghost room = { λ x. [] };
-
     ghost own_tag = { λ x. 0 };
 
     ghost fits = { λ s tag x. is_cold s ≡ true };
@@ -354,10 +350,10 @@ fn closing_counts_awaiting_and_warm_slots_of_joined_passes(rt: HostRuntime) -> R
 
 // Claims slot 0 a thousand times, and counts in its value and beside it how often it was won.
 fn visit(words: &Words<Cell>, mut pass: Pass<Cell>) -> (u32, Pass<Cell>)
-    requires own { IsPassOf (λ x. []) words.now pass }
+    requires own { IsPassOf words.now pass }
     requires idle { IsIdle pass }
     requires number { 0 < slots_of words.now }
-    ensures own { IsPassOf (λ x. []) words.now result.1 }
+    ensures own { IsPassOf words.now result.1 }
     ensures idle { IsIdle result.1 }
 {
     let mut won = 0u32;
@@ -378,12 +374,12 @@ fn two_threads_never_have_one_slot_at_once(rt: HostRuntime) -> Result<(), Fail> 
     let ((won, mut first), (won_too, second)) = thread::join(
         &rt,
         || -> (u32, Pass<Cell>)
-            requires { IsPassOf (λ x. []) shared.now first × IsIdle first × (slots_of shared.now ≡ 2) }
-            ensures { IsPassOf (λ x. []) shared.entry.now result.1 × IsIdle result.1 }
+            requires { IsPassOf shared.now first × IsIdle first × (slots_of shared.now ≡ 2) }
+            ensures { IsPassOf shared.entry.now result.1 × IsIdle result.1 }
         { visit(shared, first) },
         || -> (u32, Pass<Cell>)
-            requires { IsPassOf (λ x. []) shared.now second × IsIdle second × (slots_of shared.now ≡ 2) }
-            ensures { IsPassOf (λ x. []) shared.entry.now result.1 × IsIdle result.1 }
+            requires { IsPassOf shared.now second × IsIdle second × (slots_of shared.now ≡ 2) }
+            ensures { IsPassOf shared.entry.now result.1 × IsIdle result.1 }
         { visit(shared, second) },
     );
     words.join_pass(&mut first, second);
@@ -407,7 +403,7 @@ fn cells(alloc: Global) -> Result<Vec<Cell>, AllocError>
 
 // So many slots, and a pass.
 fn opened_wide(alloc: Global) -> Result<(Words<Cell>, Pass<Cell>), NoMemory>
-    ensures { IfOk result (λ o. (slots_of o.0 ≡ 1024) × (passes_of o.0 ≡ 1) × IsNewPassOf (λ x. []) o.0 o.1) }
+    ensures { IfOk result (λ o. (slots_of o.0 ≡ 1024) × (passes_of o.0 ≡ 1) × IsNewPassOf o.0 o.1) }
 {
     let cells = cells(alloc)?;
     let (words, mut passes) = Words::open(alloc, &(), cells, 1, 1)?;

@@ -23,10 +23,12 @@ pub struct SeatTrail {
     pub trail: LinkedList<Operation>,
 }
 
-/// What holds of one `Words` for good: the room of its values, the most slots that may be warm, and how many passes were handed out.
+/// What a `Words` is told once, as it opens, and what holds of it for good.
+#[derive(Clone, Copy, Debug)]
 pub struct Bounds {
-    pub room: LinkedList<u64>,
+    /// The most slots that may be warm.
     pub limit: u64,
+    /// How many passes are handed out.
     pub passes: u64,
 }
 

@@ -4,8 +4,7 @@ ghost use Rattle.pool_core.specs.declared.limits.TheConstants.{MOST_SLOTS};
 
 use crate::pooled::Pooled;
 use crate::rule::Ruled;
-use crate::setup::Setup;
-use crate::views::PassView;
+use crate::views::{Bounds, PassView};
 use atomic_table::Table;
 use std::alloc::Global;
 
@@ -14,7 +13,7 @@ use std::alloc::Global;
 /// All words stand in one table: word n is slot n's, and then come the warm word, the await word and the clock word.
 #[derive(Drop)]
 pub struct Words<V: Pooled> {
-    pub(crate) table: Table<Option<V>, PassView, Setup<V>, Ruled<V>, Global>,
+    pub(crate) table: Table<Option<V>, PassView, Bounds, Ruled<V>, Global>,
     pub(crate) slots: usize,
     pub(crate) limit: u64,
     ghost words_are: { table.shared.table_id.words ≡ slots + 3 },

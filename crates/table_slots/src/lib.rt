@@ -6,6 +6,6 @@ mod slot;
 #[cfg(test)]
 mod tests;
 
-pub use pool::TablePool;
+pub use pool::{give, take};
 pub use slot::TableSlot;
 pub use slot_pools::Full;

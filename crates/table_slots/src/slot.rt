@@ -1,12 +1,14 @@
 //! Tables in slots, and the modules that they belong to.
 ghost use Rattle.std.specs.Prelude.{◌≡◌, true, is_some, IfOk};
 ghost use Rattle.pool_core.specs.declared.words.State.TheVariants.{Warm};
-ghost use Rattle.pool_worlds.specs.Contents.{Table, prepared, restored, IsCold, IsTableOf, Matches};
-ghost use Rattle.table_slots.specs.Fits.{room, own_tag, fits-own_tag};
+ghost use Rattle.pool_worlds.specs.Contents.{prepared, restored, IsCold, IsTableOf, Matches};
+ghost use Rattle.pool_worlds.specs.declared.kinds.Kind.TheVariants.{Table};
+ghost use Rattle.pool_worlds.specs.Handed.{own_tag, fits-own_tag};
 
 use initial_image::write_table;
 use module_store::{ModuleRef, ModuleStore, Naming};
-use slot_words::Pooled;
+use slot_pools::OpenSlot;
+use slot_words::{NoMemory as Refused, Pooled};
 use std::alloc::Global;
 use std::marker::Model;
 use wasm_values::NoMemory;
@@ -100,7 +102,7 @@ impl<N: Naming> TableSlot<N> {
     // A table that belongs to a module is that module's. This does nothing: its contract is what the type keeps.
     pub(crate) fn is_its_modules(&self)
         requires { is_some self.now.holds ≡ true }
-        ensures { Matches N.config.pages Table Warm (own_tag self.now) self.now }
+        ensures { Matches N.config.pages Table Warm (own_tag Table self.now) self.now }
     {
         let _ = &self.holds;
     }
@@ -109,9 +111,7 @@ impl<N: Naming> TableSlot<N> {
 impl<N: Naming> Pooled for TableSlot<N> {
     type Images = ModuleStore<N>;
 
-    ghost room = { room };
-
-    ghost own_tag = { own_tag };
+    ghost own_tag = { own_tag Table };
 
     ghost fits = { λ s tag x. Matches N.config.pages Table s tag x };
 
@@ -130,5 +130,11 @@ impl<N: Naming> Pooled for TableSlot<N> {
         }
     }
 
-    ghost fits_own_tag = { fits-own_tag N.config.pages };
+    ghost fits_own_tag = { fits-own_tag N.config.pages Table };
+}
+
+impl<N: Naming> OpenSlot for TableSlot<N> {
+    fn open(alloc: Global, images: &ModuleStore<N>) -> Result<TableSlot<N>, Refused> {
+        TableSlot::open(alloc, images).map_err(|_| Refused)
+    }
 }

@@ -3,12 +3,13 @@ ghost use Rattle.std.specs.Prelude.{◌≡◌, ◌<◌, length};
 ghost use Rattle.std.specs.List.{All};
 ghost use Rattle.slot_words.specs.Passes.{IsIdle, IsSamePass};
 ghost use Rattle.module_store.specs.Names.{Bears};
-ghost use Rattle.table_slots.specs.Pools.{IsTablePass, IsNewTablePass};
+ghost use Rattle.slot_words.specs.Owned.{IsPassOf, IsNewPassOf};
 
-use crate::{TablePool, TableSlot};
+use crate::{TableSlot, give, take};
 use module_store::{Desk, ModuleRef, ModuleStore, Naming, Opened};
 use pool_limits::{Numbers, PoolConfig};
-use slot_words::{KindCounts, Pass};
+use slot_pools::{open, sweep};
+use slot_words::{KindCounts, Pass, Words};
 use std::alloc::Global;
 use std::marker::Brand;
 use std::process::Abort;
@@ -87,21 +88,21 @@ fn a_slot_goes_from_module_to_module(rt: HostRuntime) -> Result<(), Fail> {
 
 // The number of the slot that is taken for the module and given back, or none where the pool is full.
 fn visit<N: Naming>(
-    pool: &TablePool<N>,
+    pool: &Words<TableSlot<N>>,
     pass: &mut Pass<TableSlot<N>>,
     store: &ModuleStore<N>,
     module: &ModuleRef<N>,
 ) -> Option<u32>
-    requires own { IsTablePass pool.now pass.old }
+    requires own { IsPassOf pool.now pass.old }
     requires idle { IsIdle pass.old }
     ensures same { IsSamePass pass.old pass.new }
     ensures idle { IsIdle pass.new }
 {
-    let Ok(lease) = pool.take(pass, store, module) else {
+    let Ok(lease) = take(pool, pass, store, module) else {
         return None;
     };
     let number = lease.number();
-    pool.give(pass, lease, store);
+    give(pool, pass, lease, store);
     Some(number)
 }
 
@@ -123,7 +124,9 @@ fn check_visits<N: Naming, R: Abort + Wait>(rt: &R, alloc: Global, opened: Opene
     let second = registered(rt, alloc, &store, &mut desk, &THREE);
     let third = registered(rt, alloc, &store, &mut desk, &THREE);
     let modules = [&first, &second, &third];
-    let (pool, mut passes) = TablePool::open(alloc, &store, 3, row.warm, 1).expect(rt, "opened");
+    let (pool, mut passes) = open::<TableSlot<N>>(alloc, &store, 3, row.warm, 1).expect(
+        rt, "opened",
+    );
     let mut pass = passes.pop().unwrap();
     for visited in row.visits {
         if let Some((module, number)) = visited {
@@ -165,20 +168,20 @@ fn modules_come_back_to_their_tables(rt: HostRuntime) -> Result<(), Fail> {
 
 // What a second pass gets while the first has a slot, and after the first gave it back.
 fn visits_beside<N: Naming>(
-    pool: &TablePool<N>,
+    pool: &Words<TableSlot<N>>,
     mut first: Pass<TableSlot<N>>,
     mut second: Pass<TableSlot<N>>,
     store: &ModuleStore<N>,
     module: &ModuleRef<N>,
 ) -> [Option<u32>; 2]
-    requires own { IsTablePass pool.now first × IsTablePass pool.now second }
+    requires own { IsPassOf pool.now first × IsPassOf pool.now second }
     requires idle { IsIdle first × IsIdle second }
 {
-    let Ok(lease) = pool.take(&mut first, store, module) else {
+    let Ok(lease) = take(pool, &mut first, store, module) else {
         return [Some(9); 2];
     };
     let beside = visit(pool, &mut second, store, module);
-    pool.give(&mut first, lease, store);
+    give(pool, &mut first, lease, store);
     [beside, visit(pool, &mut second, store, module)]
 }
 
@@ -187,7 +190,7 @@ fn check_full<N: Naming, R: Abort + Wait>(rt: &R, alloc: Global, opened: Opened)
 {
     let (store, mut desk) = opened.named::<N>();
     let module = registered(rt, alloc, &store, &mut desk, &THREE);
-    let (pool, mut passes) = TablePool::open(alloc, &store, 1, 1, 2).expect(rt, "opened");
+    let (pool, mut passes) = open::<TableSlot<N>>(alloc, &store, 1, 1, 2).expect(rt, "opened");
     let first = passes.pop().unwrap();
     let second = passes.pop().unwrap();
     let got = visits_beside(&pool, first, second, &store, &module);
@@ -202,20 +205,20 @@ fn a_pool_is_full_until_its_table_is_given_back(rt: HostRuntime) -> Result<(), F
 
 // The tables that visits of two modules get, how many a sweep cleans then, and what is left.
 fn swept<N: Naming>(
-    pool: TablePool<N>,
+    pool: Words<TableSlot<N>>,
     mut pass: Pass<TableSlot<N>>,
     store: &ModuleStore<N>,
     first: &ModuleRef<N>,
     second: &ModuleRef<N>,
     module: &ModuleRef<N>,
 ) -> ([Option<u32>; 2], u32, KindCounts)
-    requires { IsNewTablePass pool pass }
+    requires { IsNewPassOf pool pass }
 {
     let visits = [
         visit(&pool, &mut pass, store, first),
         visit(&pool, &mut pass, store, second),
     ];
-    let cleaned = pool.sweep(&mut pass, module);
+    let cleaned = sweep(&pool, &mut pass, module.tag());
     (visits, cleaned, pool.close(pass))
 }
 
@@ -233,7 +236,7 @@ fn check_sweep<N: Naming, R: Abort + Wait>(
     let one = registered(rt, alloc, &store, &mut desk, &ONE);
     let unused = registered(rt, alloc, &store, &mut desk, &THREE);
     let modules = [&three, &one, &unused];
-    let (pool, mut passes) = TablePool::open(alloc, &store, 3, 3, 1).expect(rt, "opened");
+    let (pool, mut passes) = open::<TableSlot<N>>(alloc, &store, 3, 3, 1).expect(rt, "opened");
     let pass = passes.pop().unwrap();
     let (module, cleaned, left) = row;
     assert!(rt; module < 3);
@@ -260,20 +263,20 @@ fn a_sweep_cleans_the_tables_of_its_module(rt: HostRuntime) -> Result<(), Fail> 
 
 // How many tables a sweep cleans after one was given back, and how many entries it has then.
 fn entries_after_sweep<N: Naming>(
-    pool: &TablePool<N>,
+    pool: &Words<TableSlot<N>>,
     mut pass: Pass<TableSlot<N>>,
     store: &ModuleStore<N>,
     module: &ModuleRef<N>,
 ) -> Option<(u32, usize)>
-    requires { IsNewTablePass pool.now pass }
+    requires { IsNewPassOf pool.now pass }
 {
-    let Ok(lease) = pool.take(&mut pass, store, module) else {
+    let Ok(lease) = take(pool, &mut pass, store, module) else {
         return None;
     };
     let number = lease.number();
-    pool.give(&mut pass, lease, store);
-    let cleaned = pool.sweep(&mut pass, module);
-    let Ok(lease) = pool.words.claim(&mut pass, number) else {
+    give(pool, &mut pass, lease, store);
+    let cleaned = sweep(pool, &mut pass, module.tag());
+    let Ok(lease) = pool.claim(&mut pass, number) else {
         return None;
     };
     let slot = lease.keep();
@@ -285,7 +288,7 @@ fn check_entries_after_sweep<N: Naming, R: Abort + Wait>(rt: &R, alloc: Global, 
 {
     let (store, mut desk) = opened.named::<N>();
     let module = registered(rt, alloc, &store, &mut desk, &THREE);
-    let (pool, mut passes) = TablePool::open(alloc, &store, 1, 1, 1).expect(rt, "opened");
+    let (pool, mut passes) = open::<TableSlot<N>>(alloc, &store, 1, 1, 1).expect(rt, "opened");
     let pass = passes.pop().unwrap();
     let got = entries_after_sweep(&pool, pass, &store, &module);
     assert_eq!(rt; got, Some((1, 0)));
@@ -298,14 +301,14 @@ fn a_sweep_leaves_nothing_of_a_table(rt: HostRuntime) -> Result<(), Fail> {
 }
 
 fn visit_often<N: Naming>(
-    pool: &TablePool<N>,
+    pool: &Words<TableSlot<N>>,
     mut pass: Pass<TableSlot<N>>,
     store: &ModuleStore<N>,
     module: &ModuleRef<N>,
 ) -> Pass<TableSlot<N>>
-    requires own { IsTablePass pool.now pass }
+    requires own { IsPassOf pool.now pass }
     requires idle { IsIdle pass }
-    ensures own { IsTablePass pool.now result }
+    ensures own { IsPassOf pool.now result }
     ensures idle { IsIdle result }
 {
     for _ in 0..300u32 {
@@ -316,12 +319,12 @@ fn visit_often<N: Naming>(
 
 // The two passes of a pool that was opened for two.
 fn both<N: Naming>(
-    pool: &TablePool<N>,
+    pool: &Words<TableSlot<N>>,
     mut passes: Vec<Pass<TableSlot<N>>>,
 ) -> (Pass<TableSlot<N>>, Pass<TableSlot<N>>)
     requires count { length passes.items ≡ 2 }
-    requires new { All (IsNewTablePass pool.now) passes.items }
-    ensures own { IsTablePass pool.now result.0 × IsTablePass pool.now result.1 }
+    requires new { All (IsNewPassOf pool.now) passes.items }
+    ensures own { IsPassOf pool.now result.0 × IsPassOf pool.now result.1 }
     ensures idle { IsIdle result.0 × IsIdle result.1 }
 {
     let first = passes.pop().unwrap();
@@ -339,18 +342,18 @@ fn check_threads<N: Naming + Send + Sync, R: Abort + Threads + Wait + Sync>(
     let (store, mut desk) = opened.named::<N>();
     let three = registered(rt, alloc, &store, &mut desk, &THREE);
     let one = registered(rt, alloc, &store, &mut desk, &ONE);
-    let (pool, passes) = TablePool::open(alloc, &store, 2, 1, 2).expect(rt, "opened");
+    let (pool, passes) = open::<TableSlot<N>>(alloc, &store, 2, 1, 2).expect(rt, "opened");
     let (first, second) = both(&pool, passes);
     let shared = &pool;
     let (mut first, second) = thread::join(
         rt,
         || -> Pass<TableSlot<N>>
-            requires { IsTablePass shared.now first × IsIdle first }
-            ensures { IsTablePass shared.entry.now result × IsIdle result }
+            requires { IsPassOf shared.now first × IsIdle first }
+            ensures { IsPassOf shared.entry.now result × IsIdle result }
         { visit_often(shared, first, &store, &three) },
         || -> Pass<TableSlot<N>>
-            requires { IsTablePass shared.now second × IsIdle second }
-            ensures { IsTablePass shared.entry.now result × IsIdle result }
+            requires { IsPassOf shared.now second × IsIdle second }
+            ensures { IsPassOf shared.entry.now result × IsIdle result }
         { visit_often(shared, second, &store, &one) },
     );
     pool.join_pass(&mut first, second);

@@ -68,34 +68,6 @@ impl<N: Naming> ShareHost<N> {
         )
     }
 
-    /// The same with an empty request.
-    pub fn call<G: Gate>(
-        &self,
-        pass: &mut TenantPass<N>,
-        store: &ModuleStore<N>,
-        module: &ModuleRef<N>,
-        export: &[u8],
-        args: &[Val],
-        fuel: u64,
-        number: u64,
-        gate: &G,
-    ) -> Answer
-        requires { IsTenantPass self.now pass.old }
-        ensures own { IsTenantPass self.now pass.new }
-        ensures same { IsSameTenantPass pass.old pass.new }
-        ensures answer { IsHostAnswer «module».now.tree (run_limits N.config) export.now args.now [] fuel result pass.new.pass.answer }
-
-        // all of it on the tenant's own host: where a kind is full, other passes of the tenant held its slots; a module is retired there
-        ensures trails { (host : Host N) → IsHostOf self.now pass.old.tenant host
-            → AddsTrails N.config host «module».now result pass.old.pass.passes pass.new.pass.passes }
-        ensures full { (host : Host N) → IsHostOf self.now pass.old.tenant host
-            → IfFull result (HasCause N.config host «module».now pass.old.pass.passes pass.new.pass.passes) }
-        ensures looked { (host : Host N) → IsHostOf self.now pass.old.tenant host
-            → Looked host.retired.tags «module».now.tag pass.old.pass.retired pass.new.pass.retired (look_of result) }
-    {
-        self.send(pass, store, module, export, args, &[], fuel, number, gate)
-    }
-
     /// Calls as `send` does for a caller, with its pass of this tenant: on slots of this tenant alone.
     pub fn send_for<G: Gate>(
         &self,

@@ -1,9 +1,10 @@
 //! Branches. Source: WebAssembly Core Specification 1.0, section 3.3.5.
 
-ghost use Rattle.std.specs.Prelude.{◌≡◌, ℕ, Option, MatchResult, slice_get};
+ghost use Rattle.std.specs.Prelude.{◌≡◌, ℕ, ◌∷◌, if◌then◌else◌, Option, MatchResult, slice_get};
 ghost use Rattle.std.specs.List.{list_all};
 ghost use Rattle.wasm_spec.specs.Typing as typing;
-ghost use Rattle.wasm_spec.specs.Typing.{result_types};
+ghost use Rattle.wasm_spec.specs.Typing.{result_types, named, Fixed, Diverges, Wrong};
+ghost use Rattle.wasm_types.specs.declared.types.ValType.TheVariants.{I32};
 ghost use Rattle.wasm_checker.specs.Position.{Position, Shows, labels_of};
 ghost use Rattle.wasm_checker.specs.Steps.{Applies};
 
@@ -15,7 +16,7 @@ use wasm_types::ValType;
 impl Checker {
     /// A branch to a label, in a function with this result.
     pub(crate) fn branch(&mut self, body: Option<ValType>, l: u32) -> Result<(), CheckFault>
-        ensures { Applies (λ k. typing.branch (slice_get (labels_of body k.blocks) l)) self.old result self.new }
+        ensures { Applies (λ k. named (slice_get (labels_of body k.blocks) l) (λ label. Diverges label)) self.old result self.new }
     {
         let t = self.label(body, l).ok_or(CheckFault::Invalid)?;
         self.jump(t)
@@ -23,7 +24,7 @@ impl Checker {
 
     /// A branch to a label where the top is not 0.
     pub(crate) fn branch_if(&mut self, body: Option<ValType>, l: u32) -> Result<(), CheckFault>
-        ensures { Applies (λ k. typing.branch_if (slice_get (labels_of body k.blocks) l)) self.old result self.new }
+        ensures { Applies (λ k. named (slice_get (labels_of body k.blocks) l) (λ label. Fixed (I32 ∷ label) label)) self.old result self.new }
     {
         let t = self.label(body, l).ok_or(CheckFault::Invalid)?;
         self.jump_if(t)
@@ -36,8 +37,8 @@ impl Checker {
         names: &[u32],
         l: u32,
     ) -> Result<(), CheckFault>
-        ensures { Applies (λ k. let labels = labels_of body k.blocks in typing.branch_table labels names.now (slice_get labels l))
-            self.old result self.new }
+        ensures { Applies (λ k. let labels = labels_of body k.blocks in named (slice_get labels l) (λ label.
+            if list_all (λ x. typing.is_label label (slice_get labels x)) names.now then Diverges (I32 ∷ label) else Wrong)) self.old result self.new }
     {
         let t = self.label(body, l).ok_or(CheckFault::Invalid)?;
         if self.are_labels(body, names, t) {

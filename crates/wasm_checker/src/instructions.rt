@@ -1,8 +1,9 @@
 //! The steps of instructions, each by its typing rule.
 
-ghost use Rattle.std.specs.Prelude.{◌≡◌, ℕ, ◌≤◌, List, [], ◌∷◌, Option, MatchResult, slice_get};
+ghost use Rattle.std.specs.Prelude.{◌≡◌, ℕ, ◌≤◌, List, [], ◌∷◌, Option, MatchResult, slice_get, reverse};
 ghost use Rattle.wasm_types.specs.Tree.{module_tree};
-ghost use Rattle.wasm_spec.specs.Typing.{Fixed, rule, calling, calling_indirect};
+ghost use Rattle.wasm_types.specs.declared.types.ValType.TheVariants.{I32};
+ghost use Rattle.wasm_spec.specs.Typing.{Fixed, named, needs_one, rule};
 ghost use Rattle.wasm_spec.specs.Functions as functions;
 ghost use Rattle.wasm_spec.specs.Typing as typing;
 ghost use Rattle.wasm_checker.specs.Subject.{HaveOneResult, locals_of};
@@ -86,7 +87,7 @@ impl Checker {
     pub(crate) fn call(&mut self, m: &Module, x: u32) -> Result<(), CheckFault>
         requires { HaveOneResult m.now }
         ensures { let callee = functions.function_type (module_tree m.now) x in
-            Applies (λ _. calling callee) self.old result self.new }
+            Applies (λ _. named callee (λ t. Fixed (reverse t.params) t.results)) self.old result self.new }
     {
         let t = function_type(m, x).ok_or(CheckFault::Invalid)?;
         self.operate(t.params.as_slice(), single_result(t))
@@ -96,7 +97,8 @@ impl Checker {
     pub(crate) fn call_indirect(&mut self, m: &Module, x: u32) -> Result<(), CheckFault>
         requires { HaveOneResult m.now }
         ensures { let callee = slice_get m.now.types x in
-            Applies (λ _. calling_indirect m.now.tables callee) self.old result self.new }
+            Applies (λ _. needs_one m.now.tables (named callee (λ t. Fixed (I32 ∷ reverse t.params) t.results)))
+            self.old result self.new }
     {
         if m.tables.is_empty() {
             return Err(CheckFault::Invalid);

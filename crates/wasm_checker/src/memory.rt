@@ -20,7 +20,7 @@ impl Checker {
         t: Option<ValType>,
     ) -> Result<(), CheckFault>
         ensures { let by = Fixed (reverse takes.now) (result_types t) in
-            Applies (λ _. typing.needs_memory m.now.memories by) self.old result self.new }
+            Applies (λ _. typing.needs_one m.now.memories by) self.old result self.new }
     {
         if m.memories.is_empty() {
             return Err(CheckFault::Invalid);

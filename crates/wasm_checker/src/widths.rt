@@ -3,6 +3,8 @@
 ghost use Rattle.std.specs.Prelude.{◌≡◌, ℕ, ◌≤◌, ◌^◌, Option, nat_le};
 ghost use Rattle.wasm_types.specs.SameTypes as same_types;
 ghost use Rattle.wasm_spec.specs.Typing as typing;
+ghost use Rattle.std.specs.Int.{byte_len};
+ghost use Rattle.wasm_spec.specs.Operators.{int_width, pack_width};
 ghost use Rattle.wasm_spec.specs.Typing.{result_types};
 
 use crate::checker::agrees;
@@ -31,7 +33,7 @@ pub fn type_of(value: Val) -> ValType
 
 /// How many bytes an integer of this width has.
 pub(crate) fn byte_width(width: Width) -> u32
-    ensures value { result ≡ typing.byte_width width }
+    ensures value { result ≡ byte_len (int_width width) }
     ensures bound { result ≤ 8 }
 {
     match width {
@@ -42,7 +44,7 @@ pub(crate) fn byte_width(width: Width) -> u32
 
 /// How many bytes a narrow access moves.
 pub(crate) fn packed_width(size: PackSize) -> u32
-    ensures value { result ≡ typing.packed_width size }
+    ensures value { result ≡ byte_len (pack_width size) }
     ensures bound { result ≤ 8 }
 {
     match size {

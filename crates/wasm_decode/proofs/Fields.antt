@@ -5,7 +5,7 @@ use Rattle.std.proofs.lemmas.List.{length-map}
 use Rattle.wasm_values.specs.declared.profile.Profile.{Profile}
 use Rattle.wasm_types.specs.Tree.{DataTree, FunctionTree, ModuleTree}
 use Rattle.wasm_spec.specs.Numbers.{TakesUnsigned}
-use Rattle.wasm_spec.specs.Grammar.{Body, TakesData, TakesSizedBody, SpellsCount, body_of, type_index_of, Section, section, SpellsVec, SpellsFields}
+use Rattle.wasm_spec.specs.Grammar.{Body, TakesData, TakesSizedBody, SpellsCount, body_of, Section, section, SpellsVec, SpellsFields}
 use Rattle.wasm_spec.proofs.UnambiguousNumbers.{unsigned-unique}
 use Rattle.wasm_spec.proofs.UnambiguousModules.{data-unique, sized_body-unique, spelled_vec-unique}
 use Rattle.instr_decode.specs.Decoding.{IsNone}
@@ -22,9 +22,9 @@ exits-part P Q r Found fault e none through = exits r Found (IsNone Q) fault e (
 pub same-length : (profile : Profile) (sections : List Section) (fs : List FunctionTree) (indices : List ℕ) (bodies : List Body) → SpellsFunctions profile sections fs
     → SpellsVec (TakesUnsigned 32) indices (section 3 sections) → SpellsVec (TakesSizedBody profile) bodies (section 10 sections) → length indices ≡ length bodies
 same-length profile sections fs indices bodies h a b =
-    let i = spelled_vec-unique (TakesUnsigned 32) (unsigned-unique 32) indices (map type_index_of fs) (section 3 sections) a h.types in
+    let i = spelled_vec-unique (TakesUnsigned 32) (unsigned-unique 32) indices (map (λ (f : FunctionTree). f.type_index) fs) (section 3 sections) a h.types in
     let j = spelled_vec-unique (TakesSizedBody profile) (sized_body-unique profile) bodies (map body_of fs) (section 10 sections) b h.bodies in
-    omega (arith, ap length i, ap length j, length-map fs type_index_of, length-map fs body_of)
+    omega (arith, ap length i, ap length j, length-map fs (λ (f : FunctionTree). f.type_index), length-map fs body_of)
 
 -- as many data segments as are counted
 pub data-counted : (profile : Profile) (sections : List Section) (i : InitializationTree) (datas : List DataTree) → SpellsInitialization profile sections i → SpellsVec (TakesData profile) datas (section 11 sections)

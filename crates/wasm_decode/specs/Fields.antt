@@ -5,8 +5,8 @@ use Rattle.wasm_types.specs.declared.types.FuncType.{FuncType}
 use Rattle.wasm_types.specs.declared.types.Limits.{Limits}
 use Rattle.wasm_types.specs.Tree.{FunctionTree, GlobalTree, ElementTree, DataTree, function_tree, global_tree, element_tree, data_tree}
 use Rattle.wasm_spec.specs.Numbers.{TakesUnsigned}
-use Rattle.wasm_spec.specs.TypeGrammar.{TakesFuncType, TakesTableType, TakesMemoryType}
-use Rattle.wasm_spec.specs.Grammar.{Section, section, SpellsVec, SpellsStart, SpellsCount, TakesGlobal, TakesElement, TakesSizedBody, TakesData, body_of, type_index_of}
+use Rattle.wasm_spec.specs.TypeGrammar.{TakesFuncType, TakesTableType, TakesLimits}
+use Rattle.wasm_spec.specs.Grammar.{Section, section, SpellsVec, SpellsStart, SpellsCount, TakesGlobal, TakesElement, TakesSizedBody, TakesData, body_of}
 use Rattle.wasm_decode.specs.declared.decoder.Definitions.{Definitions}
 use Rattle.wasm_decode.specs.declared.decoder.Initialization.{Initialization}
 
@@ -40,14 +40,14 @@ initialization_tree i = record {
 
 -- the function section has the functions' types, and the code section their bodies
 pub record SpellsFunctions (profile : Profile) (sections : List Section) (fs : List FunctionTree) : Type 0 where
-  pub types : SpellsVec (TakesUnsigned 32) (map type_index_of fs) (section 3 sections)
+  pub types : SpellsVec (TakesUnsigned 32) (map (λ (f : FunctionTree). f.type_index) fs) (section 3 sections)
   pub bodies : SpellsVec (TakesSizedBody profile) (map body_of fs) (section 10 sections)
 
 pub record SpellsDefinitions (profile : Profile) (sections : List Section) (d : DefinitionsTree) : Type 0 where
   pub types : SpellsVec TakesFuncType d.types (section 1 sections)
   pub functions : SpellsFunctions profile sections d.functions
   pub tables : SpellsVec TakesTableType d.tables (section 4 sections)
-  pub memories : SpellsVec TakesMemoryType d.memories (section 5 sections)
+  pub memories : SpellsVec TakesLimits d.memories (section 5 sections)
   pub globals : SpellsVec (TakesGlobal profile) d.globals (section 6 sections)
 
 -- the data count section says how many data segments there are

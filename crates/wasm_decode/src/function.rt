@@ -2,8 +2,8 @@
 
 ghost use Rattle.std.specs.Prelude.{◌≡◌, ◌↔◌, ◌<◌, ◌^◌, IsTrue, IfOk, OnErr, flat_map, length, map};
 ghost use Rattle.wasm_types.specs.declared.module.LocalRun.{LocalRun as LocalRunTree};
-ghost use Rattle.wasm_types.specs.Tree.{Code, expr_tree, locals_of, function_tree};
-ghost use Rattle.wasm_spec.specs.Grammar.{Body as BodyTree, TakesLocalRun, TakesBody, TakesSizedBody, body_of, type_index_of};
+ghost use Rattle.wasm_types.specs.Tree.{Code, FunctionTree, expr_tree, locals_of, function_tree};
+ghost use Rattle.wasm_spec.specs.Grammar.{Body as BodyTree, TakesLocalRun, TakesBody, TakesSizedBody, body_of};
 ghost use Rattle.wasm_spec.specs.InstrGrammar.{TakesExpr};
 ghost use Rattle.wasm_spec.proofs.UnambiguousInstrs.{expr-unique};
 ghost use Rattle.wasm_spec.proofs.UnambiguousModules.{local_run-unique, body-unique, sized_body-unique};
@@ -126,7 +126,7 @@ pub(crate) fn join(
     bodies: Vec<SizedBody>,
 ) -> Result<Vec<Function>, AllocError>
     requires { length type_indices.now ≡ length bodies.items }
-    ensures types { IfOk result (λ fs. map type_index_of (map function_tree fs.items) ≡ type_indices.now) }
+    ensures types { IfOk result (λ fs. map (λ (f : FunctionTree). f.type_index) (map function_tree fs.items) ≡ type_indices.now) }
     ensures bodies { IfOk result (λ fs. map body_of (map function_tree fs.items) ≡ map (λ s. body_tree s.body) bodies.items) }
     ensures wanted { OnErr result (0 < length bodies.items) }
 {

@@ -1,7 +1,7 @@
 -- Bytes that spell a module in profile 2 and none in profile 1: an extension by the sign, a fill, and a data count section. The
 -- expected values are those of another engine, V8.
 use Rattle.std.proofs.Common.{◌≡◌, ◌≢◌, ◌≤◌, ℕ, inl, inr, List, [], ◌∷◌, ◌++◌, length, map, refl, ap, subst, arith, pos}
-use Rattle.std.specs.Prelude.{Ok, Err, AllPairs, codes}
+use Rattle.std.specs.Prelude.{Ok, Err, codes}
 use Rattle.std.proofs.lemmas.List.Elements.{All-nil, All-cons}
 use Rattle.wasm_values.specs.declared.profile.Profile.TheVariants.{One, Two}
 use Rattle.wasm_types.specs.declared.limits.LoadLimits.{LoadLimits}
@@ -15,13 +15,13 @@ use Rattle.wasm_types.specs.declared.instr.Instr.TheVariants as instr
 use Rattle.wasm_types.specs.declared.module.Export.{Export}
 use Rattle.wasm_types.specs.Tree.{Code, End, Plain, Block, Loop, If, Call, CallIndirect, FunctionTree, ModuleTree}
 use Rattle.wasm_spec.specs.Numbers.{TakesUnsigned, TakesEach, TakesVec, TakesBytes}
-use Rattle.wasm_spec.specs.TypeGrammar.{TakesFuncType, TakesMemoryType}
+use Rattle.wasm_spec.specs.TypeGrammar.{TakesFuncType, TakesLimits}
 use Rattle.wasm_spec.specs.InstrGrammar.{shape, TakesShape, TakesInstr, TakesCode, ByEnd}
 use Rattle.wasm_spec.specs.Grammar.{Section, Body, TakesSection, TakesLocalRun, TakesExport, TakesSizedBody, TakesData, SpellsVec, SpellsCount, body_of, section, Spells}
 use Rattle.wasm_spec.specs.Typing.{IsTypedFunction}
 use Rattle.wasm_spec.specs.Validity.{IsValid, IsSupported, IsDefined}
 use Rattle.wasm_spec.specs.Loading.{Loads, Malformed}
-use Rattle.wasm_spec.proofs.AddModule.{short, section_is}
+use Rattle.wasm_spec.proofs.AddModule.{one_pair, short, section_is}
 use Rattle.wasm_spec.proofs.UnambiguousNumbers.{same_first, unsigned-unique, bytes-unique}
 use Rattle.wasm_spec.proofs.UnambiguousModules.{sections-unique}
 use Rattle.wasm_examples.proofs.Modules.{exported, unary_type, extend_module, fill_module, counted_module}
@@ -142,9 +142,6 @@ extend_function = record { type_index = 0; locals = []; body = Plain (instr.Loca
 
 extend_typed : IsTypedFunction extend_module extend_function
 extend_typed = (refl, (type.I32 ∷ [], ([], refl, refl), (type.I32 ∷ [], ([], refl, refl), refl)))
-
-one_pair : {X : Type 0} (R : X → X → Type 0) (x : X) → AllPairs R (x ∷ [])
-one_pair R x i j d lt le = absurd (omega arith)
 
 extend_valid : IsValid extend_module
 extend_valid = record {
@@ -293,7 +290,7 @@ fill_follows = (
 fill_type_spelled : TakesVec TakesFuncType fill_module.types fill_type []
 fill_type_spelled = record { mid = _; count = short 1 _ (omega arith); items = (_, record { after = _; mid = _; tag = refl; params = record { mid = _; count = short 2 _ (omega arith); items = (_, refl, (_, refl, refl)) }; results = record { mid = _; count = short 0 _ (omega arith); items = refl } }, refl) }
 
-one_page_spelled : TakesVec TakesMemoryType fill_module.memories one_page []
+one_page_spelled : TakesVec TakesLimits fill_module.memories one_page []
 one_page_spelled = record { mid = _; count = short 1 _ (omega arith); items = (_, (_, refl, short 1 [] (omega arith)), refl) }
 
 fill_export_spelled : TakesVec TakesExport fill_module.exports fill_export []

@@ -11,7 +11,7 @@ use Rattle.wasm_types.specs.declared.module.ImportDesc.TheVariants as import
 use Rattle.wasm_types.specs.declared.module.ExportDesc.TheVariants as export
 use Rattle.wasm_types.specs.Tree.{End, Plain, Block, Loop, If, Call, CallIndirect, ModuleTree}
 use Rattle.wasm_spec.specs.Numbers.{TakesUnsigned, TakesEach, TakesVec}
-use Rattle.wasm_spec.specs.TypeGrammar.{TakesFuncType, TakesTableType, TakesMemoryType}
+use Rattle.wasm_spec.specs.TypeGrammar.{TakesFuncType, TakesTableType, TakesLimits}
 use Rattle.wasm_spec.specs.InstrGrammar.{shape}
 use Rattle.wasm_values.specs.declared.profile.Profile.TheVariants.{One}
 use Rattle.wasm_spec.specs.Grammar.{Section, IsCustom, TakesSection, IsOrderedAbove, TakesImport, TakesGlobal, TakesExport, TakesElement, TakesSizedBody, TakesData, body_of, Spells}
@@ -152,7 +152,7 @@ indices_spelled = record { mid = _; count = inl (omega arith, omega arith, refl,
 tables_spelled : TakesVec TakesTableType everything.tables table_contents []
 tables_spelled = record { mid = _; count = inl (omega arith, omega arith, refl, refl); items = (_, (_, refl, (_, refl, _, inl (omega arith, omega arith, refl, refl), inl (omega arith, omega arith, refl, refl))), refl) }
 
-memories_spelled : TakesVec TakesMemoryType everything.memories memory_contents []
+memories_spelled : TakesVec TakesLimits everything.memories memory_contents []
 memories_spelled = record { mid = _; count = inl (omega arith, omega arith, refl, refl); items = (_, (_, refl, inl (omega arith, omega arith, refl, refl)), refl) }
 
 globals_spelled : TakesVec (TakesGlobal One) everything.globals global_contents []

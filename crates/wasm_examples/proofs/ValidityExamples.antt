@@ -17,6 +17,7 @@ use Rattle.wasm_values.specs.declared.profile.Profile.TheVariants.{One}
 use Rattle.wasm_spec.specs.Functions.{callee_at}
 use Rattle.wasm_spec.specs.Typing.{IsTypedFunction}
 use Rattle.wasm_spec.specs.Validity.{IsValid, IsSupported, IsDefined, IsInitialised, IsElementSegment, IsDataSegment, IsMemoryType, AreOrdered, IsStart, Exports}
+use Rattle.wasm_spec.proofs.AddModule.{all_one}
 use Rattle.wasm_examples.proofs.Modules.{straight, i32_const, function_type, function_of, empty_type, unary_type}
 
 -- ---- a valid module with every part
@@ -88,29 +89,26 @@ names_differ (suc (suc zero)) (suc (suc (suc zero))) d lt le = differ 109 103 []
 names_differ (suc (suc zero)) (suc (suc (suc (suc n)))) d lt le = absurd (omega arith)
 names_differ (suc (suc (suc i))) j d lt le = absurd (omega arith)
 
-one : {X : Type 0} (P : X → Type 0) (x : X) → P x → All P (x ∷ [])
-one P x p = All-cons P x [] p (All-nil P)
-
 two : {X : Type 0} (P : X → Type 0) (x y : X) → P x → P y → All P (x ∷ y ∷ [])
-two P x y p q = All-cons P x (y ∷ []) p (one P y q)
+two P x y p q = All-cons P x (y ∷ []) p (all_one P y q)
 
 memory_type : IsMemoryType (range 65536 (Some 65536))
 memory_type = record { least = omega arith; most = omega arith; ordered = omega arith }
 
 element_segment : IsElementSegment whole (elements_at (at_global 0) (0 ∷ []))
-element_segment = record { table = refl; offset = refl; functions = one (λ x. IsSome (callee_at whole x)) 0 refl }
+element_segment = record { table = refl; offset = refl; functions = all_one (λ x. IsSome (callee_at whole x)) 0 refl }
 
 whole_is_valid : IsValid whole
 whole_is_valid = record {
   function_types = two (λ (t : FuncType). length t.results ≤ 1) empty_type unary_type (omega arith) (omega arith);
   imports = All-nil _;
-  functions = one (IsTypedFunction whole) the_function (refl, refl);
+  functions = all_one (IsTypedFunction whole) the_function (refl, refl);
   one_table = omega arith;
-  table_types = one AreOrdered (range 2 (Some 2)) (omega arith);
+  table_types = all_one AreOrdered (range 2 (Some 2)) (omega arith);
   one_memory = omega arith;
-  memory_types = one IsMemoryType (range 65536 (Some 65536)) memory_type;
+  memory_types = all_one IsMemoryType (range 65536 (Some 65536)) memory_type;
   globals = two IsInitialised (global_of false (val.I32 1)) (global_of true (val.I32 1)) refl refl;
-  element_segments = one (IsElementSegment whole) (elements_at (at_global 0) (0 ∷ [])) element_segment;
+  element_segments = all_one (IsElementSegment whole) (elements_at (at_global 0) (0 ∷ [])) element_segment;
   data_segments = two (IsDataSegment whole) (data_at (at_global 0)) (data_at at_constant) (record { memory = refl; offset = refl }) (record { memory = refl; offset = refl });
   start = record { type = empty_type; there = refl; no_params = refl; no_results = refl };
   exports = All-cons (λ e. IsDefined whole e.desc) (exports_as (codes "f") (desc.Func 0)) (exports_as (codes "t") (desc.Table 0) ∷ last_exports) refl

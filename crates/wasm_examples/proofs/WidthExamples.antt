@@ -9,7 +9,7 @@ use Rattle.wasm_types.specs.Tree.{End, Call, CallIndirect, FunctionTree, Element
 use Rattle.wasm_spec.specs.Numbers.{TakesUnsigned, TakesVec, TakesBytes}
 use Rattle.wasm_spec.specs.TypeGrammar.{TakesRange}
 use Rattle.wasm_spec.specs.InstrGrammar.{shape, TakesShape, TakesPrefixed, TakesCode, ByEnd}
-use Rattle.wasm_spec.specs.Grammar.{TakesImportDesc, TakesExportDesc, TakesElement, TakesData, TakesLocalRun, SpellsStart, SpellsCount, SpellsFields, type_index_of}
+use Rattle.wasm_spec.specs.Grammar.{TakesImportDesc, TakesExportDesc, TakesElement, TakesData, TakesLocalRun, SpellsStart, SpellsCount, SpellsFields}
 use Rattle.wasm_examples.proofs.Modules.{bare}
 use Rattle.wasm_examples.proofs.NumberExamples.{unused_bits_are_not_zero, sign_is_not_copied, sign_of_64_is_not_copied}
 
@@ -100,7 +100,7 @@ function_of_a_segment s bytes behind rest h e = number_of_a_vector s.functions b
 -- of one function, whatever its body is
 type_of_a_function : (xs : List FunctionTree) (bodies : List ℕ)
     → SpellsFields One (record { id = 3; contents = 1 ∷ too_great [] } ∷ record { id = 10; contents = bodies } ∷ []) (record (bare [] [] []) { functions = xs }) → ⊥
-type_of_a_function xs bodies h = number_of_a_vector (map type_index_of xs) [] [] h.function_types
+type_of_a_function xs bodies h = number_of_a_vector (map (λ (f : FunctionTree). f.type_index) xs) [] [] h.function_types
 
 memory_of_a_segment : (s : DataTree) (behind rest : List ℕ) → TakesData One s (too_great behind) rest → ⊥
 memory_of_a_segment s behind rest h = unused_bits_are_not_zero s.memory behind h.after_memory h.memory

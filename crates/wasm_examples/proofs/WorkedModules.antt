@@ -3,9 +3,10 @@ use Rattle.std.proofs.Common.{ℕ, inl, inr, List, [], ◌∷◌, ◌++◌, map,
 use Rattle.std.specs.Prelude.{negsuc}
 use Rattle.wasm_values.specs.declared.profile.Profile.TheVariants.{One}
 use Rattle.wasm_spec.specs.Numbers.{TakesUnsigned, TakesEach, TakesVec}
-use Rattle.wasm_spec.specs.TypeGrammar.{TakesFuncType, TakesTableType, TakesMemoryType}
+use Rattle.wasm_spec.specs.TypeGrammar.{TakesFuncType, TakesTableType, TakesLimits}
 use Rattle.wasm_spec.specs.InstrGrammar.{shape}
-use Rattle.wasm_spec.specs.Grammar.{Section, TakesSection, TakesGlobal, TakesExport, TakesElement, TakesSizedBody, TakesData, body_of, type_index_of, Spells}
+use Rattle.wasm_types.specs.Tree.{FunctionTree}
+use Rattle.wasm_spec.specs.Grammar.{Section, TakesSection, TakesGlobal, TakesExport, TakesElement, TakesSizedBody, TakesData, body_of, Spells}
 use Rattle.wasm_examples.proofs.Modules.{add_module, bump_module, poke_module, wrap_module, grown_module, grow_module, div_module, indirect_module, recursive_module, start_module, spin_module, misfit_module, count_module, next_module}
 
 -- ---- add
@@ -43,7 +44,7 @@ add_follows = (_, record { after = _; id = refl; sized = record { mid = add_type
 add_type_spelled : TakesVec TakesFuncType add_module.types add_type []
 add_type_spelled = record { mid = _; count = inl (omega arith, omega arith, refl, refl); items = (_, record { after = _; mid = _; tag = refl; params = record { mid = _; count = inl (omega arith, omega arith, refl, refl); items = (_, refl, (_, refl, refl)) }; results = record { mid = _; count = inl (omega arith, omega arith, refl, refl); items = (_, refl, refl) } }, refl) }
 
-add_function_spelled : TakesVec (TakesUnsigned 32) (map type_index_of add_module.functions) add_function []
+add_function_spelled : TakesVec (TakesUnsigned 32) (map (λ (f : FunctionTree). f.type_index) add_module.functions) add_function []
 add_function_spelled = record { mid = _; count = inl (omega arith, omega arith, refl, refl); items = (_, inl (omega arith, omega arith, refl, refl), refl) }
 
 add_export_spelled : TakesVec TakesExport add_module.exports add_export []
@@ -118,10 +119,10 @@ bump_follows = (_, record { after = _; id = refl; sized = record { mid = bump_ty
 bump_type_spelled : TakesVec TakesFuncType bump_module.types bump_type []
 bump_type_spelled = record { mid = _; count = inl (omega arith, omega arith, refl, refl); items = (_, record { after = _; mid = _; tag = refl; params = record { mid = _; count = inl (omega arith, omega arith, refl, refl); items = refl }; results = record { mid = _; count = inl (omega arith, omega arith, refl, refl); items = (_, refl, refl) } }, refl) }
 
-bump_function_spelled : TakesVec (TakesUnsigned 32) (map type_index_of bump_module.functions) bump_function []
+bump_function_spelled : TakesVec (TakesUnsigned 32) (map (λ (f : FunctionTree). f.type_index) bump_module.functions) bump_function []
 bump_function_spelled = record { mid = _; count = inl (omega arith, omega arith, refl, refl); items = (_, inl (omega arith, omega arith, refl, refl), refl) }
 
-bump_memory_spelled : TakesVec TakesMemoryType bump_module.memories bump_memory []
+bump_memory_spelled : TakesVec TakesLimits bump_module.memories bump_memory []
 bump_memory_spelled = record { mid = _; count = inl (omega arith, omega arith, refl, refl); items = (_, (_, refl, inl (omega arith, omega arith, refl, refl)), refl) }
 
 bump_export_spelled : TakesVec TakesExport bump_module.exports bump_export []
@@ -196,10 +197,10 @@ poke_follows = (_, record { after = _; id = refl; sized = record { mid = poke_ty
 poke_type_spelled : TakesVec TakesFuncType poke_module.types poke_type []
 poke_type_spelled = record { mid = _; count = inl (omega arith, omega arith, refl, refl); items = (_, record { after = _; mid = _; tag = refl; params = record { mid = _; count = inl (omega arith, omega arith, refl, refl); items = (_, refl, (_, refl, refl)) }; results = record { mid = _; count = inl (omega arith, omega arith, refl, refl); items = refl } }, refl) }
 
-poke_function_spelled : TakesVec (TakesUnsigned 32) (map type_index_of poke_module.functions) poke_function []
+poke_function_spelled : TakesVec (TakesUnsigned 32) (map (λ (f : FunctionTree). f.type_index) poke_module.functions) poke_function []
 poke_function_spelled = record { mid = _; count = inl (omega arith, omega arith, refl, refl); items = (_, inl (omega arith, omega arith, refl, refl), refl) }
 
-poke_memory_spelled : TakesVec TakesMemoryType poke_module.memories poke_memory []
+poke_memory_spelled : TakesVec TakesLimits poke_module.memories poke_memory []
 poke_memory_spelled = record { mid = _; count = inl (omega arith, omega arith, refl, refl); items = (_, (_, refl, inl (omega arith, omega arith, refl, refl)), refl) }
 
 poke_export_spelled : TakesVec TakesExport poke_module.exports poke_export []
@@ -274,10 +275,10 @@ wrap_follows = (_, record { after = _; id = refl; sized = record { mid = wrap_ty
 wrap_type_spelled : TakesVec TakesFuncType wrap_module.types wrap_type []
 wrap_type_spelled = record { mid = _; count = inl (omega arith, omega arith, refl, refl); items = (_, record { after = _; mid = _; tag = refl; params = record { mid = _; count = inl (omega arith, omega arith, refl, refl); items = (_, refl, refl) }; results = record { mid = _; count = inl (omega arith, omega arith, refl, refl); items = (_, refl, refl) } }, refl) }
 
-wrap_function_spelled : TakesVec (TakesUnsigned 32) (map type_index_of wrap_module.functions) wrap_function []
+wrap_function_spelled : TakesVec (TakesUnsigned 32) (map (λ (f : FunctionTree). f.type_index) wrap_module.functions) wrap_function []
 wrap_function_spelled = record { mid = _; count = inl (omega arith, omega arith, refl, refl); items = (_, inl (omega arith, omega arith, refl, refl), refl) }
 
-wrap_memory_spelled : TakesVec TakesMemoryType wrap_module.memories wrap_memory []
+wrap_memory_spelled : TakesVec TakesLimits wrap_module.memories wrap_memory []
 wrap_memory_spelled = record { mid = _; count = inl (omega arith, omega arith, refl, refl); items = (_, (_, refl, inl (omega arith, omega arith, refl, refl)), refl) }
 
 wrap_export_spelled : TakesVec TakesExport wrap_module.exports wrap_export []
@@ -352,10 +353,10 @@ grown_follows = (_, record { after = _; id = refl; sized = record { mid = grown_
 grown_type_spelled : TakesVec TakesFuncType grown_module.types grown_type []
 grown_type_spelled = record { mid = _; count = inl (omega arith, omega arith, refl, refl); items = (_, record { after = _; mid = _; tag = refl; params = record { mid = _; count = inl (omega arith, omega arith, refl, refl); items = refl }; results = record { mid = _; count = inl (omega arith, omega arith, refl, refl); items = refl } }, (_, record { after = _; mid = _; tag = refl; params = record { mid = _; count = inl (omega arith, omega arith, refl, refl); items = refl }; results = record { mid = _; count = inl (omega arith, omega arith, refl, refl); items = (_, refl, refl) } }, refl)) }
 
-grown_function_spelled : TakesVec (TakesUnsigned 32) (map type_index_of grown_module.functions) grown_function []
+grown_function_spelled : TakesVec (TakesUnsigned 32) (map (λ (f : FunctionTree). f.type_index) grown_module.functions) grown_function []
 grown_function_spelled = record { mid = _; count = inl (omega arith, omega arith, refl, refl); items = (_, inl (omega arith, omega arith, refl, refl), (_, inl (omega arith, omega arith, refl, refl), refl)) }
 
-grown_memory_spelled : TakesVec TakesMemoryType grown_module.memories grown_memory []
+grown_memory_spelled : TakesVec TakesLimits grown_module.memories grown_memory []
 grown_memory_spelled = record { mid = _; count = inl (omega arith, omega arith, refl, refl); items = (_, (_, refl, inl (omega arith, omega arith, refl, refl)), refl) }
 
 grown_export_spelled : TakesVec TakesExport grown_module.exports grown_export []
@@ -430,10 +431,10 @@ grow_follows = (_, record { after = _; id = refl; sized = record { mid = grow_ty
 grow_type_spelled : TakesVec TakesFuncType grow_module.types grow_type []
 grow_type_spelled = record { mid = _; count = inl (omega arith, omega arith, refl, refl); items = (_, record { after = _; mid = _; tag = refl; params = record { mid = _; count = inl (omega arith, omega arith, refl, refl); items = (_, refl, refl) }; results = record { mid = _; count = inl (omega arith, omega arith, refl, refl); items = (_, refl, refl) } }, refl) }
 
-grow_function_spelled : TakesVec (TakesUnsigned 32) (map type_index_of grow_module.functions) grow_function []
+grow_function_spelled : TakesVec (TakesUnsigned 32) (map (λ (f : FunctionTree). f.type_index) grow_module.functions) grow_function []
 grow_function_spelled = record { mid = _; count = inl (omega arith, omega arith, refl, refl); items = (_, inl (omega arith, omega arith, refl, refl), refl) }
 
-grow_memory_spelled : TakesVec TakesMemoryType grow_module.memories grow_memory []
+grow_memory_spelled : TakesVec TakesLimits grow_module.memories grow_memory []
 grow_memory_spelled = record { mid = _; count = inl (omega arith, omega arith, refl, refl); items = (_, (_, refl, inl (omega arith, omega arith, refl, refl)), refl) }
 
 grow_export_spelled : TakesVec TakesExport grow_module.exports grow_export []
@@ -502,7 +503,7 @@ div_follows = (_, record { after = _; id = refl; sized = record { mid = div_type
 div_type_spelled : TakesVec TakesFuncType div_module.types div_type []
 div_type_spelled = record { mid = _; count = inl (omega arith, omega arith, refl, refl); items = (_, record { after = _; mid = _; tag = refl; params = record { mid = _; count = inl (omega arith, omega arith, refl, refl); items = (_, refl, (_, refl, refl)) }; results = record { mid = _; count = inl (omega arith, omega arith, refl, refl); items = (_, refl, refl) } }, refl) }
 
-div_function_spelled : TakesVec (TakesUnsigned 32) (map type_index_of div_module.functions) div_function []
+div_function_spelled : TakesVec (TakesUnsigned 32) (map (λ (f : FunctionTree). f.type_index) div_module.functions) div_function []
 div_function_spelled = record { mid = _; count = inl (omega arith, omega arith, refl, refl); items = (_, inl (omega arith, omega arith, refl, refl), (_, inl (omega arith, omega arith, refl, refl), refl)) }
 
 div_export_spelled : TakesVec TakesExport div_module.exports div_export []
@@ -583,7 +584,7 @@ indirect_follows = (_, record { after = _; id = refl; sized = record { mid = ind
 indirect_type_spelled : TakesVec TakesFuncType indirect_module.types indirect_type []
 indirect_type_spelled = record { mid = _; count = inl (omega arith, omega arith, refl, refl); items = (_, record { after = _; mid = _; tag = refl; params = record { mid = _; count = inl (omega arith, omega arith, refl, refl); items = refl }; results = record { mid = _; count = inl (omega arith, omega arith, refl, refl); items = (_, refl, refl) } }, (_, record { after = _; mid = _; tag = refl; params = record { mid = _; count = inl (omega arith, omega arith, refl, refl); items = (_, refl, refl) }; results = record { mid = _; count = inl (omega arith, omega arith, refl, refl); items = (_, refl, refl) } }, (_, record { after = _; mid = _; tag = refl; params = record { mid = _; count = inl (omega arith, omega arith, refl, refl); items = refl }; results = record { mid = _; count = inl (omega arith, omega arith, refl, refl); items = refl } }, refl))) }
 
-indirect_function_spelled : TakesVec (TakesUnsigned 32) (map type_index_of indirect_module.functions) indirect_function []
+indirect_function_spelled : TakesVec (TakesUnsigned 32) (map (λ (f : FunctionTree). f.type_index) indirect_module.functions) indirect_function []
 indirect_function_spelled = record { mid = _; count = inl (omega arith, omega arith, refl, refl); items = (_, inl (omega arith, omega arith, refl, refl), (_, inl (omega arith, omega arith, refl, refl), (_, inl (omega arith, omega arith, refl, refl), refl))) }
 
 indirect_table_spelled : TakesVec TakesTableType indirect_module.tables indirect_table []
@@ -659,7 +660,7 @@ recursive_follows = (_, record { after = _; id = refl; sized = record { mid = re
 recursive_type_spelled : TakesVec TakesFuncType recursive_module.types recursive_type []
 recursive_type_spelled = record { mid = _; count = inl (omega arith, omega arith, refl, refl); items = (_, record { after = _; mid = _; tag = refl; params = record { mid = _; count = inl (omega arith, omega arith, refl, refl); items = (_, refl, refl) }; results = record { mid = _; count = inl (omega arith, omega arith, refl, refl); items = (_, refl, refl) } }, refl) }
 
-recursive_function_spelled : TakesVec (TakesUnsigned 32) (map type_index_of recursive_module.functions) recursive_function []
+recursive_function_spelled : TakesVec (TakesUnsigned 32) (map (λ (f : FunctionTree). f.type_index) recursive_module.functions) recursive_function []
 recursive_function_spelled = record { mid = _; count = inl (omega arith, omega arith, refl, refl); items = (_, inl (omega arith, omega arith, refl, refl), refl) }
 
 recursive_export_spelled : TakesVec TakesExport recursive_module.exports recursive_export []
@@ -734,7 +735,7 @@ start_follows = (_, record { after = _; id = refl; sized = record { mid = start_
 start_type_spelled : TakesVec TakesFuncType start_module.types start_type []
 start_type_spelled = record { mid = _; count = inl (omega arith, omega arith, refl, refl); items = (_, record { after = _; mid = _; tag = refl; params = record { mid = _; count = inl (omega arith, omega arith, refl, refl); items = refl }; results = record { mid = _; count = inl (omega arith, omega arith, refl, refl); items = refl } }, refl) }
 
-start_function_spelled : TakesVec (TakesUnsigned 32) (map type_index_of start_module.functions) start_function []
+start_function_spelled : TakesVec (TakesUnsigned 32) (map (λ (f : FunctionTree). f.type_index) start_module.functions) start_function []
 start_function_spelled = record { mid = _; count = inl (omega arith, omega arith, refl, refl); items = (_, inl (omega arith, omega arith, refl, refl), refl) }
 
 start_export_spelled : TakesVec TakesExport start_module.exports start_export []
@@ -809,7 +810,7 @@ spin_follows = (_, record { after = _; id = refl; sized = record { mid = spin_ty
 spin_type_spelled : TakesVec TakesFuncType spin_module.types spin_type []
 spin_type_spelled = record { mid = _; count = inl (omega arith, omega arith, refl, refl); items = (_, record { after = _; mid = _; tag = refl; params = record { mid = _; count = inl (omega arith, omega arith, refl, refl); items = refl }; results = record { mid = _; count = inl (omega arith, omega arith, refl, refl); items = refl } }, refl) }
 
-spin_function_spelled : TakesVec (TakesUnsigned 32) (map type_index_of spin_module.functions) spin_function []
+spin_function_spelled : TakesVec (TakesUnsigned 32) (map (λ (f : FunctionTree). f.type_index) spin_module.functions) spin_function []
 spin_function_spelled = record { mid = _; count = inl (omega arith, omega arith, refl, refl); items = (_, inl (omega arith, omega arith, refl, refl), refl) }
 
 spin_export_spelled : TakesVec TakesExport spin_module.exports spin_export []
@@ -863,7 +864,7 @@ misfit_sections = record { id = 5; contents = misfit_memory } ∷ record { id = 
 misfit_follows : TakesEach TakesSection misfit_sections misfit_from_memory []
 misfit_follows = (_, record { after = _; id = refl; sized = record { mid = misfit_memory ++ misfit_from_data; count = inl (omega arith, omega arith, refl, refl); items = refl } }, (_, record { after = _; id = refl; sized = record { mid = misfit_data ++ []; count = inl (omega arith, omega arith, refl, refl); items = refl } }, refl))
 
-misfit_memory_spelled : TakesVec TakesMemoryType misfit_module.memories misfit_memory []
+misfit_memory_spelled : TakesVec TakesLimits misfit_module.memories misfit_memory []
 misfit_memory_spelled = record { mid = _; count = inl (omega arith, omega arith, refl, refl); items = (_, (_, refl, inl (omega arith, omega arith, refl, refl)), refl) }
 
 misfit_data_spelled : TakesVec (TakesData One) misfit_module.data_segments misfit_data []
@@ -928,7 +929,7 @@ count_follows = (_, record { after = _; id = refl; sized = record { mid = count_
 count_type_spelled : TakesVec TakesFuncType count_module.types count_type []
 count_type_spelled = record { mid = _; count = inl (omega arith, omega arith, refl, refl); items = (_, record { after = _; mid = _; tag = refl; params = record { mid = _; count = inl (omega arith, omega arith, refl, refl); items = (_, refl, refl) }; results = record { mid = _; count = inl (omega arith, omega arith, refl, refl); items = (_, refl, refl) } }, refl) }
 
-count_function_spelled : TakesVec (TakesUnsigned 32) (map type_index_of count_module.functions) count_function []
+count_function_spelled : TakesVec (TakesUnsigned 32) (map (λ (f : FunctionTree). f.type_index) count_module.functions) count_function []
 count_function_spelled = record { mid = _; count = inl (omega arith, omega arith, refl, refl); items = (_, inl (omega arith, omega arith, refl, refl), refl) }
 
 count_export_spelled : TakesVec TakesExport count_module.exports count_export []
@@ -1003,7 +1004,7 @@ next_follows = (_, record { after = _; id = refl; sized = record { mid = next_ty
 next_type_spelled : TakesVec TakesFuncType next_module.types next_type []
 next_type_spelled = record { mid = _; count = inl (omega arith, omega arith, refl, refl); items = (_, record { after = _; mid = _; tag = refl; params = record { mid = _; count = inl (omega arith, omega arith, refl, refl); items = refl }; results = record { mid = _; count = inl (omega arith, omega arith, refl, refl); items = (_, refl, refl) } }, refl) }
 
-next_function_spelled : TakesVec (TakesUnsigned 32) (map type_index_of next_module.functions) next_function []
+next_function_spelled : TakesVec (TakesUnsigned 32) (map (λ (f : FunctionTree). f.type_index) next_module.functions) next_function []
 next_function_spelled = record { mid = _; count = inl (omega arith, omega arith, refl, refl); items = (_, inl (omega arith, omega arith, refl, refl), refl) }
 
 next_global_spelled : TakesVec (TakesGlobal One) next_module.globals next_global []

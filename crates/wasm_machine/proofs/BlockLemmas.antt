@@ -12,7 +12,7 @@ use Rattle.wasm_types.specs.Tree.{Code, End, code_of, module_tree}
 use Rattle.wasm_spec.specs.Typing.{Context, type_of, result_types, Typed, under}
 use Rattle.wasm_spec.specs.Need.{highest, deepest}
 use Rattle.wasm_spec.specs.Store.{Store}
-use Rattle.wasm_spec.specs.Execution.{State, OutOfFuel, Ended, Continuation, ended, exec, leave, arity, inside}
+use Rattle.wasm_spec.specs.Execution.{State, OutOfFuel, Ended, Continuation, ended, exec, leave, inside}
 use Rattle.wasm_types.proofs.SequenceLemmas.{code_at-within, code_at-past}
 use Rattle.wasm_spec.proofs.NeedLaws.{highest-least, deepest-least}
 use Rattle.wasm_spec.proofs.Equations.{exec-End, exec-Block, exec-Loop, exec-zero}
@@ -64,10 +64,6 @@ module _ (m : Module) (frame : ℕ) where
       )
 
 -- ---- an instruction begins
-
-pub arity_is : (t : Option ValType) → arity t ≡ length (result_types t)
-arity_is None = refl
-arity_is (Some t) = refl
 
 module _ (m : Module) (limits : Terms) (frame : ℕ) where
   -- a machine at an instruction goes behind it
@@ -131,7 +127,6 @@ module _ (m : Module) (limits : Terms) (frame : ℕ) where
             let s : State = state k store in
             ap (after_sequence m limits k)
             (ap (λ (c : Code). leave (length (result_types t)) k.operands (exec (module_tree m) limits d c (inside s) fuel) next next) named
-            ∙ ap (λ (z : ℕ). leave z k.operands (exec (module_tree m) limits d body (inside s) fuel) next next) (sym (arity_is t))
             ∙ sym (exec-Block (module_tree m) limits d t body rest s fuel))
             ∙ b.goes (suc fuel);
       }

@@ -4,6 +4,7 @@ use Rattle.std.proofs.Common.{◌≡◌, ◌≢◌, ℕ, zero, suc, ◌+◌, ◌
 use Rattle.std.specs.Prelude.{slice_get}
 use Rattle.std.proofs.lemmas.List.{length-map}
 use Rattle.wasm_types.specs.declared.types.ValType.{ValType}
+use Rattle.wasm_types.specs.declared.types.ValType.TheVariants as type
 use Rattle.wasm_values.specs.declared.outcome.Val.{Val}
 use Rattle.wasm_values.specs.declared.outcome.Val.TheVariants as val
 use Rattle.wasm_types.specs.declared.instr.Instr.{Instr}
@@ -11,7 +12,7 @@ use Rattle.wasm_types.specs.declared.instr.Instr.TheVariants as instr
 use Rattle.wasm_types.specs.declared.instr.Op.TheVariants as op
 use Rattle.wasm_types.specs.declared.module.Module.{Module}
 use Rattle.wasm_types.specs.Tree.{Code, module_tree}
-use Rattle.wasm_spec.specs.Typing.{Context, Rule, Fixed, Takes, type_of, rule, branch_if}
+use Rattle.wasm_spec.specs.Typing.{Context, Rule, Fixed, Takes, type_of, named, rule}
 use Rattle.wasm_spec.specs.Need.{height}
 use Rattle.wasm_spec.specs.Store.{Store}
 use Rattle.wasm_spec.specs.Execution.{State, Signal, Next, Branch, Ended, and_then, if_zero, plain}
@@ -39,9 +40,9 @@ record Conditional (C : Context) (l : ℕ) (vs : List Val) (middle : List ValTyp
   there : slice_get C.labels l ≡ Some label
   types : map type_of rest ≡ label ++ below
   gives : middle ≡ label ++ below
-  counted : height (branch_if (slice_get C.labels l)) (length (map type_of vs)) ≡ length middle
+  counted : height (named (slice_get C.labels l) (λ (us : List ValType). Fixed (type.I32 ∷ us) us)) (length (map type_of vs)) ≡ length middle
 
-conditional : (C : Context) (l : ℕ) (o : Option (List ValType)) (vs : List Val) (middle : List ValType) → slice_get C.labels l ≡ o → Takes (branch_if o) (map type_of vs) middle → Conditional C l vs middle
+conditional : (C : Context) (l : ℕ) (o : Option (List ValType)) (vs : List Val) (middle : List ValType) → slice_get C.labels l ≡ o → Takes (named o (λ (us : List ValType). Fixed (type.I32 ∷ us) us)) (map type_of vs) middle → Conditional C l vs middle
 conditional C l None vs middle e h = absurd h
 conditional C l (Some us) [] middle e (below, takes, gives) = absurd (cc (takes))
 conditional C l (Some us) (val.I64 n ∷ rest) middle e (below, takes, gives) = absurd (cc (takes))
@@ -54,7 +55,7 @@ conditional C l (Some us) (val.I32 n ∷ rest) middle e (below, takes, gives) = 
   there = e;
   types = cc (takes);
   gives = gives;
-  counted = ap (λ (o : Option (List ValType)). height (branch_if o) (length (map type_of (val.I32 n ∷ rest)))) e ∙ omega (arith, ap length takes, ap length gives, length-append us below);
+  counted = ap (λ (o : Option (List ValType)). height (named o (λ (us : List ValType). Fixed (type.I32 ∷ us) us)) (length (map type_of (val.I32 n ∷ rest)))) e ∙ omega (arith, ap length takes, ap length gives, length-append us below);
 }
 
 module _ (m : Module) (limits : Terms) (frame : ℕ) where

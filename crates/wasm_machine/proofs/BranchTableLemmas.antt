@@ -12,7 +12,7 @@ use Rattle.wasm_types.specs.declared.instr.Instr.TheVariants as instr
 use Rattle.wasm_types.specs.declared.instr.Op.TheVariants as op
 use Rattle.wasm_types.specs.declared.module.Module.{Module}
 use Rattle.wasm_types.specs.Tree.{module_tree}
-use Rattle.wasm_spec.specs.Typing.{Context, Diverges, Wrong, Takes, type_of, is_label, branch_table}
+use Rattle.wasm_spec.specs.Typing.{Context, Diverges, Wrong, Takes, type_of, named, is_label}
 use Rattle.wasm_spec.specs.Store.{Store}
 use Rattle.wasm_spec.specs.Execution.{State, Signal, Branch, Ended, and_then, plain}
 use Rattle.machine_steps.specs.declared.machine.Machine.{Machine}
@@ -50,7 +50,7 @@ tabled_by : (b : Bool) (label ts middle : List ValType) → Takes (if b then Div
 tabled_by true label ts middle (below, takes) = (refl, below, takes)
 tabled_by false label ts middle h = absurd h
 
-tabled : (C : Context) (names : List ℕ) (l : ℕ) (o : Option (List ValType)) (ts middle : List ValType) → slice_get C.labels l ≡ o → Takes (branch_table C.labels names o) ts middle → Tabled C names l ts
+tabled : (C : Context) (names : List ℕ) (l : ℕ) (o : Option (List ValType)) (ts middle : List ValType) → slice_get C.labels l ≡ o → Takes (named o (λ (label : List ValType). if list_all (λ x. is_label label (slice_get C.labels x)) names then Diverges (type.I32 ∷ label) else Wrong)) ts middle → Tabled C names l ts
 tabled C names l None ts middle e h = absurd h
 tabled C names l (Some label) ts middle e h =
     let (all, below, takes) = tabled_by (list_all (λ x. is_label label (slice_get C.labels x)) names) label ts middle h in

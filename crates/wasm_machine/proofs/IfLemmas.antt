@@ -28,7 +28,6 @@ use Rattle.wasm_machine.specs.Simulation.{HasFetched, Simulates, body_of, paid, 
 use Rattle.machine_steps.specs.PlainSteps.{HasNumber, in_block}
 use Rattle.machine_steps.proofs.StackLayoutLemmas.{room_kept}
 use Rattle.wasm_spec.proofs.NeedLaws.{deepest-least}
-use Rattle.wasm_machine.proofs.BlockLemmas.{arity_is}
 use Rattle.wasm_machine.proofs.RoomLemmas.{free_label}
 
 -- an i32 on the top of typed operands
@@ -138,7 +137,6 @@ module _ (m : Module) (limits : Terms) (frame : ℕ) where
             (ap (λ (z : Code). leave (length (result_types t)) cond.rest (exec (module_tree m) limits d z u fuel) next next) named
             ∙ ap (λ (z : Ended). leave (length (result_types t)) cond.rest z next next) (sym (chosen d c trees n j u fuel))
             ∙ ap (λ (z : ℕ). leave (length (result_types t)) cond.rest (choose z (exec (module_tree m) limits d (trees n)) (exec (module_tree m) limits d (trees j)) u fuel) next next) p.0
-            ∙ ap (λ (z : ℕ). leave z cond.rest (choose cond.n (exec (module_tree m) limits d (trees n)) (exec (module_tree m) limits d (trees j)) u fuel) next next) (sym (arity_is t))
             ∙ ap (λ (vs : List Val). pop_index vs (arm t (exec (module_tree m) limits d (trees n)) (exec (module_tree m) limits d (trees j)) (exec (module_tree m) limits d rest)) s fuel) (sym cond.are)
             ∙ sym (exec-If (module_tree m) limits d t (trees n) (trees j) rest s fuel))
             ∙ b.goes (suc fuel);

@@ -12,14 +12,14 @@ use Rattle.wasm_values.specs.declared.outcome.TrapKind.TheVariants as trap
 use Rattle.wasm_types.specs.declared.instr.Op.TheVariants as op
 use Rattle.wasm_types.specs.declared.module.Module.{Module}
 use Rattle.wasm_types.specs.Tree.{Code, function_tree, module_tree}
-use Rattle.wasm_spec.specs.Typing.{Context, Takes, Typed, type_of, calling_indirect, call_indirect_rule, IsTypedFunction}
+use Rattle.wasm_spec.specs.Typing.{Context, Takes, Typed, type_of, named, needs_one, Fixed, call_indirect_rule, IsTypedFunction}
 use Rattle.wasm_spec.specs.Functions.{Callee, Imported, Own, callee_at, callee_type, function_type}
 use Rattle.wasm_spec.proofs.FunctionNumbers.{callee_within, imported_there, own_there}
 use Rattle.wasm_types.specs.declared.module.Import.{Import}
 use Rattle.std.proofs.lemmas.List.{length-map}
 use Rattle.wasm_spec.specs.Need.{height, highest}
 use Rattle.wasm_spec.specs.Store.{Store}
-use Rattle.wasm_spec.specs.Execution.{State, Trapped, Ended, Continuation, ended, pop_index, unless, with_element, with_type, if_there, with_function, call, typed_call, element_call, exec}
+use Rattle.wasm_spec.specs.Execution.{State, Trapped, Ended, Continuation, ended, pop_index, unless, with_element, if_there, with_function, call, typed_call, element_call, exec}
 use Rattle.wasm_spec.proofs.Equations.{exec-CallIndirect}
 use Rattle.wasm_types.specs.Sequences.{code_at}
 use Rattle.machine_steps.specs.declared.machine.Machine.{Machine}
@@ -69,8 +69,8 @@ record Indirect (C : Context) (x : ℕ) (ts middle : List ValType) : Type 0 wher
   gives : middle ≡ type.results ++ below
   counted : height (call_indirect_rule C x) (length ts) ≡ length middle
 
-indirect_by : (tables : List Limits) (o : Option FuncType) (ts middle : List ValType) → Takes (calling_indirect tables o) ts middle
-    → (t : FuncType) × (below : List ValType) × (o ≡ Some t) × (ts ≡ I32 ∷ (reverse t.params ++ below)) × (middle ≡ t.results ++ below) × (height (calling_indirect tables o) (length ts) ≡ length middle)
+indirect_by : (tables : List Limits) (o : Option FuncType) (ts middle : List ValType) → Takes (needs_one tables (named o (λ (t : FuncType). Fixed (I32 ∷ reverse t.params) t.results))) ts middle
+    → (t : FuncType) × (below : List ValType) × (o ≡ Some t) × (ts ≡ I32 ∷ (reverse t.params ++ below)) × (middle ≡ t.results ++ below) × (height (needs_one tables (named o (λ (t : FuncType). Fixed (I32 ∷ reverse t.params) t.results))) (length ts) ≡ length middle)
 indirect_by [] o ts middle h = absurd h
 indirect_by (l ∷ tables) None ts middle h = absurd h
 indirect_by (l ∷ tables) (Some t) ts middle (below, takes, gives) =
@@ -132,7 +132,7 @@ module _ (m : Module) (limits : Terms) (frame : ℕ) where
     no_element got g =
         let e = element old store here x r b in
         let k = b.configuration in
-        let next : ℕ → Continuation = λ y. with_type (module_tree m) x (λ u. with_function (module_tree m) y (typed_call (module_tree m) limits (length k.activations + 1) (exec (module_tree m) limits (length k.activations + 1 + 1)) (exec (module_tree m) limits (length k.activations + 1) (code_at (body_of m k) k.sequence k.place)) u)) in
+        let next : ℕ → Continuation = λ y. if_there (slice_get (module_tree m).types x) (λ u. with_function (module_tree m) y (typed_call (module_tree m) limits (length k.activations + 1) (exec (module_tree m) limits (length k.activations + 1 + 1)) (exec (module_tree m) limits (length k.activations + 1) (code_at (body_of m k) k.sequence k.place)) u)) in
         sym (e.goes g)
         ∙ ap (λ (o : Option (Option ℕ)). after_sequence m limits k (with_element o next (state (record k { operands = e.index.rest }) store) g)) (ap (slice_get store.table) (sym (index_is e)) ∙ got)
         ∙ after_sequence-Trapped m limits k trap.Element store g
@@ -141,7 +141,7 @@ module _ (m : Module) (limits : Terms) (frame : ℕ) where
     empty_element got g =
         let e = element old store here x r b in
         let k = b.configuration in
-        let next : ℕ → Continuation = λ y. with_type (module_tree m) x (λ u. with_function (module_tree m) y (typed_call (module_tree m) limits (length k.activations + 1) (exec (module_tree m) limits (length k.activations + 1 + 1)) (exec (module_tree m) limits (length k.activations + 1) (code_at (body_of m k) k.sequence k.place)) u)) in
+        let next : ℕ → Continuation = λ y. if_there (slice_get (module_tree m).types x) (λ u. with_function (module_tree m) y (typed_call (module_tree m) limits (length k.activations + 1) (exec (module_tree m) limits (length k.activations + 1 + 1)) (exec (module_tree m) limits (length k.activations + 1) (code_at (body_of m k) k.sequence k.place)) u)) in
         sym (e.goes g)
         ∙ ap (λ (o : Option (Option ℕ)). after_sequence m limits k (with_element o next (state (record k { operands = e.index.rest }) store) g)) (ap (slice_get store.table) (sym (index_is e)) ∙ got)
         ∙ after_sequence-Trapped m limits k trap.Uninit store g
@@ -155,7 +155,7 @@ module _ (m : Module) (limits : Terms) (frame : ℕ) where
         let d = length k.activations + 1 in
         let rest : Code = code_at (body_of m k) k.sequence k.place in
         let s : State = state (record k { operands = e.index.rest }) store in
-        let next : ℕ → Continuation = λ y. with_type (module_tree m) x (λ u. with_function (module_tree m) y (typed_call (module_tree m) limits d (exec (module_tree m) limits (d + 1)) (exec (module_tree m) limits d rest) u)) in
+        let next : ℕ → Continuation = λ y. if_there (slice_get (module_tree m).types x) (λ u. with_function (module_tree m) y (typed_call (module_tree m) limits d (exec (module_tree m) limits (d + 1)) (exec (module_tree m) limits d rest) u)) in
         sym (ap (λ (o : Option (Option ℕ)). after_sequence m limits k (with_element o next s g)) (ap (slice_get store.table) (sym (index_is e)) ∙ got)
         ∙ ap (λ (o : Option FuncType). after_sequence m limits k (if_there o (λ u. with_function (module_tree m) y (typed_call (module_tree m) limits d (exec (module_tree m) limits (d + 1)) (exec (module_tree m) limits d rest) u)) s g)) e.is
         ∙ ap (after_sequence m limits k) (calls_it m y h.callee h.type (typed_call (module_tree m) limits d (exec (module_tree m) limits (d + 1)) (exec (module_tree m) limits d rest) e.type) s g h.there h.typed))

@@ -20,7 +20,8 @@ use Rattle.wasm_spec.proofs.FunctionNumbers.{callee-imported, callee-past}
 use Rattle.wasm_spec.specs.Typing.{type_of}
 use Rattle.wasm_spec.specs.Validity.{IsStart, IsValid}
 use Rattle.wasm_spec.specs.Store.{Store}
-use Rattle.wasm_spec.specs.Execution.{Terms, State, Signal, Next, Branch, Returned, Trapped, OutOfFuel, Stuck, number, and_then, given, call, exec, with_operands, memory_set, answer_set, host_call}
+use Rattle.wasm_spec.specs.Typing.{number}
+use Rattle.wasm_spec.specs.Execution.{Terms, State, Signal, Next, Branch, Returned, Trapped, OutOfFuel, Stuck, and_then, given, call, exec, with_operands, memory_set, answer_set, host_call}
 use Rattle.wasm_spec.specs.Result.{finish, result_of, function_result}
 use Rattle.wasm_machine.specs.Calls.{GivesOutside, IsCall, IsOwnCall, outside}
 use Rattle.wasm_machine.specs.TypedConfiguration.{IsRunnable}

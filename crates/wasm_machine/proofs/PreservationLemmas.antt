@@ -18,10 +18,10 @@ use Rattle.wasm_types.specs.declared.instr.Instr.{Instr}
 use Rattle.wasm_types.specs.declared.instr.Instr.TheVariants as instr
 use Rattle.wasm_types.specs.declared.module.Module.{Module}
 use Rattle.wasm_types.specs.Tree.{GlobalTree, module_tree}
-use Rattle.wasm_spec.specs.Typing.{Context, Rule, Fixed, Wrong, Takes, type_of, integer_type, rule, local_get, local_set, local_tee, global_get, global_set, global_type, needs_memory, byte_width, packed_width}
+use Rattle.wasm_spec.specs.Typing.{Context, Rule, Fixed, Wrong, Takes, type_of, integer_type, rule, named, global_type, needs_one}
 use Rattle.wasm_spec.specs.Need.{height}
 use Rattle.wasm_spec.specs.Store.{Store, written, loaded}
-use Rattle.wasm_spec.specs.Operators.{wrap}
+use Rattle.wasm_spec.specs.Operators.{wrap, int_width, pack_width}
 use Rattle.wasm_spec.specs.Execution.{State, Signal, Next, Trapped, value, if_zero, with_operands, most_pages, pages_of, write_where, lies_within, plain}
 use Rattle.wasm_spec.specs.Execution as execution
 use Rattle.machine_steps.specs.Configuration.{Configuration, state}
@@ -93,11 +93,11 @@ kept_types (l ∷ ls) (suc x) v e = ap (λ (ts : List ValType). type_of l ∷ ts
 
 -- a memory that has to be there is
 record WithMemory (memories : List Limits) (r : Rule) (ts middle : List ValType) : Type 0 where
-  is : needs_memory memories r ≡ r
+  is : needs_one memories r ≡ r
   takes : Takes r ts middle
   some : 0 < length memories
 
-memory_there : (memories : List Limits) (r : Rule) (ts middle : List ValType) → Takes (needs_memory memories r) ts middle → WithMemory memories r ts middle
+memory_there : (memories : List Limits) (r : Rule) (ts middle : List ValType) → Takes (needs_one memories r) ts middle → WithMemory memories r ts middle
 memory_there [] r ts middle h = absurd h
 memory_there (l ∷ ls) r ts middle h = record { is = refl; takes = h; some = omega arith }
 
@@ -106,7 +106,7 @@ record Allowed (whole r : Rule) (ts middle : List ValType) : Type 0 where
   is : whole ≡ r
   takes : Takes r ts middle
 
-allowed : (memories : List Limits) (b : Bool) (r : Rule) (ts middle : List ValType) → Takes (needs_memory memories (if b then r else Wrong)) ts middle → Allowed (needs_memory memories (if b then r else Wrong)) r ts middle
+allowed : (memories : List Limits) (b : Bool) (r : Rule) (ts middle : List ValType) → Takes (needs_one memories (if b then r else Wrong)) ts middle → Allowed (needs_one memories (if b then r else Wrong)) r ts middle
 allowed [] b r ts middle h = absurd h
 allowed (l ∷ ls) true r ts middle h = record { is = refl; takes = h }
 allowed (l ∷ ls) false r ts middle h = absurd h
@@ -123,14 +123,14 @@ two_rule C (instr.Compare w o) h = refl
 two_rule C (instr.Binary w o) h = refl
 two_rule C _ h = absurd h
 
-load_rule : (C : Context) (i : Instr) → IsLoad i → (b : Bool) × (rule C i ≡ needs_memory C.defined.memories (if b then Fixed (type.I32 ∷ []) (integer_type (gives_width i) ∷ []) else Wrong))
-load_rule C (instr.Load w a) h = (nat_le (2 ^ a.align) (byte_width w), refl)
-load_rule C (instr.LoadPacked w p s a) h = (nat_le (2 ^ a.align) (packed_width p), refl)
+load_rule : (C : Context) (i : Instr) → IsLoad i → (b : Bool) × (rule C i ≡ needs_one C.defined.memories (if b then Fixed (type.I32 ∷ []) (integer_type (gives_width i) ∷ []) else Wrong))
+load_rule C (instr.Load w a) h = (nat_le (2 ^ a.align) (byte_len (int_width w)), refl)
+load_rule C (instr.LoadPacked w p s a) h = (nat_le (2 ^ a.align) (byte_len (pack_width p)), refl)
 load_rule C _ h = absurd h
 
-store_rule : (C : Context) (i : Instr) → IsStoring i → (b : Bool) × (rule C i ≡ needs_memory C.defined.memories (if b then Fixed (integer_type (takes_width i) ∷ type.I32 ∷ []) [] else Wrong))
-store_rule C (instr.Store w a) h = (nat_le (2 ^ a.align) (byte_width w), refl)
-store_rule C (instr.StorePacked w p a) h = (nat_le (2 ^ a.align) (packed_width p), refl)
+store_rule : (C : Context) (i : Instr) → IsStoring i → (b : Bool) × (rule C i ≡ needs_one C.defined.memories (if b then Fixed (integer_type (takes_width i) ∷ type.I32 ∷ []) [] else Wrong))
+store_rule C (instr.Store w a) h = (nat_le (2 ^ a.align) (byte_len (int_width w)), refl)
+store_rule C (instr.StorePacked w p a) h = (nat_le (2 ^ a.align) (byte_len (pack_width p)), refl)
 store_rule C _ h = absurd h
 
 -- a rule that takes and gives is counted as it does
@@ -156,11 +156,11 @@ module _ (m : Module) (limits : Terms) (C : Context) (of_module : C.defined ≡ 
     pub typed : type_of value ≡ type
 
   local_pushes_as : (x : ℕ) (k : Configuration) (store : Store) (o : Option ValType) (middle : List ValType) → slice_get C.locals x ≡ o → map type_of k.locals ≡ C.locals
-      → Takes (local_get o) (map type_of k.operands) middle → Pushes (instr.LocalGet x) (state k store)
+      → Takes (named o (λ (t : ValType). Fixed [] (t ∷ []))) (map type_of k.operands) middle → Pushes (instr.LocalGet x) (state k store)
   local_pushes_as x k store None middle e l h = absurd h
   local_pushes_as x k store (Some t) middle e l h =
       let (v, there, typed) = value_there k.locals x t (ap (λ (us : List ValType). slice_get us x) l ∙ e) in
-      record { type = t; value = v; rule_is = ap local_get e; means = local_get_means (module_tree m) limits x k store v there; typed = typed }
+      record { type = t; value = v; rule_is = ap (λ (o : Option ValType). named o (λ (t : ValType). Fixed [] (t ∷ []))) e; means = local_get_means (module_tree m) limits x k store v there; typed = typed }
 
   -- a global's value, which is there
   pub record PushesGlobal (x : ℕ) (s : State) : Type 0 where
@@ -168,13 +168,13 @@ module _ (m : Module) (limits : Terms) (C : Context) (of_module : C.defined ≡ 
     pub within : x < length s.store.globals
 
   global_pushes_as : (x : ℕ) (k : Configuration) (store : Store) (o : Option GlobalType) (middle : List ValType) → global_type C.defined x ≡ o → IsTypedStore m store
-      → Takes (global_get o) (map type_of k.operands) middle → PushesGlobal x (state k store)
+      → Takes (named o (λ (g : GlobalType). Fixed [] (g.value ∷ []))) (map type_of k.operands) middle → PushesGlobal x (state k store)
   global_pushes_as x k store None middle e stored h = absurd h
   global_pushes_as x k store (Some g) middle e stored h =
       let there = ap (λ (us : List ValType). slice_get us x) stored.globals ∙ global_type_at (module_tree m).globals x g (ap (λ d. global_type d x) (sym of_module) ∙ e) in
       let (v, got, typed) = value_there store.globals x g.value there in
       record {
-        pushes = record { type = g.value; value = v; rule_is = ap global_get e; means = global_get_means (module_tree m) limits x k store v got; typed = typed };
+        pushes = record { type = g.value; value = v; rule_is = ap (λ (o : Option GlobalType). named o (λ (g : GlobalType). Fixed [] (g.value ∷ []))) e; means = global_get_means (module_tree m) limits x k store v got; typed = typed };
         within = slice_get_within store.globals x v got;
       }
 
@@ -251,7 +251,7 @@ module _ (m : Module) (limits : Terms) (C : Context) (of_module : C.defined ≡ 
 
   -- ---- locals and globals
 
-  local_set_as : (x : ℕ) (k : Configuration) (store : Store) (o : Option ValType) (middle : List ValType) → slice_get C.locals x ≡ o → Takes (local_set o) (map type_of k.operands) middle → map type_of k.locals ≡ C.locals → IsTypedStore m store
+  local_set_as : (x : ℕ) (k : Configuration) (store : Store) (o : Option ValType) (middle : List ValType) → slice_get C.locals x ≡ o → Takes (named o (λ (t : ValType). Fixed (t ∷ []) [])) (map type_of k.operands) middle → map type_of k.locals ≡ C.locals → IsTypedStore m store
       → IsPreserved m C (instr.LocalSet x) (map type_of k.operands) middle (plain (module_tree m) limits (instr.LocalSet x) (state k store))
   local_set_as x k store None middle e h locals stored = absurd h
   local_set_as x k store (Some t) middle e (below, takes, gives) locals stored =
@@ -260,12 +260,12 @@ module _ (m : Module) (limits : Terms) (C : Context) (of_module : C.defined ≡ 
       subst (λ (z : Signal). IsPreserved m C (instr.LocalSet x) (map type_of k.operands) middle z) (sym (local_set_means (module_tree m) limits x k store s))
       (record {
         types = types ∙ sym gives;
-        counted = counted_by (rule C (instr.LocalSet x)) (t ∷ []) [] below (map type_of k.operands) middle (ap local_set e) takes gives;
+        counted = counted_by (rule C (instr.LocalSet x)) (t ∷ []) [] below (map type_of k.operands) middle (ap (λ (o : Option ValType). named o (λ (t : ValType). Fixed (t ∷ []) [])) e) takes gives;
         locals = kept_types k.locals x s.top (there ∙ ap (λ (u : ValType). Some u) (sym typed)) ∙ locals;
         stored = stored;
       })
 
-  local_tee_as : (x : ℕ) (k : Configuration) (store : Store) (o : Option ValType) (middle : List ValType) → slice_get C.locals x ≡ o → Takes (local_tee o) (map type_of k.operands) middle → map type_of k.locals ≡ C.locals → IsTypedStore m store
+  local_tee_as : (x : ℕ) (k : Configuration) (store : Store) (o : Option ValType) (middle : List ValType) → slice_get C.locals x ≡ o → Takes (named o (λ (t : ValType). Fixed (t ∷ []) (t ∷ []))) (map type_of k.operands) middle → map type_of k.locals ≡ C.locals → IsTypedStore m store
       → IsPreserved m C (instr.LocalTee x) (map type_of k.operands) middle (plain (module_tree m) limits (instr.LocalTee x) (state k store))
   local_tee_as x k store None middle e h locals stored = absurd h
   local_tee_as x k store (Some t) middle e (below, takes, gives) locals stored =
@@ -274,7 +274,7 @@ module _ (m : Module) (limits : Terms) (C : Context) (of_module : C.defined ≡ 
       subst (λ (z : Signal). IsPreserved m C (instr.LocalTee x) (map type_of k.operands) middle z) (sym (local_tee_means (module_tree m) limits x k store s))
       (record {
         types = ap (λ (vs : List Val). map type_of vs) (sym s.are) ∙ takes ∙ sym gives;
-        counted = counted_by (rule C (instr.LocalTee x)) (t ∷ []) (t ∷ []) below (map type_of k.operands) middle (ap local_tee e) takes gives;
+        counted = counted_by (rule C (instr.LocalTee x)) (t ∷ []) (t ∷ []) below (map type_of k.operands) middle (ap (λ (o : Option ValType). named o (λ (t : ValType). Fixed (t ∷ []) (t ∷ []))) e) takes gives;
         locals = kept_types k.locals x s.top (there ∙ ap (λ (u : ValType). Some u) (sym typed)) ∙ locals;
         stored = stored;
       })
@@ -283,7 +283,7 @@ module _ (m : Module) (limits : Terms) (C : Context) (of_module : C.defined ≡ 
   variable true takes ts middle h = (refl, h)
   variable false takes ts middle h = absurd h
 
-  global_set_as : (x : ℕ) (k : Configuration) (store : Store) (o : Option GlobalType) (middle : List ValType) → global_type C.defined x ≡ o → Takes (global_set o) (map type_of k.operands) middle → map type_of k.locals ≡ C.locals → IsTypedStore m store
+  global_set_as : (x : ℕ) (k : Configuration) (store : Store) (o : Option GlobalType) (middle : List ValType) → global_type C.defined x ≡ o → Takes (named o (λ (g : GlobalType). if g.mutable then Fixed (g.value ∷ []) [] else Wrong)) (map type_of k.operands) middle → map type_of k.locals ≡ C.locals → IsTypedStore m store
       → IsPreserved m C (instr.GlobalSet x) (map type_of k.operands) middle (plain (module_tree m) limits (instr.GlobalSet x) (state k store)) × (x < length store.globals)
   global_set_as x k store None middle e h locals stored = absurd h
   global_set_as x k store (Some g) middle e h locals stored =
@@ -296,7 +296,7 @@ module _ (m : Module) (limits : Terms) (C : Context) (of_module : C.defined ≡ 
             (record {
               types = types ∙ sym gives;
               counted = counted_by (rule C (instr.GlobalSet x)) (g.value ∷ []) [] below (map type_of k.operands) middle
-                  (ap global_set e ∙ ap (λ (b : Bool). if b then Fixed (g.value ∷ []) [] else Wrong) mutable) takes gives;
+                  (ap (λ (o : Option GlobalType). named o (λ (g : GlobalType). if g.mutable then Fixed (g.value ∷ []) [] else Wrong)) e ∙ ap (λ (b : Bool). if b then Fixed (g.value ∷ []) [] else Wrong) mutable) takes gives;
               locals = locals;
               stored = record { globals = kept_types store.globals x s.top (there ∙ ap (λ (u : ValType). Some u) (sym typed)) ∙ stored.globals; table = stored.table };
             }),

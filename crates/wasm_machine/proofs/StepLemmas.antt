@@ -10,7 +10,7 @@ use Rattle.wasm_types.specs.declared.instr.Instr.TheVariants as instr
 use Rattle.wasm_types.specs.declared.instr.Op.TheVariants as op
 use Rattle.wasm_types.specs.declared.module.Module.{Module}
 use Rattle.wasm_types.specs.Tree.{Code, Plain, module_tree}
-use Rattle.wasm_spec.specs.Typing.{Context, Takes, Typed, type_of, rule, branch, calling, call_rule}
+use Rattle.wasm_spec.specs.Typing.{Context, Takes, Typed, type_of, named, Fixed, Diverges, rule, call_rule}
 use Rattle.wasm_spec.specs.Functions.{Callee, callee_at, callee_type, function_type}
 use Rattle.wasm_spec.specs.Need.{highest, deepest, height}
 use Rattle.wasm_spec.specs.Store.{Store}
@@ -53,9 +53,9 @@ record CallTyped (o : Option FuncType) (ts middle : List ValType) : Type 0 where
   below : List ValType
   takes : ts ≡ reverse type.params ++ below
   gives : middle ≡ type.results ++ below
-  counted : height (calling o) (length ts) ≡ length middle
+  counted : height (named o (λ (t : FuncType). Fixed (reverse t.params) t.results)) (length ts) ≡ length middle
 
-call_typed : (o : Option FuncType) (ts middle : List ValType) → Takes (calling o) ts middle → CallTyped o ts middle
+call_typed : (o : Option FuncType) (ts middle : List ValType) → Takes (named o (λ (t : FuncType). Fixed (reverse t.params) t.results)) ts middle → CallTyped o ts middle
 call_typed None ts middle h = absurd h
 call_typed (Some t) ts middle (below, takes, gives) = record {
   type = t;
@@ -107,7 +107,7 @@ module _ (m : Module) (limits : Terms) (frame : ℕ) where
       let k = b.configuration in
       ap (after_sequence m limits k) (sym (exec-Plain (module_tree m) limits (length k.activations + 1) i (code_at (body_of m k) k.sequence k.place) (state k store) g)) ∙ b.goes (suc g)
 
-  label_there : (C : Context) (l : ℕ) (o : Option (List ValType)) (ts middle : List ValType) → slice_get C.labels l ≡ o → Takes (branch o) ts middle
+  label_there : (C : Context) (l : ℕ) (o : Option (List ValType)) (ts middle : List ValType) → slice_get C.labels l ≡ o → Takes (named o (λ (label : List ValType). Diverges label)) ts middle
       → HasLabelOperands C.labels l ts
   label_there C l None ts middle e h = absurd h
   label_there C l (Some us) ts middle e (below, is) = record { label = us; below = below; there = e; types = is }

@@ -11,7 +11,8 @@ use Rattle.wasm_types.specs.declared.instr.Instr.{Instr}
 use Rattle.wasm_types.specs.declared.module.Module.{Module}
 use Rattle.wasm_spec.specs.Typing.{Context, type_of, integer_type, rule}
 use Rattle.wasm_spec.specs.Need.{height}
-use Rattle.wasm_spec.specs.Execution.{State, number, value, or_trap, with_operands}
+use Rattle.wasm_spec.specs.Typing.{number}
+use Rattle.wasm_spec.specs.Execution.{State, value, or_trap, with_operands}
 use Rattle.wasm_machine.specs.TypedConfiguration.{IsTypedStore}
 use Rattle.wasm_machine.specs.Simulation.{IsPreserved}
 use Rattle.machine_steps.proofs.OperandLemmas.{Two}

@@ -61,6 +61,7 @@ fn push_all(values: &mut ValueStack, more: &[Val])
 }
 
 // Puts the declared locals' zeros on the top. No run is empty, so that there are no more turns than locals.
+#[inline(always)]
 pub(crate) fn push_zeros(values: &mut ValueStack, runs: &[LocalRun])
     requires room { length values.old.items + length (flat_map locals_of runs.now) ≤ values.old.room }
     requires turns { All HasLocals runs.now }
@@ -83,6 +84,7 @@ fn element_at(table: &[Option<u32>], i: u32) -> Option<Option<u32>>
 }
 
 // Enters a function, whose arguments are on the top.
+#[inline(always)]
 fn enter_function(machine: &mut Machine, m: &Module, x: usize, count: usize)
     requires arguments { count ≤ length machine.old.values.items }
     requires values { length machine.old.values.items + length (function_tree (function_of m.now x)).locals ≤ machine.old.values.room }
@@ -105,6 +107,7 @@ fn enter_function(machine: &mut Machine, m: &Module, x: usize, count: usize)
 }
 
 // Calls one of the module's own functions, if one more call may be open.
+#[inline(always)]
 fn invoke(machine: &mut Machine, inputs: &Inputs, x: usize) -> Step
     requires { (request : List ℕ) × CanCall inputs.now.m.now (terms inputs.now.limits request) machine.old x }
     ensures steps { (request : List ℕ) (frame : ℕ) (store : Store) (r : ℕ → Ended) → IsRunnable inputs.now.m.now frame → SimulatesCall inputs.now.m.now (terms inputs.now.limits request) frame machine.old store x r
@@ -120,6 +123,7 @@ fn invoke(machine: &mut Machine, inputs: &Inputs, x: usize) -> Step
 }
 
 // Calls an import, for which the host has what it does in place of a body.
+#[inline(never)]
 fn call_import(
     machine: &mut Machine,
     inputs: &Inputs,
@@ -146,6 +150,7 @@ fn call_import(
 }
 
 // Calls a function by its number: the imports have the first ones.
+#[inline(always)]
 pub(crate) fn call(
     machine: &mut Machine,
     inputs: &Inputs,
@@ -174,6 +179,7 @@ pub(crate) fn call(
 }
 
 // Calls the function that an element of the table is, if it has the type that is named.
+#[inline(never)]
 pub(crate) fn call_indirect(
     machine: &mut Machine,
     inputs: &Inputs,

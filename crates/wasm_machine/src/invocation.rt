@@ -5,7 +5,8 @@ ghost use Rattle.wasm_types.specs.declared.limits.RunLimits.{RunLimits as Limits
 ghost use Rattle.wasm_types.specs.declared.instr.Width.TheVariants.{W32};
 ghost use Rattle.wasm_spec.specs.Functions.{host_type};
 ghost use Rattle.wasm_spec.specs.Typing.{type_of};
-ghost use Rattle.wasm_spec.specs.Execution.{Ended, Terms, host_call, number, terms};
+ghost use Rattle.wasm_spec.specs.Typing.{number};
+ghost use Rattle.wasm_spec.specs.Execution.{Ended, Terms, host_call, terms};
 ghost use Rattle.wasm_spec.specs.Store.{Store};
 ghost use Rattle.wasm_types.specs.Tree.{module_tree};
 ghost use Rattle.wasm_spec.specs.Bulk.{HasFewMarks};

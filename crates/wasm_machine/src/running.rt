@@ -87,15 +87,16 @@ fn op_in(ops: &[Op], place: usize) -> &Op
     &ops[place]
 }
 
-// Ends the current sequence, which is over, and those that are over then, up to the next instruction. Says whether the run is
-// over.
+// Ends the current sequence, which is over, and those that are over then, up to the next instruction, and gives the instructions
+// of its sequence. Says whether the run is over.
 #[inline(never)]
-fn end_sequences(machine: &mut Machine, m: &Module) -> bool
+fn end_sequences<'m>(machine: &mut Machine, m: &'m Module, current: &mut &'m [Op]) -> bool
     requires over { op_at m.now machine.old ≡ None }
     requires can { CanContinue m.now machine.old }
     ensures steps { (limits : Terms) (frame : ℕ) (store : Store) (r : ℕ → Ended)
         → Simulates m.now limits frame machine.old store r → SimulatesUnlessOver result m.now limits frame machine.new store r }
     ensures there { IsFalse result → machine.new.at.place < length (sequence_at m.now machine.new) }
+    ensures current { IsFalse result → current.new.now ≡ sequence_at m.now machine.new }
     ensures room { KeepsRoom machine.old machine.new }
 {
     loop {
@@ -104,6 +105,7 @@ fn end_sequences(machine: &mut Machine, m: &Module) -> bool
         }
         let ops = sequence_of(m, machine.at);
         if machine.at.place < ops.len() {
+            *current = ops;
             return false;
         }
     }
@@ -123,11 +125,7 @@ fn fetch<'m>(machine: &mut Machine, m: &'m Module, ops: &mut &'m [Op]) -> bool
     if machine.at.place < ops.len() {
         return false;
     }
-    if end_sequences(machine, m) {
-        return true;
-    }
-    *ops = sequence_of(m, machine.at);
-    false
+    end_sequences(machine, m, ops)
 }
 
 // A block, a loop, an `if` or a call, at which the machine stands.

@@ -14,9 +14,10 @@ use Rattle.wasm_numeric.proofs.Signed.{signed-high, twice, unsigned-signed, sign
 
 -- ---- quotients of numbers of n bits
 
-mag-neg : (n : ℕ) → mag (neg_ℤ (pos n)) ≡ n - 1
-mag-neg zero = refl
-mag-neg (suc n) = omega arith
+-- a number's opposite reaches no further
+opposite-below : (n h : ℕ) → 0 < h → n ≤ h → mag (neg_ℤ (pos n)) < h
+opposite-below zero h some le = some
+opposite-below (suc n) h some le = omega arith
 
 -- by 2 or more, a quotient is at most half
 halved : (a b h : ℕ) → suc a ≤ h → suc a / suc (suc b) < h
@@ -28,8 +29,8 @@ halved a b h le =
 
 pub quotient-fits : (h : ℕ) (x y : ℤ) → mag x < h → ¬ ((x ≡ negsuc (h - 1)) × (y ≡ negsuc 0)) → mag (int_div x y) < h
 quotient-fits h (pos a) (pos b) small not_least = let le = div-le_self a b in omega arith
-quotient-fits h (pos a) (negsuc b) small not_least = let e = mag-neg (a / suc b) in let le = div-le_self a (suc b) in omega arith
-quotient-fits h (negsuc a) (pos b) small not_least = let e = mag-neg (suc a / b) in let le = div-le_self (suc a) b in omega arith
+quotient-fits h (pos a) (negsuc b) small not_least = opposite-below (a / suc b) h (omega arith) (let le = div-le_self a (suc b) in omega arith)
+quotient-fits h (negsuc a) (pos b) small not_least = opposite-below (suc a / b) h (omega arith) (let le = div-le_self (suc a) b in omega arith)
 quotient-fits h (negsuc a) (negsuc (suc b)) small not_least = halved a b h small
 quotient-fits h (negsuc a) (negsuc zero) small not_least =
     let whole : suc a / 1 ≡ suc a = div-one (suc a) in

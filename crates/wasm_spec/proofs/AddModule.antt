@@ -1,6 +1,6 @@
 -- A small module: its function `add`, exported under that name, gives the sum of two i32.
 use Rattle.std.proofs.Common.{ℕ, ◌<◌, ◌≢◌, ◌≤◌, inl, inr, List, [], ◌∷◌, ◌++◌, length, map, refl, arith}
-use Rattle.std.specs.Prelude.{None, Ok, AllPairs}
+use Rattle.std.specs.Prelude.{None, Ok, All, AllPairs}
 use Rattle.std.proofs.lemmas.List.Elements.{All-nil, All-cons}
 use Rattle.wasm_types.specs.declared.limits.LoadLimits.{LoadLimits}
 use Rattle.wasm_values.specs.declared.profile.Profile.TheVariants.{One}
@@ -217,14 +217,17 @@ add_spelled = record {
 add_typed : IsTypedFunction add add_function
 add_typed = (refl, (I32 ∷ [], ([], refl, refl), (I32 ∷ I32 ∷ [], (I32 ∷ [], refl, refl), (I32 ∷ [], ([], refl, refl), refl))))
 
-one_pair : {X : Type 0} (R : X → X → Type 0) (x : X) → AllPairs R (x ∷ [])
+pub one_pair : {X : Type 0} (R : X → X → Type 0) (x : X) → AllPairs R (x ∷ [])
 one_pair R x i j d lt le = absurd (omega arith)
+
+pub all_one : {X : Type 0} (P : X → Type 0) (x : X) → P x → All P (x ∷ [])
+all_one P x p = All-cons P x [] p (All-nil P)
 
 pub add_valid : IsValid add
 add_valid = record {
-  function_types = All-cons (λ (t : FuncType). length t.results ≤ 1) add_type [] (omega arith) (All-nil (λ (t : FuncType). length t.results ≤ 1));
+  function_types = all_one (λ (t : FuncType). length t.results ≤ 1) add_type (omega arith);
   imports = All-nil _;
-  functions = All-cons (IsTypedFunction add) add_function [] add_typed (All-nil (IsTypedFunction add));
+  functions = all_one (IsTypedFunction add) add_function add_typed;
   one_table = omega arith;
   table_types = All-nil _;
   one_memory = omega arith;
@@ -233,7 +236,7 @@ add_valid = record {
   element_segments = All-nil _;
   data_segments = All-nil _;
   start = tt;
-  exports = All-cons (λ (e : Export). IsDefined add e.desc) add_export [] refl (All-nil (λ (e : Export). IsDefined add e.desc));
+  exports = all_one (λ (e : Export). IsDefined add e.desc) add_export refl;
   names_differ = one_pair (λ (a b : Export). a.name ≢ b.name) add_export;
 }
 

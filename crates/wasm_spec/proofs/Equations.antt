@@ -1,13 +1,14 @@
 -- The equations of `exec`, one for each form of code. All that is proved about execution stands on these, and `exec` stays
 -- shut.
-use Rattle.std.proofs.Common.{◌≡◌, ◌≢◌, ℕ, suc, ◌+◌, ◌<◌, Option, refl, ap, ◌∙◌, arith}
+use Rattle.std.proofs.Common.{◌≡◌, ◌≢◌, ℕ, suc, ◌+◌, ◌<◌, length, Option, refl, ap, ◌∙◌, arith}
 use Rattle.std.specs.Prelude.{slice_get, not}
 use Rattle.wasm_types.specs.declared.types.ValType.{ValType}
 use Rattle.wasm_types.specs.declared.instr.Instr.{Instr}
 use Rattle.wasm_values.specs.declared.outcome.TrapKind.TheVariants as trap
 use Rattle.wasm_types.specs.SameTypes.{same_type}
 use Rattle.wasm_types.specs.Tree.{Code, End, Plain, Block, Loop, If, Call, CallIndirect, ModuleTree}
-use Rattle.wasm_spec.specs.Execution.{Terms, State, Next, Trapped, OutOfFuel, Ended, ended, Continuation, plain, and_then, leave, arity, pop_index, choose, inside, arm, with_function, call, typed_call, element_call, exec_within, exec}
+use Rattle.wasm_spec.specs.Typing.{result_types}
+use Rattle.wasm_spec.specs.Execution.{Terms, State, Next, Trapped, OutOfFuel, Ended, ended, Continuation, plain, and_then, leave, pop_index, choose, inside, arm, with_function, call, typed_call, element_call, exec_within, exec}
 use Rattle.wasm_spec.proofs.FuelLaws.{Spends, Agree, within-spends, within-exec, and_then-same, leave-same, call-same, within_body, with_function-same, if_there-same, with_element-same, pop_index-same, choose-same, choose-spends, unless-same}
 
 module _ (m : ModuleTree) (limits : Terms) where
@@ -39,7 +40,7 @@ module _ (m : ModuleTree) (limits : Terms) where
 
   pub exec-Block : (depth : ℕ) (t : Option ValType) (body rest : Code) (s : State) (fuel : ℕ)
       → exec m limits depth (Block t body rest) s (suc fuel)
-      ≡ leave (arity t) s.operands (exec m limits depth body (inside s) fuel) (exec m limits depth rest) (exec m limits depth rest)
+      ≡ leave (length (result_types t)) s.operands (exec m limits depth body (inside s) fuel) (exec m limits depth rest) (exec m limits depth rest)
   unfolding exec
   exec-Block depth t body rest s fuel =
       let n : ℕ = suc (suc fuel) in
@@ -47,8 +48,8 @@ module _ (m : ModuleTree) (limits : Terms) where
       let go' : Continuation = exec m limits depth rest in
       let h : Agree (suc fuel) go go' = agree n (suc fuel) rest depth (omega arith) in
       let inner : Ended = exec_within m limits n body depth (inside s) fuel in
-      leave-same (arity t) s.operands inner.signal inner.fuel (suc fuel) go go' go go' (omega (arith, within-spends m limits n body depth (inside s) fuel)) h h
-      ∙ ap (λ (r : Ended). leave (arity t) s.operands r go' go') (within-exec m limits n body depth (inside s) fuel (omega arith))
+      leave-same (length (result_types t)) s.operands inner.signal inner.fuel (suc fuel) go go' go go' (omega (arith, within-spends m limits n body depth (inside s) fuel)) h h
+      ∙ ap (λ (r : Ended). leave (length (result_types t)) s.operands r go' go') (within-exec m limits n body depth (inside s) fuel (omega arith))
 
   -- a branch to a loop goes back to the loop instruction
   pub exec-Loop : (depth : ℕ) (t : Option ValType) (body rest : Code) (s : State) (fuel : ℕ)
@@ -82,8 +83,8 @@ module _ (m : ModuleTree) (limits : Terms) where
       pop_index-same s.operands (suc fuel) _ (arm t (exec m limits depth first) (exec m limits depth second) (exec m limits depth rest)) (λ c s g l.
       let arm_spends : Spends (choose c a b) = choose-spends c a b (within-spends m limits n first depth) (within-spends m limits n second depth) in
       let arms : Agree (suc fuel) (choose c a b) (choose c a' b') = choose-same c (suc fuel) a a' b b' (agree n (suc fuel) first depth (omega arith)) (agree n (suc fuel) second depth (omega arith)) in
-      leave-same (arity t) s.operands (choose c a b (inside s) g).signal (choose c a b (inside s) g).fuel (suc fuel) go go' go go' (omega (arith, arm_spends (inside s) g)) h h
-      ∙ ap (λ (r : Ended). leave (arity t) s.operands r go' go') (arms (inside s) g l)) s fuel (omega arith)
+      leave-same (length (result_types t)) s.operands (choose c a b (inside s) g).signal (choose c a b (inside s) g).fuel (suc fuel) go go' go go' (omega (arith, arm_spends (inside s) g)) h h
+      ∙ ap (λ (r : Ended). leave (length (result_types t)) s.operands r go' go') (arms (inside s) g l)) s fuel (omega arith)
 
   pub exec-Call : (depth x : ℕ) (rest : Code) (s : State) (fuel : ℕ)
       → exec m limits depth (Call x rest) s (suc fuel) ≡ with_function m x (call m limits depth (exec m limits (depth + 1)) (exec m limits depth rest)) s fuel

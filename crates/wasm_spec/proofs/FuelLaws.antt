@@ -10,7 +10,8 @@ use Rattle.wasm_types.specs.SameTypes.{same_type}
 use Rattle.wasm_types.specs.Tree.{Code, End, Plain, Block, Loop, If, Call, CallIndirect, FunctionTree, ModuleTree}
 use Rattle.wasm_spec.specs.Store.{Store}
 use Rattle.wasm_spec.specs.Functions.{Callee, Imported, Own, callee_at, callee_type}
-use Rattle.wasm_spec.specs.Execution.{Terms, element_call, import_call, typed_call, call, State, Signal, Next, Branch, Returned, Trapped, OutOfFuel, Stuck, Ended, Continuation, plain, pay, and_then, unless, keep, leave_by, leave, arity, pop_index, choose, inside, arm, return_by, return, entered, callee, invoke, with_type, if_there, with_function, with_element, exec_within, exec}
+use Rattle.wasm_spec.specs.Typing.{result_types}
+use Rattle.wasm_spec.specs.Execution.{Terms, element_call, import_call, typed_call, call, State, Signal, Next, Branch, Returned, Trapped, OutOfFuel, Stuck, Ended, Continuation, plain, pay, and_then, unless, keep, leave_by, leave, pop_index, choose, inside, arm, return_by, return, entered, callee, invoke, if_there, with_function, with_element, exec_within, exec}
 
 -- ---- fuel only falls
 
@@ -102,7 +103,7 @@ module _ (m : ModuleTree) (limits : Terms) where
   -- what a block, an `if` and the calls go on with at the index n
   abbrev within_block : ℕ → ℕ → Option ValType → Code → Code → Continuation
   within_block n depth t body rest s fuel =
-      leave (arity t) s.operands (exec_within m limits n body depth (inside s) fuel) (exec_within m limits n rest depth) (exec_within m limits n rest depth)
+      leave (length (result_types t)) s.operands (exec_within m limits n body depth (inside s) fuel) (exec_within m limits n rest depth) (exec_within m limits n rest depth)
 
   abbrev within_arm : ℕ → ℕ → Option ValType → Code → Code → Code → ℕ → Continuation
   within_arm n depth t first second rest =
@@ -118,7 +119,7 @@ module _ (m : ModuleTree) (limits : Terms) where
   within_typed_call n depth rest = typed_call m limits depth (within_body n depth) (exec_within m limits (suc n) rest depth)
 
   abbrev within_element : ℕ → ℕ → ℕ → Code → ℕ → Continuation
-  within_element n depth x rest y = with_type m x (λ u. with_function m y (within_typed_call n depth rest u))
+  within_element n depth x rest y = if_there (slice_get m.types x) (λ u. with_function m y (within_typed_call n depth rest u))
 
   abbrev within_element_call : ℕ → ℕ → ℕ → Code → ℕ → Continuation
   within_element_call n depth x rest = element_call m limits depth (within_body n depth) (exec_within m limits (suc n) rest depth) x
@@ -131,14 +132,14 @@ module _ (m : ModuleTree) (limits : Terms) where
       pay-spends s.store fuel (within_block n depth t body rest s) (λ g.
       let go : Continuation = exec_within m limits n rest depth in
       let inner : Ended = exec_within m limits n body depth (inside s) g in
-      leave-spends (arity t) s.operands inner.signal g inner.fuel go go (within-spends n rest depth) (within-spends n rest depth) (within-spends n body depth (inside s) g))
+      leave-spends (length (result_types t)) s.operands inner.signal g inner.fuel go go (within-spends n rest depth) (within-spends n rest depth) (within-spends n body depth (inside s) g))
   within-spends n (If t first second rest) depth s fuel =
       pay-spends s.store fuel (pop_index s.operands (within_arm n depth t first second rest) s)
       (pop_index-spends s.operands (within_arm n depth t first second rest) (λ c s g.
       let go : Continuation = exec_within m limits n rest depth in
       let arm : Continuation = choose c (exec_within m limits n first depth) (exec_within m limits n second depth) in
       let arm_spends : Spends arm = choose-spends c (exec_within m limits n first depth) (exec_within m limits n second depth) (within-spends n first depth) (within-spends n second depth) in
-      leave-spends (arity t) s.operands (arm (inside s) g).signal g (arm (inside s) g).fuel go go (within-spends n rest depth) (within-spends n rest depth) (arm_spends (inside s) g)) s)
+      leave-spends (length (result_types t)) s.operands (arm (inside s) g).signal g (arm (inside s) g).fuel go go (within-spends n rest depth) (within-spends n rest depth) (arm_spends (inside s) g)) s)
   within-spends zero (Loop t body rest) depth s fuel = omega arith
   within-spends (suc n) (Loop t body rest) depth s fuel =
       pay-spends s.store fuel _ (λ g.
@@ -274,9 +275,9 @@ module _ (m : ModuleTree) (limits : Terms) where
       let go' : Continuation = exec_within m limits n' rest depth in
       let h : Agree fuel go go' = λ u j l. within-enough n n' rest depth u j (omega arith) (omega arith) in
       pay-same s.store fuel _ _ (λ g l.
-      leave-same (arity t) s.operands (exec_within m limits n body depth (inside s) g).signal (exec_within m limits n body depth (inside s) g).fuel fuel go go' go go'
+      leave-same (length (result_types t)) s.operands (exec_within m limits n body depth (inside s) g).signal (exec_within m limits n body depth (inside s) g).fuel fuel go go' go go'
       (omega (arith, within-spends m limits n body depth (inside s) g)) h h
-      ∙ ap (λ (r : Ended). leave (arity t) s.operands r go' go') (within-enough n n' body depth (inside s) g (omega arith) (omega arith)))
+      ∙ ap (λ (r : Ended). leave (length (result_types t)) s.operands r go' go') (within-enough n n' body depth (inside s) g (omega arith) (omega arith)))
   within-enough n n' (If t first second rest) depth s fuel lt lt' =
       let go : Continuation = exec_within m limits n rest depth in
       let go' : Continuation = exec_within m limits n' rest depth in
@@ -288,8 +289,8 @@ module _ (m : ModuleTree) (limits : Terms) where
       let b' : Continuation = exec_within m limits n' second depth in
       let arm_spends : Spends (choose c a b) = choose-spends c a b (within-spends m limits n first depth) (within-spends m limits n second depth) in
       let arms : Agree fuel (choose c a b) (choose c a' b') = choose-same c fuel a a' b b' (λ u j l. within-enough n n' first depth u j (omega arith) (omega arith)) (λ u j l. within-enough n n' second depth u j (omega arith) (omega arith)) in
-      leave-same (arity t) s.operands (choose c a b (inside s) g).signal (choose c a b (inside s) g).fuel fuel go go' go go' (omega (arith, arm_spends (inside s) g)) h h
-      ∙ ap (λ (r : Ended). leave (arity t) s.operands r go' go') (arms (inside s) g l')) s g l)
+      leave-same (length (result_types t)) s.operands (choose c a b (inside s) g).signal (choose c a b (inside s) g).fuel fuel go go' go go' (omega (arith, arm_spends (inside s) g)) h h
+      ∙ ap (λ (r : Ended). leave (length (result_types t)) s.operands r go' go') (arms (inside s) g l')) s g l)
   within-enough zero n' (Loop t body rest) depth s fuel lt lt' = absurd (omega arith)
   within-enough (suc n) zero (Loop t body rest) depth s fuel lt lt' = absurd (omega arith)
   within-enough (suc n) (suc n') (Loop t body rest) depth s fuel lt lt' =

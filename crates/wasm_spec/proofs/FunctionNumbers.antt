@@ -10,7 +10,8 @@ use Rattle.wasm_types.specs.declared.module.Module.{Module}
 use Rattle.wasm_types.specs.Tree.{FunctionTree, ModuleTree, function_tree, module_tree}
 use Rattle.wasm_spec.specs.Functions.{Callee, Imported, Own, callees, callee_at, imported_type, type_index_of}
 
-in_front : {A : Type 0} (xs ys : List A) (i : ℕ) → i < length xs → slice_get (xs ++ ys) i ≡ slice_get xs i
+-- what stands in the first of two lists stands there in both
+pub in_front : {A : Type 0} (xs ys : List A) (i : ℕ) → i < length xs → slice_get (xs ++ ys) i ≡ slice_get xs i
 in_front [] ys i lt = absurd (omega arith)
 in_front (x ∷ xs) ys zero lt = refl
 in_front (x ∷ xs) ys (suc i) lt = in_front xs ys i (omega arith)

@@ -1,6 +1,7 @@
 -- Loading has one answer, whatever modules are run.
 use Rattle.std.proofs.Common.{◌≡◌, ℕ, ◌≤◌, Bool, true, false, cond, List, Option, Some, None, refl, sym, ap, ◌∙◌, subst, ◌⊎◌, inl, inr}
-use Rattle.std.specs.Prelude.{Result, Ok, Err, nat_lt}
+use Rattle.std.specs.Prelude.{Result, Ok, Err, nat_lt, option_map}
+use Rattle.std.specs.Option.{option_or}
 use Rattle.std.proofs.lemmas.Bool.{ltb-false}
 use Rattle.wasm_types.specs.declared.limits.LoadLimits.{LoadLimits}
 use Rattle.wasm_values.specs.declared.profile.Profile.{Profile}
@@ -8,7 +9,7 @@ use Rattle.wasm_types.specs.Tree.{ModuleTree}
 use Rattle.wasm_spec.specs.Grammar.{Spells}
 use Rattle.wasm_spec.proofs.UnambiguousModules.{spells-unique}
 use Rattle.wasm_spec.specs.Store.{Extent}
-use Rattle.wasm_spec.specs.Loading.{Refusal, Malformed, Unsupported, Invalid, OverLimit, Segment, Demand, refusal_of, IsAnswered, Answers, LoadsBy}
+use Rattle.wasm_spec.specs.Loading.{Refusal, Malformed, Unsupported, Invalid, OverLimit, Segment, Demand, IsAnswered, Answers, LoadsBy}
 
 module _ (Runs : ModuleTree → Type 0) (limits : LoadLimits) (m : ModuleTree) where
   pub answers-unique : (r s : Result ModuleTree Refusal) → Answers Runs limits m r → Answers Runs limits m s → r ≡ s
@@ -67,7 +68,7 @@ module _ (Runs : ModuleTree → Type 0) (profile : Profile) (bytes : List ℕ) (
 
 -- ---- no refusal
 
-pub no_refusal : (d : Option Demand) (e : Option Extent) → refusal_of d e ≡ None → (d ≡ None) × (e ≡ None)
+pub no_refusal : (d : Option Demand) (e : Option Extent) → option_or (option_map (λ (x : Demand). OverLimit x) d) (option_map (λ (x : Extent). Segment x) e) ≡ None → (d ≡ None) × (e ≡ None)
 no_refusal None None h = (refl, refl)
 no_refusal None (Some x) h = absurd (cc)
 no_refusal (Some y) e h = absurd (cc)

@@ -11,7 +11,8 @@ use Rattle.wasm_types.specs.Tree.{Code, End, Plain, Block, Loop, If, Call, CallI
 use Rattle.wasm_types.specs.SameTypes.{same_type}
 use Rattle.wasm_spec.specs.Functions.{Callee, Imported, Own, callee_at, callee_type}
 use Rattle.wasm_spec.specs.Store.{Store}
-use Rattle.wasm_spec.specs.Execution.{Terms, call, import_call, State, Signal, Next, Branch, Returned, Trapped, OutOfFuel, Stuck, Ended, ended, Continuation, plain, pay, and_then, unless, keep, leave_by, leave, arity, pop_index, choose, inside, return_by, return, entered, callee, invoke, if_there, with_function, with_element, exec_within, exec}
+use Rattle.wasm_spec.specs.Typing.{result_types}
+use Rattle.wasm_spec.specs.Execution.{Terms, call, import_call, State, Signal, Next, Branch, Returned, Trapped, OutOfFuel, Stuck, Ended, ended, Continuation, plain, pay, and_then, unless, keep, leave_by, leave, pop_index, choose, inside, return_by, return, entered, callee, invoke, if_there, with_function, with_element, exec_within, exec}
 use Rattle.wasm_spec.specs.Result.{CallResult, finish, run_function, result_by, result_of, function_result, if_done_by, if_done, after_start, result_from}
 use Rattle.wasm_spec.specs.MoreFuel.{is_fuel, is_fuel_end, with_more}
 use Rattle.wasm_spec.proofs.FuelLaws.{Spends, within_body, within_call, within-spends, within-exec, choose-spends, exec-spends}
@@ -141,14 +142,14 @@ module _ (d : ℕ) where
         pay-more s.store fuel _ (λ g e out. and_then-more k (plain m limits i s) g (exec_within m limits n rest depth) (within-more n rest depth k le) (omega arith) out) out
     within-more n (Block t body rest) depth k le s fuel lt out =
         pay-more s.store fuel _ (λ g e out. let go : Continuation = exec_within m limits n rest depth in let h : Grows k go = within-more n rest depth k le in
-        block-more k (arity t) s.operands (exec_within m limits n body depth (inside s) g) (exec_within m limits n body depth (inside s) (g + d)) go go h h
+        block-more k (length (result_types t)) s.operands (exec_within m limits n body depth (inside s) g) (exec_within m limits n body depth (inside s) (g + d)) go go h h
         (omega (arith, within-spends m limits n body depth (inside s) g)) (within-more n body depth k le (inside s) g (omega arith)) out) out
     within-more n (If t first second rest) depth k le s fuel lt out =
         pay-more s.store fuel _ (λ g e out. pop_index-more k s.operands _ (λ c s g lt out.
         let go : Continuation = exec_within m limits n rest depth in let h : Grows k go = within-more n rest depth k le in
         let a : Continuation = exec_within m limits n first depth in let b : Continuation = exec_within m limits n second depth in
         let spends : Spends (choose c a b) = choose-spends c a b (within-spends m limits n first depth) (within-spends m limits n second depth) in
-        block-more k (arity t) s.operands (choose c a b (inside s) g) (choose c a b (inside s) (g + d)) go go h h
+        block-more k (length (result_types t)) s.operands (choose c a b (inside s) g) (choose c a b (inside s) (g + d)) go go h h
         (omega (arith, spends (inside s) g)) (choose-more k c a b (within-more n first depth k le) (within-more n second depth k le) (inside s) g lt) out) s g (omega arith) out) out
     within-more zero (Loop t body rest) depth k le s fuel lt out = absurd (omega arith)
     within-more (suc n) (Loop t body rest) depth k le s fuel lt out =
@@ -178,6 +179,10 @@ module _ (d : ℕ) where
         ∙ within-more n code depth n (omega arith) s fuel (omega arith) (subst (λ (e : Ended). is_out e.signal ≡ false) (sym less) out) ∙ ap (more d) less
 
 -- ---- results
+
+pub with_more-end : (d : ℕ) (o : Option CallResult) → is_fuel_end (with_more d o) ≡ is_fuel_end o
+with_more-end d None = refl
+with_more-end d (Some r) = refl
 
 module _ (d : ℕ) where
   out-is : (signal : Signal) (fuel : ℕ) → is_fuel_end (result_by signal fuel) ≡ false → is_out signal ≡ false
@@ -242,15 +247,11 @@ module _ (d : ℕ) where
         → result_from m limits x arguments store (fuel + d) ≡ with_more d (result_from m limits x arguments store fuel)
     result-more x arguments store fuel e = start-more m.start x arguments store fuel e
 
-    end-kept : (d : ℕ) (o : Option CallResult) → is_fuel_end (with_more d o) ≡ is_fuel_end o
-    end-kept d None = refl
-    end-kept d (Some r) = refl
-
     -- A call that ends for want of fuel ends so on less fuel too.
     pub result-less : (x : ℕ) (arguments : List Val) (store : Store) (less : ℕ) → is_fuel_end (result_from m limits x arguments store (less + d)) ≡ true
         → is_fuel_end (result_from m limits x arguments store less) ≡ true
     result-less x arguments store less e =
         let split : (b : Bool) → is_fuel_end (result_from m limits x arguments store less) ≡ b → is_fuel_end (result_from m limits x arguments store less) ≡ true = elim [
           | true ↦ λ h. h
-          | false ↦ λ h. absurd (true≢false (sym e ∙ ap is_fuel_end (result-more x arguments store less h) ∙ end-kept d (result_from m limits x arguments store less) ∙ h))
+          | false ↦ λ h. absurd (true≢false (sym e ∙ ap is_fuel_end (result-more x arguments store less h) ∙ with_more-end d (result_from m limits x arguments store less) ∙ h))
         ] in split (is_fuel_end (result_from m limits x arguments store less)) refl

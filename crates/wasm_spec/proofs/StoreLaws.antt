@@ -21,7 +21,8 @@ use Rattle.wasm_types.specs.declared.host.HostFunction.TheVariants as host
 use Rattle.wasm_spec.specs.Functions.{Callee, Imported, Own, callee_at, callee_type, host_function}
 use Rattle.wasm_spec.specs.Operators.{bit_width, int_width, pack_width, pack_bits, binary, wrap}
 use Rattle.wasm_spec.specs.Store.{Store, page_size, written}
-use Rattle.wasm_spec.specs.Execution.{Terms, most_answer, lies_within, part, answer_set, read_request, write_answer, pop_pair, pop_numbers, host_call, import_call, call, State, Signal, Next, Branch, Returned, Trapped, OutOfFuel, Stuck, Ended, Continuation, number, given, with_operands, pop, pop_two, pop_three, if_zero, or_trap, memory_set, store_number, pages_of, most_pages, grow, write_where, copy_bytes, fill_bytes, plain, pay, and_then, unless, keep, leave_by, arity, pop_index, choose, inside, return_by, entered, callee, invoke, if_there, with_function, with_element, exec_within, exec}
+use Rattle.wasm_spec.specs.Typing.{result_types}
+use Rattle.wasm_spec.specs.Execution.{Terms, most_answer, lies_within, part, answer_set, read_request, write_answer, pop_pair, pop_numbers, host_call, import_call, call, State, Signal, Next, Branch, Returned, Trapped, OutOfFuel, Stuck, Ended, Continuation, number, given, with_operands, pop, pop_two, pop_three, if_zero, or_trap, memory_set, store_number, pages_of, most_pages, grow, write_where, copy_bytes, fill_bytes, plain, pay, and_then, unless, keep, leave_by, pop_index, choose, inside, return_by, entered, callee, invoke, if_there, with_function, with_element, exec_within, exec}
 
 -- the store in which a sequence ends has this property
 abbrev pub KeptIn : (Store → Type 0) → Signal → Type 0
@@ -284,14 +285,14 @@ module _ (P : Store → Type 0) (m : ModuleTree) (limits : Terms) (c : IsKeptByC
       pay-keeps P s.store fuel _ p (λ g.
       let go : Continuation = exec_within m limits n rest depth in
       let inner : Ended = exec_within m limits n body depth (inside s) g in
-      leave-keeps P (arity t) s.operands inner.signal inner.fuel go go (within-keeps n rest depth) (within-keeps n rest depth) (within-keeps n body depth (inside s) g p))
+      leave-keeps P (length (result_types t)) s.operands inner.signal inner.fuel go go (within-keeps n rest depth) (within-keeps n rest depth) (within-keeps n body depth (inside s) g p))
   within-keeps n (If t first second rest) depth s fuel p =
       pay-keeps P s.store fuel _ p (λ g. pop_index-keeps P s.operands _ (λ c s g p.
       let go : Continuation = exec_within m limits n rest depth in
       let a : Continuation = exec_within m limits n first depth in
       let b : Continuation = exec_within m limits n second depth in
       let inner : Ended = choose c a b (inside s) g in
-      leave-keeps P (arity t) s.operands inner.signal inner.fuel go go (within-keeps n rest depth) (within-keeps n rest depth)
+      leave-keeps P (length (result_types t)) s.operands inner.signal inner.fuel go go (within-keeps n rest depth) (within-keeps n rest depth)
       (choose-keeps P c a b (within-keeps n first depth) (within-keeps n second depth) (inside s) g p)) s g p)
   within-keeps zero (Loop t body rest) depth s fuel p = p
   within-keeps (suc n) (Loop t body rest) depth s fuel p =
@@ -301,8 +302,10 @@ module _ (P : Store → Type 0) (m : ModuleTree) (limits : Terms) (c : IsKeptByC
       (within-keeps (suc n) rest depth) (within-keeps n (Loop t body rest) depth) (within-keeps (suc n) body depth (inside s) g p))
   within-keeps zero (Call x rest) depth s fuel p = p
   within-keeps (suc n) (Call x rest) depth s fuel p =
-      pay-keeps P s.store fuel _ p (λ g. with_function-keeps P m x _ (λ callee t.
-      call-keeps depth (λ code. exec_within m limits n code (depth + 1)) (exec_within m limits (suc n) rest depth) callee t
+      let run : Code → Continuation = λ code. exec_within m limits n code (depth + 1) in
+      let next : Callee → FuncType → Continuation = call m limits depth run (exec_within m limits (suc n) rest depth) in
+      pay-keeps P s.store fuel (with_function m x next s) p (λ g. with_function-keeps P m x next (λ callee t.
+      call-keeps depth run (exec_within m limits (suc n) rest depth) callee t
       (λ code. within-keeps n code (depth + 1)) (within-keeps (suc n) rest depth)) s g p)
   within-keeps zero (CallIndirect x rest) depth s fuel p = p
   within-keeps (suc n) (CallIndirect x rest) depth s fuel p =

@@ -14,9 +14,9 @@ use Rattle.wasm_types.specs.declared.module.ExportDesc.{ExportDesc}
 use Rattle.wasm_types.specs.declared.module.ExportDesc.TheVariants as export
 use Rattle.wasm_types.specs.Tree.{Code, FunctionTree, GlobalTree, ElementTree, DataTree, ModuleTree, locals_of}
 use Rattle.wasm_spec.specs.Numbers.{TakesUnsigned, TakesEach, TakesVec, TakesBytes, TakesName, IsUnambiguous}
-use Rattle.wasm_spec.specs.TypeGrammar.{TakesValType, TakesFuncType, TakesLimits, TakesMemoryType, TakesTableType, TakesGlobalType}
+use Rattle.wasm_spec.specs.TypeGrammar.{TakesValType, TakesFuncType, TakesLimits, TakesTableType, TakesGlobalType}
 use Rattle.wasm_spec.specs.InstrGrammar.{TakesExpr}
-use Rattle.wasm_spec.specs.Grammar.{TakesImportDesc, TakesImport, TakesGlobal, TakesExportDesc, TakesExport, TakesElement, TakesLocalRun, Body, TakesBody, TakesSizedBody, body_of, type_index_of, TakesData, Section, TakesSection, section, SpellsVec, SpellsStart, SpellsFields, Spells}
+use Rattle.wasm_spec.specs.Grammar.{TakesImportDesc, TakesImport, TakesGlobal, TakesExportDesc, TakesExport, TakesElement, TakesLocalRun, Body, TakesBody, TakesSizedBody, body_of, TakesData, Section, TakesSection, section, SpellsVec, SpellsStart, SpellsFields, Spells}
 use Rattle.wasm_spec.proofs.UnambiguousNumbers.{same_first, same_others, unsigned-unique, vec-unique, bytes-unique, name-unique}
 use Rattle.wasm_spec.proofs.UnambiguousTypes.{val_type-unique, func_type-unique, limits-unique, table_type-unique, global_type-unique}
 use Rattle.wasm_spec.proofs.UnambiguousInstrs.{expr-unique}
@@ -160,7 +160,7 @@ tail_of [] = []
 tail_of (x ∷ xs) = xs
 
 -- functions of the same types and the same bodies
-pub functions-equal : (fs gs : List FunctionTree) → map type_index_of fs ≡ map type_index_of gs → map body_of fs ≡ map body_of gs → fs ≡ gs
+pub functions-equal : (fs gs : List FunctionTree) → map (λ (f : FunctionTree). f.type_index) fs ≡ map (λ (f : FunctionTree). f.type_index) gs → map body_of fs ≡ map body_of gs → fs ≡ gs
 functions-equal [] [] e h = refl
 functions-equal [] (g ∷ gs) e h = absurd (omega (arith, ap length e))
 functions-equal (f ∷ fs) [] e h = absurd (omega (arith, ap length e))
@@ -178,9 +178,9 @@ pub fields-unique : (profile : Profile) (sections : List Section) (m n : ModuleT
 fields-unique profile sections m n a b =
     let types = spelled_vec-unique TakesFuncType func_type-unique m.types n.types (section 1 sections) a.types b.types in
     let imports = spelled_vec-unique TakesImport import-unique m.imports n.imports (section 2 sections) a.imports b.imports in
-    let indices = spelled_vec-unique (TakesUnsigned 32) (unsigned-unique 32) (map type_index_of m.functions) (map type_index_of n.functions) (section 3 sections) a.function_types b.function_types in
+    let indices = spelled_vec-unique (TakesUnsigned 32) (unsigned-unique 32) (map (λ (f : FunctionTree). f.type_index) m.functions) (map (λ (f : FunctionTree). f.type_index) n.functions) (section 3 sections) a.function_types b.function_types in
     let tables = spelled_vec-unique TakesTableType table_type-unique m.tables n.tables (section 4 sections) a.tables b.tables in
-    let memories = spelled_vec-unique TakesMemoryType limits-unique m.memories n.memories (section 5 sections) a.memories b.memories in
+    let memories = spelled_vec-unique TakesLimits limits-unique m.memories n.memories (section 5 sections) a.memories b.memories in
     let globals = spelled_vec-unique (TakesGlobal profile) (global-unique profile) m.globals n.globals (section 6 sections) a.globals b.globals in
     let exports = spelled_vec-unique TakesExport export-unique m.exports n.exports (section 7 sections) a.exports b.exports in
     let start = start-unique m.start n.start (section 8 sections) a.start b.start in

@@ -1,9 +1,10 @@
 -- Modules that copy or fill parts of their memory, of which profile 1 has none, and modules whose instructions mark few blocks.
-use Rattle.std.specs.Prelude.{◌≡◌, [], Bool, true, false, ◌||◌}
+use Rattle.std.specs.Prelude.{◌≡◌, [], Bool, true, false}
 use Rattle.std.specs.List.{list_any}
 use Rattle.wasm_types.specs.declared.instr.Instr.{Instr}
 use Rattle.wasm_types.specs.declared.instr.Instr.TheVariants as instr
-use Rattle.wasm_types.specs.Tree.{Code, End, Plain, Block, Loop, If, Call, CallIndirect, ModuleTree}
+use Rattle.wasm_types.specs.Tree.{Code, ModuleTree}
+use Rattle.wasm_spec.specs.Validity.{uses_any}
 
 -- instructions that write a part of any length
 abbrev pub is_bulk : Instr → Bool
@@ -12,13 +13,7 @@ is_bulk instr.MemoryFill = true
 is_bulk _ = false
 
 abbrev pub code_uses_bulk : Code → Bool
-code_uses_bulk End = false
-code_uses_bulk (Plain i rest) = is_bulk i || code_uses_bulk rest
-code_uses_bulk (Block t body rest) = code_uses_bulk body || code_uses_bulk rest
-code_uses_bulk (Loop t body rest) = code_uses_bulk body || code_uses_bulk rest
-code_uses_bulk (If t first second rest) = code_uses_bulk first || code_uses_bulk second || code_uses_bulk rest
-code_uses_bulk (Call x rest) = code_uses_bulk rest
-code_uses_bulk (CallIndirect x rest) = code_uses_bulk rest
+code_uses_bulk code = uses_any is_bulk (λ t. false) code
 
 abbrev pub uses_bulk : ModuleTree → Bool
 uses_bulk m = list_any (λ f. code_uses_bulk f.body) m.functions

@@ -12,6 +12,7 @@ use Rattle.wasm_types.specs.declared.host.HostFunction.{HostFunction}
 use Rattle.wasm_types.specs.declared.host.HostFunction.TheVariants as host
 use Rattle.wasm_types.specs.declared.module.Import.{Import}
 use Rattle.std.specs.Prelude.{ℕ, zero, suc, ◌+◌, ◌-◌, ◌*◌, ◌/◌, ◌^◌, List, [], ◌∷◌, ◌++◌, Bool, true, false, Result, Ok, Err, Option, Some, None, nat_lt, nat_le, not, ◌&&◌, if◌then◌else◌, slice_get, slice_set, length, take, drop, reverse, map, replicate, min, unwrap_or}
+use Rattle.std.specs.Option.{option_map_or}
 use Rattle.std.specs.Int as int
 use Rattle.std.specs.Int.{byte_len, to_le_bytes}
 use Rattle.wasm_types.specs.declared.types.ValType.{ValType}
@@ -31,6 +32,8 @@ use Rattle.wasm_types.specs.declared.instr.Instr.TheVariants as instr
 use Rattle.wasm_types.specs.Tree.{Code, End, Plain, Block, Loop, If, Call, CallIndirect, FunctionTree, ModuleTree}
 use Rattle.wasm_types.specs.SameTypes.{same_type}
 use Rattle.wasm_spec.specs.Functions.{host_function, Callee, Imported, Own, callee_at, callee_type}
+use Rattle.wasm_spec.specs.Typing.{result_types}
+pub use Rattle.wasm_spec.specs.Typing.{number}
 use Rattle.wasm_spec.specs.Operators.{bit_width, int_width, pack_width, pack_bits, unary, binary, compare, eqz, extend_s, wrap}
 use Rattle.wasm_spec.specs.Store.{Store, page_size, written, loaded}
 
@@ -74,20 +77,12 @@ Continuation = State → ℕ → Ended
 
 -- ---- values and operands
 
--- the number of a value of an integer type, if it has that type
-abbrev pub number : Width → Val → Option ℕ
-number W32 (val.I32 n) = Some n
-number W32 (val.I64 n) = None
-number W64 (val.I32 n) = None
-number W64 (val.I64 n) = Some n
-
 abbrev pub value : Width → ℕ → Val
 value W32 n = val.I32 n
 value W64 n = val.I64 n
 
 abbrev pub given : {A : Type 0} → Option A → (A → Signal) → Signal
-given None next = Stuck
-given (Some x) next = next x
+given o next = option_map_or next o Stuck
 
 -- goes on with these operands
 abbrev pub with_operands : List Val → State → Signal
@@ -107,7 +102,7 @@ pop_three (z ∷ y ∷ x ∷ rest) next = next x y z rest
 pop_three _ next = Stuck
 
 -- the first at 0, and else the second
-abbrev pub if_zero : ℕ → Signal → Signal → Signal
+abbrev pub if_zero : {A : Type 0} → ℕ → A → A → A
 if_zero zero first second = first
 if_zero (suc n) first second = second
 
@@ -284,19 +279,14 @@ abbrev pub pay : Store → ℕ → (ℕ → Ended) → Ended
 pay store zero next = ended (OutOfFuel store) 0
 pay store (suc fuel) next = next fuel
 
--- what follows an instruction, if it does not leave its sequence
+-- What follows an instruction, if it does not leave its sequence. All other ends are handed on.
 abbrev pub and_then : Signal → ℕ → Continuation → Ended
 and_then (Next s) fuel next = next s fuel
-and_then (Branch l s) fuel next = ended (Branch l s) fuel
-and_then (Returned s) fuel next = ended (Returned s) fuel
-and_then (Trapped t store) fuel next = ended (Trapped t store) fuel
-and_then (OutOfFuel store) fuel next = ended (OutOfFuel store) fuel
-and_then Stuck fuel next = ended Stuck fuel
+and_then signal fuel next = ended signal fuel
 
 -- this end where the test holds, and else what goes on
 abbrev pub unless : Bool → Signal → Continuation → Continuation
-unless true signal next s fuel = ended signal fuel
-unless false signal next s fuel = next s fuel
+unless test signal next s fuel = if test then ended signal fuel else next s fuel
 
 -- the topmost n operands on what lay below
 abbrev pub keep : ℕ → List Val → Continuation → Continuation
@@ -311,18 +301,10 @@ abbrev pub leave_by : ℕ → List Val → Signal → ℕ → Continuation → C
 leave_by n below (Next s) fuel next target = next (record s { operands = s.operands ++ below }) fuel
 leave_by n below (Branch zero s) fuel next target = keep n below target s fuel
 leave_by n below (Branch (suc l) s) fuel next target = ended (Branch l s) fuel
-leave_by n below (Returned s) fuel next target = ended (Returned s) fuel
-leave_by n below (Trapped t store) fuel next target = ended (Trapped t store) fuel
-leave_by n below (OutOfFuel store) fuel next target = ended (OutOfFuel store) fuel
-leave_by n below Stuck fuel next target = ended Stuck fuel
+leave_by n below signal fuel next target = ended signal fuel
 
 abbrev pub leave : ℕ → List Val → Ended → Continuation → Continuation → Ended
 leave n below inner next target = leave_by n below inner.signal inner.fuel next target
-
--- how many values a block's result type has
-abbrev pub arity : Option ValType → ℕ
-arity None = 0
-arity (Some t) = 1
 
 -- an i32 on top goes on as a number
 abbrev pub pop_index : List Val → (ℕ → Continuation) → Continuation
@@ -331,8 +313,7 @@ pop_index _ next s fuel = ended Stuck fuel
 
 -- the first where the condition is not 0, and else the second; the other is not executed
 abbrev pub choose : ℕ → Continuation → Continuation → Continuation
-choose zero first second s fuel = second s fuel
-choose (suc n) first second s fuel = first s fuel
+choose n first second s fuel = if_zero n (second s fuel) (first s fuel)
 
 abbrev pub inside : State → State
 inside s = record s { operands = [] }
@@ -351,9 +332,7 @@ return_by n caller below (Next s) fuel next = keep n below next (record s { loca
 return_by n caller below (Branch zero s) fuel next = keep n below next (record s { locals = caller.locals }) fuel
 return_by n caller below (Branch (suc l) s) fuel next = ended Stuck fuel
 return_by n caller below (Returned s) fuel next = keep n below next (record s { locals = caller.locals }) fuel
-return_by n caller below (Trapped t store) fuel next = ended (Trapped t store) fuel
-return_by n caller below (OutOfFuel store) fuel next = ended (OutOfFuel store) fuel
-return_by n caller below Stuck fuel next = ended Stuck fuel
+return_by n caller below signal fuel next = ended signal fuel
 
 abbrev pub return : ℕ → State → List Val → Ended → Continuation → Ended
 return n caller below inner next = return_by n caller below inner.signal inner.fuel next
@@ -374,11 +353,7 @@ invoke limits depth f t run next s =
 
 -- what is done with what is there
 abbrev pub if_there : {A : Type 0} → Option A → (A → Continuation) → Continuation
-if_there None next s fuel = ended Stuck fuel
-if_there (Some x) next s fuel = next x s fuel
-
-abbrev pub with_type : ModuleTree → ℕ → (FuncType → Continuation) → Continuation
-with_type m x next = if_there (slice_get m.types x) next
+if_there o next s fuel = option_map_or (λ x. next x s fuel) o (ended Stuck fuel)
 
 -- the function with a number, and its type
 abbrev pub with_function : ModuleTree → ℕ → (Callee → FuncType → Continuation) → Continuation
@@ -394,7 +369,7 @@ with_element (Some (Some x)) next s fuel = next x s fuel
 
 -- the arm that the condition chooses, as a block
 abbrev pub arm : Option ValType → Continuation → Continuation → Continuation → ℕ → Continuation
-arm t first second rest c s fuel = leave (arity t) s.operands (choose c first second (inside s) fuel) rest rest
+arm t first second rest c s fuel = leave (length (result_types t)) s.operands (choose c first second (inside s) fuel) rest rest
 
 module _ (m : ModuleTree) (limits : Terms) where
   -- Calls, where so many calls are open, `run` executes a body and `rest` is what follows: of a function, of one that must
@@ -409,7 +384,7 @@ module _ (m : ModuleTree) (limits : Terms) where
     typed_call u c t s = unless (not (same_type u t)) (Trapped trap.Signature s.store) (call c t) s
 
     abbrev pub element_call : ℕ → ℕ → Continuation
-    element_call x i s = with_element (slice_get s.store.table i) (λ y. with_type m x (λ u. with_function m y (typed_call u))) s
+    element_call x i s = with_element (slice_get s.store.table i) (λ y. if_there (slice_get m.types x) (λ u. with_function m y (typed_call u))) s
 
   -- A sequence, where so many calls are open. A loop that is executed again and a call take one from the index n. Each takes
   -- one from the fuel first, so an index above the fuel is enough, and a higher one gives the same.
@@ -419,7 +394,7 @@ module _ (m : ModuleTree) (limits : Terms) where
       pay s.store fuel (λ g. and_then (plain m limits i s) g (exec_within n rest depth))
   exec_within n (Block t body rest) depth s fuel =
       pay s.store fuel (λ g.
-      leave (arity t) s.operands (exec_within n body depth (inside s) g) (exec_within n rest depth) (exec_within n rest depth))
+      leave (length (result_types t)) s.operands (exec_within n body depth (inside s) g) (exec_within n rest depth) (exec_within n rest depth))
   exec_within n (If t first second rest) depth s fuel =
       pay s.store fuel (pop_index s.operands (arm t (exec_within n first depth) (exec_within n second depth) (exec_within n rest depth)) s)
   exec_within zero (Loop t body rest) depth s fuel = ended (OutOfFuel s.store) 0

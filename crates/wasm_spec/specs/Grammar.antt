@@ -2,7 +2,7 @@
 -- profile 2 adds, version 2.0, section 5.5.16.
 use Rattle.std.specs.Prelude.{◌≡◌, ℕ, ◌<◌, ◌≤◌, ◌^◌, ◌⊎◌, ◌==◌, ◌*◌, if◌then◌else◌, List, [], ◌∷◌, length, map, flat_map, find, Option, Some, None}
 use Rattle.wasm_values.specs.declared.profile.Profile.{Profile}
-use Rattle.wasm_values.specs.declared.profile.Profile.TheVariants.{One, Two, Three}
+use Rattle.wasm_values.specs.declared.profile.Profile.TheVariants.{One}
 use Rattle.wasm_types.specs.declared.types.ValType.{ValType}
 use Rattle.wasm_types.specs.declared.module.LocalRun.{LocalRun}
 use Rattle.wasm_types.specs.declared.module.Import.{Import}
@@ -13,14 +13,14 @@ use Rattle.wasm_types.specs.declared.module.ExportDesc.{ExportDesc}
 use Rattle.wasm_types.specs.declared.module.ExportDesc.TheVariants as export
 use Rattle.wasm_types.specs.Tree.{Code, FunctionTree, GlobalTree, ElementTree, DataTree, ModuleTree, locals_of}
 use Rattle.wasm_spec.specs.Numbers.{TakesUnsigned, TakesEach, TakesVec, TakesBytes, TakesName}
-use Rattle.wasm_spec.specs.TypeGrammar.{TakesValType, TakesFuncType, TakesMemoryType, TakesTableType, TakesGlobalType}
+use Rattle.wasm_spec.specs.TypeGrammar.{TakesValType, TakesFuncType, TakesLimits, TakesTableType, TakesGlobalType}
 use Rattle.wasm_spec.specs.InstrGrammar.{TakesExpr}
 
 -- section 5.5.5
 abbrev pub TakesImportDesc : ImportDesc → List ℕ → List ℕ → Type 0
 TakesImportDesc (import.Func x) bytes rest = (after : List ℕ) × (bytes ≡ 0 ∷ after) × TakesUnsigned 32 x after rest
 TakesImportDesc (import.Table t) bytes rest = (after : List ℕ) × (bytes ≡ 1 ∷ after) × TakesTableType t after rest
-TakesImportDesc (import.Memory m) bytes rest = (after : List ℕ) × (bytes ≡ 2 ∷ after) × TakesMemoryType m after rest
+TakesImportDesc (import.Memory m) bytes rest = (after : List ℕ) × (bytes ≡ 2 ∷ after) × TakesLimits m after rest
 TakesImportDesc (import.Global g) bytes rest = (after : List ℕ) × (bytes ≡ 3 ∷ after) × TakesGlobalType g after rest
 
 pub record TakesImport (i : Import) (bytes rest : List ℕ) : Type 0 where
@@ -84,9 +84,6 @@ pub record TakesSizedBody (profile : Profile) (b : Body) (bytes rest : List ℕ)
 abbrev pub body_of : FunctionTree → Body
 body_of f = record { locals = f.locals; code = f.body }
 
-abbrev pub type_index_of : FunctionTree → ℕ
-type_index_of f = f.type_index
-
 -- section 5.5.14
 pub record TakesData (profile : Profile) (d : DataTree) (bytes rest : List ℕ) : Type 0 where
   pub after_memory : List ℕ
@@ -116,8 +113,7 @@ pub record IsCustom (contents : List ℕ) : Type 0 where
 -- profile 2, whose id is 12, stands between the sections 9 and 10.
 abbrev pub last_id : Profile → ℕ
 last_id One = 11
-last_id Two = 12
-last_id Three = 12
+last_id _ = 12
 
 abbrev pub place : ℕ → ℕ
 place id = if id == 12 then 19 else id * 2
@@ -152,9 +148,9 @@ SpellsCount n (Some s) = TakesUnsigned 32 n s.contents []
 pub record SpellsFields (profile : Profile) (sections : List Section) (m : ModuleTree) : Type 0 where
   pub types : SpellsVec TakesFuncType m.types (section 1 sections)
   pub imports : SpellsVec TakesImport m.imports (section 2 sections)
-  pub function_types : SpellsVec (TakesUnsigned 32) (map type_index_of m.functions) (section 3 sections)
+  pub function_types : SpellsVec (TakesUnsigned 32) (map (λ f. f.type_index) m.functions) (section 3 sections)
   pub tables : SpellsVec TakesTableType m.tables (section 4 sections)
-  pub memories : SpellsVec TakesMemoryType m.memories (section 5 sections)
+  pub memories : SpellsVec TakesLimits m.memories (section 5 sections)
   pub globals : SpellsVec (TakesGlobal profile) m.globals (section 6 sections)
   pub exports : SpellsVec TakesExport m.exports (section 7 sections)
   pub start : SpellsStart m.start (section 8 sections)

@@ -16,7 +16,7 @@ use Rattle.wasm_types.specs.declared.instr.UnaryOp.TheVariants.{Clz, Ctz, Popcnt
 use Rattle.wasm_types.specs.declared.instr.BinaryOp.TheVariants as binary
 use Rattle.wasm_types.specs.declared.instr.CompareOp.TheVariants as compare
 use Rattle.wasm_values.specs.declared.profile.Profile.{Profile}
-use Rattle.wasm_values.specs.declared.profile.Profile.TheVariants.{One, Two, Three}
+use Rattle.wasm_values.specs.declared.profile.Profile.TheVariants.{One}
 use Rattle.wasm_types.specs.Tree.{Code, End, Plain, Block, Loop, If, Call, CallIndirect}
 use Rattle.wasm_spec.specs.Numbers.{TakesUnsigned, TakesSigned, TakesVec}
 use Rattle.wasm_spec.specs.TypeGrammar.{TakesBlockType}
@@ -150,8 +150,7 @@ extensions =
 
 abbrev pub added : Profile → List (ℕ × Shape)
 added One = []
-added Two = enumerate_from 0xC0 extensions ++ (0xFC, Prefixed) ∷ []
-added Three = enumerate_from 0xC0 extensions ++ (0xFC, Prefixed) ∷ []
+added _ = enumerate_from 0xC0 extensions ++ (0xFC, Prefixed) ∷ []
 
 -- the opcodes of plain instructions
 abbrev pub opcodes : Profile → List (ℕ × Shape)

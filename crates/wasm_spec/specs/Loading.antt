@@ -1,5 +1,6 @@
 -- Loading: the one module that bytes spell, or the first refusal that applies.
-use Rattle.std.specs.Prelude.{◌≡◌, ℕ, List, ◌∷◌, Option, Some, None, Result, Ok, Err, length, map, find, nat_lt}
+use Rattle.std.specs.Prelude.{◌≡◌, ℕ, List, ◌∷◌, Option, Some, None, Result, Ok, Err, length, map, find, nat_lt, option_map}
+use Rattle.std.specs.Option.{option_or}
 use Rattle.std.specs.List.{enumerate_from}
 use Rattle.wasm_types.specs.declared.limits.LoadLimits.{LoadLimits}
 use Rattle.wasm_values.specs.declared.profile.Profile.{Profile}
@@ -40,13 +41,8 @@ abbrev pub first_over : LoadLimits → ModuleTree → Option Demand
 first_over limits m = find (λ d. nat_lt d.limit d.value) (demands limits m)
 
 -- the refusal of a valid module, or none
-abbrev pub refusal_of : Option Demand → Option Extent → Option Refusal
-refusal_of (Some demand) segment = Some (OverLimit demand)
-refusal_of None (Some extent) = Some (Segment extent)
-refusal_of None None = None
-
 abbrev pub late_refusal : LoadLimits → ModuleTree → Option Refusal
-late_refusal limits m = refusal_of (first_over limits m) (first_misfit m)
+late_refusal limits m = option_or (option_map (λ d. OverLimit d) (first_over limits m)) (option_map (λ e. Segment e) (first_misfit m))
 
 -- What loading answers, where `Runs` says which modules the host runs.
 module _ (Runs : ModuleTree → Type 0) (limits : LoadLimits) where

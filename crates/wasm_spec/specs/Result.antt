@@ -6,7 +6,7 @@ use Rattle.wasm_values.specs.declared.outcome.Outcome.{Outcome}
 use Rattle.wasm_values.specs.declared.outcome.Outcome.TheVariants as outcome
 use Rattle.wasm_types.specs.Tree.{ModuleTree}
 use Rattle.wasm_spec.specs.Store.{Store, fresh_store}
-use Rattle.wasm_spec.specs.Execution.{Terms, State, Signal, Next, Branch, Returned, Trapped, OutOfFuel, Stuck, Ended, ended, exec, call, with_function}
+use Rattle.wasm_spec.specs.Execution.{Terms, State, Signal, Next, Trapped, OutOfFuel, Ended, ended, exec, call, with_function}
 
 -- how a call ended, and what it left
 pub record CallResult : Type 0 where
@@ -36,9 +36,7 @@ abbrev pub result_by : Signal → ℕ → Option CallResult
 result_by (Next s) fuel = Some (record { outcome = outcome.Done (slice_get s.operands 0); store = s.store; fuel = fuel })
 result_by (Trapped t store) fuel = Some (record { outcome = outcome.Trap t; store = store; fuel = fuel })
 result_by (OutOfFuel store) fuel = Some (record { outcome = outcome.Fuel; store = store; fuel = fuel })
-result_by (Branch l s) fuel = None
-result_by (Returned s) fuel = None
-result_by Stuck fuel = None
+result_by _ fuel = None
 
 -- nothing where the run is stuck, as no run of a valid module is
 abbrev pub result_of : Ended → Option CallResult
@@ -50,8 +48,7 @@ function_result m limits x arguments store fuel = result_of (run_function m limi
 
 abbrev pub if_done_by : Outcome → CallResult → (Store → ℕ → Option CallResult) → Option CallResult
 if_done_by (outcome.Done v) r next = next r.store r.fuel
-if_done_by (outcome.Trap t) r next = Some r
-if_done_by outcome.Fuel r next = Some r
+if_done_by _ r next = Some r
 
 -- what follows a run that ended well, and else that run's own result
 abbrev pub if_done : Option CallResult → (Store → ℕ → Option CallResult) → Option CallResult

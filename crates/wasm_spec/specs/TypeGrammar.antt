@@ -33,7 +33,7 @@ pub record TakesFuncType (t : FuncType) (bytes rest : List ℕ) : Type 0 where
   pub params : TakesVec TakesValType t.params after mid
   pub results : TakesVec TakesValType t.results mid rest
 
--- section 5.3.4
+-- sections 5.3.4 and 5.3.5: limits, which are a memory's type
 abbrev pub TakesRange : ℕ → Option ℕ → List ℕ → List ℕ → Type 0
 TakesRange low None bytes rest = (after : List ℕ) × (bytes ≡ 0 ∷ after) × TakesUnsigned 32 low after rest
 TakesRange low (Some high) bytes rest =
@@ -41,10 +41,6 @@ TakesRange low (Some high) bytes rest =
 
 abbrev pub TakesLimits : Limits → List ℕ → List ℕ → Type 0
 TakesLimits l bytes rest = TakesRange l.min l.max bytes rest
-
--- section 5.3.5
-abbrev pub TakesMemoryType : Limits → List ℕ → List ℕ → Type 0
-TakesMemoryType l bytes rest = TakesLimits l bytes rest
 
 -- section 5.3.6
 abbrev pub TakesTableType : Limits → List ℕ → List ℕ → Type 0

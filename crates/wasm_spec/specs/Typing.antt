@@ -1,7 +1,8 @@
 -- The types of instructions: WebAssembly Core Specification 1.0, section 3.3.
 --
 -- Lists of operands have the top first, and are those of the innermost block alone.
-use Rattle.std.specs.Prelude.{◌≡◌, ℕ, ◌^◌, List, [], ◌∷◌, ◌++◌, Bool, false, Option, Some, None, slice_get, reverse, nat_le, if◌then◌else◌, option_map, IsSome}
+use Rattle.std.specs.Prelude.{◌≡◌, ℕ, ◌^◌, List, [], ◌∷◌, ◌++◌, Bool, false, Option, Some, None, slice_get, reverse, nat_le, if◌then◌else◌, option_map, option_to_list, IsSome}
+use Rattle.std.specs.Option.{option_map_or}
 use Rattle.std.specs.List.{list_all}
 use Rattle.std.specs.Int.{byte_len}
 use Rattle.wasm_types.specs.declared.types.ValType.{ValType}
@@ -13,7 +14,6 @@ use Rattle.wasm_values.specs.declared.outcome.Val.{Val}
 use Rattle.wasm_values.specs.declared.outcome.Val.TheVariants as val
 use Rattle.wasm_types.specs.declared.instr.Width.{Width}
 use Rattle.wasm_types.specs.declared.instr.Width.TheVariants.{W32, W64}
-use Rattle.wasm_types.specs.declared.instr.PackSize.{PackSize}
 use Rattle.wasm_types.specs.declared.instr.MemArg.{MemArg}
 use Rattle.wasm_types.specs.declared.instr.Instr.{Instr}
 use Rattle.wasm_types.specs.declared.instr.Instr.TheVariants as instr
@@ -24,12 +24,17 @@ use Rattle.wasm_spec.specs.Functions.{function_type}
 
 -- section 2.3.2: a block has one result or none
 abbrev pub result_types : Option ValType → List ValType
-result_types None = []
-result_types (Some t) = t ∷ []
+result_types t = option_to_list t
 
 abbrev pub type_of : Val → ValType
 type_of (val.I32 n) = I32
 type_of (val.I64 n) = I64
+
+-- the number of a value of an integer type, if it has that type
+abbrev pub number : Width → Val → Option ℕ
+number W32 (val.I32 n) = Some n
+number W64 (val.I64 n) = Some n
+number _ _ = None
 
 abbrev pub integer_type : Width → ValType
 integer_type W32 = I32
@@ -62,95 +67,48 @@ pub data Rule : Type 0 where
   -- has no type here
   Wrong : Rule
 
--- section 3.3.3
-abbrev pub local_get : Option ValType → Rule
-local_get None = Wrong
-local_get (Some t) = Fixed [] (t ∷ [])
+-- what a number names is there, and the rule is that of what it names
+abbrev pub named : {A : Type 0} → Option A → (A → Rule) → Rule
+named o r = option_map_or r o Wrong
 
-abbrev pub local_set : Option ValType → Rule
-local_set None = Wrong
-local_set (Some t) = Fixed (t ∷ []) []
+-- memory 0 or table 0 is there
+abbrev pub needs_one : List Limits → Rule → Rule
+needs_one [] r = Wrong
+needs_one (_ ∷ _) r = r
 
-abbrev pub local_tee : Option ValType → Rule
-local_tee None = Wrong
-local_tee (Some t) = Fixed (t ∷ []) (t ∷ [])
-
-abbrev pub global_get : Option GlobalType → Rule
-global_get None = Wrong
-global_get (Some g) = Fixed [] (g.value ∷ [])
-
--- only a variable is set
-abbrev pub global_set : Option GlobalType → Rule
-global_set None = Wrong
-global_set (Some g) = if g.mutable then Fixed (g.value ∷ []) [] else Wrong
-
--- section 3.3.4: memory 0 is there
-abbrev pub needs_memory : List Limits → Rule → Rule
-needs_memory [] r = Wrong
-needs_memory (_ ∷ _) r = r
-
--- the access width in bytes
-abbrev pub byte_width : Width → ℕ
-byte_width w = byte_len (int_width w)
-
-abbrev pub packed_width : PackSize → ℕ
-packed_width p = byte_len (pack_width p)
-
--- an access to memory, whose alignment is at most its width
+-- section 3.3.4: an access of so many bytes to memory, whose alignment is at most these
 abbrev pub access : List Limits → MemArg → ℕ → Rule → Rule
-access memories arg bytes r = needs_memory memories (if nat_le (2 ^ arg.align) bytes then r else Wrong)
+access memories arg bytes r = needs_one memories (if nat_le (2 ^ arg.align) bytes then r else Wrong)
 
--- section 3.3.5
-abbrev pub branch : Option (List ValType) → Rule
-branch None = Wrong
-branch (Some label) = Diverges label
-
-abbrev pub branch_if : Option (List ValType) → Rule
-branch_if None = Wrong
-branch_if (Some label) = Fixed (I32 ∷ label) label
-
--- whether this label is there, and of this type
+-- section 3.3.5: whether this label is there, and of this type
 abbrev pub is_label : List ValType → Option (List ValType) → Bool
-is_label label None = false
-is_label label (Some other) = all_same label other
+is_label label o = option_map_or (λ other. all_same label other) o false
 
--- all labels of a table have the type of its last one
-abbrev pub branch_table : (labels : List (List ValType)) (names : List ℕ) → Option (List ValType) → Rule
-branch_table labels names None = Wrong
-branch_table labels names (Some label) = if list_all (λ x. is_label label (slice_get labels x)) names then Diverges (I32 ∷ label) else Wrong
-
-abbrev pub calling : Option FuncType → Rule
-calling None = Wrong
-calling (Some t) = Fixed (reverse t.params) t.results
-
-abbrev pub calling_indirect : List Limits → Option FuncType → Rule
-calling_indirect [] t = Wrong
-calling_indirect (_ ∷ _) None = Wrong
-calling_indirect (_ ∷ _) (Some t) = Fixed (I32 ∷ reverse t.params) t.results
-
--- an instruction that holds no other and calls none. Float instructions get no type: a module that has one is refused before it is typed.
+-- An instruction that holds no other and calls none. All labels of a table have the type of its last one, and only a variable
+-- is set. Float instructions get no type: a module that has one is refused before it is typed.
 abbrev pub rule : Context → Instr → Rule
 rule C instr.Unreachable = Diverges []
 rule C instr.Nop = Fixed [] []
-rule C (instr.Br l) = branch (slice_get C.labels l)
-rule C (instr.BrIf l) = branch_if (slice_get C.labels l)
-rule C (instr.BrTable ls l) = branch_table C.labels ls (slice_get C.labels l)
+rule C (instr.Br l) = named (slice_get C.labels l) (λ label. Diverges label)
+rule C (instr.BrIf l) = named (slice_get C.labels l) (λ label. Fixed (I32 ∷ label) label)
+rule C (instr.BrTable ls l) =
+    named (slice_get C.labels l) (λ label. if list_all (λ x. is_label label (slice_get C.labels x)) ls then Diverges (I32 ∷ label) else Wrong)
 rule C instr.Return = Diverges C.results
 rule C instr.Drop = Drops
 rule C instr.Select = Selects
-rule C (instr.LocalGet x) = local_get (slice_get C.locals x)
-rule C (instr.LocalSet x) = local_set (slice_get C.locals x)
-rule C (instr.LocalTee x) = local_tee (slice_get C.locals x)
-rule C (instr.GlobalGet x) = global_get (global_type C.defined x)
-rule C (instr.GlobalSet x) = global_set (global_type C.defined x)
-rule C (instr.Load w arg) = access C.defined.memories arg (byte_width w) (Fixed (I32 ∷ []) (integer_type w ∷ []))
-rule C (instr.LoadPacked w p s arg) = access C.defined.memories arg (packed_width p) (Fixed (I32 ∷ []) (integer_type w ∷ []))
-rule C (instr.Store w arg) = access C.defined.memories arg (byte_width w) (Fixed (integer_type w ∷ I32 ∷ []) [])
-rule C (instr.StorePacked w p arg) = access C.defined.memories arg (packed_width p) (Fixed (integer_type w ∷ I32 ∷ []) [])
-rule C instr.MemorySize = needs_memory C.defined.memories (Fixed [] (I32 ∷ []))
-rule C instr.MemoryGrow = needs_memory C.defined.memories (Fixed (I32 ∷ []) (I32 ∷ []))
-rule C instr.MemoryCopy = needs_memory C.defined.memories (Fixed (I32 ∷ I32 ∷ I32 ∷ []) [])
-rule C instr.MemoryFill = needs_memory C.defined.memories (Fixed (I32 ∷ I32 ∷ I32 ∷ []) [])
+rule C (instr.LocalGet x) = named (slice_get C.locals x) (λ t. Fixed [] (t ∷ []))
+rule C (instr.LocalSet x) = named (slice_get C.locals x) (λ t. Fixed (t ∷ []) [])
+rule C (instr.LocalTee x) = named (slice_get C.locals x) (λ t. Fixed (t ∷ []) (t ∷ []))
+rule C (instr.GlobalGet x) = named (global_type C.defined x) (λ g. Fixed [] (g.value ∷ []))
+rule C (instr.GlobalSet x) = named (global_type C.defined x) (λ g. if g.mutable then Fixed (g.value ∷ []) [] else Wrong)
+rule C (instr.Load w arg) = access C.defined.memories arg (byte_len (int_width w)) (Fixed (I32 ∷ []) (integer_type w ∷ []))
+rule C (instr.LoadPacked w p s arg) = access C.defined.memories arg (byte_len (pack_width p)) (Fixed (I32 ∷ []) (integer_type w ∷ []))
+rule C (instr.Store w arg) = access C.defined.memories arg (byte_len (int_width w)) (Fixed (integer_type w ∷ I32 ∷ []) [])
+rule C (instr.StorePacked w p arg) = access C.defined.memories arg (byte_len (pack_width p)) (Fixed (integer_type w ∷ I32 ∷ []) [])
+rule C instr.MemorySize = needs_one C.defined.memories (Fixed [] (I32 ∷ []))
+rule C instr.MemoryGrow = needs_one C.defined.memories (Fixed (I32 ∷ []) (I32 ∷ []))
+rule C instr.MemoryCopy = needs_one C.defined.memories (Fixed (I32 ∷ I32 ∷ I32 ∷ []) [])
+rule C instr.MemoryFill = needs_one C.defined.memories (Fixed (I32 ∷ I32 ∷ I32 ∷ []) [])
 rule C (instr.Const v) = Fixed [] (type_of v ∷ [])
 rule C (instr.Eqz w) = Fixed (integer_type w ∷ []) (I32 ∷ [])
 rule C (instr.Compare w op) = Fixed (integer_type w ∷ integer_type w ∷ []) (I32 ∷ [])
@@ -161,10 +119,10 @@ rule C (instr.Extend s) = Fixed (I32 ∷ []) (I64 ∷ [])
 rule C instr.Float = Wrong
 
 abbrev pub call_rule : Context → ℕ → Rule
-call_rule C x = calling (function_type C.defined x)
+call_rule C x = named (function_type C.defined x) (λ t. Fixed (reverse t.params) t.results)
 
 abbrev pub call_indirect_rule : Context → ℕ → Rule
-call_indirect_rule C x = calling_indirect C.defined.tables (slice_get C.defined.types x)
+call_indirect_rule C x = needs_one C.defined.tables (named (slice_get C.defined.types x) (λ t. Fixed (I32 ∷ reverse t.params) t.results))
 
 -- a rule takes these operands to those
 abbrev pub Takes : Rule → List ValType → List ValType → Type 0
@@ -191,12 +149,10 @@ Typed C (CallIndirect x rest) before after =
 
 -- section 3.4.1: functions. Parameters and declared locals are numbered together.
 abbrev pub params_or_none : Option FuncType → List ValType
-params_or_none None = []
-params_or_none (Some t) = t.params
+params_or_none o = option_map_or (λ t. t.params) o []
 
 abbrev pub results_or_none : Option FuncType → List ValType
-results_or_none None = []
-results_or_none (Some t) = t.results
+results_or_none o = option_map_or (λ t. t.results) o []
 
 abbrev pub params_of : ModuleTree → FunctionTree → List ValType
 params_of m f = params_or_none (slice_get m.types f.type_index)

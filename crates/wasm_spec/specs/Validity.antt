@@ -2,11 +2,10 @@
 use Rattle.std.specs.Prelude.{◌≡◌, ◌≢◌, ℕ, ◌≤◌, List, [], Bool, true, false, ◌||◌, Option, Some, None, length, slice_get, IfSome, IsSome, IsTrue, All, AllPairs, option_and_then, option_map, if◌then◌else◌}
 use Rattle.std.specs.List.{list_any}
 use Rattle.wasm_types.specs.declared.types.ValType.{ValType}
-use Rattle.wasm_types.specs.declared.types.ValType.TheVariants.{I32, I64, F32, F64}
+use Rattle.wasm_types.specs.declared.types.ValType.TheVariants.{F32, F64}
 use Rattle.wasm_types.specs.declared.types.FuncType.{FuncType}
 use Rattle.wasm_types.specs.declared.types.Limits.{Limits}
 use Rattle.wasm_values.specs.declared.outcome.Val.{Val}
-use Rattle.wasm_values.specs.declared.outcome.Val.TheVariants as val
 use Rattle.wasm_types.specs.declared.instr.Instr.{Instr}
 use Rattle.wasm_types.specs.declared.instr.Instr.TheVariants as instr
 use Rattle.wasm_types.specs.declared.module.Export.{Export}
@@ -16,18 +15,28 @@ use Rattle.wasm_types.specs.declared.module.Import.{Import}
 use Rattle.wasm_types.specs.declared.module.ImportDesc.TheVariants as item
 use Rattle.wasm_types.specs.declared.host.HostFunction.{HostFunction}
 use Rattle.wasm_values.specs.declared.profile.Profile.{Profile}
-use Rattle.wasm_values.specs.declared.profile.Profile.TheVariants.{One, Two, Three}
+use Rattle.wasm_values.specs.declared.profile.Profile.TheVariants.{Three}
 use Rattle.wasm_types.specs.SameTypes.{same_type}
 use Rattle.wasm_types.specs.Tree.{Code, End, Plain, Block, Loop, If, Call, CallIndirect, GlobalTree, ElementTree, DataTree, ModuleTree}
 use Rattle.wasm_spec.specs.Functions.{host_function, host_type, Imported, callee_at, callee_type, function_type}
-use Rattle.wasm_spec.specs.Typing.{type_of, result_types, IsTypedFunction}
+use Rattle.wasm_types.specs.declared.instr.Width.TheVariants.{W32}
+use Rattle.wasm_spec.specs.Typing.{type_of, number, result_types, IsTypedFunction}
+
+-- whether code has such an instruction, or a block of such a result
+abbrev pub uses_any : (Instr → Bool) → (Option ValType → Bool) → Code → Bool
+uses_any is has End = false
+uses_any is has (Plain i rest) = is i || uses_any is has rest
+uses_any is has (Block t body rest) = has t || uses_any is has body || uses_any is has rest
+uses_any is has (Loop t body rest) = has t || uses_any is has body || uses_any is has rest
+uses_any is has (If t first second rest) = has t || uses_any is has first || uses_any is has second || uses_any is has rest
+uses_any is has (Call x rest) = uses_any is has rest
+uses_any is has (CallIndirect x rest) = uses_any is has rest
 
 -- floats: a float type, or an instruction on floats, anywhere in the module (sections 2.3.1 and 2.4.1)
 abbrev pub is_float : ValType → Bool
-is_float I32 = false
-is_float I64 = false
 is_float F32 = true
 is_float F64 = true
+is_float _ = false
 
 abbrev pub has_float : List ValType → Bool
 has_float ts = list_any is_float ts
@@ -37,13 +46,7 @@ is_float_instruction instr.Float = true
 is_float_instruction _ = false
 
 abbrev pub code_uses_floats : Code → Bool
-code_uses_floats End = false
-code_uses_floats (Plain i rest) = is_float_instruction i || code_uses_floats rest
-code_uses_floats (Block t body rest) = has_float (result_types t) || code_uses_floats body || code_uses_floats rest
-code_uses_floats (Loop t body rest) = has_float (result_types t) || code_uses_floats body || code_uses_floats rest
-code_uses_floats (If t first second rest) = has_float (result_types t) || code_uses_floats first || code_uses_floats second || code_uses_floats rest
-code_uses_floats (Call x rest) = code_uses_floats rest
-code_uses_floats (CallIndirect x rest) = code_uses_floats rest
+code_uses_floats code = uses_any is_float_instruction (λ t. has_float (result_types t)) code
 
 abbrev pub uses_floats : ModuleTree → Bool
 uses_floats m =
@@ -63,9 +66,8 @@ pub record IsHostImport (m : ModuleTree) (i : Import) : Type 0 where
 
 -- which imports are run: in profile 3 those of the host's functions, and before it none
 abbrev pub AreRunImports : Profile → ModuleTree → Type 0
-AreRunImports One m = m.imports ≡ []
-AreRunImports Two m = m.imports ≡ []
 AreRunImports Three m = All (IsHostImport m) m.imports
+AreRunImports _ m = m.imports ≡ []
 
 -- what this host runs: modules that use no floats and import what is run
 pub record IsSupported (profile : Profile) (m : ModuleTree) : Type 0 where
@@ -85,17 +87,13 @@ constant _ = None
 abbrev pub initial_value : GlobalTree → Option Val
 initial_value g = option_and_then constant (single_instruction g.init)
 
-abbrev pub i32_value : Val → Option ℕ
-i32_value (val.I32 n) = Some n
-i32_value (val.I64 n) = None
-
 -- the value of an immutable global of type i32
 abbrev pub constant_global : GlobalTree → Option ℕ
-constant_global g = if g.global_type.mutable then None else option_and_then i32_value (initial_value g)
+constant_global g = if g.global_type.mutable then None else option_and_then (number W32) (initial_value g)
 
 -- the value of a segment's offset, where it is one i32.const, or global.get of an immutable i32 global of the module
 abbrev pub constant_offset : ModuleTree → Instr → Option ℕ
-constant_offset m (instr.Const v) = i32_value v
+constant_offset m (instr.Const v) = number W32 v
 constant_offset m (instr.GlobalGet x) = option_and_then constant_global (slice_get m.globals x)
 constant_offset m _ = None
 

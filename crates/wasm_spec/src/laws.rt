@@ -1,6 +1,6 @@
 //! Laws of the definitions, as contracts of functions that do nothing.
 
-ghost use Rattle.std.specs.Prelude.{◌≡◌, ◌≢◌, ◌<◌, ◌≤◌, ◌+◌, ℕ, suc, true, false, List, Option, Some, None, Result};
+ghost use Rattle.std.specs.Prelude.{◌≡◌, ◌≢◌, ◌<◌, ◌≤◌, ◌+◌, ℕ, suc, true, false, List, length, Option, Some, None, Result};
 ghost use Rattle.wasm_values.specs.declared.outcome.Val.{Val};
 ghost use Rattle.wasm_types.specs.declared.types.ValType.{ValType};
 ghost use Rattle.wasm_types.specs.declared.instr.Instr.{Instr};
@@ -8,7 +8,8 @@ ghost use Rattle.wasm_values.specs.declared.profile.Profile.{Profile};
 ghost use Rattle.wasm_types.specs.declared.limits.LoadLimits.{LoadLimits};
 ghost use Rattle.wasm_types.specs.Tree.{Code, End, Plain, Block, Loop, If, Call, CallIndirect, FunctionTree, ModuleTree};
 ghost use Rattle.wasm_spec.specs.Functions.{Own, callee_at};
-ghost use Rattle.wasm_spec.specs.Execution.{Terms, State, Next, OutOfFuel, ended, plain, and_then, leave, arity, pop_index, inside, arm, with_function, call, element_call, exec, exec_within};
+ghost use Rattle.wasm_spec.specs.Typing.{result_types};
+ghost use Rattle.wasm_spec.specs.Execution.{Terms, State, Next, OutOfFuel, ended, plain, and_then, leave, pop_index, inside, arm, with_function, call, element_call, exec, exec_within};
 ghost use Rattle.wasm_spec.specs.Store.{Store, minimum_of, first_misfit, fresh_store};
 ghost use Rattle.wasm_spec.specs.Result.{CallResult, result_from, call_result};
 ghost use Rattle.wasm_spec.specs.Instances.{IsInstance};
@@ -46,7 +47,7 @@ pub fn execution_obeys_its_equations()
         ≡ and_then (plain m limits i s) fuel (exec m limits depth rest) }
     ensures block { (m : ModuleTree) (limits : Terms) (depth : ℕ) (t : Option ValType) (body rest : Code) (s : State) (fuel : ℕ)
         → exec m limits depth (Block t body rest) s (suc fuel)
-        ≡ leave (arity t) s.operands (exec m limits depth body (inside s) fuel)
+        ≡ leave (length (result_types t)) s.operands (exec m limits depth body (inside s) fuel)
         (exec m limits depth rest) (exec m limits depth rest) }
     ensures a_loop { (m : ModuleTree) (limits : Terms) (depth : ℕ) (t : Option ValType) (body rest : Code) (s : State) (fuel : ℕ)
         → exec m limits depth (Loop t body rest) s (suc fuel)

@@ -2,6 +2,8 @@
 
 ghost use Rattle.std.specs.Prelude.{◌≡◌, ℕ, Option, option_copied};
 ghost use Rattle.wasm_types.specs.Tree.{expr_tree, global_tree, module_tree};
+ghost use Rattle.wasm_types.specs.declared.instr.Width.TheVariants.{W32};
+ghost use Rattle.wasm_spec.specs.Typing.{number};
 ghost use Rattle.wasm_spec.specs.Validity as validity;
 
 use wasm_types::{Expr, Global, Instr, Module, Op, op_at};
@@ -29,7 +31,7 @@ fn constant(i: &Instr) -> Option<Val>
 }
 
 fn i32_value(v: Val) -> Option<u32>
-    ensures { result ≡ validity.i32_value v }
+    ensures { result ≡ number W32 v }
 {
     match v {
         Val::I32(n) => Some(n),

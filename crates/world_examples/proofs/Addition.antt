@@ -2,18 +2,19 @@
 use Rattle.std.proofs.Common.{◌≡◌, true, true≢false, List, [], ◌∷◌, refl, sym, arith}
 use Rattle.std.specs.Prelude.{Option, Some, None}
 use Rattle.wasm_values.specs.declared.profile.Profile.TheVariants.{One}
-use Rattle.wasm_values.specs.declared.outcome.Val.{Val}
 use Rattle.wasm_values.specs.declared.outcome.Val.TheVariants.{I32}
-use Rattle.wasm_values.specs.declared.outcome.Outcome.{Outcome}
 use Rattle.wasm_values.specs.declared.outcome.Outcome.TheVariants as outcome
 use Rattle.wasm_spec.specs.Execution.{exec}
 use Rattle.wasm_spec.specs.Store.{fresh_store}
 use Rattle.wasm_spec.proofs.AddModule.{add, add_bytes, add_loads, add_type}
 use Rattle.pool_core.specs.declared.events.Event.TheVariants.{Claim, Out}
 use Rattle.pool_core.specs.PoolCore.{opening_core}
-use Rattle.pool_worlds.specs.Contents.{Named, Kind, Ticket, Memory, Table, Contents, memory_image, needs, IsCold}
+use Rattle.pool_worlds.specs.Contents.{Named, needs}
+use Rattle.pool_worlds.specs.declared.kinds.Kind.{Kind}
+use Rattle.pool_worlds.specs.declared.kinds.Kind.TheVariants.{Ticket, Memory, Table}
 use Rattle.pool_worlds.specs.PoolMachine.{World, Request, Machine, WorldEvent, Step, Begin, Turn, End, IsModule, IsCallable, HasOut, after_all, AllMayHappen, answer, IsOpening}
 use Rattle.world_examples.proofs.NoCode.{no_code}
+use Rattle.world_examples.proofs.Scenes.{cold, cold_is, done}
 
 abbrev named : Named
 named = record { number = 0; tag = 0; tree = add; code = no_code }
@@ -21,15 +22,10 @@ named = record { number = 0; tag = 0; tree = add; code = no_code }
 abbrev world : World
 world = record { limits = record { pages = 1; elements = 0; frame = 8; depth = 4 }; shelf = λ n. named; seats = λ k i. i; apart = λ k i j e. e }
 
-abbrev cold : (k : Kind) → Contents k
-cold Ticket = I32 7 ∷ []
-cold Memory = record { bytes = memory_image 1 None; pages = 0; marks = []; holds = None }
-cold Table = record { entries = []; holds = None }
+abbrev opened_alone : Machine
+opened_alone = record { core = λ k. opening_core 1 0 1; contents = λ k n. cold k; calls = λ i. None }
 
-abbrev opened : Machine
-opened = record { core = λ k. opening_core 1 0 1; contents = λ k n. cold k; calls = λ i. None }
-
-opens : IsOpening world opened
+opens : IsOpening world opened_alone
 opens = record {
   slots = λ k. 1;
   limit = λ k. 0;
@@ -37,11 +33,7 @@ opens = record {
   core = λ k. refl;
   cold = λ k n. cold_is k;
   calls = λ i. refl;
-} where
-  cold_is : (k : Kind) → IsCold 1 k (cold k)
-  cold_is Ticket = tt
-  cold_is Memory = record { holds = refl; size = refl; bytes = refl; clean = λ i. refl }
-  cold_is Table = (refl, refl)
+}
 
 abbrev request : Request
 request = record { named = named; function = 0; arguments = I32 2 ∷ I32 3 ∷ []; sent = []; fuel = 100 }
@@ -61,18 +53,15 @@ callable = record {
   fitting = refl;
 }
 
-done : (v : Option Val) → ◌≡◌ {A = Option Outcome} (Some (outcome.Done v)) (Some outcome.Fuel) → ⊥
-done v h = cc
-
 abbrev ready : Machine
-ready = after_all world opened (Step Ticket (Claim 0 0) ∷ Step Ticket (Out 0 0) ∷ [])
+ready = after_all world opened_alone (Step Ticket (Claim 0 0) ∷ Step Ticket (Out 0 0) ∷ [])
 
 its_slots : (k : Kind) → needs k add ≡ true → HasOut ready k 0
 its_slots Ticket h = record { number = 0; holds = refl; out = refl }
 its_slots Memory h = absurd (true≢false (sym h))
 its_slots Table h = absurd (true≢false (sym h))
 
-all_happen : AllMayHappen world opened events
+all_happen : AllMayHappen world opened_alone events
 unfolding exec
 all_happen = (
   (refl, λ i e. refl),

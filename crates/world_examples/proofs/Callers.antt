@@ -7,11 +7,13 @@ use Rattle.wasm_types.specs.Tree.{ModuleTree}
 use Rattle.wasm_spec.specs.Execution.{exec}
 use Rattle.pool_core.specs.declared.events.Event.TheVariants.{Stamp}
 use Rattle.pool_core.specs.RefusalRules.{refusal_of}
-use Rattle.pool_worlds.specs.Contents.{Named, Ticket, Memory, Table, Marks}
+use Rattle.pool_worlds.specs.Contents.{Named, Marks}
+use Rattle.pool_worlds.specs.declared.kinds.Kind.TheVariants.{Ticket, Memory, Table}
 use Rattle.pool_worlds.specs.PoolMachine.{InstanceLimits, World, Step, Begin, load_limits, slot_of, terms_of, same_kind, answer, after, MayHappen, IsModule, IsOpening}
 use Rattle.world_examples.proofs.NoCode.{no_code}
 use Rattle.world_examples.proofs.FreshCalls.{set_module}
-use Rattle.world_examples.proofs.ShortCalls.{numbered, world, world_of, request_of, taken, running, running_alone, used, call_is_there}
+use Rattle.world_examples.proofs.ShortCalls.{numbered, world, world_of, request_of, taken, running, running_alone, used}
+use Rattle.world_examples.proofs.Scenes.{call_is_there}
 
 -- ---- seats: caller i has the seat i + 1
 

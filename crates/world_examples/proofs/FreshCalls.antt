@@ -9,7 +9,8 @@ use Rattle.wasm_types.specs.Tree.{Code, End, Plain, ModuleTree}
 use Rattle.wasm_spec.specs.Execution.{exec}
 use Rattle.wasm_spec.proofs.AddModule.{add, add_function}
 use Rattle.pool_core.specs.declared.events.Event.TheVariants.{Load}
-use Rattle.pool_worlds.specs.Contents.{Named, Ticket, Memory}
+use Rattle.pool_worlds.specs.Contents.{Named}
+use Rattle.pool_worlds.specs.declared.kinds.Kind.TheVariants.{Ticket, Memory}
 use Rattle.pool_worlds.specs.PoolMachine.{InstanceLimits, Request, WorldEvent, Step, Prepare, Restore, Begin, Turn, End, Cancel}
 use Rattle.pool_worlds.specs.FreshMachine.{FreshCall, fresh_answer, fresh_after_all, nothing_runs}
 use Rattle.world_examples.proofs.NoCode.{no_code}

@@ -6,7 +6,6 @@ use Rattle.wasm_types.specs.declared.types.ValType.TheVariants as type
 use Rattle.wasm_values.specs.declared.outcome.Val.{Val}
 use Rattle.wasm_values.specs.declared.outcome.Val.TheVariants.{I32}
 use Rattle.wasm_values.specs.declared.outcome.TrapKind.TheVariants as trap
-use Rattle.wasm_values.specs.declared.outcome.Outcome.{Outcome}
 use Rattle.wasm_values.specs.declared.outcome.Outcome.TheVariants as outcome
 use Rattle.wasm_types.specs.declared.instr.Instr.{Instr}
 use Rattle.wasm_types.specs.declared.instr.Instr.TheVariants as instr
@@ -15,7 +14,9 @@ use Rattle.wasm_types.specs.Tree.{End, Plain, Call, FunctionTree, ModuleTree}
 use Rattle.wasm_spec.specs.Store.{fresh_store}
 use Rattle.wasm_spec.specs.Execution.{exec}
 use Rattle.pool_core.specs.declared.events.Event.TheVariants.{Claim, Out}
-use Rattle.pool_worlds.specs.Contents.{Kind, Ticket, Memory, Table, Contents, filled}
+use Rattle.pool_worlds.specs.Contents.{Contents, filled}
+use Rattle.pool_worlds.specs.declared.kinds.Kind.{Kind}
+use Rattle.pool_worlds.specs.declared.kinds.Kind.TheVariants.{Ticket, Memory, Table}
 use Rattle.pool_worlds.specs.PoolMachine.{World, Request, Running, Machine, WorldEvent, Step, Begin, Turn, End as Ends, slots_of, answer, after, after_all, AllMayHappen, CanTurn, MarksEnd, MayHappen}
 use Rattle.pool_worlds.specs.FreshMachine.{FreshCall, fresh_answer, fresh_after_all, fresh_store_after, fresh_store_on, nothing_runs}
 use Rattle.pool_worlds.specs.Runs.{AreItsTurns}
@@ -23,7 +24,7 @@ use Rattle.pool_worlds.specs.Worlds.{Shadows, answers, in_slots}
 use Rattle.pool_worlds.proofs.Bytes.{filled-past}
 use Rattle.world_examples.proofs.FreshCalls.{limits, set_module}
 use Rattle.world_examples.proofs.ShortCalls.{opened, world_of}
-use Rattle.world_examples.proofs.Scenes.{beyond_four}
+use Rattle.world_examples.proofs.Scenes.{beyond_four, done, same_call}
 
 -- writes the two bytes at address 0, and goes on
 abbrev writing : Instr → FunctionTree
@@ -63,9 +64,6 @@ running q turns = record { request = q; begun = fresh_store hosted; turns = turn
 
 it_runs : (begun_by reads).calls 0 ≡ Some (running reads 0)
 it_runs = refl
-
-done : (v : Option Val) → ◌≡◌ {A = Option Outcome} (Some (outcome.Done v)) (Some outcome.Fuel) → ⊥
-done v e = cc
 
 -- ---- a read is called from outside
 
@@ -116,9 +114,6 @@ no_turns : AreItsTurns world (begun_by reads) 0 (running reads 0) (left (true �
 no_turns = record { count = 0; happen = tt; ends = read_may_end; contents = λ k needed. left_there k }
 
 -- an end that marks nothing comes after no number of turns
-pub same_call : {r c : Running} → ◌≡◌ {A = Option Running} (Some r) (Some c) → r ≡ c
-same_call e = cc
-
 no_end_without_its_mark : MayHappen world (begun_by reads) (Ends 0 (false ∷ [])) → ⊥
 no_end_without_its_mark (r, calls, stuck, marks) =
     read_needs_its_mark (subst (λ (x : Running). MarksEnd world (begun_by reads) 0 x (false ∷ [])) (sym (same_call calls)) marks)

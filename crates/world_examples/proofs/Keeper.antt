@@ -1,7 +1,7 @@
 -- A small module with a memory and a table: its function `f` gives what stood at address 0, and writes 7 there.
 use Rattle.std.proofs.Common.{ℕ, ◌≤◌, inl, inr, List, [], ◌∷◌, ◌++◌, length, map, refl, arith, pos}
 use Rattle.std.specs.Prelude.{None, Ok, All, IsSome}
-use Rattle.std.proofs.lemmas.List.Elements.{All-nil, All-cons}
+use Rattle.std.proofs.lemmas.List.Elements.{All-nil}
 use Rattle.wasm_values.specs.declared.profile.Profile.TheVariants.{One}
 use Rattle.wasm_types.specs.declared.limits.LoadLimits.{LoadLimits}
 use Rattle.wasm_types.specs.declared.types.ValType.TheVariants as type
@@ -16,14 +16,14 @@ use Rattle.wasm_types.specs.declared.module.Export.{Export}
 use Rattle.wasm_types.specs.declared.module.ExportDesc.TheVariants as desc
 use Rattle.wasm_types.specs.Tree.{Code, End, Plain, FunctionTree, ElementTree, ModuleTree}
 use Rattle.wasm_spec.specs.Numbers.{TakesUnsigned, TakesEach, TakesVec}
-use Rattle.wasm_spec.specs.TypeGrammar.{TakesFuncType, TakesTableType, TakesMemoryType}
+use Rattle.wasm_spec.specs.TypeGrammar.{TakesFuncType, TakesTableType, TakesLimits}
 use Rattle.wasm_spec.specs.InstrGrammar.{shape, TakesExpr}
 use Rattle.wasm_spec.specs.Grammar.{Section, TakesSection, IsOrderedAbove, TakesExport, TakesElement, TakesSizedBody, body_of, Spells}
 use Rattle.wasm_spec.specs.Functions.{callee_at}
 use Rattle.wasm_spec.specs.Typing.{IsTypedFunction}
 use Rattle.wasm_spec.specs.Validity.{IsValid, IsSupported, IsDefined, IsElementSegment, IsMemoryType, AreOrdered}
 use Rattle.wasm_spec.specs.Loading.{Loads}
-use Rattle.wasm_spec.proofs.AddModule.{short, section_is}
+use Rattle.wasm_spec.proofs.AddModule.{all_one, short, section_is}
 
 -- the four bytes from address 0 on
 abbrev at_zero : MemArg
@@ -70,8 +70,8 @@ keeper = record {
 abbrev type_contents : List ℕ
 type_contents = 0x01 ∷ 0x60 ∷ 0x00 ∷ 0x01 ∷ 0x7F ∷ []
 
-abbrev function_contents : List ℕ
-function_contents = 0x01 ∷ 0x00 ∷ []
+abbrev keeper_functions : List ℕ
+keeper_functions = 0x01 ∷ 0x00 ∷ []
 
 abbrev table_contents : List ℕ
 table_contents = 0x01 ∷ 0x70 ∷ 0x00 ∷ 0x01 ∷ []
@@ -111,24 +111,24 @@ abbrev after_functions : List ℕ
 after_functions = 0x04 ∷ 0x04 ∷ table_contents ++ after_tables
 
 abbrev after_types : List ℕ
-after_types = 0x03 ∷ 0x02 ∷ function_contents ++ after_functions
+after_types = 0x03 ∷ 0x02 ∷ keeper_functions ++ after_functions
 
 abbrev after_header : List ℕ
 after_header = 0x01 ∷ 0x05 ∷ type_contents ++ after_types
 
-abbrev sections : List Section
-sections =
-    record { id = 1; contents = type_contents } ∷ record { id = 3; contents = function_contents } ∷ record { id = 4; contents = table_contents }
+abbrev keeper_sections : List Section
+keeper_sections =
+    record { id = 1; contents = type_contents } ∷ record { id = 3; contents = keeper_functions } ∷ record { id = 4; contents = table_contents }
     ∷ record { id = 5; contents = memory_contents } ∷ record { id = 7; contents = export_contents } ∷ record { id = 9; contents = element_contents }
     ∷ record { id = 10; contents = code_contents } ∷ []
 
-sections_follow : TakesEach TakesSection sections after_header []
-sections_follow = (
+keeper_follows : TakesEach TakesSection keeper_sections after_header []
+keeper_follows = (
   after_types,
   section_is 1 type_contents after_types (omega arith),
   (
     after_functions,
-    section_is 3 function_contents after_functions (omega arith),
+    section_is 3 keeper_functions after_functions (omega arith),
     (
       after_tables,
       section_is 4 table_contents after_tables (omega arith),
@@ -149,8 +149,8 @@ sections_follow = (
   ),
 )
 
-sections_rise : IsOrderedAbove One 0 sections
-sections_rise = inr (
+keeper_rises : IsOrderedAbove One 0 keeper_sections
+keeper_rises = inr (
   omega arith,
   omega arith,
   inr (
@@ -185,13 +185,13 @@ type_spelled = record {
   );
 }
 
-index_spelled : TakesVec (TakesUnsigned 32) (0 ∷ []) function_contents []
+index_spelled : TakesVec (TakesUnsigned 32) (0 ∷ []) keeper_functions []
 index_spelled = record { mid = _; count = short 1 _ (omega arith); items = ([], short 0 [] (omega arith), refl) }
 
 table_spelled : TakesVec TakesTableType keeper.tables table_contents []
 table_spelled = record { mid = _; count = short 1 _ (omega arith); items = ([], (_, refl, (_, refl, short 1 [] (omega arith))), refl) }
 
-memory_spelled : TakesVec TakesMemoryType keeper.memories memory_contents []
+memory_spelled : TakesVec TakesLimits keeper.memories memory_contents []
 memory_spelled = record { mid = _; count = short 1 _ (omega arith); items = ([], (_, refl, short 1 [] (omega arith)), refl) }
 
 export_spelled : TakesVec TakesExport keeper.exports export_contents []
@@ -276,10 +276,10 @@ keeper_bytes = 0x00 ∷ 0x61 ∷ 0x73 ∷ 0x6D ∷ 0x01 ∷ 0x00 ∷ 0x00 ∷ 0x
 keeper_spelled : Spells One keeper_bytes keeper
 keeper_spelled = record {
   after = after_header;
-  sections = sections;
+  sections = keeper_sections;
   header = refl;
-  whole = sections_follow;
-  ordered = sections_rise;
+  whole = keeper_follows;
+  ordered = keeper_rises;
   fields = record {
     types = type_spelled;
     imports = refl;
@@ -316,26 +316,23 @@ typed = (
   ),
 )
 
-one : {X : Type 0} (P : X → Type 0) (x : X) → P x → All P (x ∷ [])
-one P x p = All-cons P x [] p (All-nil P)
-
 element_segment : IsElementSegment keeper elements
-element_segment = record { table = refl; offset = refl; functions = one (λ x. IsSome (callee_at keeper x)) 0 refl }
+element_segment = record { table = refl; offset = refl; functions = all_one (λ x. IsSome (callee_at keeper x)) 0 refl }
 
 valid : IsValid keeper
 valid = record {
-  function_types = one (λ (t : FuncType). length t.results ≤ 1) f_type (omega arith);
+  function_types = all_one (λ (t : FuncType). length t.results ≤ 1) f_type (omega arith);
   imports = All-nil _;
-  functions = one (IsTypedFunction keeper) function typed;
+  functions = all_one (IsTypedFunction keeper) function typed;
   one_table = omega arith;
-  table_types = one AreOrdered one_or_more tt;
+  table_types = all_one AreOrdered one_or_more tt;
   one_memory = omega arith;
-  memory_types = one IsMemoryType one_or_more (record { least = omega arith; most = tt; ordered = tt });
+  memory_types = all_one IsMemoryType one_or_more (record { least = omega arith; most = tt; ordered = tt });
   globals = All-nil _;
-  element_segments = one (IsElementSegment keeper) elements element_segment;
+  element_segments = all_one (IsElementSegment keeper) elements element_segment;
   data_segments = All-nil _;
   start = tt;
-  exports = one (λ (e : Export). IsDefined keeper e.desc) f_export refl;
+  exports = all_one (λ (e : Export). IsDefined keeper e.desc) f_export refl;
   names_differ = λ i j d lt le. absurd (omega arith);
 }
 

@@ -8,7 +8,9 @@ use Rattle.wasm_types.specs.declared.instr.Instr.TheVariants as instr
 use Rattle.wasm_types.specs.Tree.{End, Plain, GlobalTree, ModuleTree}
 use Rattle.wasm_spec.specs.Store.{Store}
 use Rattle.wasm_spec.proofs.AddModule.{add}
-use Rattle.pool_worlds.specs.Contents.{Named, Kind, Ticket, Memory, Table, MemoryContents, TableContents, Contents, owner, filled, memory_image, table_image, prepared, restored, replaced, needs, shown, turned}
+use Rattle.pool_worlds.specs.Contents.{Named, MemoryContents, TableContents, Contents, owner, filled, memory_image, table_image, prepared, restored, replaced, needs, shown, turned}
+use Rattle.pool_worlds.specs.declared.kinds.Kind.{Kind}
+use Rattle.pool_worlds.specs.declared.kinds.Kind.TheVariants.{Ticket, Memory, Table}
 use Rattle.world_examples.proofs.NoCode.{no_code}
 use Rattle.world_examples.proofs.Keeper.{keeper}
 

@@ -8,35 +8,32 @@ use Rattle.wasm_spec.specs.Execution.{exec}
 use Rattle.pool_core.specs.declared.words.State.TheVariants.{Warm}
 use Rattle.pool_core.specs.declared.events.Event.TheVariants.{Claim, Home, Release, Stamp}
 use Rattle.pool_core.specs.StateWords.{cold_target}
-use Rattle.wasm_types.specs.declared.types.FuncType.{FuncType}
-use Rattle.wasm_types.specs.declared.types.ValType.{ValType}
 use Rattle.wasm_spec.specs.Store.{fresh_store}
-use Rattle.pool_worlds.specs.Contents.{Named, Memory, Table}
+use Rattle.wasm_spec.specs.Typing.{params_or_none}
+use Rattle.pool_worlds.specs.Contents.{Named}
+use Rattle.pool_worlds.specs.declared.kinds.Kind.TheVariants.{Memory, Table}
 use Rattle.pool_worlds.specs.PoolMachine.{Running, Machine, Step, Prepare, Restore, Clear, Begin, Turn, End, after, CanTurn, MarksEnd, MarksTurn, MayHappen}
 use Rattle.pool_worlds.specs.Fitting.{ReleaseFits}
 use Rattle.world_examples.proofs.Keeper.{keeper}
-use Rattle.world_examples.proofs.Scenes.{first, world, request_of, cold, opened}
+use Rattle.world_examples.proofs.Scenes.{first, world, request_of, cold, opened, done, call_is_there, same_call}
 use Rattle.world_examples.proofs.Unfitting.{fresh, table_with, differ}
 use Rattle.world_examples.proofs.Story.{taken, begun, read, written}
 
-running : {r : Running} → ◌≡◌ {A = Option Running} (Some r) None → ⊥
-running e = cc
-
 -- while a call runs its caller's seats do nothing else
 no_step_while_it_runs : MayHappen world begun (Step Memory (Stamp 0)) → ⊥
-no_step_while_it_runs may = running (may.1 0 refl)
+no_step_while_it_runs may = call_is_there (may.1 0 refl)
 
 no_prepare_while_it_runs : MayHappen world begun (Prepare Memory 0 first) → ⊥
-no_prepare_while_it_runs may = running (may.1 0 refl)
+no_prepare_while_it_runs may = call_is_there (may.1 0 refl)
 
 no_restore_while_it_runs : MayHappen world begun (Restore Memory 0) → ⊥
-no_restore_while_it_runs may = running (may.1 0 refl)
+no_restore_while_it_runs may = call_is_there (may.1 0 refl)
 
 no_clear_while_it_runs : MayHappen world begun (Clear Memory 0 (cold Memory)) → ⊥
-no_clear_while_it_runs may = running (may.1 0 refl)
+no_clear_while_it_runs may = call_is_there (may.1 0 refl)
 
 no_second_call_while_it_runs : MayHappen world begun (Begin 0 (request_of first 5)) → ⊥
-no_second_call_while_it_runs may = running may.0
+no_second_call_while_it_runs may = call_is_there may.0
 
 -- a step that its pool refuses
 no_refused_step : MayHappen world opened (Step Memory (Home 0 0)) → ⊥
@@ -64,16 +61,8 @@ no_clear_to_fresh may = let e = may.2.holds in cc
 no_call_without_slots : MayHappen world opened (Begin 0 (request_of first 5)) → ⊥
 no_call_without_slots may = let e = (may.1 Table refl).holds in cc
 
-params_or : Option FuncType → List ValType
-params_or None = []
-params_or (Some t) = t.params
-
 no_call_with_an_argument : MayHappen world taken (Begin 0 (record (request_of first 5) { arguments = I32 1 ∷ [] })) → ⊥
-unfolding params_or
-no_call_with_an_argument may = let none : [] ≡ may.3.type.params = ap params_or may.3.typed in let some = may.3.fitting in cc
-
-same_call : {r c : Running} → ◌≡◌ {A = Option Running} (Some r) (Some c) → r ≡ c
-same_call e = cc
+no_call_with_an_argument may = let none : [] ≡ may.3.type.params = ap params_or_none may.3.typed in let some = may.3.fitting in cc
 
 -- a turn marks what it changes
 no_unmarked_change : MayHappen world read (Turn 0 []) → ⊥
@@ -86,12 +75,9 @@ no_unmarked_change (r, calls, can, marks) =
 abbrev ended : Machine
 ended = after world read (Turn 0 (true ∷ []))
 
-done : ◌≡◌ {A = Option Outcome} (Some (outcome.Done (Some (I32 0)))) (Some outcome.Fuel) → ⊥
-done h = cc
-
 no_turn_after_the_last : MayHappen world ended (Turn 0 (true ∷ [])) → ⊥
 unfolding exec
-no_turn_after_the_last (r, calls, can, marks) = let c = subst (λ (x : Running). CanTurn world x) (sym (same_call calls)) can in done c.unfinished
+no_turn_after_the_last (r, calls, can, marks) = let c = subst (λ (x : Running). CanTurn world x) (sym (same_call calls)) can in done _ c.unfinished
 
 no_end_before_the_last : MayHappen world read (End 0 []) → ⊥
 unfolding exec

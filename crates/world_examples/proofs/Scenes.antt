@@ -4,12 +4,17 @@ use Rattle.std.specs.Prelude.{Option, Some, None, is_none, ◌==◌, slice_index
 use Rattle.std.specs.List.{list_any}
 use Rattle.std.proofs.lemmas.Bool.{and_parts, or_parts, eqb-true}
 use Rattle.wasm_values.specs.declared.profile.Profile.TheVariants.{One}
+use Rattle.wasm_values.specs.declared.outcome.Val.{Val}
 use Rattle.wasm_values.specs.declared.outcome.Val.TheVariants.{I32}
+use Rattle.wasm_values.specs.declared.outcome.Outcome.{Outcome}
+use Rattle.wasm_values.specs.declared.outcome.Outcome.TheVariants as outcome
 use Rattle.pool_core.specs.declared.events.Event.{Event}
 use Rattle.pool_core.specs.declared.events.Event.TheVariants.{Release}
 use Rattle.pool_core.specs.PoolCore.{opening_core}
 use Rattle.pool_core.specs.RefusalRules.{refusal_of, seat_of}
-use Rattle.pool_worlds.specs.Contents.{Named, Kind, Ticket, Memory, Table, Contents, memory_image, is_marked, IsCold}
+use Rattle.pool_worlds.specs.Contents.{Named, Contents, memory_image, is_marked, IsCold}
+use Rattle.pool_worlds.specs.declared.kinds.Kind.{Kind}
+use Rattle.pool_worlds.specs.declared.kinds.Kind.TheVariants.{Ticket, Memory, Table}
 use Rattle.pool_worlds.specs.PoolMachine.{World, Request, Running, Machine, WorldEvent, Step, Prepare, Restore, Clear, Begin, Turn, End, Cancel, IsFree, IsModule, IsCallable, after, after_all, AllMayHappen, IsOpening}
 use Rattle.pool_worlds.specs.Fitting.{ReleaseFits, AllReleasesFit}
 use Rattle.world_examples.proofs.NoCode.{no_code}
@@ -62,6 +67,17 @@ opened = record { core = λ k. opening_core 2 1 2; contents = λ k n. cold k; ca
 
 pub opens : IsOpening world opened
 opens = record { slots = λ k. 2; limit = λ k. 1; passes = λ k. 2; core = λ k. refl; cold = λ k n. cold_is k; calls = λ i. refl }
+
+-- ---- what tells apart
+
+pub done : (v : Option Val) → ◌≡◌ {A = Option Outcome} (Some (outcome.Done v)) (Some outcome.Fuel) → ⊥
+done v e = cc
+
+pub call_is_there : {r : Running} → ◌≡◌ {A = Option Running} (Some r) None → ⊥
+call_is_there e = cc
+
+pub same_call : {r c : Running} → ◌≡◌ {A = Option Running} (Some r) (Some c) → r ≡ c
+same_call e = cc
 
 -- ---- steps, one after the other
 

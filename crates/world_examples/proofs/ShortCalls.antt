@@ -1,24 +1,26 @@
 -- Two callers call a module that has one global and no memory: what each event makes of the machine, which may not come, and the answers.
 use Rattle.std.proofs.Common.{◌≡◌, ℕ, true, true≢false, List, [], ◌∷◌, ◌++◌, refl, sym, ap, subst, arith}
 use Rattle.std.specs.Prelude.{Option, Some, None}
-use Rattle.wasm_types.specs.declared.types.FuncType.{FuncType}
-use Rattle.wasm_types.specs.declared.types.ValType.{ValType}
 use Rattle.wasm_values.specs.declared.outcome.Val.TheVariants.{I32}
 use Rattle.wasm_values.specs.declared.outcome.Outcome.{Outcome}
 use Rattle.wasm_values.specs.declared.outcome.Outcome.TheVariants as outcome
 use Rattle.wasm_types.specs.Tree.{ModuleTree}
 use Rattle.wasm_spec.specs.Execution.{exec}
+use Rattle.wasm_spec.specs.Typing.{params_or_none}
 use Rattle.pool_core.specs.declared.words.State.TheVariants.{Warm}
 use Rattle.pool_core.specs.declared.events.Event.TheVariants.{Claim, Home, Load, Out, Release, Split, Stamp, WarmLoad}
 use Rattle.pool_core.specs.PoolCore.{opening_core}
 use Rattle.pool_core.specs.RefusalRules.{refusal_of}
-use Rattle.pool_worlds.specs.Contents.{Named, Kind, Ticket, Memory, Table, TableContents, Contents, memory_image}
+use Rattle.pool_worlds.specs.Contents.{Named, TableContents, Contents, memory_image}
+use Rattle.pool_worlds.specs.declared.kinds.Kind.{Kind}
+use Rattle.pool_worlds.specs.declared.kinds.Kind.TheVariants.{Ticket, Memory, Table}
 use Rattle.pool_worlds.specs.PoolMachine.{World, Request, Running, Machine, WorldEvent, Step, Prepare, Restore, Clear, Begin, Turn, End, Cancel, after, after_all, IsCallable, CanTurn, MarksTurn, MayHappen}
 use Rattle.pool_worlds.specs.Fitting.{ReleaseFits}
 use Rattle.pool_worlds.specs.Histories.{steps_of}
 use Rattle.pool_worlds.specs.Worlds.{IsSameRequest, answers}
 use Rattle.world_examples.proofs.NoCode.{no_code}
 use Rattle.world_examples.proofs.FreshCalls.{limits, set_module}
+use Rattle.world_examples.proofs.Scenes.{call_is_there, done, same_call}
 
 abbrev pub numbered : ℕ → Named
 numbered n = record { number = n; tag = n; tree = set_module; code = no_code }
@@ -186,12 +188,9 @@ last_turn : CanTurn world (running 0 2 1)
 unfolding exec
 last_turn = record { fuel = omega arith; unfinished = refl }
 
-finished : ◌≡◌ {A = Option Outcome} (Some (outcome.Done None)) (Some outcome.Fuel) → ⊥
-finished e = cc
-
 no_turn_after_the_last : CanTurn world (running 0 9 2) → ⊥
 unfolding exec
-no_turn_after_the_last can = finished can.unfinished
+no_turn_after_the_last can = done None can.unfinished
 
 no_turn_without_fuel : CanTurn world (running 0 1 1) → ⊥
 no_turn_without_fuel can = let lt = can.fuel in omega (arith, lt)
@@ -201,10 +200,7 @@ running_alone r = record opened { calls = λ i. Some r }
 
 end_with_fuel_left : MayHappen world (running_alone (running 0 9 2)) (End 0 [])
 unfolding exec
-end_with_fuel_left = (running 0 9 2, refl, (λ can. finished can.unfinished), λ h. absurd (true≢false (sym h)))
-
-same_call : {r c : Running} → ◌≡◌ {A = Option Running} (Some r) (Some c) → r ≡ c
-same_call e = cc
+end_with_fuel_left = (running 0 9 2, refl, (λ can. done None can.unfinished), λ h. absurd (true≢false (sym h)))
 
 no_end_before_the_last_turn : MayHappen world (running_alone (running 0 2 1)) (End 0 []) → ⊥
 unfolding exec
@@ -228,9 +224,6 @@ unfolding exec
 no_unmarked_change marks = let zero_is : 0 ≡ 1 = (marks refl).changed 0 refl in omega (arith, zero_is)
 
 -- ---- what may not come
-
-pub call_is_there : {r : Running} → ◌≡◌ {A = Option Running} (Some r) None → ⊥
-call_is_there e = cc
 
 -- while a call runs its caller's seats do nothing else, though the pool would allow the step
 its_pool_allows_the_step : refusal_of (begun.core Ticket) (Stamp 0) ≡ 0
@@ -306,13 +299,8 @@ no_call_without_its_table may = let e = (may.1 Table refl).holds in cc
 no_call_without_its_memory : MayHappen (world_of with_pages) taken (Begin 0 (request_in with_pages)) → ⊥
 no_call_without_its_memory may = let e = (may.1 Memory refl).holds in cc
 
-params_or : Option FuncType → List ValType
-params_or None = []
-params_or (Some t) = t.params
-
 no_call_with_an_argument : MayHappen world taken (Begin 0 (record (request_of 0 2) { arguments = I32 1 ∷ [] })) → ⊥
-unfolding params_or
-no_call_with_an_argument may = let none : [] ≡ may.3.type.params = ap params_or may.3.typed in let some = may.3.fitting in cc
+no_call_with_an_argument may = let none : [] ≡ may.3.type.params = ap params_or_none may.3.typed in let some = may.3.fitting in cc
 
 no_call_of_what_is_not_there : IsCallable (request_in (record set_module { functions = [] })) → ⊥
 no_call_of_what_is_not_there is = let e = is.typed in cc (e)

@@ -11,13 +11,15 @@ use Rattle.wasm_spec.specs.Store.{Store, fresh_store}
 use Rattle.wasm_spec.specs.Result.{CallResult}
 use Rattle.wasm_spec.specs.Execution.{exec}
 use Rattle.pool_core.specs.declared.events.Event.TheVariants.{Claim, Out}
-use Rattle.pool_worlds.specs.Contents.{Kind, Ticket, Memory, Table, MemoryContents, Contents, filled, turned, is_marked, Marks}
+use Rattle.pool_worlds.specs.Contents.{MemoryContents, Contents, filled, turned, is_marked, Marks}
+use Rattle.pool_worlds.specs.declared.kinds.Kind.{Kind}
+use Rattle.pool_worlds.specs.declared.kinds.Kind.TheVariants.{Ticket, Memory, Table}
 use Rattle.pool_worlds.specs.PoolMachine.{World, Request, Running, Machine, WorldEvent, Step, Begin, Turn, End as Ends, slots_of, result, store_or, IsFuelEnd, after_all, AllMayHappen, CanTurn, MarksTurn, MayHappen}
 use Rattle.pool_worlds.specs.Runs.{LeavesFrom, HostResumes, AreTurnsTo}
 use Rattle.pool_worlds.specs.Worlds.{Calls, IsPaused, AreTurnsOf, SlicesAreTurns}
-use Rattle.world_examples.proofs.ShortCalls.{opened, world_of, call_is_there}
-use Rattle.world_examples.proofs.ImportCalls.{hosted, same_call}
-use Rattle.world_examples.proofs.Scenes.{unmarked, beyond_four}
+use Rattle.world_examples.proofs.ShortCalls.{opened, world_of}
+use Rattle.world_examples.proofs.ImportCalls.{hosted}
+use Rattle.world_examples.proofs.Scenes.{unmarked, beyond_four, call_is_there, done, same_call}
 
 -- reads a byte of the request to address 0, and drops how many were read
 abbrev reading : FunctionTree
@@ -251,9 +253,6 @@ an_import_before_its_end = inl refl
 before_its_fifth_turn : IsPaused world (running 4)
 unfolding exec
 before_its_fifth_turn = inr refl
-
-done : (v : Option Val) → ◌≡◌ {A = Option Outcome} (Some (outcome.Done v)) (Some outcome.Fuel) → ⊥
-done v e = cc
 
 not_after_its_fifth : IsPaused world (running 5) → ⊥
 unfolding exec

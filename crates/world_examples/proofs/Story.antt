@@ -2,7 +2,6 @@
 -- at address 0, and writes 7 there: so it gives 0 wherever no other's byte is left.
 use Rattle.std.proofs.Common.{◌≡◌, ℕ, Bool, true, false, List, [], ◌∷◌, ◌++◌, refl, sym, ap, ◌∙◌, subst, cond, arith}
 use Rattle.std.specs.Prelude.{Option, Some, replicate, ◌==◌, ◌/◌}
-use Rattle.wasm_values.specs.declared.outcome.Val.{Val}
 use Rattle.wasm_values.specs.declared.outcome.Val.TheVariants.{I32}
 use Rattle.wasm_values.specs.declared.outcome.Outcome.{Outcome}
 use Rattle.wasm_values.specs.declared.outcome.Outcome.TheVariants as outcome
@@ -11,12 +10,14 @@ use Rattle.pool_core.specs.declared.words.State.TheVariants.{Awaiting, Warm}
 use Rattle.pool_core.specs.declared.words.Target.{Target}
 use Rattle.pool_core.specs.declared.events.Event.TheVariants.{AwaitDown, AwaitUp, Claim, Home, Load, Out, Release, Split, Stamp, WarmDown, WarmUp}
 use Rattle.pool_core.specs.StateWords.{cold_target}
-use Rattle.pool_worlds.specs.Contents.{Kind, Ticket, Memory, Table, MemoryContents, memory_image, is_marked, rewritten_from, restored as restored_contents, Marks, Matches}
+use Rattle.pool_worlds.specs.Contents.{MemoryContents, memory_image, is_marked, rewritten_from, restored as restored_contents, Marks, Matches}
+use Rattle.pool_worlds.specs.declared.kinds.Kind.{Kind}
+use Rattle.pool_worlds.specs.declared.kinds.Kind.TheVariants.{Ticket, Memory, Table}
 use Rattle.pool_worlds.specs.PoolMachine.{Machine, WorldEvent, Step, Prepare, Restore, Clear, Begin, Turn, End, HasOut, held_by, after, after_all, AllMayHappen}
 use Rattle.pool_worlds.specs.Fitting.{AllReleasesFit}
 use Rattle.pool_worlds.specs.Worlds.{IsSameRequest, answers}
 use Rattle.pool_worlds.proofs.Bytes.{rewritten-is}
-use Rattle.world_examples.proofs.Scenes.{first, second, world, is_module, request_of, callable, cold, cold_is, opened, is_free, unmarked, steps_happen, Plays, plays, plays_on, and_then, beyond_four}
+use Rattle.world_examples.proofs.Scenes.{first, second, world, is_module, request_of, callable, cold, cold_is, opened, is_free, unmarked, steps_happen, Plays, plays, plays_on, and_then, beyond_four, done}
 
 abbrev pub awaiting : (tag stamp : ℕ) → Target
 awaiting tag stamp = record { state = Awaiting; tag = tag; stamp = stamp }
@@ -113,9 +114,6 @@ writes = Turn 0 (true ∷ []) ∷ Turn 1 (true ∷ []) ∷ End 0 (true ∷ []) �
 
 abbrev pub written : Machine
 written = after_all world read writes
-
-done : (v : Option Val) → ◌≡◌ {A = Option Outcome} (Some (outcome.Done v)) (Some outcome.Fuel) → ⊥
-done v h = cc
 
 writes_happen : AllMayHappen world read writes
 unfolding exec

@@ -10,10 +10,12 @@ use Rattle.pool_core.specs.declared.words.State.TheVariants.{Cold, Warm, Awaitin
 use Rattle.pool_core.specs.declared.words.StateWord.{StateWord}
 use Rattle.pool_core.specs.declared.events.Event.TheVariants.{Claim, Load, Split, Stamp}
 use Rattle.pool_core.specs.PoolCore.{PoolCore, is_live, opening_core, seat_at}
-use Rattle.pool_worlds.specs.Contents.{Kind, Ticket, Memory, Table}
+use Rattle.pool_worlds.specs.declared.kinds.Kind.{Kind}
+use Rattle.pool_worlds.specs.declared.kinds.Kind.TheVariants.{Ticket, Memory, Table}
 use Rattle.pool_worlds.specs.PoolMachine.{World, InstanceLimits, Request, Running, Machine, WorldEvent, Step, Begin, Turn, End, Cancel}
 use Rattle.pool_worlds.specs.Tenants.{TenantEvent, Tenants, Pools, pools_after, pools_after_all, AllMayCome, own_events, claim_read, tenant_reads, tenant_answers, IsSameCall, AreSameCalls, LookSame, OpenAlike, SeesSame, free_warm, all_free_warm, OpenWithin}
-use Rattle.world_examples.proofs.ShortCalls.{world, opened, taken, begun, request_of, running, turned_twice, used, with_memory, call_is_there}
+use Rattle.world_examples.proofs.ShortCalls.{world, opened, taken, begun, request_of, running, turned_twice, used, with_memory}
+use Rattle.world_examples.proofs.Scenes.{call_is_there}
 use Rattle.world_examples.proofs.Callers.{beside, no_opening_with_contents}
 
 abbrev by : ℕ → WorldEvent → TenantEvent

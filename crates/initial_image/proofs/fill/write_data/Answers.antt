@@ -7,7 +7,8 @@ use Rattle.wasm_types.specs.declared.module.DataSegment.{DataSegment}
 use Rattle.wasm_types.specs.Tree.{DataTree, ModuleTree, data_tree, module_tree}
 use Rattle.wasm_spec.specs.Store.{data_extent, memory_size, offset_of, write_data, written}
 use Rattle.wasm_spec.proofs.StoreSizes.{length-written}
-use Rattle.initial_image.proofs.MemoryLemmas.{shows-written, zeros-at}
+use Rattle.initial_image.proofs.MemoryLemmas.{shows-written}
+use Rattle.wasm_spec.proofs.StoreSizes.{zeros-at}
 use Rattle.initial_image.proofs.SegmentLemmas.{misfit_from-none, fold-next}
 use Rattle.initial_image.proofs.fill.write_data.Goals as goal
 

@@ -36,14 +36,13 @@ module _ (g : Over) (c : After-resume g) where
   abbrev bare_left : Store
   bare_left = bare_store m c.args.table.now c.resume.new.globals c.resume.new.answer
 
-  globals_lent : c.deref_mut.result.now ≡ c.args.ticket.now.globals
-  globals_lent = search rules
-
-  globals_left : c.resume.new.globals ≡ left
-  globals_left = written_back c.ticket.inside.globals.len c.resume.new.globals (drop (length c.resume.new.globals) c.ticket.inside.globals.items) (c.resume.ensures.globals ∙ c.deref_mut.ensures.len)
-
-  args_lent : c.deref.result.now ≡ c.args.ticket.now.args
-  args_lent = c.deref.ensures.value ∙ ap (λ (t : TicketView). t.args) c.ticket.view_is
+  -- what is lent is the ticket's, and what it is left with is written back
+  lent : (c.deref_mut.result.now ≡ c.args.ticket.now.globals) × (c.resume.new.globals ≡ left) × (c.deref.result.now ≡ c.args.ticket.now.args)
+  lent = (
+    search rules,
+    written_back c.ticket.inside.globals.len c.resume.new.globals (drop (length c.resume.new.globals) c.ticket.inside.globals.items) (c.resume.ensures.globals ∙ c.deref_mut.ensures.len),
+    c.deref.ensures.value ∙ ap (λ (t : TicketView). t.args) c.ticket.view_is,
+  )
 
   lent_bare : lent_store m c.ticket.inside.memory c.args.table.now c.deref_mut.result.now c.args.answer.now ≡ bare_lent
   lent_bare = bare_is m c.ticket.inside.memory c.args.table.now c.deref_mut.result.now c.args.answer.now c.ticket.invariant.no_bytes
@@ -51,8 +50,8 @@ module _ (g : Over) (c : After-resume g) where
   module _ (begun : Store) (h : Stands m limits begun c.args.ticket.now.args c.args.call.now c.args.ticket.now.stacks (bare_store m c.args.table.now c.args.ticket.now.globals c.args.answer.now)) where
     stands_lent : Stands m limits begun c.deref.result.now c.args.call.now c.ticket.inside.stacks (lent_store m c.ticket.inside.memory c.args.table.now c.deref_mut.result.now c.args.answer.now)
     stands_lent =
-        stands_same m limits begun c.args.call.now _ _ _ _ _ _ (sym args_lent) (ap (λ (t : TicketView). t.stacks) (sym c.ticket.view_is))
-        (ap (λ (xs : List Val). bare_store m c.args.table.now xs c.args.answer.now) (sym globals_lent) ∙ sym lent_bare) h
+        stands_same m limits begun c.args.call.now _ _ _ _ _ _ (sym lent.2) (ap (λ (t : TicketView). t.stacks) (sym c.ticket.view_is))
+        (ap (λ (xs : List Val). bare_store m c.args.table.now xs c.args.answer.now) (sym lent.0) ∙ sym lent_bare) h
 
     abbrev went : Went m (whole m limits c.args.call.now c.deref.result.now begun) c.args.call.now.turns (upto c.args.call.now c.args.slice) c.ticket.inside.memory c.resume.new.memory
         (lent_store m c.resume.new.memory c.args.table.now c.resume.new.globals c.resume.new.answer)
@@ -65,7 +64,7 @@ module _ (g : Over) (c : After-resume g) where
     left_bare = bare_is m c.resume.new.memory c.args.table.now c.resume.new.globals c.resume.new.answer no_bytes
 
     store_left : lent_store m c.resume.new.memory c.args.table.now c.resume.new.globals c.resume.new.answer ≡ bare_store m c.args.table.now left c.resume.new.answer
-    store_left = left_bare ∙ ap (λ (xs : List Val). bare_store m c.args.table.now xs c.resume.new.answer) globals_left
+    store_left = left_bare ∙ ap (λ (xs : List Val). bare_store m c.args.table.now xs c.resume.new.answer) lent.1
 
     end_left : went.at.store ≡ bare_left
     end_left = went.shows ∙ left_bare
@@ -80,7 +79,7 @@ invariant_of-ticket g c =
     let at = (goal.at.invariant_of-ticket g c).After-resume in
     let (begun, h) = c.requires.stands in
     record {
-      globals_are = ap length (sym (globals_left g at)) ∙ c.resume.ensures.globals ∙ ap length (globals_lent g at) ∙ ap (λ (t : TicketView). length t.globals) (sym c.ticket.view_is) ∙ c.ticket.invariant.globals_are;
+      globals_are = ap length (sym (lent g at).1) ∙ c.resume.ensures.globals ∙ ap length (lent g at).0 ∙ ap (λ (t : TicketView). length t.globals) (sym c.ticket.view_is) ∙ c.ticket.invariant.globals_are;
       args_fit = c.ticket.invariant.args_fit;
       imports_fit = c.ticket.invariant.imports_fit;
       stacks_are = c.resume.ensures.stacks ∙ c.ticket.invariant.stacks_are;
@@ -91,7 +90,7 @@ invariant_of-ticket g c =
 pub returns-clause-turned : goal.returns-clause-turned
 returns-clause-turned g c begun h =
     let at = (goal.at.returns-clause-turned g c).After-resume in
-    turned_same (m g at) (limits g at) begun c.args.call.now c.args.slice c.resume.result _ _ _ _ (args_lent g at) (store_left g at begun h) (c.resume.ensures.turned begun (stands_lent g at begun h))
+    turned_same (m g at) (limits g at) begun c.args.call.now c.args.slice c.resume.result _ _ _ _ (lent g at).2 (store_left g at begun h) (c.resume.ensures.turned begun (stands_lent g at begun h))
 
 pub returns-clause-stands : goal.returns-clause-stands
 returns-clause-stands g c again begun h =
@@ -105,7 +104,7 @@ returns-clause-leaves g c begun h x owner =
     let call = c.args.call.now in
     let end = (went g at begun h).at in (
       end,
-      leaves_same (m g at) (limits g at) begun call pages c.args.slice x x owner c.args.table.now x.marks end _ _ _ _ _ _ (args_lent g at) (globals_lent g at) (globals_left g at)
+      leaves_same (m g at) (limits g at) begun call pages c.args.slice x x owner c.args.table.now x.marks end _ _ _ _ _ _ (lent g at).2 (lent g at).0 (lent g at).1
           (leaves_bare_from pages (m g at) x owner c.args.table.now c.deref_mut.result.now c.resume.new.globals c.requires.none (whole (m g at) (limits g at) call c.deref.result.now begun) call.turns (upto call c.args.slice)
           end c.args.answer.now c.resume.new.answer (typed_lent g at begun h) c.resume.ensures.globals c.resume.ensures.others (went g at begun h).gives (end_left g at begun h)),
     )

@@ -1,6 +1,6 @@
 use Rattle.slot_words.specs.Passes.{IsIdle}
-use Rattle.memory_slots.specs.Pools.{IsMemoryPass}
+use Rattle.slot_words.specs.Owned.{IsPassOf}
 use Rattle.memory_slots.proofs.tests.visit_often.Given as goal
 
 abbrev pub invariant-loop : goal.invariant-loop
-invariant-loop g l = IsMemoryPass l.pool l.pass × IsIdle l.pass
+invariant-loop g l = IsPassOf l.pool l.pass × IsIdle l.pass

@@ -1,8 +1,6 @@
 use Rattle.std.proofs.Common.{rules}
 use Rattle.std.proofs.lemmas.List.Elements.{All-pop, All-push}
-use Rattle.instance_slots.specs.Pools.{IsNewTicketPass}
-use Rattle.memory_slots.specs.Pools.{IsNewMemoryPass}
-use Rattle.table_slots.specs.Pools.{IsNewTablePass}
+use Rattle.slot_words.specs.Owned.{IsNewPassOf}
 use Rattle.retired_tags.specs.Passes.{IsNewTagPass}
 use Rattle.pool_host.specs.Hosts.{IsNewHostPass}
 use Rattle.pool_host.proofs.IdleLemmas.{idle_rests}
@@ -12,13 +10,13 @@ pub loop-preserved : goal.loop-preserved
 loop-preserved g c =
     let i = c.loop.invariant in
     let host = c.args.host.now in
-    let tickets = All-pop (IsNewTicketPass host.tickets) c.loop.tickets.items c.pop.new.self.items c.pop.result c.pop.ensures.items i.tickets in
-    let memories = All-pop (IsNewMemoryPass host.memories) c.loop.memories.items c.pop-in-loop.new.self.items c.pop-in-loop.result c.pop-in-loop.ensures.items i.memories in
-    let tables = All-pop (IsNewTablePass host.tables) c.loop.tables.items c.pop-in-loop-2.new.self.items c.pop-in-loop-2.result c.pop-in-loop-2.ensures.items i.tables in
+    let tickets = All-pop (IsNewPassOf host.tickets) c.loop.tickets.items c.pop.new.self.items c.pop.result c.pop.ensures.items i.tickets in
+    let memories = All-pop (IsNewPassOf host.memories) c.loop.memories.items c.pop-in-loop.new.self.items c.pop-in-loop.result c.pop-in-loop.ensures.items i.memories in
+    let tables = All-pop (IsNewPassOf host.tables) c.loop.tables.items c.pop-in-loop-2.new.self.items c.pop-in-loop-2.result c.pop-in-loop-2.ensures.items i.tables in
     let tags = All-pop (IsNewTagPass host.retired.tags) c.loop.tags.items c.pop-in-loop-3.new.self.items c.pop-in-loop-3.result c.pop-in-loop-3.ensures.items i.tags in
-    let ticket : IsNewTicketPass host.tickets c.unwrap.result = rw c.unwrap.ensures at tickets.1 in
-    let memory : IsNewMemoryPass host.memories c.unwrap-in-loop.result = rw c.unwrap-in-loop.ensures at memories.1 in
-    let table : IsNewTablePass host.tables c.unwrap-in-loop-2.result = rw c.unwrap-in-loop-2.ensures at tables.1 in
+    let ticket : IsNewPassOf host.tickets c.unwrap.result = rw c.unwrap.ensures at tickets.1 in
+    let memory : IsNewPassOf host.memories c.unwrap-in-loop.result = rw c.unwrap-in-loop.ensures at memories.1 in
+    let table : IsNewPassOf host.tables c.unwrap-in-loop-2.result = rw c.unwrap-in-loop-2.ensures at tables.1 in
     let tag : IsNewTagPass host.retired.tags c.unwrap-retired.result = rw c.unwrap-retired.ensures at tags.1 in
     record {
       tickets = tickets.0;
@@ -39,13 +37,13 @@ pub invariant_of-push_reserved : goal.invariant_of-push_reserved
 invariant_of-push_reserved g c =
     let i = c.loop.invariant in
     let host = c.args.host.now in
-    let tickets = All-pop (IsNewTicketPass host.tickets) c.loop.tickets.items c.pop.new.self.items c.pop.result c.pop.ensures.items i.tickets in
-    let memories = All-pop (IsNewMemoryPass host.memories) c.loop.memories.items c.pop-in-loop.new.self.items c.pop-in-loop.result c.pop-in-loop.ensures.items i.memories in
-    let tables = All-pop (IsNewTablePass host.tables) c.loop.tables.items c.pop-in-loop-2.new.self.items c.pop-in-loop-2.result c.pop-in-loop-2.ensures.items i.tables in
+    let tickets = All-pop (IsNewPassOf host.tickets) c.loop.tickets.items c.pop.new.self.items c.pop.result c.pop.ensures.items i.tickets in
+    let memories = All-pop (IsNewPassOf host.memories) c.loop.memories.items c.pop-in-loop.new.self.items c.pop-in-loop.result c.pop-in-loop.ensures.items i.memories in
+    let tables = All-pop (IsNewPassOf host.tables) c.loop.tables.items c.pop-in-loop-2.new.self.items c.pop-in-loop-2.result c.pop-in-loop-2.ensures.items i.tables in
     let tags = All-pop (IsNewTagPass host.retired.tags) c.loop.tags.items c.pop-in-loop-3.new.self.items c.pop-in-loop-3.result c.pop-in-loop-3.ensures.items i.tags in
-    let ticket : IsNewTicketPass host.tickets c.unwrap.result = rw c.unwrap.ensures at tickets.1 in
-    let memory : IsNewMemoryPass host.memories c.unwrap-in-loop.result = rw c.unwrap-in-loop.ensures at memories.1 in
-    let table : IsNewTablePass host.tables c.unwrap-in-loop-2.result = rw c.unwrap-in-loop-2.ensures at tables.1 in
+    let ticket : IsNewPassOf host.tickets c.unwrap.result = rw c.unwrap.ensures at tickets.1 in
+    let memory : IsNewPassOf host.memories c.unwrap-in-loop.result = rw c.unwrap-in-loop.ensures at memories.1 in
+    let table : IsNewPassOf host.tables c.unwrap-in-loop-2.result = rw c.unwrap-in-loop-2.ensures at tables.1 in
     let tag : IsNewTagPass host.retired.tags c.unwrap-retired.result = rw c.unwrap-retired.ensures at tags.1 in
     record {
       rests_ticket = idle_rests c.unwrap.result ticket.idle;

@@ -1,17 +1,15 @@
 use Rattle.std.proofs.Common.{◌≡◌, ◌+◌, ◌≤◌, vec_len, vec_capacity}
 use Rattle.std.specs.List.{All}
-use Rattle.instance_slots.specs.Pools.{IsNewTicketPass}
-use Rattle.memory_slots.specs.Pools.{IsNewMemoryPass}
-use Rattle.table_slots.specs.Pools.{IsNewTablePass}
+use Rattle.slot_words.specs.Owned.{IsNewPassOf}
 use Rattle.retired_tags.specs.Passes.{IsNewTagPass}
 use Rattle.pool_host.specs.Hosts.{IsNewHostPass}
 use Rattle.pool_host.proofs.dealing.deal.Given as goal
 
 abbrev pub invariant-loop : goal.invariant-loop
 invariant-loop g l = record {
-  tickets : All (IsNewTicketPass l.host.tickets) l.tickets.items;
-  memories : All (IsNewMemoryPass l.host.memories) l.memories.items;
-  tables : All (IsNewTablePass l.host.tables) l.tables.items;
+  tickets : All (IsNewPassOf l.host.tickets) l.tickets.items;
+  memories : All (IsNewPassOf l.host.memories) l.memories.items;
+  tables : All (IsNewPassOf l.host.tables) l.tables.items;
   tags : All (IsNewTagPass l.host.retired.tags) l.tags.items;
   passes : All (IsNewHostPass l.host) l.all.items;
   tickets_left : vec_len l.tickets + l.counter ≡ l.end;

@@ -1,7 +1,6 @@
-use Rattle.pool_worlds.specs.Contents.{Memory, Table, needs}
+use Rattle.pool_worlds.specs.Contents.{needs}
+use Rattle.pool_worlds.specs.declared.kinds.Kind.TheVariants.{Memory, Table}
 use Rattle.slot_words.specs.Owned.{limit_of, slots_of}
-use Rattle.memory_slots.specs.Pools as memories
-use Rattle.table_slots.specs.Pools as tables
 use Rattle.pool_host.specs.Trails.{IsFullMemoryTake, IsFullTableTake, IsMemoryGive, IsMemoryTake, IsTableGive, IsTableTake, visit_if}
 use Rattle.pool_host.proofs.PreferringLemmas.{served_own}
 use Rattle.pool_host.proofs.laws.calls_prefer_their_own.Goals as goal
@@ -12,11 +11,11 @@ returns g c = λ config host m answer before after adds.
     let ends = c.the_last_claim_names_the_slot.ensures in
     record {
       memory = served_own (IsMemoryTake config host m) (IsMemoryGive config host m) (IsFullMemoryTake config host m) m.tag
-          (prefers.batched (limit_of (memories.words_of host.memories)) (slots_of (memories.words_of host.memories)) m.tag)
-          (ends.batched (limit_of (memories.words_of host.memories)) (slots_of (memories.words_of host.memories)) m.tag)
+          (prefers.batched (limit_of host.memories) (slots_of host.memories) m.tag)
+          (ends.batched (limit_of host.memories) (slots_of host.memories) m.tag)
           (visit_if (needs Memory m.tree) answer Memory) _ _ adds.memory;
       table = served_own (IsTableTake config host m) (IsTableGive config host m) (IsFullTableTake config host m) m.tag
-          (prefers.affine (limit_of (tables.words_of host.tables)) (slots_of (tables.words_of host.tables)) m.tag)
-          (ends.affine (limit_of (tables.words_of host.tables)) (slots_of (tables.words_of host.tables)) m.tag)
+          (prefers.affine (limit_of host.tables) (slots_of host.tables) m.tag)
+          (ends.affine (limit_of host.tables) (slots_of host.tables) m.tag)
           (visit_if (needs Table m.tree) answer Table) _ _ adds.table;
     }

@@ -6,11 +6,8 @@ use Rattle.slot_pools.specs.Causes.{FullAfterLook, FullAfterMark, FullAfterScan}
 use Rattle.slot_pools.specs.Takes.{IsFullAffineTake, IsFullAnyTake, IsFullBatchedTake}
 use Rattle.pool_limits.specs.declared.numbers.Numbers.{Numbers}
 use Rattle.pool_worlds.specs.Contents.{Named}
-use Rattle.instance_slots.specs.Pools as tickets
-use Rattle.memory_slots.specs.Pools as memories
-use Rattle.table_slots.specs.Pools as tables
-use Rattle.pool_host.specs.declared.answers.Kind.{Kind}
-use Rattle.pool_host.specs.declared.answers.Kind.TheVariants as kind
+use Rattle.pool_worlds.specs.declared.kinds.Kind.{Kind}
+use Rattle.pool_worlds.specs.declared.kinds.Kind.TheVariants.{Memory, Table, Ticket}
 use Rattle.pool_host.specs.declared.host.Host.{Host}
 use Rattle.pool_host.specs.declared.passes.Passes.{Passes}
 use Rattle.pool_host.specs.Preferring.{FoundAllHeld}
@@ -22,16 +19,16 @@ module _ (any : (slots : ℕ) (done : List Operation) → IsFullAnyTake slots do
     (batched : (limit slots tag : ℕ) (done : List Operation) → IsFullBatchedTake limit slots tag done → FullAfterMark slots done)
     (affine : (limit slots tag : ℕ) (done : List Operation) → IsFullAffineTake limit slots tag done → FullAfterLook limit slots tag done) where
   found_all_held : {N : Type 0} (config : Numbers) (host : Host N) (m : Named) (k : Kind) (before after : Passes N) → HasCause config host m before after k → FoundAllHeld host m before after k
-  found_all_held config host m kind.Instance before after cause =
-      let slots : ℕ = slots_of (tickets.words_of host.tickets) in
+  found_all_held config host m Ticket before after cause =
+      let slots : ℕ = slots_of host.tickets in
       grew_as (IsFullTicketTake config host m) (FullAfterScan slots) (trail before.ticket) (trail after.ticket) (any slots) cause.full
-  found_all_held config host m kind.Memory before after cause =
-      let limit : ℕ = limit_of (memories.words_of host.memories) in
-      let slots : ℕ = slots_of (memories.words_of host.memories) in
+  found_all_held config host m Memory before after cause =
+      let limit : ℕ = limit_of host.memories in
+      let slots : ℕ = slots_of host.memories in
       grew_as (IsFullMemoryTake config host m) (FullAfterMark slots) (trail before.memory) (trail after.memory) (batched limit slots m.tag) cause.full
-  found_all_held config host m kind.Table before after cause =
-      let limit : ℕ = limit_of (tables.words_of host.tables) in
-      let slots : ℕ = slots_of (tables.words_of host.tables) in
+  found_all_held config host m Table before after cause =
+      let limit : ℕ = limit_of host.tables in
+      let slots : ℕ = slots_of host.tables in
       grew_as (IsFullTableTake config host m) (FullAfterLook limit slots m.tag) (trail before.table) (trail after.table) (affine limit slots m.tag) cause.full
 
 pub returns : goal.returns

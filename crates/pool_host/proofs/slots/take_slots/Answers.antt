@@ -1,6 +1,7 @@
 use Rattle.std.proofs.Common.{ap, ◌∙◌}
 use Rattle.slot_words.specs.Passes.{trail}
-use Rattle.pool_worlds.specs.Contents.{Memory, Table, needs}
+use Rattle.pool_worlds.specs.Contents.{needs}
+use Rattle.pool_worlds.specs.declared.kinds.Kind.TheVariants.{Memory, Table}
 use Rattle.instance_calls.specs.Parts.{memory_slot}
 use Rattle.pool_host.specs.Trails.{IsFullMemoryTake, IsFullTableTake, IsFullTicketTake, IsMemoryGive, IsMemoryTake, IsTableGive, IsTableTake, IsTicketGive, IsTicketTake}
 use Rattle.pool_host.proofs.VisitLemmas.{grew_from, grew_to, memory_slot_some, nothing_if, served, turned_away, visited}

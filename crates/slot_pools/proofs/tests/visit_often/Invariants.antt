@@ -1,7 +1,6 @@
-use Rattle.std.proofs.Common.{[]}
 use Rattle.slot_words.specs.Passes.{IsIdle}
 use Rattle.slot_words.specs.Owned.{IsPassOf}
 use Rattle.slot_pools.proofs.tests.visit_often.Given as goal
 
 abbrev pub invariant-loop : goal.invariant-loop
-invariant-loop l = IsPassOf (λ x. []) l.words l.pass × IsIdle l.pass
+invariant-loop l = IsPassOf l.words l.pass × IsIdle l.pass

@@ -3,12 +3,12 @@ use Rattle.slot_words.proofs.RuleLaws.{alone_with_all, clock_counts_stamps, free
 use Rattle.slot_words.proofs.laws.passes_share_the_words.Goals as goal
 
 pub returns : goal.returns
-returns g c = let laws = laws_of c.core_laws.ensures in let fits = g.V.Pooled.fits in let room = g.V.Pooled.room in record {
-  one_holder = one_holder laws fits room;
-  held_by_another = held_by_another laws fits room;
-  no_hidden_seat = no_hidden_seat laws fits room;
-  alone_with_all = alone_with_all laws fits room;
-  within_limit = within_limit laws fits room;
-  free_values_fit = free_values_fit laws fits room;
-  clock = clock_counts_stamps laws fits room;
+returns g c = let laws = laws_of c.core_laws.ensures in let fits = g.V.Pooled.fits in record {
+  one_holder = one_holder laws fits;
+  held_by_another = held_by_another laws fits;
+  no_hidden_seat = no_hidden_seat laws fits;
+  alone_with_all = alone_with_all laws fits;
+  within_limit = within_limit laws fits;
+  free_values_fit = free_values_fit laws fits;
+  clock = clock_counts_stamps laws fits;
 }

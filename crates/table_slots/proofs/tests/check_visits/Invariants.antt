@@ -1,6 +1,6 @@
 use Rattle.slot_words.specs.Passes.{IsIdle}
-use Rattle.table_slots.specs.Pools.{IsTablePass}
+use Rattle.slot_words.specs.Owned.{IsPassOf}
 use Rattle.table_slots.proofs.tests.check_visits.Given as goal
 
 abbrev pub invariant-loop-visited : goal.invariant-loop-visited
-invariant-loop-visited g l = IsTablePass l.pool l.pass × IsIdle l.pass
+invariant-loop-visited g l = IsPassOf l.pool l.pass × IsIdle l.pass

@@ -1,6 +1,6 @@
 use Rattle.std.proofs.Common.{List, map}
 use Rattle.std.proofs.lemmas.List.{map-id}
-use Rattle.wasm_spec.specs.TypeGrammar.{TakesFuncType, TakesTableType, TakesMemoryType}
+use Rattle.wasm_spec.specs.TypeGrammar.{TakesFuncType, TakesTableType, TakesLimits}
 use Rattle.wasm_spec.specs.Grammar.{TakesGlobal, Section, section, SpellsVec}
 use Rattle.wasm_decode.specs.Sections.{section_of}
 use Rattle.wasm_decode.specs.Fields.{SpellsFunctions, SpellsDefinitions}
@@ -25,7 +25,7 @@ returns-in_err-tables-clause-read c =
 pub returns-in_err-memories-clause-read : goal.returns-in_err-memories-clause-read
 returns-in_err-memories-clause-read c =
     let ss : List Section = map section_of c.args.sections.now in
-    exits-part (λ xs. SpellsVec TakesMemoryType xs (section 5 ss)) (SpellsDefinitions c.args.profile ss) c.from_residual-in_err-memories.result _ c.in_err-memories.field-0.0 c.from_residual-in_err-memories.ensures.1 c.in_err-memories.ensures.read (λ d h. (d.memories, h.memories))
+    exits-part (λ xs. SpellsVec TakesLimits xs (section 5 ss)) (SpellsDefinitions c.args.profile ss) c.from_residual-in_err-memories.result _ c.in_err-memories.field-0.0 c.from_residual-in_err-memories.ensures.1 c.in_err-memories.ensures.read (λ d h. (d.memories, h.memories))
 
 pub returns-in_err-globals-clause-read : goal.returns-in_err-globals-clause-read
 returns-in_err-globals-clause-read c =

@@ -1,7 +1,8 @@
 use Rattle.std.proofs.Common.{ℕ, List, map, arith}
 use Rattle.std.proofs.lemmas.List.{map-id, length-map}
 use Rattle.wasm_spec.specs.Numbers.{TakesUnsigned}
-use Rattle.wasm_spec.specs.Grammar.{Body, TakesSizedBody, body_of, type_index_of, Section, section, SpellsVec}
+use Rattle.wasm_types.specs.Tree.{FunctionTree}
+use Rattle.wasm_spec.specs.Grammar.{Body, TakesSizedBody, body_of, Section, section, SpellsVec}
 use Rattle.wasm_decode.specs.Sections.{section_of}
 use Rattle.wasm_decode.specs.Bodies.{body_tree}
 use Rattle.wasm_decode.specs.Fields.{SpellsFunctions}
@@ -11,7 +12,7 @@ use Rattle.wasm_decode.proofs.decoder.decode_functions.Goals as goal
 pub returns-in_err-type_indices-clause-read : goal.returns-in_err-type_indices-clause-read
 returns-in_err-type_indices-clause-read c =
     let ss : List Section = map section_of c.args.sections.now in
-    exits-part (λ xs. SpellsVec (TakesUnsigned 32) xs (section 3 ss)) (SpellsFunctions c.args.profile ss) c.from_residual.result _ c.in_err-type_indices.field-0.0 c.from_residual.ensures.1 c.in_err-type_indices.ensures.read (λ fs h. (map type_index_of fs, h.types))
+    exits-part (λ xs. SpellsVec (TakesUnsigned 32) xs (section 3 ss)) (SpellsFunctions c.args.profile ss) c.from_residual.result _ c.in_err-type_indices.field-0.0 c.from_residual.ensures.1 c.in_err-type_indices.ensures.read (λ fs h. (map (λ (f : FunctionTree). f.type_index) fs, h.types))
 
 pub returns-in_err-bodies-clause-read : goal.returns-in_err-bodies-clause-read
 returns-in_err-bodies-clause-read c =

@@ -7,7 +7,8 @@ use Rattle.wasm_spec.specs.Execution.{terms}
 use Rattle.wasm_spec.specs.Instances.{room_for}
 use Rattle.wasm_spec.specs.Store.{Store}
 use Rattle.slot_words.specs.declared.leases.Lease.{Lease}
-use Rattle.pool_worlds.specs.Contents.{Contents, Kind, MemoryContents}
+use Rattle.pool_worlds.specs.Contents.{Contents, MemoryContents}
+use Rattle.pool_worlds.specs.declared.kinds.Kind.{Kind}
 use Rattle.pool_worlds.specs.Runs.{LeavesFrom}
 use Rattle.memory_slots.specs.Lent.{IsReady, parts}
 use Rattle.paused_call.specs.Standing.{Stands, upto, whole}

@@ -1,6 +1,7 @@
 use Rattle.std.proofs.Common.{◌≡◌, ◌∷◌, Some, None, sym, subst, refl}
 use Rattle.wasm_values.specs.declared.outcome.Val.{Val}
-use Rattle.wasm_spec.specs.Execution.{number, value}
+use Rattle.wasm_spec.specs.Typing.{number}
+use Rattle.wasm_spec.specs.Execution.{value}
 use Rattle.machine_steps.specs.StackLayout.{Represents}
 use Rattle.machine_steps.specs.InstructionKinds.{takes_width, gives_width, of_one}
 use Rattle.machine_steps.proofs.OperandLemmas.{is_number}

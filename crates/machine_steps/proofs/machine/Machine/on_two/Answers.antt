@@ -1,6 +1,6 @@
 use Rattle.std.proofs.Common.{◌≡◌, ◌∙◌, Some, None, sym, subst}
 use Rattle.wasm_values.specs.declared.outcome.Val.{Val}
-use Rattle.wasm_spec.specs.Execution.{number}
+use Rattle.wasm_spec.specs.Typing.{number}
 use Rattle.machine_steps.specs.InstructionKinds.{takes_width, gives_width, of_two}
 use Rattle.machine_steps.proofs.OperandLemmas.{pop_both, first_there, second_there, is_number, after_value, after_trap}
 use Rattle.machine_steps.proofs.KindLemmas.{two_of, two_means, after_as}

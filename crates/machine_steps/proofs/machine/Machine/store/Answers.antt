@@ -5,7 +5,7 @@ use Rattle.wasm_values.specs.declared.outcome.Val.{Val}
 use Rattle.wasm_values.specs.declared.outcome.Val.TheVariants as val
 use Rattle.wasm_values.specs.declared.outcome.TrapKind.TheVariants as trap
 use Rattle.wasm_spec.specs.Store.{Store, written}
-use Rattle.wasm_spec.specs.Execution.{number}
+use Rattle.wasm_spec.specs.Typing.{number}
 use Rattle.machine_steps.specs.InstructionKinds.{offset_of, access_width, stored_as, takes_width}
 use Rattle.linear_memory.specs.Bytes.{shown}
 use Rattle.machine_steps.specs.Lent.{store_of}

@@ -8,6 +8,8 @@ use Rattle.wasm_spec.specs.Store.{Store}
 use Rattle.linear_memory.specs.Marks.{KeepsUnmarked}
 use Rattle.wasm_machine.specs.Lent.{lent_store}
 use Rattle.pool_worlds.specs.Contents as contents
+use Rattle.pool_worlds.specs.declared.kinds.Kind.{Kind}
+use Rattle.pool_worlds.specs.declared.kinds.Kind.TheVariants as kind
 use Rattle.pool_worlds.specs.Contents.{MemoryContents, turned}
 use Rattle.pool_worlds.specs.Runs.{LeavesFrom}
 use Rattle.paused_call.specs.Standing.{CanResume, Stands, upto, whole}
@@ -99,7 +101,7 @@ returns-clause-leaves g c begun h owner =
     let went = c.resume.ensures.went begun inside in
     let P : MemoryContents → Type 0 = λ x. LeavesFrom config.pages (module_tree m) (whole m limits c.args.call.now c.args.args.now begun) c.args.call.now.turns (upto c.args.call.now c.args.slice)
     (parts x owner table globals) (parts (contents_of new holds) owner table c.resume.new.globals) new.marks.items went.at in
-    let Q : Store → Type 0 = λ s. (k : contents.Kind) → contents.needs k (module_tree m) ≡ true → parts (contents_of new holds) owner table c.resume.new.globals k ≡ turned config.pages s new.marks.items k (parts (contents_of old holds) owner table globals k) in (
+    let Q : Store → Type 0 = λ s. (k : Kind) → contents.needs k (module_tree m) ≡ true → parts (contents_of new holds) owner table c.resume.new.globals k ≡ turned config.pages s new.marks.items k (parts (contents_of old holds) owner table globals k) in (
       went.at,
       subst P c.self.view_is (record {
         gives = went.gives;

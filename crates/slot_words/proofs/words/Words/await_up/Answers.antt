@@ -10,5 +10,5 @@ pub fetch_add-requires : goal.fetch_add-requires
 fetch_add-requires g c = let w = c.args.self.now in let own = c.requires.own in let n = number_held _ c.requires.holds in (
   ap (λ (h : Home). h.table) own,
   omega (arith, w.words_are),
-  await_ups_allowed (laws_of c.core_laws.ensures) g.V.Pooled.fits g.V.Pooled.room _ _ _ _ n.0 _ w.slots_are (ap (λ (h : Home). is_live h.stage) own) n.1 c.requires.none,
+  await_ups_allowed (laws_of c.core_laws.ensures) g.V.Pooled.fits _ _ _ _ n.0 _ w.slots_are (ap (λ (h : Home). is_live h.stage) own) n.1 c.requires.none,
 )

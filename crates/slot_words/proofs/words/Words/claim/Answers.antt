@@ -9,11 +9,11 @@ pub fetch_or-read-requires : goal.fetch_or-read-requires
 fetch_or-read-requires g c = let w = c.args.self.now in let h = c.requires.number in let e = w.slots_are in let f = w.words_are in (
   ap (λ (h : Home). h.table) c.requires.own,
   omega arith,
-  claims_allowed (laws_of c.core_laws.ensures) g.V.Pooled.fits g.V.Pooled.room _ _ _ _ _ (omega arith) c.requires.idle.0,
+  claims_allowed (laws_of c.core_laws.ensures) g.V.Pooled.fits _ _ _ _ _ (omega arith) c.requires.idle.0,
 )
 
 pub exchange-requires : goal.exchange-requires
 exchange-requires g c =
-    let won = claim_won (laws_of c.core_laws.ensures) g.V.Pooled.fits g.V.Pooled.room _ _ _ _ c.fetch_or-read.ensures.2 c.if-read-eq1.false in
+    let won = claim_won (laws_of c.core_laws.ensures) g.V.Pooled.fits _ _ _ _ c.fetch_or-read.ensures.2 c.if-read-eq1.false in
     let x = won.3.1.0 in let has = won.3.1.1 in
     (search rules, (Some x, has ∙ (λ i. (c.args.n, Some x) ∷ sym (ap rest has) i)))

@@ -10,5 +10,5 @@ join_seat-requires g c = let w = c.args.self.now in let a = c.requires.idle in l
   ap (λ (h : Home). h.table) c.requires.other.0,
   b.1,
   omega (arith, w.words_are),
-  joins_allowed (laws_of c.core_laws.ensures) g.V.Pooled.fits g.V.Pooled.room _ _ _ _ _ a.0 b.0,
+  joins_allowed (laws_of c.core_laws.ensures) g.V.Pooled.fits _ _ _ _ _ a.0 b.0,
 )

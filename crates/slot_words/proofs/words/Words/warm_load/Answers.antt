@@ -9,5 +9,5 @@ pub load-requires : goal.load-requires
 load-requires g c = let w = c.args.self.now in let own = c.requires.own in (
   ap (λ (h : Home). h.table) own,
   omega (arith, w.words_are),
-  warm_loads_allowed (laws_of c.core_laws.ensures) g.V.Pooled.fits g.V.Pooled.room _ _ _ _ _ w.slots_are (ap (λ (h : Home). is_live h.stage) own),
+  warm_loads_allowed (laws_of c.core_laws.ensures) g.V.Pooled.fits _ _ _ _ _ w.slots_are (ap (λ (h : Home). is_live h.stage) own),
 )
