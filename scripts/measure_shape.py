@@ -43,7 +43,7 @@ def functions(path):
         end = next((k for k in range(number, len(lines)) if lines[k] == indent + "}"), number)
         if any(lines[k].rstrip().endswith(";") and lines[k].startswith(indent) and not lines[k].startswith(indent + " ") for k in range(number, min(number + 1, end))):
             continue
-        text = "\n".join(lines[number : end + 1])
+        text = "\n".join([line[head.end() :], *lines[number + 1 : end + 1]])
         signature = text.split("(", 1)[1]
         depth, parameters, angle = 1, "", 0
         for letter in signature:

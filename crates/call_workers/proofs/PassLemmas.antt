@@ -1,5 +1,5 @@
 -- What a caller has at a tenant's host, by its parts.
-use Rattle.std.proofs.Common.{◌≡◌, ℕ, Option, None, Some, option_map, refl, sym, ap}
+use Rattle.std.proofs.Common.{◌≡◌, ℕ, Option, None, Some, option_map, slice_get, refl, sym, ap, subst}
 use Rattle.std.proofs.lemmas.Option.{none-some, same_Some, slice_get_within}
 use Rattle.module_store.specs.declared.naming.Naming.{Ghosts}
 use Rattle.pool_host.specs.declared.host.Host.{Host}
@@ -10,20 +10,22 @@ use Rattle.tenant_share.specs.Tenants.{passes_at, tags_at, IsCaller, IsHostOf}
 use Rattle.tenant_share.proofs.CallerLemmas.{has_pass}
 use Rattle.call_workers.specs.Passes.{at_host, AtHost}
 
--- a part of what a function gave
-part_some : {A B C : Type 0} (f : A → B) (g : B → C) (o : Option A) (y : B) → option_map f o ≡ Some y → option_map (λ a. g (f a)) o ≡ Some (g y)
-part_some f g None y is = absurd (none-some y is)
-part_some f g (Some a) y is = ap (option_map g) is
+-- where a function gave this
+mapped_from : {A B : Type 0} (f : A → B) (o : Option A) (y : B) → option_map f o ≡ Some y → (a : A) × (o ≡ Some a) × (f a ≡ y)
+mapped_from f None y is = absurd (none-some y is)
+mapped_from f (Some a) y is = (a, refl, same_Some (f a) y is)
 
 module _ {N : Type 0} {G : Ghosts N} where
-  abbrev host_part : TenantPass N G → AtHost N
+  abbrev pub host_part : TenantPass N G → AtHost N
   host_part pass = record { pools = pass.pass.passes; tags = pass.pass.retired }
 
-  pub pools_at : (caller : Caller N G) (tenant : ℕ) (has : AtHost N) → at_host caller tenant ≡ Some has → passes_at caller tenant ≡ Some has.pools
-  pools_at caller tenant has there = part_some host_part (λ (h : AtHost N). h.pools) _ has there
-
-  pub tags_there : (caller : Caller N G) (tenant : ℕ) (has : AtHost N) → at_host caller tenant ≡ Some has → tags_at caller tenant ≡ Some has.tags
-  tags_there caller tenant has there = part_some host_part (λ (h : AtHost N). h.tags) _ has there
+  -- what holds of the parts of a caller's passes there holds of what it has there
+  pub from_passes : (R : (before after : AtHost N) → Type 0) (was now : Caller N G) (tenant : ℕ) (before after : AtHost N) → at_host was tenant ≡ Some before → at_host now tenant ≡ Some after
+      → ((b a : TenantPass N G) → slice_get was.passes.items tenant ≡ Some b → slice_get now.passes.items tenant ≡ Some a → R (host_part b) (host_part a)) → R before after
+  from_passes R was now tenant before after had has holds =
+      let b = mapped_from host_part (slice_get was.passes.items tenant) before had in
+      let a = mapped_from host_part (slice_get now.passes.items tenant) after has in
+      subst (λ (x : AtHost N). R x after) b.2 (subst (λ (y : AtHost N). R (host_part b.0) y) a.2 (holds b.0 a.0 b.1 a.1))
 
   same_parts : (a b : TenantPass N G) → a.pass.passes ≡ b.pass.passes → a.pass.retired ≡ b.pass.retired → host_part a ≡ host_part b
   same_parts a b pools tags = cc

@@ -16,7 +16,7 @@ use Rattle.tenant_share.specs.Tenants.{IsCaller}
 use Rattle.due_calls.specs.declared.calls.Due.{Due}
 use Rattle.due_calls.specs.declared.entries.Worked.{Worked}
 use Rattle.due_calls.specs.Entries.{IsAnswered, IsEntry, Pair}
-use Rattle.call_workers.specs.Made.{MadeEntries, MadeEntry, MadeOn}
+use Rattle.call_workers.specs.Made.{CallerMade, CallerMadeEntry, MadeEntries, MadeEntry}
 use Rattle.call_workers.specs.Passes.{AtHost, OfEachTenant}
 use Rattle.call_workers.specs.Taken.{DidWork, WasGiven}
 use Rattle.call_workers.proofs.PassLemmas.{has_at_host}
@@ -55,14 +55,14 @@ module _ {N : Type 0} {G : Ghosts N} (config : Numbers) (share : ShareHost N) (c
 
   -- without a module the caller's passes are as they were
   pub made_none : (number : ℕ) (worked : Worked) (caller : Caller N G) → IsEntry config calls (number, None) worked
-      → OfEachTenant share caller caller (λ tenant host. MadeEntry config host tenant calls (number, None) worked)
+      → CallerMadeEntry config share calls (number, None) worked caller caller
   made_none number worked caller entry = λ tenant host before after there was now.
       let same : after ≡ before = same_Some after before (sym now ∙ was) in record { entry = entry; call = record { own = λ is. same; others = λ not. same } }
 
   pub made_for_all : {E : Type 0} (number : ℕ) (due : Due) (m : Named) (was now : Caller N G) (r : Result Worked E) → slice_get calls (number - 1) ≡ Some due → due.number ≡ number
       → IfOk r (λ worked. worked.number ≡ due.number) → IfOk r (λ worked. IsAnswered config due.invocation (Some m) worked.answer worked.bytes)
-      → IfOk r (λ worked. OfEachTenant share was now (λ tenant host. MadeOn config host tenant due.tenant (Some m) worked.answer))
-      → IfOk r (λ worked. OfEachTenant share was now (λ tenant host. MadeEntry config host tenant calls (number, Some m) worked))
+      → IfOk r (λ worked. CallerMade config share due.tenant (Some m) worked.answer was now)
+      → IfOk r (λ worked. CallerMadeEntry config share calls (number, Some m) worked was now)
   made_for_all number due m was now (Ok worked) there own is answered made = λ tenant host before after of_tenant had has. record {
     entry = record { number_is = is ∙ own; due = due; due_is = there; answered = answered };
     call = made tenant host before after of_tenant had has;
@@ -88,7 +88,7 @@ module _ {N : Type 0} {G : Ghosts N} (config : Numbers) (share : ShareHost N) (c
 
   module _ (a b : Given) (p q : Caller N G) (entries : List Worked) (h : IsWorking a b p q entries) where
     pub goes_on : (c : Given) (r : Caller N G) (pair : Pair) (worked : Worked) → IsCaller share q → 0 < pair.0 → c ≡ with_given b (pair ∷ []) → IsEntry config calls pair worked
-        → OfEachTenant share q r (λ tenant host. MadeEntry config host tenant calls pair worked) → IsWorking a c p r (entries ++ worked ∷ [])
+        → CallerMadeEntry config share calls pair worked q r → IsWorking a c p r (entries ++ worked ∷ [])
     goes_on c r pair worked caller counted given entry made = record {
       taken = h.taken ++ pair ∷ [];
       counted = All-push (λ (x : Pair). 0 < x.0) h.taken pair h.counted counted;

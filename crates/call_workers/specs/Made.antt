@@ -1,5 +1,6 @@
 -- What a caller's passes at a tenant's host made of the pairs that a queue gave a worker.
 use Rattle.std.specs.Prelude.{◌≡◌, ◌≢◌, ℕ, List, [], ◌∷◌, Option, Some, None}
+use Rattle.module_store.specs.declared.naming.Naming.{Ghosts}
 use Rattle.pool_limits.specs.declared.numbers.Numbers.{Numbers}
 use Rattle.pool_worlds.specs.Contents.{Named}
 use Rattle.pool_host.specs.declared.answers.Answer.{Answer}
@@ -7,10 +8,12 @@ use Rattle.pool_host.specs.declared.host.Host.{Host}
 use Rattle.pool_host.specs.CallWords.{IfFull}
 use Rattle.pool_host.specs.Looks.{look_of, Looked}
 use Rattle.pool_host.specs.Trails.{AddsTrails, HasCause}
+use Rattle.tenant_share.specs.declared.passes.Caller.{Caller}
+use Rattle.tenant_share.specs.declared.share_host.ShareHost.{ShareHost}
 use Rattle.due_calls.specs.declared.calls.Due.{Due}
 use Rattle.due_calls.specs.declared.entries.Worked.{Worked}
 use Rattle.due_calls.specs.Entries.{IsEntry, Pair}
-use Rattle.call_workers.specs.Passes.{AtHost}
+use Rattle.call_workers.specs.Passes.{AtHost, OfEachTenant}
 
 module _ {N : Type 0} (config : Numbers) (host : Host N) where
   -- A call of the module was answered so: its passes of the pools made it, it was full only for its cause, and whether it was
@@ -43,3 +46,14 @@ module _ {N : Type 0} (config : Numbers) (host : Host N) where
   MadeEntries tenant calls (pair ∷ pairs) [] before after = ⊥
   MadeEntries tenant calls (pair ∷ pairs) (worked ∷ entries) before after = (between : AtHost N)
       × MadeEntry tenant calls pair worked before between × MadeEntries tenant calls pairs entries between after
+
+-- ---- the same of a caller, by its passes of each tenant before and after
+
+module _ {N : Type 0} {G : Ghosts N} (config : Numbers) (share : ShareHost N) where
+  -- its passes of this tenant made the call, if it has a module, and were answered so; its others stayed
+  abbrev pub CallerMade : (of : ℕ) → Option Named → Option Answer → (was now : Caller N G) → Type 0
+  CallerMade of m answer was now = OfEachTenant share was now (λ tenant host. MadeOn config host tenant of m answer)
+
+  -- it made this entry for a pair
+  abbrev pub CallerMadeEntry : List Due → Pair → Worked → (was now : Caller N G) → Type 0
+  CallerMadeEntry calls pair worked was now = OfEachTenant share was now (λ tenant host. MadeEntry config host tenant calls pair worked)

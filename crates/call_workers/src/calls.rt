@@ -2,8 +2,7 @@
 ghost use Rattle.std.specs.Prelude.{◌≡◌, ◌<◌, ◌≤◌, All, IfOk, Some, length};
 ghost use Rattle.tenant_share.specs.Tenants.{IsCaller, tenants_of};
 ghost use Rattle.due_calls.specs.Entries.{AreNumbered, IsAnswered, IsEntry, IsOfTenants};
-ghost use Rattle.call_workers.specs.Made.{MadeEntry, MadeOn};
-ghost use Rattle.call_workers.specs.Passes.{OfEachTenant};
+ghost use Rattle.call_workers.specs.Made.{CallerMade, CallerMadeEntry};
 
 use due_calls::{Due, Item, Worked, due_at};
 use host_edge::Gate;
@@ -27,7 +26,7 @@ fn made<N: Naming, G: Gate>(
     ensures own { IsCaller share.now caller.new }
     ensures number { IfOk result (λ worked. worked.number ≡ due.now.number) }
     ensures answered { IfOk result (λ worked. IsAnswered N.config due.now.invocation (Some called.now) worked.answer worked.bytes) }
-    ensures call { IfOk result (λ worked. OfEachTenant share.now caller.old caller.new (λ tenant host. MadeOn N.config host tenant due.now.tenant (Some called.now) worked.answer)) }
+    ensures call { IfOk result (λ worked. CallerMade N.config share.now due.now.tenant (Some called.now) worked.answer caller.old caller.new) }
 {
     let invocation = &due.invocation;
     let asked = Asked {
@@ -63,7 +62,7 @@ pub(crate) fn make<N: Naming, G: Gate>(
     requires tenants { All (IsOfTenants (tenants_of share.now)) calls.now }
     ensures own { IsCaller share.now caller.new }
     ensures entry { IfOk result (IsEntry N.config calls.now (number, item)) }
-    ensures made { IfOk result (λ worked. OfEachTenant share.now caller.old caller.new (λ tenant host. MadeEntry N.config host tenant calls.now (number, item) worked)) }
+    ensures made { IfOk result (λ worked. CallerMadeEntry N.config share.now calls.now (number, item) worked caller.old caller.new) }
 {
     let due = due_at(calls, number);
     match item {

@@ -2,10 +2,9 @@
 ghost use Rattle.std.specs.Prelude.{ℕ, ◌<◌, ◌≤◌, false};
 ghost use Rattle.pool_core.specs.declared.words.State.TheVariants.{Awaiting};
 ghost use Rattle.slot_words.specs.Leases.{lease_number};
-ghost use Rattle.slot_words.specs.Parts.{Grew};
-ghost use Rattle.slot_words.specs.Passes.{IsIdle, IsSamePass, Holds, trail};
-ghost use Rattle.slot_words.specs.Owned.{IsPassOf, slots_of, limit_of};
-ghost use Rattle.decommit_batch.specs.HandIn.{IsHandIn};
+ghost use Rattle.slot_words.specs.Passes.{IsIdle, IsSamePass, Holds};
+ghost use Rattle.slot_words.specs.Owned.{IsPassOf, slots_of};
+ghost use Rattle.decommit_batch.specs.HandIn.{HandsIn};
 
 use crate::flushing::flush;
 use pool_core::{State, Target};
@@ -26,7 +25,7 @@ pub fn hand_in<V: Pooled>(
     requires batch { 1 ≤ batch }
     ensures same { IsSamePass pass.old pass.new }
     ensures idle { IsIdle pass.new }
-    ensures trail { Grew (IsHandIn (limit_of words.now) (slots_of words.now) (lease_number lease) (V.own_tag lease.value) batch) (trail pass.old) (trail pass.new) }
+    ensures trail { HandsIn words.now (V.own_tag lease.value) batch lease pass.old pass.new }
 {
     let waiting = words.await_up(pass);
     let stamp = words.stamp(pass);

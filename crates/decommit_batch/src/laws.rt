@@ -1,9 +1,7 @@
 //! What holds of the definitions alone. Each function does nothing: its contract is the law.
-ghost use Rattle.std.specs.Prelude.{◌≡◌, ℕ, List, [], ◌∷◌};
+ghost use Rattle.std.specs.Prelude.{ℕ, List};
 ghost use Rattle.slot_words.specs.declared.views.Operation.{Operation};
-ghost use Rattle.slot_words.specs.declared.views.Operation.TheVariants.{AwaitUp};
-ghost use Rattle.decommit_batch.specs.Flush.{IsFlush};
-ghost use Rattle.decommit_batch.specs.HandIn.{IsHandIn, handed_in};
+ghost use Rattle.decommit_batch.specs.HandIn.{FlushesAt, WaitsAt};
 ghost use Rattle.decommit_batch.specs.Sweep.{IsSweep};
 ghost use Rattle.decommit_batch.specs.Swept.{AccountsForSlots};
 ghost use Rattle.decommit_batch.specs.SweptPools.{SweepsAlone};
@@ -11,9 +9,9 @@ ghost use Rattle.decommit_batch.specs.WorkedSweeps.{worked_sweep};
 
 /// Batches of 4: the third slot that awaits is not flushed, the fourth completes the batch, and a fifth, which another pass counted first, flushes too.
 pub fn the_fourth_slot_completes_a_batch_of_four()
-    ensures third { (limit slots n tag s : ℕ) (flushed : List Operation) → IsHandIn limit slots n tag 4 (AwaitUp 2 ∷ handed_in n tag s flushed) → flushed ≡ [] }
-    ensures fourth { (limit slots n tag s : ℕ) (flushed : List Operation) → IsHandIn limit slots n tag 4 (AwaitUp 3 ∷ handed_in n tag s flushed) → IsFlush limit slots flushed }
-    ensures fifth { (limit slots n tag s : ℕ) (flushed : List Operation) → IsHandIn limit slots n tag 4 (AwaitUp 4 ∷ handed_in n tag s flushed) → IsFlush limit slots flushed }
+    ensures third { WaitsAt 4 2 }
+    ensures fourth { FlushesAt 4 3 }
+    ensures fifth { FlushesAt 4 4 }
 {}
 
 /// A sweep looks at each slot once and claims those that it sees free and of the module. Each that it wins it gives back: cold with its permit or its mark where it is of the module still, and else as it was.

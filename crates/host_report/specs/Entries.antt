@@ -5,6 +5,7 @@ use Rattle.module_store.specs.declared.fault.LoadFault.{LoadFault}
 use Rattle.module_store.specs.declared.fault.LoadFault.TheVariants as fault
 use Rattle.wasm_spec.specs.Loading.{Loads, Refusal}
 use Rattle.pool_worlds.specs.Contents.{Named}
+use Rattle.host_report.specs.declared.books.Registry.{Registry}
 use Rattle.host_report.specs.Report.{Limits, load_limits, loading_line}
 use Rattle.report_text.specs.declared.report.ModuleLine.{ModuleLine}
 use Rattle.report_text.specs.declared.report.ModuleLine.TheVariants as module_line
@@ -59,6 +60,10 @@ pub record IsEntered (limits : Limits) (bytes : List ℕ) (before : List Entry) 
   pub is_entry : IsEntry limits bytes entry
   pub tag : TakesTag desk desk_after entry
   pub after_is : after ≡ before ++ entry ∷ []
+
+-- a registry with an entry more than before, for the module line of these bytes
+abbrev pub EntersModule : {N : Type 0} → Limits → List ℕ → (before after : Registry N) → Type 0
+EntersModule limits bytes before after = IsEntered limits bytes before.entries.items before.desk after.entries.items after.desk
 
 -- entries stay where they are
 abbrev pub AreKept : (before after : List Entry) → Type 0

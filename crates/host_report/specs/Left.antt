@@ -4,14 +4,20 @@ use Rattle.pool_limits.specs.declared.numbers.Numbers.{Numbers}
 use Rattle.pool_worlds.specs.Contents.{Named}
 use Rattle.pool_host.specs.declared.host.Host.{Host}
 use Rattle.pool_host.specs.declared.lane.LaneAnswer.{LaneAnswer}
+use Rattle.pool_host.specs.declared.lane.LaneHost.{LaneHost}
 use Rattle.pool_host.specs.declared.passes.Passes.{Passes}
 use Rattle.pool_host.specs.CallWords.{host_answer}
 use Rattle.pool_host.specs.Trails.{AddsTrails}
 use Rattle.request_text.specs.declared.request.Directive.{Directive}
 use Rattle.request_text.specs.declared.request.Directive.TheVariants.{Module, Call, Retire}
+use Rattle.request_text.specs.Text.{Asked}
 use Rattle.report_text.specs.declared.report.CallLine.{CallLine}
+use Rattle.module_store.specs.declared.naming.Naming.{Ghosts}
+use Rattle.host_report.specs.declared.books.Books.{Books}
+use Rattle.host_report.specs.declared.books.Span.{Span}
 use Rattle.host_report.specs.Entries.{Entry}
 use Rattle.host_report.specs.Put.{module_at}
+use Rattle.host_report.specs.Rounds.{directives_in}
 
 module _ {N : Type 0} (config : Numbers) (lane : Host N) where
   -- a call of the module was made on the lane; without a module none is
@@ -32,3 +38,8 @@ module _ {N : Type 0} (config : Numbers) (lane : Host N) where
   MadeLeft entries board at (Retire place name ∷ requests) before after = MadeLeft entries board at requests before after
   MadeLeft entries board at (Call tenant place retired invocation ∷ requests) before after = (between : Passes N)
       × MadeIfLeft (slice_get board at) (module_at entries place) before between × MadeLeft entries board (at + 1) requests between after
+
+-- the rest of a round was made on the lane: the calls of which these books have no line, in order, and no other
+abbrev pub MadeRest : {N : Type 0} {G : Ghosts N} → Numbers → Asked → Span → Books N → (before after : LaneHost N G) → Type 0
+MadeRest config asked span books before after =
+    MadeLeft config before.host books.registry.entries.items books.board span.calls (directives_in asked.directives span) before.pass.passes after.pass.passes

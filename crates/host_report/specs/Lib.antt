@@ -7,3 +7,4 @@ pub mod Lines
 pub mod Put
 pub mod Report
 pub mod Rounds
+pub mod Worked

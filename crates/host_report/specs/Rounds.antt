@@ -16,6 +16,7 @@ use Rattle.tenant_share.specs.Retiring.{IsRetirement, RetiredForAll}
 use Rattle.tenant_share.specs.Tenants.{IsCaller}
 use Rattle.call_workers.specs.declared.members.Crew.{Crew}
 use Rattle.host_report.specs.declared.books.Books.{Books}
+use Rattle.host_report.specs.declared.books.Registry.{Registry}
 use Rattle.host_report.specs.declared.books.Span.{Span}
 use Rattle.host_report.specs.declared.rounds.Run.{Run}
 use Rattle.host_report.specs.Collected.{IsBoard}
@@ -33,6 +34,10 @@ pub record IsSpan (all : List Directive) (span : Span) : Type 0 where
 abbrev pub directives_in : List Directive → Span → List Directive
 directives_in all span = drop span.from (take span.to all)
 
+-- how many calls a round has
+abbrev pub calls_in : List Directive → Span → ℕ
+calls_in all span = call_count (directives_in all span)
+
 -- how many calls stand before its end
 abbrev pub calls_to : List Directive → Span → ℕ
 calls_to all span = call_count (take span.to all)
@@ -49,10 +54,27 @@ module _ (limits : Limits) (all : List Directive) where
     pub done : (at : ℕ) → at < made → HasLine board at
     pub free : (at : ℕ) → last ≤ at → at < length board → slice_get board at ≡ Some None
 
-  -- the entries of so many directives, the first, and such a board
-  pub record AreBooks {N : Type 0} (place made last : ℕ) (books : Books N) : Type 0 where
-    pub entered : AreEntered place books.registry.entries.items books.registry.desk
-    pub lines : HasLines made last books.board
+module _ {N : Type 0} (config : Numbers) (asked : Asked) where
+  -- a registry that has the entries of so many of the file's directives, the first
+  abbrev pub HasEntered : (place : ℕ) → Registry N → Type 0
+  HasEntered place registry = AreEntered (limits_in asked.profile config) asked.directives place registry.entries.items registry.desk
+
+  -- such a registry, and a board that has the lines of so many calls, the first, some of those of the calls behind them, and from the last number on none
+  pub record AreBooks (place made last : ℕ) (books : Books N) : Type 0 where
+    pub entered : HasEntered place books.registry
+    pub lines : HasLines (limits_in asked.profile config) asked.directives made last books.board
+
+  -- the books within a round: all its modules are entered, and some of its calls are made
+  abbrev pub AreBooksWithin : Span → Books N → Type 0
+  AreBooksWithin span books = AreBooks span.to span.calls (calls_to asked.directives span) books
+
+  -- the books after a round: all its calls are made too
+  abbrev pub AreBooksAfter : Span → Books N → Type 0
+  AreBooksAfter span books = AreBooks span.to (calls_to asked.directives span) (calls_to asked.directives span) books
+
+  -- the books after all rounds: they have the entries of all modules, and the lines of all calls
+  abbrev pub AreClosedBooks : Books N → Type 0
+  AreClosedBooks books = AreBooks (length asked.directives) (call_count asked.directives) (call_count asked.directives) books
 
 -- one of so many directives, the first, retires the accepted module that has this tag
 pub record IsRetired (entries : List Entry) (all : List Directive) (place tag : ℕ) : Type 0 where
@@ -80,7 +102,7 @@ module _ {N : Type 0} {G : Ghosts N} where
   pub record IsRun (config : Numbers) (asked : Asked) (run : Run N G) : Type 0 where
     pub within : run.done ≤ length asked.directives
     pub calls_are : run.calls ≡ call_count (take run.done asked.directives)
-    pub books : AreBooks (limits_in asked.profile config) asked.directives run.done run.calls run.calls run.books
+    pub books : AreBooks config asked run.done run.calls run.calls run.books
     pub lane : AreRetired run.books.registry.entries.items asked.directives run.done (steps run.lane.pass.retired)
     pub crew : IfSome run.crew (IsReady (dues_from 1 asked.directives))
 

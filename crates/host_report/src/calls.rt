@@ -5,10 +5,10 @@ ghost use Rattle.retired_tags.specs.Passes.{steps};
 ghost use Rattle.retired_tags.specs.Steps.{HasSet};
 ghost use Rattle.pool_worlds.specs.Contents.{Named};
 ghost use Rattle.host_report.specs.Entries.{IsEntry};
-ghost use Rattle.host_report.specs.Left.{MadeLeft, MadeOnLane};
+ghost use Rattle.host_report.specs.Left.{MadeOnLane, MadeRest};
 ghost use Rattle.host_report.specs.Put.{module_of};
 ghost use Rattle.host_report.specs.Report.{IsCallLine, answer_line, limits_in};
-ghost use Rattle.host_report.specs.Rounds.{AreEntered, AreRetired, HasLines, IsSpan, calls_to, directives_in};
+ghost use Rattle.host_report.specs.Rounds.{AreBooksAfter, AreBooksWithin, AreRetired, IsSpan};
 
 use crate::books::{Books, Span};
 use crate::collecting::collect;
@@ -97,16 +97,13 @@ pub(crate) fn make_left<N: Naming, G: Gate>(
     gate: &G,
 ) -> Result<(), NoMemory>
     requires span { IsSpan requests.now.directives span }
-    requires entered { AreEntered (limits_in requests.now.profile N.config) requests.now.directives span.to books.old.registry.entries.items books.old.registry.desk }
-    requires lines { HasLines (limits_in requests.now.profile N.config) requests.now.directives span.calls (calls_to requests.now.directives span) books.old.board }
+    requires books { AreBooksWithin N.config requests.now span books.old }
     requires tags { AreRetired books.old.registry.entries.items requests.now.directives span.from (steps lane.old.pass.retired) }
     ensures registry { books.new.registry ≡ books.old.registry }
-    ensures lines { IfOk result (λ _. HasLines (limits_in requests.now.profile N.config) requests.now.directives
-        (calls_to requests.now.directives span) (calls_to requests.now.directives span) books.new.board) }
+    ensures books { IfOk result (λ _. AreBooksAfter N.config requests.now span books.new) }
     ensures lane { lane.new.host ≡ lane.old.host }
     ensures tags { (tag : ℕ) → HasSet tag (steps lane.new.pass.retired) → HasSet tag (steps lane.old.pass.retired) }
-    ensures made { OnOk result (MadeLeft N.config lane.old.host books.old.registry.entries.items books.old.board span.calls (directives_in requests.now.directives span)
-        lane.old.pass.passes lane.new.pass.passes) }
+    ensures made { OnOk result (MadeRest N.config requests.now span books.old lane.old lane.new) }
 {
     let directives = requests.directives();
     let Books { registry, board } = books;

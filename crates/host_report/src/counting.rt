@@ -2,7 +2,7 @@
 ghost use Rattle.std.specs.Prelude.{◌≡◌, ◌≤◌};
 ghost use Rattle.request_text.specs.declared.request.TheConstants.{MOST_CALLS};
 ghost use Rattle.request_text.specs.Text.{AreRequests, call_count, is_call};
-ghost use Rattle.host_report.specs.Rounds.{IsSpan, directives_in};
+ghost use Rattle.host_report.specs.Rounds.{IsSpan, calls_in};
 
 use crate::books::Span;
 use request_text::{Directive, Requests};
@@ -28,7 +28,7 @@ pub(crate) fn count_calls(requests: &[Directive]) -> u32
 // How many a round of a request file has.
 pub(crate) fn calls_in(requests: &Requests, span: Span) -> u32
     requires { IsSpan requests.now.directives span }
-    ensures count { result ≡ call_count (directives_in requests.now.directives span) }
+    ensures count { result ≡ calls_in requests.now.directives span }
     ensures lawful { AreRequests requests.now.wants requests.now.directives }
 {
     count_calls(&requests.directives()[span.from..span.to])

@@ -1,10 +1,8 @@
 //! All calls of a request file are made.
-ghost use Rattle.std.specs.Prelude.{◌≡◌, ◌≢◌, [], IfOk, None, length};
+ghost use Rattle.std.specs.Prelude.{◌≡◌, ◌≢◌, [], IfOk, None};
 ghost use Rattle.pool_limits.specs.Plans.{plan_fault};
-ghost use Rattle.request_text.specs.Text.{call_count};
 ghost use Rattle.host_report.specs.Due.{dues_from};
-ghost use Rattle.host_report.specs.Report.{limits_in};
-ghost use Rattle.host_report.specs.Rounds.{AreBooks, IsReady};
+ghost use Rattle.host_report.specs.Rounds.{AreBooks, AreClosedBooks, IsReady};
 
 use crate::books::{Books, Registry, Span};
 use crate::calls::make_left;
@@ -30,7 +28,7 @@ fn open_books<N: Naming>(
     desk: Desk<N>,
 ) -> Result<Books<N>, NoMemory>
     requires { desk ≡ 0 }
-    ensures { IfOk result (AreBooks (limits_in requests.now.profile N.config) requests.now.directives 0 0 0) }
+    ensures { IfOk result (AreBooks N.config requests.now 0 0 0) }
 {
     let entries = Vec::new(alloc);
     let board = Board::open(alloc, count_calls(requests.directives()))?;
@@ -62,9 +60,8 @@ fn by_rounds<N: Naming + Send + Sync, R: Threads + Wait + Sync, G: Gate>(
     gate: &G,
 ) -> Result<Books<N>, NoMemory>
     requires plan { (plan_fault N.config [] ≡ None) → plan_fault N.config requests.now.wants ≡ None }
-    requires books { AreBooks (limits_in requests.now.profile N.config) requests.now.directives 0 0 0 books }
-    ensures { IfOk result (AreBooks (limits_in requests.now.profile N.config) requests.now.directives
-        (length requests.now.directives) (call_count requests.now.directives) (call_count requests.now.directives)) }
+    requires books { AreBooks N.config requests.now 0 0 0 books }
+    ensures { IfOk result (AreClosedBooks N.config requests.now) }
 {
     let crew = if worker_count(store) == 1 {
         None
@@ -94,9 +91,8 @@ fn in_slices<N: Naming + Send + Sync, R: Threads + Wait + Sync, G: Gate>(
     gate: &G,
 ) -> Result<Books<N>, NoMemory>
     requires several { N.config.workers ≢ 1 }
-    requires books { AreBooks (limits_in requests.now.profile N.config) requests.now.directives 0 0 0 books }
-    ensures { IfOk result (AreBooks (limits_in requests.now.profile N.config) requests.now.directives
-        (length requests.now.directives) (call_count requests.now.directives) (call_count requests.now.directives)) }
+    requires books { AreBooks N.config requests.now 0 0 0 books }
+    ensures { IfOk result (AreClosedBooks N.config requests.now) }
 {
     let calls = dues(alloc, requests.directives())?;
     let crew = open_slicers(alloc, store, calls)?;
@@ -120,8 +116,7 @@ pub(crate) fn make_all<N: Naming + Send + Sync, R: Threads + Wait + Sync, G: Gat
 ) -> Result<Books<N>, NoMemory>
     requires plan { (plan_fault N.config [] ≡ None) → plan_fault N.config requests.now.wants ≡ None }
     requires desk { desk ≡ 0 }
-    ensures { IfOk result (AreBooks (limits_in requests.now.profile N.config) requests.now.directives
-        (length requests.now.directives) (call_count requests.now.directives) (call_count requests.now.directives)) }
+    ensures { IfOk result (AreClosedBooks N.config requests.now) }
 {
     let books = open_books(alloc, requests, desk)?;
     if worker_count(store) == 1 || slice == 0 || requests.runs_whole() {

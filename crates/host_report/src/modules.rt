@@ -1,9 +1,9 @@
 //! The modules of a request file.
 ghost use Rattle.std.specs.Prelude.{◌≡◌, ◌<◌, IfOk, IsErrOf};
 ghost use Rattle.module_store.specs.declared.desk.TheConstants.{MOST_MODULES};
-ghost use Rattle.host_report.specs.Entries.{AreKept, IsEntered, IsEntry, IsEntryOf, TakesTag, entry_line};
+ghost use Rattle.host_report.specs.Entries.{AreKept, EntersModule, IsEntry, IsEntryOf, TakesTag, entry_line};
 ghost use Rattle.host_report.specs.Report.{limits_in};
-ghost use Rattle.host_report.specs.Rounds.{AreEntered, IsSpan};
+ghost use Rattle.host_report.specs.Rounds.{HasEntered, IsSpan};
 
 use crate::books::{Registry, Span};
 use module_store::{Desk, LoadFault, ModuleRef, ModuleStore, Naming};
@@ -69,7 +69,7 @@ pub(crate) fn enter<N: Naming, R: Wait>(
     registry: &mut Registry<N>,
 ) -> Result<(), NoMemory>
     requires { registry.old.desk < MOST_MODULES }
-    ensures { IfOk result (λ _. IsEntered (limits_in profile N.config) bytes.now registry.old.entries.items registry.old.desk registry.new.entries.items registry.new.desk) }
+    ensures { IfOk result (λ _. EntersModule (limits_in profile N.config) bytes.now registry.old registry.new) }
 {
     let Registry { entries, desk } = registry;
     entries.reserve(1).map_err(|_| NoMemory)?;
@@ -88,8 +88,8 @@ pub(crate) fn enter_round<N: Naming, R: Wait>(
     registry: &mut Registry<N>,
 ) -> Result<(), NoMemory>
     requires span { IsSpan requests.now.directives span }
-    requires entered { AreEntered (limits_in requests.now.profile N.config) requests.now.directives span.from registry.old.entries.items registry.old.desk }
-    ensures entered { IfOk result (λ _. AreEntered (limits_in requests.now.profile N.config) requests.now.directives span.to registry.new.entries.items registry.new.desk) }
+    requires entered { HasEntered N.config requests.now span.from registry.old }
+    ensures entered { IfOk result (λ _. HasEntered N.config requests.now span.to registry.new) }
     ensures kept { IfOk result (λ _. AreKept registry.old.entries.items registry.new.entries.items) }
 {
     let profile = requests.profile();

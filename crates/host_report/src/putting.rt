@@ -1,13 +1,11 @@
 //! The calls of a round are put to its queue while its modules are still registered.
-ghost use Rattle.std.specs.Prelude.{◌≡◌, ◌+◌, ◌≤◌, List, [], ◌++◌, IfOk, None, length, replicate};
+ghost use Rattle.std.specs.Prelude.{◌≡◌, ◌+◌, ◌≤◌, List, ◌++◌, IfOk, None, length, replicate};
 ghost use Rattle.job_queue.specs.Accounts.{with_put};
-ghost use Rattle.job_queue.specs.Passes.{IsJobPass, IsPutter, account_of, capacity_of, count_of, first_of, put_by};
-ghost use Rattle.request_text.specs.Text.{call_count};
+ghost use Rattle.job_queue.specs.Passes.{IsJobPass, IsPutter, account_of, capacity_of, put_by};
 ghost use Rattle.due_calls.specs.Entries.{Pair};
 ghost use Rattle.host_report.specs.Entries.{AreKept};
-ghost use Rattle.host_report.specs.Put.{HasPut, module_of, pairs_from, pairs_put};
-ghost use Rattle.host_report.specs.Report.{limits_in};
-ghost use Rattle.host_report.specs.Rounds.{AreEntered, IsSpan, directives_in};
+ghost use Rattle.host_report.specs.Put.{CanPutAll, HasPut, HasPutAll, module_of, round_calls};
+ghost use Rattle.host_report.specs.Rounds.{HasEntered, calls_in};
 
 use crate::books::{Registry, Span};
 use crate::calls::entry_at;
@@ -37,25 +35,18 @@ fn put_calls<N: Naming, R: Wait>(
     store: &ModuleStore<N>,
     requests: &Requests,
     span: Span,
-    registry: &mut Registry<N>,
     jobs: &Jobs<Item<N>>,
-    own: &mut JobPass<Item<N>>,
+    putter: &mut Putter<N>,
 ) -> Result<(), NoMemory>
-    requires span { IsSpan requests.now.directives span }
-    requires entered { AreEntered (limits_in requests.now.profile N.config) requests.now.directives span.from registry.old.entries.items registry.old.desk }
-    requires own { IsJobPass jobs.now own.old }
-    requires putter { IsPutter own.old }
-    requires none { put_by own.old ≡ [] }
-    requires first { first_of jobs.now ≡ span.calls + 1 }
-    requires count { call_count (directives_in requests.now.directives span) ≤ count_of jobs.now }
-    requires room { call_count (directives_in requests.now.directives span) ≤ capacity_of jobs.now }
-    ensures own { IsJobPass jobs.now own.new }
-    ensures putter { IsPutter own.new }
-    ensures many { length (put_by own.new) ≤ call_count (directives_in requests.now.directives span) }
-    ensures entered { IfOk result (λ _. AreEntered (limits_in requests.now.profile N.config) requests.now.directives span.to registry.new.entries.items registry.new.desk) }
-    ensures kept { IfOk result (λ _. AreKept registry.old.entries.items registry.new.entries.items) }
-    ensures put { IfOk result (λ _. HasPut (pairs_from registry.new.entries.items (span.calls + 1) (directives_in requests.now.directives span)) (account_of own.old) (account_of own.new)) }
+    requires { CanPutAll N.config requests.now span jobs.now 0 putter.old }
+    ensures own { IsJobPass jobs.now putter.new.own }
+    ensures putter { IsPutter putter.new.own }
+    ensures many { length (put_by putter.new.own) ≤ calls_in requests.now.directives span }
+    ensures entered { IfOk result (λ _. HasEntered N.config requests.now span.to putter.new.registry) }
+    ensures kept { IfOk result (λ _. AreKept putter.old.registry.entries.items putter.new.registry.entries.items) }
+    ensures put { IfOk result (λ _. HasPut (round_calls putter.new.registry requests.now span) (account_of putter.old.own) (account_of putter.new.own)) }
 {
+    let Putter { registry, own } = putter;
     let profile = requests.profile();
     let directives = requests.directives();
     let mut number = span.calls;
@@ -115,37 +106,15 @@ pub(crate) fn put_all<N: Naming, R: Wait>(
     requests: &Requests,
     span: Span,
     jobs: &Jobs<Item<N>>,
-    putter: Putter<N>,
+    mut putter: Putter<N>,
     workers: u32,
 ) -> Put<N>
-    requires span { IsSpan requests.now.directives span }
-    requires entered { AreEntered (limits_in requests.now.profile N.config) requests.now.directives span.from putter.registry.entries.items putter.registry.desk }
-    requires own { IsJobPass jobs.now putter.own }
-    requires putter { IsPutter putter.own }
-    requires none { put_by putter.own ≡ [] }
-    requires first { first_of jobs.now ≡ span.calls + 1 }
-    requires count { call_count (directives_in requests.now.directives span) ≤ count_of jobs.now }
-    requires room { call_count (directives_in requests.now.directives span) + workers ≤ capacity_of jobs.now }
-    ensures own { IsJobPass jobs.now result.own }
+    requires { CanPutAll N.config requests.now span jobs.now workers putter }
     ensures ends { (pairs : List Pair) × (put_by result.own ≡ pairs ++ replicate workers (0, None)) }
-    ensures entered { IfOk result.registry (λ r. AreEntered (limits_in requests.now.profile N.config) requests.now.directives span.to r.entries.items r.desk) }
-    ensures kept { IfOk result.registry (λ r. AreKept putter.registry.entries.items r.entries.items) }
-    ensures put { IfOk result.registry (λ r. HasPut (pairs_put r.entries.items (span.calls + 1) (directives_in requests.now.directives span) workers) (account_of putter.own) (account_of result.own)) }
+    ensures put { HasPutAll N.config requests.now span jobs.now workers putter result }
 {
-    let Putter {
-        mut registry,
-        mut own,
-    } = putter;
-    let put = put_calls(
-        rt,
-        alloc,
-        store,
-        requests,
-        span,
-        &mut registry,
-        jobs,
-        &mut own,
-    );
+    let put = put_calls(rt, alloc, store, requests, span, jobs, &mut putter);
+    let Putter { registry, mut own } = putter;
     put_ends(rt, jobs, &mut own, workers);
     let registry = match put {
         Ok(()) => Ok(registry),

@@ -7,7 +7,7 @@ ghost use Rattle.host_report.specs.Answers.{AreAnswers};
 ghost use Rattle.host_report.specs.Collected.{AreCollected, lines_on};
 ghost use Rattle.host_report.specs.Entries.{AreEntries};
 ghost use Rattle.host_report.specs.Lines.{HasLine, HasSource, ShowsNext, board_after, counts_after};
-ghost use Rattle.host_report.specs.Report.{AreLines, IsReport, limits_in};
+ghost use Rattle.host_report.specs.Report.{IsReport, limits_in};
 
 use crate::books::Books;
 use crate::making::make_all;
@@ -87,7 +87,7 @@ fn lines<N: Naming>(
     requires entries { AreEntries (limits_in requests.now.profile N.config) (modules_of requests.now.directives) entries.now }
     requires all { AreCollected board.old (lines_on board.old) }
     requires right { AreAnswers (limits_in requests.now.profile N.config) (modules_of requests.now.directives) requests.now.directives (lines_on board.old) }
-    ensures { IfOk result (λ lines. AreLines (limits_in requests.now.profile N.config) (modules_of requests.now.directives) 1 requests.now.directives lines.items) }
+    ensures { IfOk result (λ lines. IsReport N.config requests.now lines.items) }
 {
     let directives = requests.directives();
     let mut counts = Counts {
@@ -114,7 +114,7 @@ fn report_in<N: Naming + Send + Sync, R: Threads + Wait + Sync, G: Gate>(
 ) -> Result<Vec<ReportLine>, NoMemory>
     requires name { Bears opened N.shelves N.config }
     requires plan { (plan_fault N.config [] ≡ None) → plan_fault N.config requests.now.wants ≡ None }
-    ensures { IfOk result (λ lines. AreLines (limits_in requests.now.profile N.config) (modules_of requests.now.directives) 1 requests.now.directives lines.items) }
+    ensures { IfOk result (λ lines. IsReport N.config requests.now lines.items) }
 {
     let (store, desk) = opened.named::<N>();
     let Books { registry, board } = make_all(rt, alloc, &store, desk, slice, requests, gate)?;

@@ -1,14 +1,12 @@
 //! Workers make the calls of a round on tenants' hosts that they share, while its modules are registered.
-ghost use Rattle.std.specs.Prelude.{◌≡◌, ◌+◌, ◌^◌, ◌<◌, ◌≤◌, [], All, IfOk, length, min};
-ghost use Rattle.due_calls.specs.Entries.{AnswersAll};
+ghost use Rattle.std.specs.Prelude.{◌≡◌, ◌+◌, ◌<◌, ◌≤◌, All, IfOk, length};
 ghost use Rattle.call_workers.specs.Crews.{HasEnded, IsNewWorker};
-ghost use Rattle.job_queue.specs.Passes.{IsJobPass, IsPutter, account_of, capacity_of, count_of, first_of, put_by};
-ghost use Rattle.request_text.specs.Text.{call_count};
+ghost use Rattle.job_queue.specs.Passes.{count_of, first_of};
 ghost use Rattle.host_report.specs.Due.{dues_from};
 ghost use Rattle.host_report.specs.Entries.{AreKept};
-ghost use Rattle.host_report.specs.Put.{HasPut, pairs_put};
-ghost use Rattle.host_report.specs.Report.{limits_in};
-ghost use Rattle.host_report.specs.Rounds.{AreBooks, AreEntered, IsReady, IsSpan, calls_to, directives_in};
+ghost use Rattle.host_report.specs.Put.{CanPutAll, HasPutAll};
+ghost use Rattle.host_report.specs.Rounds.{AreBooks, AreBooksWithin, HasEntered, IsReady, IsSpan, calls_in};
+ghost use Rattle.host_report.specs.Worked.{AnswersRound, workers_for};
 
 use crate::books::{Books, Registry, Span};
 use crate::collecting::collect_all;
@@ -38,14 +36,13 @@ fn work_round<N: Naming + Send + Sync, R: Threads + Wait + Sync, G: Gate>(
     gate: &G,
 ) -> Result<(Registry<N>, Vec<Worked>), NoMemory>
     requires span { IsSpan requests.now.directives span }
-    requires entered { AreEntered (limits_in requests.now.profile N.config) requests.now.directives span.from registry.entries.items registry.desk }
+    requires entered { HasEntered N.config requests.now span.from registry }
     requires crew { IsReady (dues_from 1 requests.now.directives) crew.old }
-    requires some { 0 < call_count (directives_in requests.now.directives span) }
+    requires some { 0 < calls_in requests.now.directives span }
     ensures crew { IfOk result (λ _. IsReady (dues_from 1 requests.now.directives) crew.new) }
-    ensures entered { IfOk result (λ r. AreEntered (limits_in requests.now.profile N.config) requests.now.directives span.to r.0.entries.items r.0.desk) }
+    ensures entered { IfOk result (λ r. HasEntered N.config requests.now span.to r.0) }
     ensures kept { IfOk result (λ r. AreKept registry.entries.items r.0.entries.items) }
-    ensures answers { IfOk result (λ r. AnswersAll N.config (dues_from 1 requests.now.directives) (pairs_put r.0.entries.items (span.calls + 1) (directives_in requests.now.directives span)
-        (min (call_count (directives_in requests.now.directives span)) (length crew.old.callers.items))) r.1.items) }
+    ensures answers { IfOk result (λ r. AnswersRound N.config requests.now span (workers_for requests.now.directives span crew.old) r.0 r.1.items) }
 {
     let count = calls_in(requests, span);
     let first = span.calls + 1;
@@ -70,18 +67,8 @@ fn work_round<N: Naming + Send + Sync, R: Threads + Wait + Sync, G: Gate>(
             ensures done { IfOk result (λ done. All (HasEnded N.config shared.entry.now jobs.entry.now) done.items) }
         { work_all(rt, alloc, store, shared, jobs, workers, gate) },
         move || -> Put<N>
-            requires span { IsSpan requests.now.directives span }
-            requires entered { AreEntered (limits_in requests.now.profile N.config) requests.now.directives span.from putter.registry.entries.items putter.registry.desk }
-            requires own { IsJobPass jobs.now putter.own }
-            requires putter { IsPutter putter.own }
-            requires none { put_by putter.own ≡ [] }
-            requires first { first_of jobs.now ≡ span.calls + 1 }
-            requires count { call_count (directives_in requests.now.directives span) ≤ count_of jobs.now }
-            requires room { call_count (directives_in requests.now.directives span) + many ≤ capacity_of jobs.now }
-            ensures own { IsJobPass jobs.entry.now result.own }
-            ensures entered { IfOk result.registry (λ r. AreEntered (limits_in requests.entry.now.profile N.config) requests.entry.now.directives span.to r.entries.items r.desk) }
-            ensures kept { IfOk result.registry (λ r. AreKept putter.registry.entries.items r.entries.items) }
-            ensures put { IfOk result.registry (λ r. HasPut (pairs_put r.entries.items (span.calls + 1) (directives_in requests.entry.now.directives span) many) (account_of putter.own) (account_of result.own)) }
+            requires { CanPutAll N.config requests.now span jobs.now many putter }
+            ensures { HasPutAll N.config requests.entry.now span jobs.entry.now many putter result }
         { put_all(rt, alloc, store, requests, span, jobs, putter, many) },
     );
     let Put { own, registry } = put;
@@ -105,9 +92,9 @@ pub(crate) fn by_crew<N: Naming + Send + Sync, R: Threads + Wait + Sync, G: Gate
 ) -> Result<Books<N>, NoMemory>
     requires span { IsSpan requests.now.directives span }
     requires crew { IsReady (dues_from 1 requests.now.directives) crew.old }
-    requires books { AreBooks (limits_in requests.now.profile N.config) requests.now.directives span.from span.calls span.calls books }
+    requires books { AreBooks N.config requests.now span.from span.calls span.calls books }
     ensures crew { IfOk result (λ _. IsReady (dues_from 1 requests.now.directives) crew.new) }
-    ensures books { IfOk result (AreBooks (limits_in requests.now.profile N.config) requests.now.directives span.to span.calls (calls_to requests.now.directives span)) }
+    ensures books { IfOk result (AreBooksWithin N.config requests.now span) }
     ensures kept { IfOk result (λ after. AreKept books.registry.entries.items after.registry.entries.items) }
 {
     let Books {

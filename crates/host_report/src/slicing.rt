@@ -1,16 +1,14 @@
 //! Workers make the calls in slices on a host that they share, while the modules are registered.
-ghost use Rattle.std.specs.Prelude.{◌≡◌, ◌+◌, ◌<◌, ◌≤◌, [], All, IfOk, false, length};
-ghost use Rattle.due_calls.specs.Entries.{AnswersAll};
+ghost use Rattle.std.specs.Prelude.{◌≡◌, ◌<◌, ◌≤◌, All, IfOk, false, length};
 ghost use Rattle.slice_workers.specs.Crews.{IsNewSliceCrew};
-ghost use Rattle.slice_workers.specs.Slices.{HasSlicedAll};
-ghost use Rattle.job_queue.specs.Passes.{IsJobPass, IsNewPassOf, IsPutter, account_of, capacity_of, count_of, first_of, put_by};
+ghost use Rattle.job_queue.specs.Passes.{IsNewPassOf};
 ghost use Rattle.pool_host.specs.Hosts.{IsHostPass};
 ghost use Rattle.pool_limits.specs.Shares.{shared_share};
 ghost use Rattle.request_text.specs.Text.{call_count};
 ghost use Rattle.host_report.specs.Due.{dues_from};
-ghost use Rattle.host_report.specs.Put.{HasPut, pairs_put};
-ghost use Rattle.host_report.specs.Report.{limits_in};
-ghost use Rattle.host_report.specs.Rounds.{AreBooks, AreEntered, IsSpan, directives_in};
+ghost use Rattle.host_report.specs.Put.{CanPutAll, HasPutAll};
+ghost use Rattle.host_report.specs.Rounds.{AreBooks, HasEntered};
+ghost use Rattle.host_report.specs.Worked.{AnswersFile, AreSliced};
 
 use crate::books::{Books, Registry, Span};
 use crate::collecting::collect_all;
@@ -46,12 +44,12 @@ fn slice_calls<N: Naming + Send + Sync, R: Threads + Wait + Sync, G: Gate>(
     slice: u32,
     gate: &G,
 ) -> Result<SlicedCalls<N>, NoMemory>
-    requires entered { AreEntered (limits_in requests.now.profile N.config) requests.now.directives 0 registry.entries.items registry.desk }
+    requires entered { HasEntered N.config requests.now 0 registry }
     requires crew { IsNewSliceCrew N.config (shared_share N.config) (dues_from 1 requests.now.directives) N.config.workers crew }
     requires some { (0 < N.config.workers) × (N.config.workers ≤ 16) }
     ensures calls { IfOk result (λ r. r.calls.items ≡ dues_from 1 requests.now.directives) }
-    ensures entered { IfOk result (λ r. AreEntered (limits_in requests.now.profile N.config) requests.now.directives (length requests.now.directives) r.registry.entries.items r.registry.desk) }
-    ensures answers { IfOk result (λ r. AnswersAll N.config (dues_from 1 requests.now.directives) (pairs_put r.registry.entries.items 1 requests.now.directives N.config.workers) r.worked.items) }
+    ensures entered { IfOk result (λ r. HasEntered N.config requests.now (length requests.now.directives) r.registry) }
+    ensures answers { IfOk result (λ r. AnswersFile N.config requests.now N.config.workers r.registry r.worked.items) }
 {
     let SliceCrew {
         shared,
@@ -59,7 +57,7 @@ fn slice_calls<N: Naming + Send + Sync, R: Threads + Wait + Sync, G: Gate>(
         takers,
         passes,
     } = crew;
-    let of_calls = &shared;
+    let (of_calls, jobs) = (&shared, &shared.jobs);
     let span = Span::of_all(requests);
     let workers = worker_count(store);
     let putter = Putter {
@@ -73,32 +71,12 @@ fn slice_calls<N: Naming + Send + Sync, R: Threads + Wait + Sync, G: Gate>(
             requires workers { (1 ≤ length takers.items) × (length takers.items ≤ 32) }
             requires passes { All (IsHostPass of_calls.now.host) passes.items }
             requires items { (1 ≤ length passes.items) × (length passes.items ≤ 32) }
-            ensures { IfOk result (λ done. HasSlicedAll N.config of_calls.entry.now.jobs of_calls.entry.now.calls.items done.own (length takers.items) done.entries.items) }
+            ensures { IfOk result (AreSliced N.config of_calls.entry.now (length takers.items)) }
         { slice_all(rt, alloc, store, of_calls, takers, passes, slice, gate) },
         move || -> Put<N>
-            requires span { IsSpan requests.now.directives span }
-            requires entered { AreEntered (limits_in requests.now.profile N.config) requests.now.directives span.from putter.registry.entries.items putter.registry.desk }
-            requires own { IsJobPass of_calls.now.jobs putter.own }
-            requires putter { IsPutter putter.own }
-            requires none { put_by putter.own ≡ [] }
-            requires first { first_of of_calls.now.jobs ≡ span.calls + 1 }
-            requires count { call_count (directives_in requests.now.directives span) ≤ count_of of_calls.now.jobs }
-            requires room { call_count (directives_in requests.now.directives span) + workers ≤ capacity_of of_calls.now.jobs }
-            ensures own { IsJobPass of_calls.entry.now.jobs result.own }
-            ensures entered { IfOk result.registry (λ r. AreEntered (limits_in requests.entry.now.profile N.config) requests.entry.now.directives span.to r.entries.items r.desk) }
-            ensures put { IfOk result.registry (λ r. HasPut (pairs_put r.entries.items (span.calls + 1) (directives_in requests.entry.now.directives span) workers) (account_of putter.own) (account_of result.own)) }
-        {
-            put_all(
-                rt,
-                alloc,
-                store,
-                requests,
-                span,
-                &of_calls.jobs,
-                putter,
-                workers,
-            )
-        },
+            requires { CanPutAll N.config requests.now span jobs.now workers putter }
+            ensures { HasPutAll N.config requests.entry.now span jobs.entry.now workers putter result }
+        { put_all(rt, alloc, store, requests, span, jobs, putter, workers) },
     );
     let Put { own, registry } = put;
     let registry = registry?;
@@ -123,10 +101,10 @@ pub(crate) fn by_slicers<N: Naming + Send + Sync, R: Threads + Wait + Sync, G: G
     slice: u32,
     gate: &G,
 ) -> Result<Books<N>, NoMemory>
-    requires books { AreBooks (limits_in requests.now.profile N.config) requests.now.directives 0 0 0 books }
+    requires books { AreBooks N.config requests.now 0 0 0 books }
     requires crew { IsNewSliceCrew N.config (shared_share N.config) (dues_from 1 requests.now.directives) N.config.workers crew }
     requires some { (0 < N.config.workers) × (N.config.workers ≤ 16) }
-    ensures { IfOk result (AreBooks (limits_in requests.now.profile N.config) requests.now.directives (length requests.now.directives) 0 (call_count requests.now.directives)) }
+    ensures { IfOk result (AreBooks N.config requests.now (length requests.now.directives) 0 (call_count requests.now.directives)) }
 {
     let _requests = requests.directives();
     let Books {

@@ -3,6 +3,7 @@ use Rattle.std.specs.Prelude.{◌≡◌, ◌≢◌, ◌<◌, ℕ, List, [], Opti
 use Rattle.wasm_values.specs.declared.outcome.Val.{Val}
 use Rattle.wasm_types.specs.declared.module.Module.{Module}
 use Rattle.wasm_types.specs.Tree.{ModuleTree, module_tree}
+use Rattle.wasm_spec.specs.Execution.{answer_set}
 use Rattle.wasm_spec.specs.Instances.{room_for}
 use Rattle.wasm_spec.specs.Store.{Store, fresh_store}
 use Rattle.wasm_machine.specs.Calls.{FitsFrame}
@@ -43,6 +44,10 @@ module _ {N : Type 0} where
   -- the contents of an instance's slots
   abbrev pub instance_contents : Instance N → (k : Kind) → Contents k
   instance_contents x = parts (memory_in x.memory) (table_in x.table).holds (table_in x.table).entries x.ticket.value.globals
+
+  -- the store that they show to a call of the module which has answered this so far
+  abbrev pub instance_store : ModuleTree → (answer : List ℕ) → Instance N → Store
+  instance_store m answer x = answer_set answer (shown m (instance_contents x))
 
   -- it has a slot of each kind that the module needs, and no other
   pub record HasParts (m : ModuleTree) (x : Instance N) : Type 0 where

@@ -1,18 +1,15 @@
 //! Instances of modules, in the slots that they were taken from.
 ghost use Rattle.std.specs.Prelude.{◌≡◌, ◌+◌, ◌≤◌, ℕ, List, [], length};
 ghost use Rattle.wasm_types.specs.Tree.{module_tree};
-ghost use Rattle.wasm_spec.specs.Execution.{answer_set, terms};
+ghost use Rattle.wasm_spec.specs.Execution.{terms};
 ghost use Rattle.wasm_spec.specs.Store.{Store, fresh_store};
 ghost use Rattle.wasm_machine.specs.Calls.{IsCall, IsDone};
-ghost use Rattle.pool_worlds.specs.Contents.{shown};
 ghost use Rattle.pool_worlds.specs.declared.kinds.Kind.{Kind};
-ghost use Rattle.pool_worlds.specs.Runs.{RunsFunction};
 ghost use Rattle.paused_call.specs.Standing.{HasTurned, whole};
 ghost use Rattle.instance_calls.specs.CallWords.{EndsWith, MayCall, kept_by, run_limits};
-ghost use Rattle.instance_calls.specs.Instances.{HasParts, IsFreshInstance, KeepsSlots, MayRun, instance_contents};
-ghost use Rattle.instance_calls.specs.Parts.{memory_in};
+ghost use Rattle.instance_calls.specs.Instances.{HasParts, IsFreshInstance, KeepsSlots, MayRun, instance_contents, instance_store};
 ghost use Rattle.instance_calls.specs.Paused.{IsPausedOn, ResumedOn};
-ghost use Rattle.instance_calls.specs.Runs.{RanOn};
+ghost use Rattle.instance_calls.specs.Runs.{RanCall, RanFunction};
 
 use crate::running::{
     begin_call, entries_of, limits_of, resume_with_memory, resume_without_memory, run_with_memory,
@@ -68,9 +65,7 @@ impl<N: Naming> Instance<N> {
         requires parts { HasParts (module_tree valid.now) self.old }
         requires ready { MayRun N.config valid.now (instance_contents self.old) }
         requires request { length request.now ≤ 65536 }
-        ensures runs { RunsFunction N.config.pages (module_tree valid.now) (terms (run_limits N.config) request.now) function args.now (answer_set answer.old (shown (module_tree valid.now) (instance_contents self.old))) fuel
-            (instance_contents self.old) (instance_contents self.new) (memory_in self.new.memory).marks
-            (record { outcome = result.outcome; store = answer_set answer.new (shown (module_tree valid.now) (instance_contents self.new)); fuel = result.left }) }
+        ensures runs { RanFunction N.config (module_tree valid.now) function args.now request.now fuel self.old answer.old self.new answer.new result }
         ensures again { IsDone result.outcome → MayRun N.config valid.now (instance_contents self.new) }
         ensures slots { KeepsSlots self.old self.new }
     {
@@ -106,7 +101,7 @@ impl<N: Naming> Instance<N> {
         requires ready { MayRun N.config valid.now (instance_contents self.old) }
         requires request { length request.now ≤ 65536 }
         requires none { answer.old ≡ [] }
-        ensures ran { RanOn N.config (module_tree valid.now) function args.now request.now fuel (instance_contents self.old) (instance_contents self.new) answer.new result }
+        ensures ran { RanCall N.config (module_tree valid.now) function args.now request.now fuel self.old self.new answer.new result }
         ensures slots { KeepsSlots self.old self.new }
     {
         let Some(start) = valid.module().start else {
@@ -138,7 +133,7 @@ impl<N: Naming> Instance<N> {
         requires call { (export : List ℕ) × MayCall «module».now.tree export function args.now }
         requires fresh { IsFreshInstance N.config «module».now.tree self.old }
         requires request { length request.now ≤ 65536 }
-        ensures ran { (left : List ℕ) × RanOn N.config «module».now.tree function args.now request.now fuel (instance_contents self.old) (instance_contents self.new) left result }
+        ensures ran { (left : List ℕ) × RanCall N.config «module».now.tree function args.now request.now fuel self.old self.new left result }
         ensures ends { (export : List ℕ) → MayCall «module».now.tree export function args.now
             → EndsWith «module».now.tree (run_limits N.config) export args.now request.now fuel result answer.new }
         ensures slots { KeepsSlots self.old self.new }
@@ -196,7 +191,7 @@ impl<N: Naming> Instance<N> {
         requires request { length request.now ≤ 65536 }
         ensures turned { (begun : Store) → IsPausedOn N.config «module».now request.now begun call.old answer.old self.old
             → HasTurned (whole «module».now.code (terms (run_limits N.config) request.now) call.old self.old.ticket.value.args begun) call.old slice
-            (answer_set answer.new (shown «module».now.tree (instance_contents self.new))) result }
+            (instance_store «module».now.tree answer.new self.new) result }
         ensures paused { result ≡ Turned.Again → (begun : Store) → IsPausedOn N.config «module».now request.now begun call.old answer.old self.old
             → IsPausedOn N.config «module».now request.now begun call.new answer.new self.new }
         ensures resumed { (begun : Store) → IsPausedOn N.config «module».now request.now begun call.old answer.old self.old

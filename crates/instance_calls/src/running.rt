@@ -9,11 +9,12 @@ ghost use Rattle.wasm_machine.specs.Calls.{FitsFrame, IsCall, IsDone};
 ghost use Rattle.wasm_machine.specs.TypedConfiguration.{IsTypedStore};
 ghost use Rattle.pool_worlds.specs.Contents.{MemoryContents, Named};
 ghost use Rattle.pool_worlds.specs.Runs.{Leaves, LeavesFrom};
-ghost use Rattle.paused_call.specs.Standing.{CanResume, HasTurned, Stands, upto, whole};
+ghost use Rattle.paused_call.specs.Standing.{HasTurned, Stands, upto, whole};
 ghost use Rattle.memory_slots.specs.Lent.{IsReady, parts, store_in};
 ghost use Rattle.instance_calls.specs.CallWords.{run_limits};
 ghost use Rattle.instance_calls.specs.Instances.{bare_store};
 ghost use Rattle.instance_calls.specs.Parts.{table_in};
+ghost use Rattle.instance_calls.specs.Paused.{StandsWithMemory, StandsWithoutMemory};
 
 use call_payload::AnswerBuf;
 use instance_slots::Ticket;
@@ -144,19 +145,19 @@ pub(crate) fn resume_with_memory<N: Naming>(
     answer: &mut AnswerBuf,
 ) -> Turned
     requires limits { limits ≡ run_limits N.config }
-    requires stands { CanResume valid.now (terms limits request.now) ticket.old.args call.old ticket.old.stacks (store_in valid.now memory.old table.now ticket.old.globals answer.old) }
+    requires stands { (begun : Store) × StandsWithMemory valid.now (terms limits request.now) begun call.old ticket.old memory.old table.now answer.old }
     requires ready { IsReady (room_for valid.now.memories N.config.pages) memory.old }
     requires frame { FitsFrame valid.now N.config.frame }
     requires request { length request.now ≤ 65536 }
     ensures turned { (begun : Store)
-        → Stands valid.now (terms limits request.now) begun ticket.old.args call.old ticket.old.stacks (store_in valid.now memory.old table.now ticket.old.globals answer.old)
+        → StandsWithMemory valid.now (terms limits request.now) begun call.old ticket.old memory.old table.now answer.old
         → HasTurned (whole valid.now (terms limits request.now) call.old ticket.old.args begun) call.old slice
         (store_in valid.now memory.new table.now ticket.new.globals answer.new) result }
     ensures stands { result ≡ Turned.Again → (begun : Store)
-        → Stands valid.now (terms limits request.now) begun ticket.old.args call.old ticket.old.stacks (store_in valid.now memory.old table.now ticket.old.globals answer.old)
-        → Stands valid.now (terms limits request.now) begun ticket.new.args call.new ticket.new.stacks (store_in valid.now memory.new table.now ticket.new.globals answer.new) }
+        → StandsWithMemory valid.now (terms limits request.now) begun call.old ticket.old memory.old table.now answer.old
+        → StandsWithMemory valid.now (terms limits request.now) begun call.new ticket.new memory.new table.now answer.new }
     ensures leaves { (begun : Store)
-        → Stands valid.now (terms limits request.now) begun ticket.old.args call.old ticket.old.stacks (store_in valid.now memory.old table.now ticket.old.globals answer.old)
+        → StandsWithMemory valid.now (terms limits request.now) begun call.old ticket.old memory.old table.now answer.old
         → (owner : Option Named) → (r : CallResult)
         × LeavesFrom N.config.pages (module_tree valid.now) (whole valid.now (terms limits request.now) call.old ticket.old.args begun) call.old.turns (upto call.old slice)
         (parts memory.old owner table.now ticket.old.globals) (parts memory.new owner table.now ticket.new.globals) memory.new.marks r }
@@ -193,18 +194,18 @@ pub(crate) fn resume_without_memory<N: Naming>(
 ) -> Turned
     requires limits { limits ≡ run_limits N.config }
     requires none { valid.now.memories ≡ [] }
-    requires stands { CanResume valid.now (terms limits request.now) ticket.old.args call.old ticket.old.stacks (bare_store valid.now table.now ticket.old.globals answer.old) }
+    requires stands { (begun : Store) × StandsWithoutMemory valid.now (terms limits request.now) begun call.old ticket.old table.now answer.old }
     requires frame { FitsFrame valid.now N.config.frame }
     requires request { length request.now ≤ 65536 }
     ensures turned { (begun : Store)
-        → Stands valid.now (terms limits request.now) begun ticket.old.args call.old ticket.old.stacks (bare_store valid.now table.now ticket.old.globals answer.old)
+        → StandsWithoutMemory valid.now (terms limits request.now) begun call.old ticket.old table.now answer.old
         → HasTurned (whole valid.now (terms limits request.now) call.old ticket.old.args begun) call.old slice
         (bare_store valid.now table.now ticket.new.globals answer.new) result }
     ensures stands { result ≡ Turned.Again → (begun : Store)
-        → Stands valid.now (terms limits request.now) begun ticket.old.args call.old ticket.old.stacks (bare_store valid.now table.now ticket.old.globals answer.old)
-        → Stands valid.now (terms limits request.now) begun ticket.new.args call.new ticket.new.stacks (bare_store valid.now table.now ticket.new.globals answer.new) }
+        → StandsWithoutMemory valid.now (terms limits request.now) begun call.old ticket.old table.now answer.old
+        → StandsWithoutMemory valid.now (terms limits request.now) begun call.new ticket.new table.now answer.new }
     ensures leaves { (begun : Store)
-        → Stands valid.now (terms limits request.now) begun ticket.old.args call.old ticket.old.stacks (bare_store valid.now table.now ticket.old.globals answer.old)
+        → StandsWithoutMemory valid.now (terms limits request.now) begun call.old ticket.old table.now answer.old
         → (x : MemoryContents) (owner : Option Named) → (r : CallResult)
         × LeavesFrom N.config.pages (module_tree valid.now) (whole valid.now (terms limits request.now) call.old ticket.old.args begun) call.old.turns (upto call.old slice)
         (parts x owner table.now ticket.old.globals) (parts x owner table.now ticket.new.globals) x.marks r }

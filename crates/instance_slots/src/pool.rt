@@ -2,9 +2,8 @@
 ghost use Rattle.std.specs.Prelude.{◌≡◌, ◌<◌, false, take, length, IfOk, OnErr};
 ghost use Rattle.slot_words.specs.Leases.{lease_number, lease_word};
 ghost use Rattle.slot_words.specs.Owned.{IsPassOf, passes_of, slots_of};
-ghost use Rattle.slot_words.specs.Parts.{Grew};
-ghost use Rattle.slot_words.specs.Passes.{Holds, IsIdle, IsSamePass, share_of, trail};
-ghost use Rattle.slot_pools.specs.Takes.{IsAnyTake, IsFullAnyTake};
+ghost use Rattle.slot_words.specs.Passes.{Holds, IsIdle, IsSamePass, share_of};
+ghost use Rattle.slot_pools.specs.Takes.{TakesAny, MeetsFullAny};
 ghost use Rattle.wasm_spec.specs.Store.{fresh_store};
 ghost use Rattle.pool_worlds.specs.declared.kinds.Kind.TheVariants as kind;
 ghost use Rattle.pool_worlds.specs.Handed.{IsHandedOut};
@@ -36,10 +35,10 @@ pub fn take<N: Naming>(
     ensures holds { IfOk result (λ l. Holds pass.new (lease_number l) false false false) }
     ensures globals { IfOk result (λ l. take (length «module».now.tree.globals) l.value.globals ≡ (fresh_store «module».now.tree).globals) }
     ensures handed { IfOk result (λ l. IsHandedOut N.config.pages kind.Ticket «module».now (lease_word l) l.value.globals) }
-    ensures trail { IfOk result (λ l. Grew (IsAnyTake (slots_of pool.now) (lease_number l) (lease_word l)) (trail pass.old) (trail pass.new)) }
+    ensures trail { IfOk result (TakesAny pool.now pass.old pass.new) }
 
     // it won nothing
-    ensures full { OnErr result (IsIdle pass.new × Grew (IsFullAnyTake (slots_of pool.now)) (trail pass.old) (trail pass.new)) }
+    ensures full { OnErr result (MeetsFullAny pool.now pass.old pass.new) }
     ensures another { OnErr result (share_of pass.old < passes_of pool.now) }
 {
     let mut lease = take_any(pool, pass)?;

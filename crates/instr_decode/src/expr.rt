@@ -1,10 +1,10 @@
 //! Expressions, read in one loop over their tokens.
 
-ghost use Rattle.std.specs.Prelude.{IsErrOf, MatchResult};
+ghost use Rattle.std.specs.Prelude.{IsErrOf};
 ghost use Rattle.wasm_types.specs.Tree.{expr_tree};
 ghost use Rattle.wasm_spec.specs.InstrGrammar.{TakesExpr};
-ghost use Rattle.leb_read.specs.Reading.{rest, IsRead};
-ghost use Rattle.instr_decode.specs.Decoding.{BeginsWithNone};
+ghost use Rattle.leb_read.specs.Reading.{rest};
+ghost use Rattle.instr_decode.specs.Decoding.{ReadsAs};
 ghost use Rattle.instr_decode.specs.Wants.{WantsExpr};
 
 use crate::expr_builder::ExprBuilder;
@@ -27,7 +27,7 @@ pub fn decode_expr(
     profile: Profile,
     cursor: &mut Cursor,
 ) -> Result<Expr, DecodeFault>
-    ensures read { MatchResult result (λ e. IsRead (TakesExpr profile) cursor.old cursor.new (expr_tree e)) (BeginsWithNone (TakesExpr profile) (rest cursor.old)) }
+    ensures read { ReadsAs (TakesExpr profile) expr_tree cursor.old cursor.new result }
     ensures wanted { IsErrOf result DecodeFault.NoMemory → WantsExpr profile (rest cursor.old) }
 {
     let mut builder = ExprBuilder::new(alloc);

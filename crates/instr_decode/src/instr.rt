@@ -1,12 +1,12 @@
 //! Plain instructions, by their opcodes and the profile.
 
-ghost use Rattle.std.specs.Prelude.{◌≡◌, ◌<◌, ◌≤◌, length, get_or, IsErrOf, MatchResult};
+ghost use Rattle.std.specs.Prelude.{◌≡◌, ◌<◌, ◌≤◌, length, get_or, IsErrOf};
 ghost use Rattle.std.specs.Option.{option_map_or};
 ghost use Rattle.wasm_spec.specs.Numbers.{TakesUnsigned, TakesVec};
 ghost use Rattle.wasm_values.specs.declared.profile.Profile.TheVariants.{One, Two};
 ghost use Rattle.wasm_spec.specs.InstrGrammar.{shape, comparisons, extensions, operators, Alone, NotPlain, WithLabels, TakesPrefixed, TakesShape};
-ghost use Rattle.leb_read.specs.Reading.{rest, IsRead};
-ghost use Rattle.instr_decode.specs.Decoding.{BeginsWithNone};
+ghost use Rattle.leb_read.specs.Reading.{rest};
+ghost use Rattle.instr_decode.specs.Decoding.{Reads, ReadsAs};
 ghost use Rattle.instr_decode.specs.Wants.{WantsVec, WantsShape};
 ghost use Rattle.instr_decode.specs.Opcodes.{TakesAddress, TakesZeros, made_with_index, made_with_address, shape_of};
 
@@ -222,7 +222,7 @@ fn with_address(op: AddressOp, arg: MemArg) -> Instr
 
 // A vector of indices. Source: section 5.1.3.
 fn indices(alloc: Global, cursor: &mut Cursor) -> Result<Items<u32>, DecodeFault>
-    ensures read { MatchResult result (IsRead (TakesVec (TakesUnsigned 32)) cursor.old cursor.new) (BeginsWithNone (TakesVec (TakesUnsigned 32)) (rest cursor.old)) }
+    ensures read { Reads (TakesVec (TakesUnsigned 32)) cursor.old cursor.new result }
     ensures wanted { IsErrOf result DecodeFault.NoMemory → WantsVec (TakesUnsigned 32) (λ _. ⊥) (rest cursor.old) }
 {
     let count = cursor.u32()?;
@@ -236,7 +236,7 @@ fn indices(alloc: Global, cursor: &mut Cursor) -> Result<Items<u32>, DecodeFault
 
 // A place in memory: its alignment and its offset.
 fn address(cursor: &mut Cursor) -> Result<MemArg, DecodeFault>
-    ensures read { MatchResult result (IsRead TakesAddress cursor.old cursor.new) (BeginsWithNone TakesAddress (rest cursor.old)) }
+    ensures read { Reads TakesAddress cursor.old cursor.new result }
     ensures wanted { IsErrOf result DecodeFault.NoMemory → ⊥ }
 {
     let align = cursor.u32()?;
@@ -246,7 +246,7 @@ fn address(cursor: &mut Cursor) -> Result<MemArg, DecodeFault>
 
 // The labels of a `br_table`.
 fn labels(alloc: Global, cursor: &mut Cursor) -> Result<Instr, DecodeFault>
-    ensures read { MatchResult result (IsRead (TakesShape WithLabels) cursor.old cursor.new) (BeginsWithNone (TakesShape WithLabels) (rest cursor.old)) }
+    ensures read { Reads (TakesShape WithLabels) cursor.old cursor.new result }
     ensures wanted { IsErrOf result DecodeFault.NoMemory → WantsShape WithLabels (rest cursor.old) }
 {
     let labels = indices(alloc, cursor)?;
@@ -257,7 +257,7 @@ fn labels(alloc: Global, cursor: &mut Cursor) -> Result<Instr, DecodeFault>
 // The plain instruction of an opcode of profile 1, with what follows that.
 fn read_common(alloc: Global, cursor: &mut Cursor, opcode: u8) -> Result<Instr, DecodeFault>
     requires { cursor.old.place ≤ length cursor.old.whole }
-    ensures read { MatchResult result (IsRead (TakesShape (shape One opcode)) cursor.old cursor.new) (BeginsWithNone (TakesShape (shape One opcode)) (rest cursor.old)) }
+    ensures read { Reads (TakesShape (shape One opcode)) cursor.old cursor.new result }
     ensures wanted { IsErrOf result DecodeFault.NoMemory → WantsShape (shape One opcode) (rest cursor.old) }
 {
     let Some(form) = form_at(opcode) else {
@@ -313,7 +313,7 @@ fn extension(number: u8) -> Instr
 
 // So many zero bytes, behind which the cursor then stands.
 fn zeros(cursor: &mut Cursor, count: usize) -> Result<(), DecodeFault>
-    ensures read { MatchResult result (λ _. IsRead (TakesZeros count) cursor.old cursor.new tt) (BeginsWithNone (TakesZeros count) (rest cursor.old)) }
+    ensures read { ReadsAs (TakesZeros count) (λ _. tt) cursor.old cursor.new result }
     ensures wanted { IsErrOf result DecodeFault.NoMemory → ⊥ }
 {
     let bytes = cursor.take(count)?;
@@ -326,7 +326,7 @@ fn zeros(cursor: &mut Cursor, count: usize) -> Result<(), DecodeFault>
 
 // What follows the prefix: the number of an instruction, and its zero bytes.
 fn prefixed(cursor: &mut Cursor) -> Result<Instr, DecodeFault>
-    ensures read { MatchResult result (IsRead TakesPrefixed cursor.old cursor.new) (BeginsWithNone TakesPrefixed (rest cursor.old)) }
+    ensures read { Reads TakesPrefixed cursor.old cursor.new result }
     ensures wanted { IsErrOf result DecodeFault.NoMemory → ⊥ }
 {
     let number = cursor.u32()?;
@@ -346,7 +346,7 @@ fn prefixed(cursor: &mut Cursor) -> Result<Instr, DecodeFault>
 // The same with what profile 2 adds.
 fn read_later(alloc: Global, cursor: &mut Cursor, opcode: u8) -> Result<Instr, DecodeFault>
     requires { cursor.old.place ≤ length cursor.old.whole }
-    ensures read { MatchResult result (IsRead (TakesShape (shape Two opcode)) cursor.old cursor.new) (BeginsWithNone (TakesShape (shape Two opcode)) (rest cursor.old)) }
+    ensures read { Reads (TakesShape (shape Two opcode)) cursor.old cursor.new result }
     ensures wanted { IsErrOf result DecodeFault.NoMemory → WantsShape (shape Two opcode) (rest cursor.old) }
 {
     match opcode {
@@ -364,7 +364,7 @@ pub(crate) fn read_instr(
     opcode: u8,
 ) -> Result<Instr, DecodeFault>
     requires { cursor.old.place ≤ length cursor.old.whole }
-    ensures read { MatchResult result (IsRead (TakesShape (shape profile opcode)) cursor.old cursor.new) (BeginsWithNone (TakesShape (shape profile opcode)) (rest cursor.old)) }
+    ensures read { Reads (TakesShape (shape profile opcode)) cursor.old cursor.new result }
     ensures wanted { IsErrOf result DecodeFault.NoMemory → WantsShape (shape profile opcode) (rest cursor.old) }
 {
     match profile {

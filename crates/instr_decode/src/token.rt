@@ -1,8 +1,8 @@
 //! The tokens that code is made of.
 
-ghost use Rattle.std.specs.Prelude.{◌<◌, IfOk, IsErrOf, MatchResult};
-ghost use Rattle.leb_read.specs.Reading.{rest, IsRead};
-ghost use Rattle.instr_decode.specs.Decoding.{BeginsWithNone};
+ghost use Rattle.std.specs.Prelude.{◌<◌, IfOk, IsErrOf};
+ghost use Rattle.leb_read.specs.Reading.{rest};
+ghost use Rattle.instr_decode.specs.Decoding.{Reads};
 ghost use Rattle.instr_decode.specs.Wants.{WantsToken};
 ghost use Rattle.instr_decode.specs.Tokens.{TakesToken, TakesIndexAndZero};
 
@@ -33,7 +33,7 @@ pub(crate) enum Token {
 
 // The operands of a `call_indirect`, a type and a zero byte.
 fn call_indirect(cursor: &mut Cursor) -> Result<u32, DecodeFault>
-    ensures read { MatchResult result (IsRead TakesIndexAndZero cursor.old cursor.new) (BeginsWithNone TakesIndexAndZero (rest cursor.old)) }
+    ensures read { Reads TakesIndexAndZero cursor.old cursor.new result }
     ensures wanted { IsErrOf result DecodeFault.NoMemory → ⊥ }
 {
     let index = cursor.u32()?;
@@ -50,7 +50,7 @@ pub(crate) fn read_token(
     profile: Profile,
     cursor: &mut Cursor,
 ) -> Result<Token, DecodeFault>
-    ensures token { MatchResult result (IsRead (TakesToken profile) cursor.old cursor.new) (BeginsWithNone (TakesToken profile) (rest cursor.old)) }
+    ensures token { Reads (TakesToken profile) cursor.old cursor.new result }
     ensures forth { IfOk result (λ _. cursor.old.place < cursor.new.place) }
     ensures wanted { IsErrOf result DecodeFault.NoMemory → WantsToken profile (rest cursor.old) }
 {

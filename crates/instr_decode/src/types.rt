@@ -1,10 +1,9 @@
 //! The types that stand in code.
 
-ghost use Rattle.std.specs.Prelude.{◌≡◌, IsErrOf, MatchOption, MatchResult};
+ghost use Rattle.std.specs.Prelude.{◌≡◌, IsErrOf, MatchOption};
 ghost use Rattle.wasm_types.specs.declared.types.ValType.{ValType as ValTypeTree};
 ghost use Rattle.wasm_spec.specs.TypeGrammar.{value_type_byte, TakesBlockType};
-ghost use Rattle.leb_read.specs.Reading.{rest, IsRead};
-ghost use Rattle.instr_decode.specs.Decoding.{BeginsWithNone};
+ghost use Rattle.instr_decode.specs.Decoding.{Reads};
 
 use crate::fault::DecodeFault;
 use leb_read::Cursor;
@@ -25,7 +24,7 @@ pub fn value_type(byte: u8) -> Option<ValType>
 
 // The type of a block. Source: section 5.3.2.
 pub(crate) fn read_block_type(cursor: &mut Cursor) -> Result<Option<ValType>, DecodeFault>
-    ensures read { MatchResult result (IsRead TakesBlockType cursor.old cursor.new) (BeginsWithNone TakesBlockType (rest cursor.old)) }
+    ensures read { Reads TakesBlockType cursor.old cursor.new result }
     ensures wanted { IsErrOf result DecodeFault.NoMemory → ⊥ }
 {
     let byte = cursor.u8()?;

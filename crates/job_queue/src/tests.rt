@@ -122,7 +122,12 @@ fn handed_out<R: Threads + Wait + Sync>(
     let (mut all, taken) = thread::join(
         rt,
         move || -> JobPass<u64>
-            requires { IsNewPutterOf jobs.now putter × (first_of jobs.now ≡ first) × (first + count ≤ 2 ^ 32) × (count_of jobs.now ≡ count) × (capacity_of jobs.now ≡ count + workers) × (0 < each) }
+            requires own { IsNewPutterOf jobs.now putter }
+            requires first { first_of jobs.now ≡ first }
+            requires numbers { first + count ≤ 2 ^ 32 }
+            requires count { count_of jobs.now ≡ count }
+            requires room { capacity_of jobs.now ≡ count + workers }
+            requires each { 0 < each }
             ensures { IsJobPass jobs.entry.now result }
         { put_calls(rt, jobs, putter, first, count, each, workers) },
         move || -> Result<Vec<Given>, AllocError>

@@ -1,6 +1,6 @@
 -- What a plain instruction does to a machine.
 use Rattle.wasm_spec.specs.Execution.{Terms}
-use Rattle.std.specs.Prelude.{◌≡◌, ◌≢◌, ℕ, ◌<◌, List, [], ◌∷◌, length, Bool, true, false, Option, Some, None, Result, Ok, Err, slice_get}
+use Rattle.std.specs.Prelude.{◌≡◌, ◌≢◌, ℕ, ◌<◌, List, [], ◌∷◌, length, Bool, true, false, Option, Some, None, Result, Ok, Err, slice_get, slice_set}
 use Rattle.wasm_types.specs.declared.types.ValType.{ValType}
 use Rattle.wasm_values.specs.declared.outcome.TrapKind.{TrapKind}
 use Rattle.wasm_values.specs.declared.outcome.TrapKind.TheVariants as trap
@@ -91,6 +91,11 @@ pub record HasLocal (machine : Machine) (x : ℕ) : Type 0 where
   pub represents : Represents configuration machine
   pub value : Val
   pub there : slice_get configuration.locals x ≡ Some value
+
+-- whatever configuration with this local the old machine represents, the new one represents with this value in it
+abbrev pub SetsLocal : ℕ → Val → (old new : Machine) → Type 0
+SetsLocal x v old new =
+    (k : Configuration) (u : Val) → Represents k old → slice_get k.locals x ≡ Some u → Represents (record k { locals = slice_set k.locals x v }) new
 
 -- the trap of an access that is not within the memory
 abbrev pub trap_unless : Bool → Option TrapKind

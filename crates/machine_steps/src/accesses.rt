@@ -9,12 +9,12 @@ ghost use Rattle.wasm_spec.specs.Typing.{number};
 ghost use Rattle.wasm_spec.specs.Execution.{extended, value};
 ghost use Rattle.wasm_spec.specs.Execution as execution;
 ghost use Rattle.wasm_spec.specs.Operators.{bit_width, extend_s, int_width, wrap, pack_bits, pack_width};
-ghost use Rattle.wasm_spec.specs.Store.{loaded, written};
 ghost use Rattle.machine_steps.specs.StackLayout.{KeepsRoom};
 ghost use Rattle.machine_steps.specs.InstructionKinds.{IsLoad, IsStoring, access_width, gives_width, loaded_as, offset_of, stored_as, takes_width};
 ghost use Rattle.linear_memory.specs.Bytes.{IsMemory, shown};
 ghost use Rattle.linear_memory.specs.Marks.{MarksChanges};
 ghost use Rattle.machine_steps.specs.Lent.{store_of};
+ghost use Rattle.machine_steps.specs.Accesses.{loaded_at, written_where};
 ghost use Rattle.machine_steps.specs.PlainSteps.{CanExecute, Executes};
 
 use crate::machine::Machine;
@@ -93,7 +93,7 @@ fn widened(width: Width, size: PackSize, sign: Sign, n: u32) -> Val
 // The narrow number at an address, if its bytes lie in the memory.
 fn narrow(memory: &Memory, size: PackSize, at: u64) -> Option<u32>
     requires { (most : ℕ) × IsMemory most memory.now }
-    ensures is { result ≡ (if nat_lt (length (shown memory.now)) (at + byte_len (pack_width size)) then None else Some (loaded (pack_width size) (shown memory.now) at)) }
+    ensures is { result ≡ loaded_at (pack_width size) (λ n. n) (shown memory.now) at }
     ensures short { IfSome result (λ n. n < 2 ^ pack_bits size) }
 {
     match size {
@@ -106,7 +106,7 @@ fn narrow(memory: &Memory, size: PackSize, at: u64) -> Option<u32>
 // The number at an address, if its bytes lie in the memory.
 fn read_number(memory: &Memory, width: Width, at: u64) -> Option<Val>
     requires { (most : ℕ) × IsMemory most memory.now }
-    ensures { result ≡ (if nat_lt (length (shown memory.now)) (at + byte_len (int_width width)) then None else Some (value width (loaded (int_width width) (shown memory.now) at))) }
+    ensures { result ≡ loaded_at (int_width width) (value width) (shown memory.now) at }
 {
     match width {
         Width::W32 => Some(Val::I32(memory.read32(at)?)),
@@ -118,8 +118,7 @@ fn read_number(memory: &Memory, width: Width, at: u64) -> Option<Val>
 fn load_value(memory: &Memory, instr: &Instr, at: u64) -> Option<Val>
     requires kind { IsLoad instr.now }
     requires memory { (most : ℕ) × IsMemory most memory.now }
-    ensures { result ≡ (if nat_lt (length (shown memory.now)) (at + byte_len (access_width instr.now)) then None
-        else Some (value (gives_width instr.now) (loaded_as instr.now (loaded (access_width instr.now) (shown memory.now) at)))) }
+    ensures { result ≡ loaded_at (access_width instr.now) (λ n. value (gives_width instr.now) (loaded_as instr.now n)) (shown memory.now) at }
 {
     match instr {
         Instr::Load(width, _) => read_number(memory, *width, at),
@@ -146,7 +145,7 @@ fn write_number(memory: &mut Memory, width: Width, at: u64, v: Val) -> bool
     requires memory { (most : ℕ) × IsMemory most memory.old }
     ensures fits { result ≡ not (nat_lt (length (shown memory.old)) (at + byte_len (int_width width))) }
     ensures after { (n : ℕ) → number width v ≡ Some n
-        → shown memory.new ≡ (if result then written (shown memory.old) at (to_le_bytes (int_width width) n) else shown memory.old) }
+        → shown memory.new ≡ written_where result (shown memory.old) at (to_le_bytes (int_width width) n) }
     ensures memory { (most : ℕ) → IsMemory most memory.old → IsMemory most memory.new }
     ensures marks { MarksChanges memory.old memory.new 2 }
 {
@@ -160,7 +159,7 @@ fn write_number(memory: &mut Memory, width: Width, at: u64, v: Val) -> bool
 fn write_narrow(memory: &mut Memory, size: PackSize, at: u64, n: u64) -> bool
     requires { (most : ℕ) × IsMemory most memory.old }
     ensures fits { result ≡ not (nat_lt (length (shown memory.old)) (at + byte_len (pack_width size))) }
-    ensures after { shown memory.new ≡ (if result then written (shown memory.old) at (to_le_bytes (pack_width size) (wrap (pack_bits size) n)) else shown memory.old) }
+    ensures after { shown memory.new ≡ written_where result (shown memory.old) at (to_le_bytes (pack_width size) (wrap (pack_bits size) n)) }
     ensures memory { (most : ℕ) → IsMemory most memory.old → IsMemory most memory.new }
     ensures marks { MarksChanges memory.old memory.new 2 }
 {
@@ -178,7 +177,7 @@ fn store_value(memory: &mut Memory, instr: &Instr, at: u64, v: Val) -> bool
     requires memory { (most : ℕ) × IsMemory most memory.old }
     ensures fits { result ≡ not (nat_lt (length (shown memory.old)) (at + byte_len (access_width instr.now))) }
     ensures after { (n : ℕ) → number (takes_width instr.now) v ≡ Some n
-        → shown memory.new ≡ (if result then written (shown memory.old) at (to_le_bytes (access_width instr.now) (stored_as instr.now n)) else shown memory.old) }
+        → shown memory.new ≡ written_where result (shown memory.old) at (to_le_bytes (access_width instr.now) (stored_as instr.now n)) }
     ensures memory { (most : ℕ) → IsMemory most memory.old → IsMemory most memory.new }
     ensures marks { MarksChanges memory.old memory.new 2 }
 {

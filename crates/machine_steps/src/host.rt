@@ -2,11 +2,12 @@
 ghost use Rattle.std.specs.Prelude.{◌≡◌, ℕ, ◌+◌, ◌-◌, ◌<◌, ◌++◌, ◌^◌, List, Option, Some, None, length, nat_le, nat_lt, vec_len, vec_capacity, if◌then◌else◌};
 ghost use Rattle.wasm_values.specs.declared.outcome.Val.{Val as AVal};
 ghost use Rattle.wasm_types.specs.declared.host.HostFunction.TheVariants as host;
-ghost use Rattle.wasm_spec.specs.Store.{Store, written};
+ghost use Rattle.wasm_spec.specs.Store.{Store};
 ghost use Rattle.wasm_spec.specs.Execution.{most_answer, part};
 ghost use Rattle.linear_memory.specs.Bytes.{IsMemory, shown};
 ghost use Rattle.linear_memory.specs.Marks.{MarksChanges};
 ghost use Rattle.machine_steps.specs.Lent.{store_of};
+ghost use Rattle.machine_steps.specs.Accesses.{written_where};
 ghost use Rattle.machine_steps.specs.HostSteps.{CallsHost, CanCallHost, IsHostReady};
 ghost use Rattle.machine_steps.specs.StackLayout.{KeepsRoom};
 
@@ -27,7 +28,7 @@ pub fn copy_request(
     requires memory { (most : ℕ) × IsMemory most memory.old }
     requires short { length request.now < 2 ^ 32 }
     ensures count { result ≡ (if nat_le (to + count) (length (shown memory.old)) then Some (length (part request.now from count)) else None) }
-    ensures after { shown memory.new ≡ (if nat_le (to + count) (length (shown memory.old)) then written (shown memory.old) to (part request.now from count) else shown memory.old) }
+    ensures after { shown memory.new ≡ written_where (nat_le (to + count) (length (shown memory.old))) (shown memory.old) to (part request.now from count) }
     ensures memory { (most : ℕ) → IsMemory most memory.old → IsMemory most memory.new }
     ensures marks { (added : ℕ) × MarksChanges memory.old memory.new added }
 {

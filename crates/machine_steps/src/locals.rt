@@ -1,13 +1,12 @@
 //! Locals and globals.
-ghost use Rattle.std.specs.Prelude.{◌≡◌, ◌<◌, None, Some, get_or, length, set, slice_get, slice_set, vec_len, vec_capacity};
+ghost use Rattle.std.specs.Prelude.{◌≡◌, ◌<◌, None, Some, get_or, length, set, slice_get, vec_len, vec_capacity};
 ghost use Rattle.wasm_values.specs.declared.outcome.Val.{Val as AVal};
 ghost use Rattle.wasm_types.specs.declared.instr.Instr.TheVariants as instr;
 ghost use Rattle.wasm_spec.specs.Execution.{Terms};
 ghost use Rattle.wasm_types.specs.Tree.{ModuleTree};
 ghost use Rattle.wasm_spec.specs.Store.{Store};
-ghost use Rattle.machine_steps.specs.Configuration.{Configuration};
-ghost use Rattle.machine_steps.specs.StackLayout.{KeepsRoom, Represents};
-ghost use Rattle.machine_steps.specs.PlainSteps.{CanExecute, Executes, HasLocal};
+ghost use Rattle.machine_steps.specs.StackLayout.{KeepsRoom};
+ghost use Rattle.machine_steps.specs.PlainSteps.{CanExecute, Executes, HasLocal, SetsLocal};
 
 use crate::machine::Machine;
 use wasm_values::Val;
@@ -39,7 +38,7 @@ impl Machine {
     #[inline(always)]
     fn put_local(&mut self, x: u32, v: Val)
         requires { HasLocal self.old x }
-        ensures represents { (k : Configuration) (old : AVal) → Represents k self.old → slice_get k.locals x ≡ Some old → Represents (record k { locals = slice_set k.locals x v }) self.new }
+        ensures represents { SetsLocal x v self.old self.new }
         ensures room { KeepsRoom self.old self.new }
         ensures free { length self.old.values.items < self.old.values.room → length self.new.values.items < self.new.values.room }
     {

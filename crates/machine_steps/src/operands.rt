@@ -202,7 +202,7 @@ impl Machine {
         self.push(one(instr, v));
     }
 
-    // An instruction that makes a number of the two topmost operands, or traps.
+    // An instruction that makes a number of the two topmost operands, or traps. Who names its kind anew saves a look at it behind the pops.
     #[inline(always)]
     pub(crate) fn on_two(&mut self, instr: &Instr) -> Option<TrapKind>
         requires kind { IsOfTwo instr.now }

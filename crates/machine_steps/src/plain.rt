@@ -50,7 +50,8 @@ impl Machine {
         requires memory { (limit : ℕ) × IsMemory limit memory.old × (most ≤ limit) }
         ensures jumps { result ≡ effect.Jumps → IsTrue (jumps instr.now) × (self.new ≡ self.old) × (memory.new ≡ memory.old) × (globals.new ≡ globals.old) }
         ensures stays { result ≢ effect.Jumps → IsFalse (jumps instr.now) }
-        ensures does { (m : ModuleTree) (limits : Terms) (table : List (Option ℕ)) (answer : List ℕ) → most ≡ most_pages m.memories limits.pages → IsFalse (jumps instr.now)
+        ensures does { (m : ModuleTree) (limits : Terms) (table : List (Option ℕ)) (answer : List ℕ)
+            → most ≡ most_pages m.memories limits.pages → IsFalse (jumps instr.now)
             → Executes m limits instr.now self.old (store_of memory.old table globals.old answer) (trap_of result) self.new (store_of memory.new table globals.new answer) }
         ensures room { KeepsRoom self.old self.new }
         ensures memory { (limit : ℕ) → most ≤ limit → IsMemory limit memory.old → IsMemory limit memory.new }
@@ -88,7 +89,12 @@ impl Machine {
             Instr::Eqz(_) | Instr::Unary(..) | Instr::Wrap | Instr::Extend(_) => {
                 self.on_one(instr)
             }
-            Instr::Compare(..) | Instr::Binary(..) => return unless_trapped(self.on_two(instr)),
+            Instr::Compare(width, op) => {
+                return unless_trapped(self.on_two(&Instr::Compare(*width, *op)));
+            }
+            Instr::Binary(width, op) => {
+                return unless_trapped(self.on_two(&Instr::Binary(*width, *op)));
+            }
             Instr::Float => unreachable!(),
         }
         Effect::Stays

@@ -1,5 +1,6 @@
 //! The values of a run, the top at the end.
 ghost use Rattle.std.specs.Prelude.{◌≡◌, ◌+◌, ◌<◌, ◌≤◌, List, [], ◌∷◌, ◌++◌, IfOk, get_or, length, reverse, set, slice_get, take, vec_capacity, vec_len};
+ghost use Rattle.std.specs.List.{copy_within};
 ghost use Rattle.wasm_values.specs.declared.outcome.Val.{Val as AVal};
 ghost use Rattle.wasm_values.specs.declared.outcome.Val.TheVariants as val;
 
@@ -25,6 +26,33 @@ fn add_cell(cells: &mut Vec<Val>)
     ensures capacity { vec_capacity cells.old ≤ vec_capacity cells.new }
 {
     push(cells, Val::I32(0));
+}
+
+// Moves n values from one place to another.
+#[cold]
+#[inline(never)]
+fn move_many(cells: &mut Vec<Val>, from: usize, n: usize, to: usize)
+    requires from { from + n ≤ length cells.old.items }
+    requires to { to + n ≤ length cells.old.items }
+    ensures items { cells.new.items ≡ copy_within cells.old.items from (from + n) to }
+    ensures capacity { vec_capacity cells.new ≡ vec_capacity cells.old }
+{
+    cells.copy_within(from..from + n, to);
+}
+
+// The same. A label takes no more than one value, which is moved by itself.
+#[inline(always)]
+fn move_values(cells: &mut Vec<Val>, from: usize, n: usize, to: usize)
+    requires from { from + n ≤ length cells.old.items }
+    requires to { to + n ≤ length cells.old.items }
+    ensures items { cells.new.items ≡ copy_within cells.old.items from (from + n) to }
+    ensures capacity { vec_capacity cells.new ≡ vec_capacity cells.old }
+{
+    match n {
+        0 => {}
+        1 => cells[to] = cells[from],
+        _ => move_many(cells, from, n, to),
+    }
 }
 
 impl Model for ValueStack {
@@ -128,8 +156,7 @@ impl ValueStack {
             → n ≤ length operands → self.new.items ≡ lower ++ reverse (take n operands) }
         ensures room { self.new.room ≡ self.old.room }
     {
-        let height = self.height;
-        self.cells.copy_within(height - n..height, base);
+        move_values(&mut self.cells, self.height - n, n, base);
         self.height = base + n;
     }
 

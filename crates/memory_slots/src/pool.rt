@@ -2,11 +2,10 @@
 ghost use Rattle.std.specs.Prelude.{◌≡◌, ◌<◌, true, false, is_some, IfOk, OnErr};
 ghost use Rattle.pool_core.specs.declared.words.State.TheVariants.{Awaiting};
 ghost use Rattle.slot_words.specs.Leases.{lease_number, lease_word};
-ghost use Rattle.slot_words.specs.Owned.{IsPassOf, limit_of, passes_of, slots_of};
-ghost use Rattle.slot_words.specs.Parts.{Grew};
-ghost use Rattle.slot_words.specs.Passes.{Holds, IsIdle, IsSamePass, share_of, trail};
-ghost use Rattle.decommit_batch.specs.HandIn.{IsHandIn};
-ghost use Rattle.slot_pools.specs.Takes.{IsBatchedTake, IsFullBatchedTake};
+ghost use Rattle.slot_words.specs.Owned.{IsPassOf, passes_of, slots_of};
+ghost use Rattle.slot_words.specs.Passes.{Holds, IsIdle, IsSamePass, share_of};
+ghost use Rattle.decommit_batch.specs.HandIn.{HandsIn};
+ghost use Rattle.slot_pools.specs.Takes.{TakesBatched, MeetsFullBatched};
 ghost use Rattle.wasm_spec.specs.Instances.{room_for};
 ghost use Rattle.wasm_spec.specs.Store.{fresh_store};
 ghost use Rattle.pool_worlds.specs.declared.kinds.Kind.TheVariants as kind;
@@ -44,10 +43,10 @@ pub fn take<N: Naming>(
     ensures shown { IfOk result (λ l. shown_memory true l.value ≡ (fresh_store «module».now.tree).memory) }
     ensures ready { IfOk result (λ l. IsReady (room_for «module».now.tree.memories N.config.pages) l.value) }
     ensures handed { IfOk result (λ l. IsHandedOut N.config.pages kind.Memory «module».now (lease_word l) l.value) }
-    ensures trail { IfOk result (λ l. Grew (IsBatchedTake (limit_of pool.now) (slots_of pool.now) «module».now.tag (lease_number l) (lease_word l)) (trail pass.old) (trail pass.new)) }
+    ensures trail { IfOk result (TakesBatched pool.now «module».now.tag pass.old pass.new) }
 
     // it won nothing
-    ensures full { OnErr result (IsIdle pass.new × Grew (IsFullBatchedTake (limit_of pool.now) (slots_of pool.now) «module».now.tag) (trail pass.old) (trail pass.new)) }
+    ensures full { OnErr result (MeetsFullBatched pool.now «module».now.tag pass.old pass.new) }
     ensures another { OnErr result (share_of pass.old < passes_of pool.now) }
 {
     let mut lease = take_batched(pool, pass, store, module.tag())?;
@@ -70,7 +69,7 @@ pub fn give<N: Naming>(
     ensures same { IsSamePass pass.old pass.new }
     ensures idle { IsIdle pass.new }
     ensures took { Matches N.config.pages kind.Memory Awaiting (own_tag kind.Memory lease.value) lease.value }
-    ensures trail { Grew (IsHandIn (limit_of pool.now) (slots_of pool.now) (lease_number lease) (own_tag kind.Memory lease.value) N.config.batch) (trail pass.old) (trail pass.new) }
+    ensures trail { HandsIn pool.now (own_tag kind.Memory lease.value) N.config.batch lease pass.old pass.new }
 {
     lease.value.is_used();
     let batch = store.config().numbers().batch;

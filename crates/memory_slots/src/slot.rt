@@ -5,7 +5,7 @@ ghost use Rattle.wasm_types.specs.Tree.{module_tree};
 ghost use Rattle.wasm_spec.specs.Instances.{room_for};
 ghost use Rattle.wasm_spec.specs.Store.{Store, fresh_store};
 ghost use Rattle.wasm_spec.specs.Execution.{terms};
-ghost use Rattle.wasm_spec.specs.Result.{CallResult, function_result};
+ghost use Rattle.wasm_spec.specs.Result.{CallResult};
 ghost use Rattle.wasm_spec.specs.Bulk.{HasFewMarks};
 ghost use Rattle.wasm_machine.specs.Calls.{IsCall, FitsFrame, IsDone};
 ghost use Rattle.wasm_machine.specs.Lent.{others};
@@ -14,9 +14,9 @@ ghost use Rattle.pool_worlds.specs.Contents as contents;
 ghost use Rattle.pool_worlds.specs.declared.kinds.Kind.TheVariants as kind;
 ghost use Rattle.pool_worlds.specs.Contents.{Named, belongs_to, prepared, restored, shown_memory, IsCold, IsFreshMemory, Matches};
 ghost use Rattle.pool_worlds.specs.Runs.{Leaves, LeavesFrom};
-ghost use Rattle.paused_call.specs.Standing.{CanResume, HasTurned, Stands, upto, whole};
+ghost use Rattle.paused_call.specs.Standing.{HasTurned, upto, whole};
 ghost use Rattle.pool_worlds.specs.Handed.{own_tag, fits-own_tag};
-ghost use Rattle.memory_slots.specs.Lent.{IsReady, dirty_blocks, parts, store_in};
+ghost use Rattle.memory_slots.specs.Lent.{CanResumeOn, IsReady, StandsOn, dirty_blocks, end_on, lent, parts, result_on, store_in};
 ghost use Rattle.memory_slots.specs.Written.{WritesAtMost};
 
 use crate::blocks::write_all;
@@ -237,12 +237,12 @@ impl<N: Naming> MemSlot<N> {
         requires request { length request.now ≤ 65536 }
         requires frames { limits.depth ≤ stacks.old.room.depth }
         requires frame { FitsFrame valid.now stacks.old.room.frame }
-        ensures result { function_result (module_tree valid.now) (terms limits request.now) function args.now (store_in valid.now self.old table.now globals.old answer.old) fuel
-            ≡ Some (record { outcome = result.outcome; store = store_in valid.now self.new table.now globals.new answer.new; fuel = result.left }) }
+        ensures result { result_on valid.now (terms limits request.now) function args.now (lent self.old table.now globals.old answer.old) fuel
+            ≡ Some (end_on valid.now (lent self.new table.now globals.new answer.new) result) }
         ensures leaves { (owner : Option Named) → Leaves N.config.pages (module_tree valid.now)
-            (function_result (module_tree valid.now) (terms limits request.now) function args.now (store_in valid.now self.old table.now globals.old answer.old)) fuel
+            (result_on valid.now (terms limits request.now) function args.now (lent self.old table.now globals.old answer.old)) fuel
             (parts self.old owner table.now globals.old) (parts self.new owner table.now globals.new) self.new.marks
-            (record { outcome = result.outcome; store = store_in valid.now self.new table.now globals.new answer.new; fuel = result.left }) }
+            (end_on valid.now (lent self.new table.now globals.new answer.new) result) }
         ensures left { result.left ≤ fuel }
         ensures ready { IsReady (room_for valid.now.memories limits.pages) self.new }
         ensures store { IsDone result.outcome → IsTypedStore valid.now (store_in valid.now self.new table.now globals.new answer.new) }
@@ -282,26 +282,27 @@ impl<N: Naming> MemSlot<N> {
         request: &[u8],
         answer: &mut AnswerBuf,
     ) -> Turned
-        requires stands { CanResume valid.now (terms limits request.now) args.now call.old stacks.old (store_in valid.now self.old table.now globals.old answer.old) }
+        requires stands { CanResumeOn valid.now (terms limits request.now) args.now call.old stacks.old (lent self.old table.now globals.old answer.old) }
         requires pages { limits.pages ≤ N.config.pages }
         requires ready { IsReady (room_for valid.now.memories limits.pages) self.old }
         requires request { length request.now ≤ 65536 }
         requires frame { FitsFrame valid.now stacks.old.room.frame }
         ensures turned { (begun : Store)
-            → Stands valid.now (terms limits request.now) begun args.now call.old stacks.old (store_in valid.now self.old table.now globals.old answer.old)
-            → HasTurned (whole valid.now (terms limits request.now) call.old args.now begun) call.old slice (store_in valid.now self.new table.now globals.new answer.new) result }
+            → StandsOn valid.now (terms limits request.now) begun args.now call.old stacks.old (lent self.old table.now globals.old answer.old)
+            → HasTurned (whole valid.now (terms limits request.now) call.old args.now begun) call.old slice
+            (store_in valid.now self.new table.now globals.new answer.new) result }
         ensures stands { result ≡ Turned.Again → (begun : Store)
-            → Stands valid.now (terms limits request.now) begun args.now call.old stacks.old (store_in valid.now self.old table.now globals.old answer.old)
-            → Stands valid.now (terms limits request.now) begun args.now call.new stacks.new (store_in valid.now self.new table.now globals.new answer.new) }
+            → StandsOn valid.now (terms limits request.now) begun args.now call.old stacks.old (lent self.old table.now globals.old answer.old)
+            → StandsOn valid.now (terms limits request.now) begun args.now call.new stacks.new (lent self.new table.now globals.new answer.new) }
         ensures leaves { (begun : Store)
-            → Stands valid.now (terms limits request.now) begun args.now call.old stacks.old (store_in valid.now self.old table.now globals.old answer.old)
+            → StandsOn valid.now (terms limits request.now) begun args.now call.old stacks.old (lent self.old table.now globals.old answer.old)
             → (owner : Option Named) → (r : CallResult)
-            × LeavesFrom N.config.pages (module_tree valid.now) (whole valid.now (terms limits request.now) call.old args.now begun) call.old.turns (upto call.old slice)
-            (parts self.old owner table.now globals.old) (parts self.new owner table.now globals.new) self.new.marks r }
+            × LeavesFrom N.config.pages (module_tree valid.now) (whole valid.now (terms limits request.now) call.old args.now begun)
+            call.old.turns (upto call.old slice) (parts self.old owner table.now globals.old) (parts self.new owner table.now globals.new) self.new.marks r }
         ensures ready { IsReady (room_for valid.now.memories limits.pages) self.new }
         ensures holds { self.new.holds ≡ self.old.holds }
         ensures counted { HasFewMarks (module_tree valid.now) → (begun : Store)
-            → Stands valid.now (terms limits request.now) begun args.now call.old stacks.old (store_in valid.now self.old table.now globals.old answer.old)
+            → StandsOn valid.now (terms limits request.now) begun args.now call.old stacks.old (lent self.old table.now globals.old answer.old)
             → (r : CallResult) → whole valid.now (terms limits request.now) call.old args.now begun (upto call.old slice) ≡ Some r
             → dirty_blocks self.new ≤ dirty_blocks self.old + 2 * (upto call.old slice - call.old.turns - r.fuel) }
         ensures same { (call.new.function ≡ call.old.function) × (call.new.fuel ≡ call.old.fuel) }

@@ -112,39 +112,59 @@ fn valid(alloc: Global, asked: &Asked) -> Result<Valid, Fail> {
     Ok(validate(alloc, Profile::One, module)?)
 }
 
+// So many pages, entries of a table, globals and locals of each function, and the first of them that is past its limit.
+type Row = (
+    Option<u32>,
+    Option<u32>,
+    u32,
+    [u32; 3],
+    Option<(Measure, u64, u64)>,
+);
+
+const ROWS: [Row; 7] = [
+    (None, None, 0, [0, 0, 0], None),
+    (Some(32), Some(1_024), 1_024, [1_023, 0, 1_023], None),
+    (
+        Some(33),
+        Some(1_025),
+        1_025,
+        [1_024, 0, 0],
+        Some((Measure::Pages, 33, 32)),
+    ),
+    (
+        Some(32),
+        Some(1_025),
+        1_025,
+        [1_024, 0, 0],
+        Some((Measure::Elements, 1_025, 1_024)),
+    ),
+    (
+        None,
+        None,
+        1_025,
+        [1_024, 0, 0],
+        Some((Measure::Globals, 1_025, 1_024)),
+    ),
+    (
+        None,
+        None,
+        0,
+        [0, 1_024, 1_025],
+        Some((Measure::Frame(1), 1_025, 1_024)),
+    ),
+    (
+        None,
+        None,
+        0,
+        [0, 0, u32::MAX],
+        Some((Measure::Frame(2), 4_294_967_296, 1_024)),
+    ),
+];
+
 #[test]
 fn the_first_demand_past_its_limit_is_named(rt: HostRuntime) -> Result<(), Fail> {
-    let over = |which, value, limit| Err(Over {
-        which,
-        value,
-        limit,
-    });
-    let rows = [
-        ((None, None, 0, [0, 0, 0]), Ok(())),
-        ((Some(32), Some(1_024), 1_024, [1_023, 0, 1_023]), Ok(())),
-        (
-            (Some(33), Some(1_025), 1_025, [1_024, 0, 0]),
-            over(Measure::Pages, 33, 32),
-        ),
-        (
-            (Some(32), Some(1_025), 1_025, [1_024, 0, 0]),
-            over(Measure::Elements, 1_025, 1_024),
-        ),
-        (
-            (None, None, 1_025, [1_024, 0, 0]),
-            over(Measure::Globals, 1_025, 1_024),
-        ),
-        (
-            (None, None, 0, [0, 1_024, 1_025]),
-            over(Measure::Frame(1), 1_025, 1_024),
-        ),
-        (
-            (None, None, 0, [0, 0, u32::MAX]),
-            over(Measure::Frame(2), 4_294_967_296, 1_024),
-        ),
-    ];
     let config = PoolConfig::new(USUAL)?;
-    for ((pages, elements, globals, locals), expected) in rows {
+    for (pages, elements, globals, locals, over) in ROWS {
         let asked = Asked {
             pages,
             elements,
@@ -152,6 +172,14 @@ fn the_first_demand_past_its_limit_is_named(rt: HostRuntime) -> Result<(), Fail>
             locals,
         };
         let valid = valid(rt.alloc(), &asked)?;
+        let expected = match over {
+            None => Ok(()),
+            Some((which, value, limit)) => Err(Over {
+                which,
+                value,
+                limit,
+            }),
+        };
         assert_eq!(rt; check_limits(&config, &valid), expected);
     }
     Ok(())

@@ -75,7 +75,8 @@ impl PausedCall {
         request: &[u8],
         answer: &mut AnswerBuf,
     ) -> RunEnd
-        requires stands { CanResume valid.now (terms limits request.now) args.now self.now stacks.old (lent_store valid.now memory.old table.now globals.old answer.old) }
+        requires stands { CanResume valid.now (terms limits request.now) args.now self.now stacks.old
+            (lent_store valid.now memory.old table.now globals.old answer.old) }
         requires frame { FitsFrame valid.now stacks.old.room.frame }
         requires memory { IsMemory (room_for valid.now.memories limits.pages) memory.old }
         requires request { length request.now ≤ 65536 }
@@ -138,7 +139,8 @@ impl PausedCall {
         request: &[u8],
         answer: &mut AnswerBuf,
     ) -> RunEnd
-        requires stands { CanResume valid.now (terms limits request.now) args.now self.old stacks.old (lent_store valid.now memory.old table.now globals.old answer.old) }
+        requires stands { CanResume valid.now (terms limits request.now) args.now self.old stacks.old
+            (lent_store valid.now memory.old table.now globals.old answer.old) }
         requires fuel { self.old.turns + fuel ≤ self.old.fuel }
         requires frame { FitsFrame valid.now stacks.old.room.frame }
         requires memory { IsMemory (room_for valid.now.memories limits.pages) memory.old }
@@ -208,7 +210,8 @@ impl PausedCall {
         request: &[u8],
         answer: &mut AnswerBuf,
     ) -> Turned
-        requires stands { CanResume valid.now (terms limits request.now) args.now self.old stacks.old (lent_store valid.now memory.old table.now globals.old answer.old) }
+        requires stands { CanResume valid.now (terms limits request.now) args.now self.old stacks.old
+            (lent_store valid.now memory.old table.now globals.old answer.old) }
         requires frame { FitsFrame valid.now stacks.old.room.frame }
         requires memory { IsMemory (room_for valid.now.memories limits.pages) memory.old }
         requires request { length request.now ≤ 65536 }

@@ -30,6 +30,11 @@ EventsKeepLawful = (c : PoolCore) (e : Event) → Lawful c → refusal_of c e �
 abbrev pub RunsKeepLawful : Type 0
 RunsKeepLawful = (c : PoolCore) (es : List Event) → Lawful c → AllAllowed c es → Lawful (core_after_all c es)
 
+-- so a pool is lawful after every such list from its opening
+abbrev pub RunsFromOpeningAreLawful : Type 0
+RunsFromOpeningAreLawful = (slots limit seats : ℕ) (es : List Event) → AllAllowed (opening_core slots limit seats) es
+    → Lawful (core_after_all (opening_core slots limit seats) es)
+
 -- no two seats hold one number
 abbrev pub OneSeatHolds : Type 0
 OneSeatHolds = (c : PoolCore) (s t n : ℕ) → Lawful c → (seat_at c s).holds ≡ Some n → (seat_at c t).holds ≡ Some n → s ≡ t

@@ -18,6 +18,10 @@ pub record PoolCore : Type 0 where
   -- the most slots that may be warm
   pub limit : ℕ
 
+-- the pool of these words and seats, with these counts, this clock and this limit
+abbrev pub core_of : List StateWord → List Seat → (warm awaiting clock limit : ℕ) → PoolCore
+core_of words seats warm awaiting clock limit = record { words = words; seats = seats; warm = warm; awaiting = awaiting; clock = clock; limit = limit }
+
 -- the seat that holds nothing and owes nothing
 abbrev pub idle_seat : Stage → Seat
 idle_seat stage = record { stage = stage; holds = None; out = false; permit = false; refusal = false; mark = false }

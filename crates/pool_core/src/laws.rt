@@ -1,13 +1,12 @@
 //! What holds of every pool. Each function does nothing: its contract is the law.
-ghost use Rattle.std.specs.Prelude.{◌≡◌, ◌+◌, ◌≤◌, ℕ, List};
+ghost use Rattle.std.specs.Prelude.{◌≡◌, ◌+◌, ◌≤◌, ℕ};
 ghost use Rattle.std.specs.List.{count_by};
-ghost use Rattle.pool_core.specs.PoolCore.{PoolCore, opening_core};
+ghost use Rattle.pool_core.specs.PoolCore.{PoolCore};
 ghost use Rattle.pool_core.specs.EventEffects.{core_after};
 ghost use Rattle.pool_core.specs.Changes.{ChangesOnly, MovesByOne, LeavesLive, OutChangesNothingElse};
 ghost use Rattle.pool_core.specs.RefusalRules.{refusal_of, IsLeastRule};
 ghost use Rattle.pool_core.specs.Lawful.{Lawful, is_free_warm, has_permit};
-ghost use Rattle.pool_core.specs.Laws.{OpeningIsLawful, OpensCold, OpensUnmade, EventsKeepLawful, RunsKeepLawful, OneSeatHolds, SeatsHoldWords, HeldWordsHaveSeats, BitsSayOneWord, BitsSayTheWord, LowestBitSaysHeld, LowestBitMakesHeld};
-ghost use Rattle.pool_core.specs.Runs.{core_after_all, AllAllowed};
+ghost use Rattle.pool_core.specs.Laws.{OpeningIsLawful, OpensCold, OpensUnmade, EventsKeepLawful, RunsKeepLawful, RunsFromOpeningAreLawful, OneSeatHolds, SeatsHoldWords, HeldWordsHaveSeats, BitsSayOneWord, BitsSayTheWord, LowestBitSaysHeld, LowestBitMakesHeld};
 ghost use Rattle.pool_core.specs.StateWords.{stamp_bound, tag_bound};
 ghost use Rattle.pool_core.specs.declared.limits.TheConstants.{MOST_SLOTS, STAMP_LIMIT, TAG_LIMIT};
 ghost use Rattle.pool_core.specs.declared.events.Event.{Event as AnyEvent};
@@ -36,7 +35,7 @@ pub fn each_event_keeps_a_core_lawful()
 /// So does every list of events, none of which is refused where it comes.
 pub fn runs_keep_a_core_lawful()
     ensures kept { RunsKeepLawful }
-    ensures opened { (slots limit seats : ℕ) (es : List AnyEvent) → AllAllowed (opening_core slots limit seats) es → Lawful (core_after_all (opening_core slots limit seats) es) }
+    ensures opened { RunsFromOpeningAreLawful }
 {}
 
 /// An event changes its own seat alone, but for a split, a join and a close; of the words the one alone that it claims or releases; and a count or the clock only where it is one of that count's own events.

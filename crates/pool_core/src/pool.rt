@@ -27,15 +27,15 @@ pub struct Core {
 }
 
 impl Model for Core {
-    ghost use Rattle.pool_core.specs.PoolCore.{PoolCore};
+    ghost use Rattle.pool_core.specs.PoolCore.{PoolCore, core_of};
 
     ghost Value = { PoolCore };
 
     ghost use Rattle.pool_core.specs.Lawful.{Lawful};
 
-    ghost view = { λ c. record { words = c.words.items; seats = c.seats.items; warm = c.warm; awaiting = c.awaiting; clock = c.clock; limit = c.limit } };
+    ghost view = { λ c. core_of c.words.items c.seats.items c.warm c.awaiting c.clock c.limit };
 
-    ghost invariant = { λ c. Lawful (record { words = c.words.items; seats = c.seats.items; warm = c.warm; awaiting = c.awaiting; clock = c.clock; limit = c.limit }) };
+    ghost invariant = { λ c. Lawful (core_of c.words.items c.seats.items c.warm c.awaiting c.clock c.limit) };
 }
 
 /// No memory was left.

@@ -61,15 +61,234 @@ const PAST_STAMPS: Target = Target {
 
 /// A list of events, the first that is refused, and the words and the warm, await and clock counts after all the others.
 #[derive(Drop)]
-struct Row<'a> {
+struct Row {
     slots: u32,
     warm: u32,
     seats: u32,
-    events: &'a [Event],
+    events: &'static [Event],
     fault: Option<ReplayFault>,
-    words: &'a [u64],
+    words: &'static [u64],
     counts: (u64, u64, u64),
 }
+
+const ROWS: [Row; 12] = [
+    // A claim of a held slot changes nothing, and gives no leave to release it.
+    Row {
+        slots: 1,
+        warm: 1,
+        seats: 2,
+        events: &[Split(0, 1), Claim(0, 0), Claim(1, 0), Release(1, 0, COLD)],
+        fault: Some(ReplayFault::Unlawful {
+            at: 3,
+            rule: 4,
+            number: 0,
+        }),
+        words: &[1],
+        counts: (0, 0, 0),
+    },
+    // A slot is left awaiting, claimed again, and left warm.
+    Row {
+        slots: 1,
+        warm: 1,
+        seats: 1,
+        events: &[
+            Claim(0, 0),
+            Out(0, 0),
+            AwaitUp(0),
+            Stamp(0),
+            Home(0, 0),
+            Release(0, 0, AWAITING_5),
+            AwaitLoad(0),
+            Load(0, 0),
+            Claim(0, 0),
+            AwaitDown(0),
+            Out(0, 0),
+            WarmUp(0),
+            Home(0, 0),
+            Release(0, 0, WARM_5),
+        ],
+        fault: None,
+        words: &[42],
+        counts: (1, 0, 1),
+    },
+    // Only an idle seat joins another.
+    Row {
+        slots: 2,
+        warm: 0,
+        seats: 2,
+        events: &[Split(0, 1), Claim(0, 0), Claim(1, 1), Join(0, 1)],
+        fault: Some(ReplayFault::Unlawful {
+            at: 3,
+            rule: 3,
+            number: 0,
+        }),
+        words: &[1, 1],
+        counts: (0, 0, 0),
+    },
+    // A warm release needs a permit.
+    Row {
+        slots: 1,
+        warm: 1,
+        seats: 1,
+        events: &[Claim(0, 0), Release(0, 0, WARM_5)],
+        fault: Some(ReplayFault::Unlawful {
+            at: 1,
+            rule: 6,
+            number: 0,
+        }),
+        words: &[1],
+        counts: (0, 0, 0),
+    },
+    // At the limit a slot is left cold.
+    Row {
+        slots: 2,
+        warm: 1,
+        seats: 1,
+        events: &[
+            Claim(0, 0),
+            WarmUp(0),
+            Release(0, 0, WARM_5),
+            Claim(0, 1),
+            WarmUp(0),
+            WarmDown(0),
+            Release(0, 1, COLD),
+        ],
+        fault: None,
+        words: &[42, 0],
+        counts: (1, 0, 0),
+    },
+    // A refusal is no permit.
+    Row {
+        slots: 2,
+        warm: 1,
+        seats: 1,
+        events: &[
+            Claim(0, 0),
+            WarmUp(0),
+            Release(0, 0, WARM_5),
+            Claim(0, 1),
+            WarmUp(0),
+            Release(0, 1, WARM_6),
+        ],
+        fault: Some(ReplayFault::Unlawful {
+            at: 5,
+            rule: 6,
+            number: 1,
+        }),
+        words: &[42, 1],
+        counts: (2, 0, 0),
+    },
+    // An awaiting slot is claimed in mid-flush.
+    Row {
+        slots: 1,
+        warm: 1,
+        seats: 2,
+        events: &[
+            Split(0, 1),
+            Claim(0, 0),
+            AwaitUp(0),
+            Release(0, 0, AWAITING_5),
+            Load(0, 0),
+            Claim(1, 0),
+            Claim(0, 0),
+            AwaitDown(1),
+            AwaitUp(1),
+            Stamp(1),
+            Release(1, 0, AWAITING_6),
+        ],
+        fault: None,
+        words: &[52],
+        counts: (0, 1, 1),
+    },
+    // Its loser may not release it.
+    Row {
+        slots: 1,
+        warm: 1,
+        seats: 2,
+        events: &[
+            Split(0, 1),
+            Claim(0, 0),
+            AwaitUp(0),
+            Release(0, 0, AWAITING_5),
+            Load(0, 0),
+            Claim(1, 0),
+            Claim(0, 0),
+            AwaitDown(1),
+            AwaitUp(1),
+            Stamp(1),
+            Release(1, 0, AWAITING_6),
+            Release(0, 0, COLD),
+        ],
+        fault: Some(ReplayFault::Unlawful {
+            at: 11,
+            rule: 4,
+            number: 0,
+        }),
+        words: &[52],
+        counts: (0, 1, 1),
+    },
+    // A refusal keeps the count at the limit, though no permit stands.
+    Row {
+        slots: 3,
+        warm: 1,
+        seats: 3,
+        events: &[
+            Split(0, 1),
+            Split(0, 2),
+            Claim(0, 0),
+            Claim(1, 1),
+            Claim(2, 2),
+            WarmUp(0),
+            WarmUp(1),
+            WarmDown(0),
+            WarmUp(2),
+            Release(2, 2, WARM_1),
+        ],
+        fault: Some(ReplayFault::Unlawful {
+            at: 9,
+            rule: 6,
+            number: 2,
+        }),
+        words: &[1, 1, 1],
+        counts: (2, 0, 0),
+    },
+    // The greatest tag and the greatest stamp are released, and one more of either is not.
+    Row {
+        slots: 1,
+        warm: 0,
+        seats: 1,
+        events: &[Claim(0, 0), AwaitUp(0), Release(0, 0, GREATEST)],
+        fault: None,
+        words: &[18446744073709551612],
+        counts: (0, 1, 0),
+    },
+    Row {
+        slots: 1,
+        warm: 0,
+        seats: 1,
+        events: &[Claim(0, 0), AwaitUp(0), Release(0, 0, PAST_TAGS)],
+        fault: Some(ReplayFault::Unlawful {
+            at: 2,
+            rule: 8,
+            number: 0,
+        }),
+        words: &[1],
+        counts: (0, 1, 0),
+    },
+    Row {
+        slots: 1,
+        warm: 0,
+        seats: 1,
+        events: &[Claim(0, 0), AwaitUp(0), Release(0, 0, PAST_STAMPS)],
+        fault: Some(ReplayFault::Unlawful {
+            at: 2,
+            rule: 8,
+            number: 0,
+        }),
+        words: &[1],
+        counts: (0, 1, 0),
+    },
+];
 
 fn counts(core: &Core) -> (u64, u64, u64) {
     (core.warm(), core.awaiting(), core.clock())
@@ -113,225 +332,7 @@ fn ends_as_it_should(
 
 #[test]
 fn worked_rows_end_as_they_should(rt: HostRuntime) -> Result<(), Fail> {
-    let rows = [
-        // A claim of a held slot changes nothing, and gives no leave to release it.
-        Row {
-            slots: 1,
-            warm: 1,
-            seats: 2,
-            events: &[Split(0, 1), Claim(0, 0), Claim(1, 0), Release(1, 0, COLD)],
-            fault: Some(ReplayFault::Unlawful {
-                at: 3,
-                rule: 4,
-                number: 0,
-            }),
-            words: &[1],
-            counts: (0, 0, 0),
-        },
-        // A slot is left awaiting, claimed again, and left warm.
-        Row {
-            slots: 1,
-            warm: 1,
-            seats: 1,
-            events: &[
-                Claim(0, 0),
-                Out(0, 0),
-                AwaitUp(0),
-                Stamp(0),
-                Home(0, 0),
-                Release(0, 0, AWAITING_5),
-                AwaitLoad(0),
-                Load(0, 0),
-                Claim(0, 0),
-                AwaitDown(0),
-                Out(0, 0),
-                WarmUp(0),
-                Home(0, 0),
-                Release(0, 0, WARM_5),
-            ],
-            fault: None,
-            words: &[42],
-            counts: (1, 0, 1),
-        },
-        // Only an idle seat joins another.
-        Row {
-            slots: 2,
-            warm: 0,
-            seats: 2,
-            events: &[Split(0, 1), Claim(0, 0), Claim(1, 1), Join(0, 1)],
-            fault: Some(ReplayFault::Unlawful {
-                at: 3,
-                rule: 3,
-                number: 0,
-            }),
-            words: &[1, 1],
-            counts: (0, 0, 0),
-        },
-        // A warm release needs a permit.
-        Row {
-            slots: 1,
-            warm: 1,
-            seats: 1,
-            events: &[Claim(0, 0), Release(0, 0, WARM_5)],
-            fault: Some(ReplayFault::Unlawful {
-                at: 1,
-                rule: 6,
-                number: 0,
-            }),
-            words: &[1],
-            counts: (0, 0, 0),
-        },
-        // At the limit a slot is left cold.
-        Row {
-            slots: 2,
-            warm: 1,
-            seats: 1,
-            events: &[
-                Claim(0, 0),
-                WarmUp(0),
-                Release(0, 0, WARM_5),
-                Claim(0, 1),
-                WarmUp(0),
-                WarmDown(0),
-                Release(0, 1, COLD),
-            ],
-            fault: None,
-            words: &[42, 0],
-            counts: (1, 0, 0),
-        },
-        // A refusal is no permit.
-        Row {
-            slots: 2,
-            warm: 1,
-            seats: 1,
-            events: &[
-                Claim(0, 0),
-                WarmUp(0),
-                Release(0, 0, WARM_5),
-                Claim(0, 1),
-                WarmUp(0),
-                Release(0, 1, WARM_6),
-            ],
-            fault: Some(ReplayFault::Unlawful {
-                at: 5,
-                rule: 6,
-                number: 1,
-            }),
-            words: &[42, 1],
-            counts: (2, 0, 0),
-        },
-        // An awaiting slot is claimed in mid-flush.
-        Row {
-            slots: 1,
-            warm: 1,
-            seats: 2,
-            events: &[
-                Split(0, 1),
-                Claim(0, 0),
-                AwaitUp(0),
-                Release(0, 0, AWAITING_5),
-                Load(0, 0),
-                Claim(1, 0),
-                Claim(0, 0),
-                AwaitDown(1),
-                AwaitUp(1),
-                Stamp(1),
-                Release(1, 0, AWAITING_6),
-            ],
-            fault: None,
-            words: &[52],
-            counts: (0, 1, 1),
-        },
-        // Its loser may not release it.
-        Row {
-            slots: 1,
-            warm: 1,
-            seats: 2,
-            events: &[
-                Split(0, 1),
-                Claim(0, 0),
-                AwaitUp(0),
-                Release(0, 0, AWAITING_5),
-                Load(0, 0),
-                Claim(1, 0),
-                Claim(0, 0),
-                AwaitDown(1),
-                AwaitUp(1),
-                Stamp(1),
-                Release(1, 0, AWAITING_6),
-                Release(0, 0, COLD),
-            ],
-            fault: Some(ReplayFault::Unlawful {
-                at: 11,
-                rule: 4,
-                number: 0,
-            }),
-            words: &[52],
-            counts: (0, 1, 1),
-        },
-        // A refusal keeps the count at the limit, though no permit stands.
-        Row {
-            slots: 3,
-            warm: 1,
-            seats: 3,
-            events: &[
-                Split(0, 1),
-                Split(0, 2),
-                Claim(0, 0),
-                Claim(1, 1),
-                Claim(2, 2),
-                WarmUp(0),
-                WarmUp(1),
-                WarmDown(0),
-                WarmUp(2),
-                Release(2, 2, WARM_1),
-            ],
-            fault: Some(ReplayFault::Unlawful {
-                at: 9,
-                rule: 6,
-                number: 2,
-            }),
-            words: &[1, 1, 1],
-            counts: (2, 0, 0),
-        },
-        // The greatest tag and the greatest stamp are released, and one more of either is not.
-        Row {
-            slots: 1,
-            warm: 0,
-            seats: 1,
-            events: &[Claim(0, 0), AwaitUp(0), Release(0, 0, GREATEST)],
-            fault: None,
-            words: &[18446744073709551612],
-            counts: (0, 1, 0),
-        },
-        Row {
-            slots: 1,
-            warm: 0,
-            seats: 1,
-            events: &[Claim(0, 0), AwaitUp(0), Release(0, 0, PAST_TAGS)],
-            fault: Some(ReplayFault::Unlawful {
-                at: 2,
-                rule: 8,
-                number: 0,
-            }),
-            words: &[1],
-            counts: (0, 1, 0),
-        },
-        Row {
-            slots: 1,
-            warm: 0,
-            seats: 1,
-            events: &[Claim(0, 0), AwaitUp(0), Release(0, 0, PAST_STAMPS)],
-            fault: Some(ReplayFault::Unlawful {
-                at: 2,
-                rule: 8,
-                number: 0,
-            }),
-            words: &[1],
-            counts: (0, 1, 0),
-        },
-    ];
-    for (place, row) in rows.iter().enumerate() {
+    for (place, row) in ROWS.iter().enumerate() {
         ends_as_it_should(&rt, rt.alloc(), place, row)?;
     }
     Ok(())

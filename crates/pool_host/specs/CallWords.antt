@@ -9,6 +9,7 @@ use Rattle.pool_host.specs.declared.answers.Answer.{Answer}
 use Rattle.pool_host.specs.declared.answers.Answer.TheVariants as answer
 use Rattle.pool_host.specs.declared.finding.Refused.{Refused}
 use Rattle.pool_host.specs.declared.finding.Refused.TheVariants as refused
+use Rattle.pool_host.specs.declared.host.Asked.{Asked}
 use Rattle.pool_host.specs.declared.lane.LaneAnswer.{LaneAnswer}
 use Rattle.pool_host.specs.declared.lane.LaneAnswer.TheVariants.{Done, NoExport, BadArgs, Retired}
 
@@ -26,6 +27,10 @@ IsHostAnswer m limits export args request fuel answer.BadArgs bytes = LacksTypes
 IsHostAnswer m limits export args request fuel answer.Retired bytes = (function : ℕ) × MayCall m export function args × (bytes ≡ [])
 IsHostAnswer m limits export args request fuel (answer.Done outcome) bytes = EndsWith m limits export args request fuel outcome bytes
 IsHostAnswer m limits export args request fuel (answer.Full kind) bytes = (function : ℕ) × MayCall m export function args × (bytes ≡ [])
+
+-- the same of one that asked this
+abbrev pub IsAnswerTo : Asked → ModuleTree → RunLimits → Answer → (bytes : List ℕ) → Type 0
+IsAnswerTo asked m limits answer bytes = IsHostAnswer m limits asked.export.now asked.args.now asked.request.now asked.fuel answer bytes
 
 -- why a call takes no slots
 abbrev pub IsRefused : ModuleTree → (export : List ℕ) → (args : List Val) → Refused → Type 0

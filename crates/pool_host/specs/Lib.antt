@@ -2,6 +2,7 @@ pub mod CallWords
 pub mod Closing
 pub mod Hosts
 pub mod Idle
+pub mod Kinds
 pub mod Leases
 pub mod Looks
 pub mod Outs

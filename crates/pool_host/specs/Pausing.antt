@@ -10,6 +10,7 @@ use Rattle.module_store.specs.declared.naming.Naming.{Ghosts}
 use Rattle.pool_limits.specs.declared.numbers.Numbers.{Numbers}
 use Rattle.pool_worlds.specs.Contents.{Named}
 use Rattle.pool_worlds.specs.declared.kinds.Kind.{Kind}
+use Rattle.pool_worlds.specs.declared.kinds.Kind.TheVariants.{Memory, Table, Ticket}
 use Rattle.paused_call.specs.Standing.{Waits}
 use Rattle.instance_calls.specs.CallWords.{LacksExport, LacksTypes, MayCall}
 use Rattle.instance_calls.specs.PausedInstances.{comes_to}
@@ -27,16 +28,17 @@ use Rattle.pool_host.specs.declared.pausing.Begun.TheVariants as begun
 use Rattle.pool_host.specs.declared.pausing.Turned.{Turned}
 use Rattle.pool_host.specs.declared.pausing.Turned.TheVariants.{Again, Done}
 use Rattle.pool_host.specs.Hosts.{ArePassesOf, AreSamePasses, IsHostPass}
-use Rattle.pool_host.specs.Leases.{Gave, Took}
+use Rattle.pool_host.specs.Kinds.{TookSlot}
+use Rattle.pool_host.specs.Leases.{Gave}
 use Rattle.pool_host.specs.Outs.{IsWithin}
-use Rattle.pool_host.specs.Trails.{AddsTrails, HasCause, IsMemoryGive, IsMemoryTake, IsTableGive, IsTableTake, IsTicketGive, IsTicketTake}
+use Rattle.pool_host.specs.Trails.{AddsTrails, HasCause, IsMemoryGive, IsTableGive, IsTicketGive}
 
 module _ {N : Type 0} where
   -- the trails grew by the takes of a call's slots
   pub record TookThose (config : Numbers) (host : Host N) (m : Named) (before after : Passes N) (v : PausedView) : Type 0 where
-    pub ticket : Grew (Took (IsTicketTake config host m) (Some v.ticket)) (trail before.ticket) (trail after.ticket)
-    pub memory : Grew (Took (IsMemoryTake config host m) v.memory) (trail before.memory) (trail after.memory)
-    pub table : Grew (Took (IsTableTake config host m) v.table) (trail before.table) (trail after.table)
+    pub ticket : TookSlot Ticket host.tickets m before.ticket after.ticket (Some v.ticket)
+    pub memory : TookSlot Memory host.memories m before.memory after.memory v.memory
+    pub table : TookSlot Table host.tables m before.table after.table v.table
 
   -- and by their gives
   pub record GaveThose (config : Numbers) (host : Host N) (m : Named) (before after : Passes N) (v : PausedView) : Type 0 where

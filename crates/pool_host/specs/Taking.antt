@@ -13,8 +13,9 @@ use Rattle.instance_calls.specs.declared.instance.Instance.{Instance}
 use Rattle.instance_calls.specs.Parts.{BelongsTo, memory_slot, table_slot, ticket_slot}
 use Rattle.pool_host.specs.declared.host.Host.{Host}
 use Rattle.pool_host.specs.declared.passes.Passes.{Passes}
-use Rattle.pool_host.specs.Leases.{Gave, HasSlot, Took}
-use Rattle.pool_host.specs.Trails.{IsMemoryGive, IsMemoryTake, IsTableGive, IsTableTake, IsTicketGive, IsTicketTake}
+use Rattle.pool_host.specs.Kinds.{TookSlot}
+use Rattle.pool_host.specs.Leases.{Gave, HasSlot}
+use Rattle.pool_host.specs.Trails.{IsMemoryGive, IsTableGive, IsTicketGive}
 
 module _ {N : Type 0} where
   -- the passes have the slots of an instance, whose contents belong to the module
@@ -33,9 +34,9 @@ module _ {N : Type 0} where
 
   -- the trails grew by the takes of its slots
   pub record TookSlots (config : Numbers) (host : Host N) (m : Named) (before after : Passes N) (x : Instance N) : Type 0 where
-    pub ticket : Grew (Took (IsTicketTake config host m) (Some (ticket_slot x.ticket))) (trail before.ticket) (trail after.ticket)
-    pub memory : Grew (Took (IsMemoryTake config host m) (memory_slot x.memory)) (trail before.memory) (trail after.memory)
-    pub table : Grew (Took (IsTableTake config host m) (table_slot x.table)) (trail before.table) (trail after.table)
+    pub ticket : TookSlot Ticket host.tickets m before.ticket after.ticket (Some (ticket_slot x.ticket))
+    pub memory : TookSlot Memory host.memories m before.memory after.memory (memory_slot x.memory)
+    pub table : TookSlot Table host.tables m before.table after.table (table_slot x.table)
 
   -- and by their gives
   pub record GaveSlots (config : Numbers) (host : Host N) (m : Named) (before after : Passes N) (x : Instance N) : Type 0 where

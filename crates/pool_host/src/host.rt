@@ -2,7 +2,7 @@
 ghost use Rattle.std.specs.Prelude.{[], ◌≡◌, ◌≤◌, IfOk, length};
 ghost use Rattle.std.specs.List.{All};
 ghost use Rattle.instance_calls.specs.CallWords.{run_limits};
-ghost use Rattle.pool_host.specs.CallWords.{IfFull, IsHostAnswer};
+ghost use Rattle.pool_host.specs.CallWords.{IfFull, IsAnswerTo, IsHostAnswer};
 ghost use Rattle.pool_host.specs.Hosts.{AreIdle, ArePassesOf, AreSamePasses, HandedOut, HasShare, IsHostPass, IsNewHostPass, IsSameHostPass, IsShare};
 ghost use Rattle.pool_host.specs.Looks.{look_of, Looked};
 ghost use Rattle.pool_host.specs.Trails.{AddsTrails, HasCause};
@@ -37,6 +37,15 @@ pub struct Host<N: Naming> {
     pub(crate) memories: Words<MemSlot<N>>,
     pub(crate) tables: Words<TableSlot<N>>,
     pub(crate) retired: Retired,
+}
+
+// What is asked of a module: an export with its arguments, a request that it may read, and the fuel.
+#[derive(Clone, Copy, Debug)]
+pub(crate) struct Asked<'a> {
+    pub export: &'a [u8],
+    pub args: &'a [Val],
+    pub request: &'a [u8],
+    pub fuel: u64,
 }
 
 impl<N: Naming> Host<N> {
@@ -106,27 +115,33 @@ impl<N: Naming> Host<N> {
         retired: &mut TagPass,
         store: &ModuleStore<N>,
         module: &ModuleRef<N>,
-        export: &[u8],
-        args: &[Val],
-        request: &[u8],
-        fuel: u64,
+        asked: &Asked<'_>,
         number: u64,
         gate: &G,
         said: &mut AnswerBuf,
     ) -> Answer
         requires own { ArePassesOf self.now passes.old }
         requires tags { IsTagPass self.now.retired.tags retired.old }
-        requires request { length request.now ≤ 65536 }
+        requires request { length asked.now.request.now ≤ 65536 }
         requires idle { AreIdle passes.old }
         ensures same { AreSamePasses passes.old passes.new }
         ensures idle { AreIdle passes.new }
         ensures tags { IsTagPass self.now.retired.tags retired.new }
-        ensures answer { IsHostAnswer «module».now.tree (run_limits N.config) export.now args.now request.now fuel result said.new }
+        ensures answer { IsAnswerTo asked.now «module».now.tree (run_limits N.config) result said.new }
         ensures trails { AddsTrails N.config self.now «module».now result passes.old passes.new }
         ensures full { IfFull result (HasCause N.config self.now «module».now passes.old passes.new) }
         ensures looked { Looked self.now.retired.tags «module».now.tag retired.old retired.new (look_of result) }
     {
-        let function = match find(&self.retired, retired, store, module, export, args, said) {
+        let found = find(
+            &self.retired,
+            retired,
+            store,
+            module,
+            asked.export,
+            asked.args,
+            said,
+        );
+        let function = match found {
             Ok(function) => function,
             Err(Refused::NoExport) => return Answer::NoExport,
             Err(Refused::BadArgs) => return Answer::BadArgs,
@@ -135,7 +150,15 @@ impl<N: Naming> Host<N> {
         match take_slots(self, passes, store, module) {
             Ok(mut instance) => {
                 gate.entered(number);
-                let outcome = instance.run(store, module, function, args, fuel, request, said);
+                let outcome = instance.run(
+                    store,
+                    module,
+                    function,
+                    asked.args,
+                    asked.fuel,
+                    asked.request,
+                    said,
+                );
                 give_slots(self, passes, store, instance);
                 Answer::Done(outcome)
             }
@@ -179,15 +202,18 @@ impl<N: Naming> Host<N> {
         // one look at the retired tags, after the checks and before any slot: retired is exactly what it read
         ensures looked { Looked self.now.retired.tags «module».now.tag pass.old.retired pass.new.retired (look_of result) }
     {
+        let asked = Asked {
+            export,
+            args,
+            request,
+            fuel,
+        };
         let answer = self.answer(
             &mut pass.passes,
             &mut pass.retired,
             store,
             module,
-            export,
-            args,
-            request,
-            fuel,
+            &asked,
             number,
             gate,
             &mut pass.answer,

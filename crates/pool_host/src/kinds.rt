@@ -1,17 +1,14 @@
 //! Slots of a kind that a module may not need are taken.
 ghost use Rattle.std.specs.Prelude.{IfOk, IfSome, OnErr};
 ghost use Rattle.slot_words.specs.Leases.{lease_word};
-ghost use Rattle.slot_words.specs.Owned.{IsPassOf, limit_of, passes_of, slots_of};
-ghost use Rattle.slot_words.specs.Parts.{Grew};
-ghost use Rattle.slot_words.specs.Passes.{IsIdle, IsSamePass, trail};
-ghost use Rattle.slot_pools.specs.Takes.{IsAffineTake, IsBatchedTake, IsFullAffineTake, IsFullBatchedTake};
-ghost use Rattle.pool_worlds.specs.Contents.{needs};
+ghost use Rattle.slot_words.specs.Owned.{IsPassOf, slots_of};
+ghost use Rattle.slot_words.specs.Passes.{IsIdle, IsSamePass};
 ghost use Rattle.pool_worlds.specs.declared.kinds.Kind.TheVariants.{Memory, Table};
 ghost use Rattle.pool_worlds.specs.Handed.{IsHandedOut};
 ghost use Rattle.instance_calls.specs.Instances.{IsFreshMemory, IsFreshTable};
 ghost use Rattle.instance_calls.specs.Parts.{BelongsTo, memory_slot, table_slot};
-ghost use Rattle.pool_host.specs.Leases.{HasSlot, Took};
-ghost use Rattle.pool_host.specs.Visits.{IsTurnedAway};
+ghost use Rattle.pool_host.specs.Kinds.{IsTurnedAwayFrom, TookSlot};
+ghost use Rattle.pool_host.specs.Leases.{HasSlot};
 
 use instance_calls::{needs_memory, needs_table};
 use memory_slots::MemSlot;
@@ -34,9 +31,9 @@ pub(crate) fn take_memory<N: Naming>(
     ensures belongs { IfOk result (λ o. BelongsTo «module».now (memory_slot o)) }
     ensures fresh { IfOk result (IsFreshMemory N.config «module».now.tree) }
     ensures handed { IfOk result (λ o. IfSome o (λ l. IsHandedOut N.config.pages Memory «module».now (lease_word l) l.value)) }
-    ensures took { IfOk result (λ o. Grew (Took (IsBatchedTake (limit_of pool.now) (slots_of pool.now) «module».now.tag) (memory_slot o)) (trail pass.old) (trail pass.new)) }
+    ensures took { IfOk result (λ o. TookSlot Memory pool.now «module».now pass.old pass.new (memory_slot o)) }
     ensures idle { OnErr result (IsIdle pass.new) }
-    ensures full { OnErr result (IsTurnedAway (needs Memory «module».now.tree) (IsFullBatchedTake (limit_of pool.now) (slots_of pool.now) «module».now.tag) (passes_of pool.now) pass.old pass.new) }
+    ensures full { OnErr result (IsTurnedAwayFrom Memory pool.now «module».now pass.old pass.new) }
 {
     if !needs_memory(store, module) {
         return Ok(None);
@@ -59,9 +56,9 @@ pub(crate) fn take_table<N: Naming>(
     ensures belongs { IfOk result (λ o. BelongsTo «module».now (table_slot o)) }
     ensures fresh { IfOk result (IsFreshTable «module».now.tree) }
     ensures handed { IfOk result (λ o. IfSome o (λ l. IsHandedOut N.config.pages Table «module».now (lease_word l) l.value)) }
-    ensures took { IfOk result (λ o. Grew (Took (IsAffineTake (limit_of pool.now) (slots_of pool.now) «module».now.tag) (table_slot o)) (trail pass.old) (trail pass.new)) }
+    ensures took { IfOk result (λ o. TookSlot Table pool.now «module».now pass.old pass.new (table_slot o)) }
     ensures idle { OnErr result (IsIdle pass.new) }
-    ensures full { OnErr result (IsTurnedAway (needs Table «module».now.tree) (IsFullAffineTake (limit_of pool.now) (slots_of pool.now) «module».now.tag) (passes_of pool.now) pass.old pass.new) }
+    ensures full { OnErr result (IsTurnedAwayFrom Table pool.now «module».now pass.old pass.new) }
 {
     if !needs_table(store, module) {
         return Ok(None);

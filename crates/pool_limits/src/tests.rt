@@ -19,116 +19,130 @@ const USUAL: Numbers = Numbers {
     frame: 1_024,
 };
 
-fn bad(which: Setting, value: u32) -> Result<Numbers, BadNumber> {
-    Err(BadNumber { which, value })
-}
+const MOST: Numbers = Numbers {
+    workers: 16,
+    instances: 1024,
+    memories: 1024,
+    tables: 1024,
+    warm: 1024,
+    batch: 1024,
+    pages: 256,
+    elements: 65_536,
+    depth: 1_000,
+    frame: 4_096,
+};
+
+const LEAST: Numbers = Numbers {
+    workers: 1,
+    instances: 1,
+    memories: 1,
+    tables: 1,
+    warm: 0,
+    batch: 1,
+    pages: 1,
+    elements: 0,
+    depth: 1,
+    frame: 1,
+};
+
+// Numbers, the first of them that is out of range, and its value.
+const OUT_OF_RANGE: [(Numbers, Setting, u32); 10] = [
+    (Numbers { batch: 0, ..USUAL }, Setting::Batch, 0),
+    (
+        Numbers {
+            workers: 2,
+            memories: 1,
+            ..USUAL
+        },
+        Setting::Memories,
+        1,
+    ),
+    (
+        Numbers {
+            workers: 17,
+            batch: 0,
+            ..USUAL
+        },
+        Setting::Workers,
+        17,
+    ),
+    (
+        Numbers {
+            workers: 0,
+            ..USUAL
+        },
+        Setting::Workers,
+        0,
+    ),
+    (
+        Numbers {
+            workers: 2,
+            ..LEAST
+        },
+        Setting::Instances,
+        1,
+    ),
+    (
+        Numbers {
+            warm: 1025,
+            ..USUAL
+        },
+        Setting::Warm,
+        1025,
+    ),
+    (
+        Numbers {
+            pages: 257,
+            elements: 65_537,
+            ..USUAL
+        },
+        Setting::Pages,
+        257,
+    ),
+    (
+        Numbers {
+            elements: 65_537,
+            depth: 0,
+            ..USUAL
+        },
+        Setting::Elements,
+        65_537,
+    ),
+    (
+        Numbers {
+            depth: 1_001,
+            frame: 0,
+            ..USUAL
+        },
+        Setting::Depth,
+        1_001,
+    ),
+    (
+        Numbers {
+            frame: 4_097,
+            ..USUAL
+        },
+        Setting::Frame,
+        4_097,
+    ),
+];
 
 fn new(numbers: Numbers) -> Result<Numbers, BadNumber> {
     PoolConfig::new(numbers).map(|c| c.numbers())
 }
 
 #[test]
+fn numbers_in_range_are_kept(rt: HostRuntime) {
+    for numbers in [USUAL, MOST, LEAST] {
+        assert_eq!(rt; new(numbers), Ok(numbers), "{numbers:?}");
+    }
+}
+
+#[test]
 fn the_first_number_out_of_range_is_named(rt: HostRuntime) {
-    let most = Numbers {
-        workers: 16,
-        instances: 1024,
-        memories: 1024,
-        tables: 1024,
-        warm: 1024,
-        batch: 1024,
-        pages: 256,
-        elements: 65_536,
-        depth: 1_000,
-        frame: 4_096,
-    };
-    let least = Numbers {
-        workers: 1,
-        instances: 1,
-        memories: 1,
-        tables: 1,
-        warm: 0,
-        batch: 1,
-        pages: 1,
-        elements: 0,
-        depth: 1,
-        frame: 1,
-    };
-    let rows = [
-        (USUAL, Ok(USUAL)),
-        (most, Ok(most)),
-        (least, Ok(least)),
-        (Numbers { batch: 0, ..USUAL }, bad(Setting::Batch, 0)),
-        (
-            Numbers {
-                workers: 2,
-                memories: 1,
-                ..USUAL
-            },
-            bad(Setting::Memories, 1),
-        ),
-        (
-            Numbers {
-                workers: 17,
-                batch: 0,
-                ..USUAL
-            },
-            bad(Setting::Workers, 17),
-        ),
-        (
-            Numbers {
-                workers: 0,
-                ..USUAL
-            },
-            bad(Setting::Workers, 0),
-        ),
-        (
-            Numbers {
-                workers: 2,
-                ..least
-            },
-            bad(Setting::Instances, 1),
-        ),
-        (
-            Numbers {
-                warm: 1025,
-                ..USUAL
-            },
-            bad(Setting::Warm, 1025),
-        ),
-        (
-            Numbers {
-                pages: 257,
-                elements: 65_537,
-                ..USUAL
-            },
-            bad(Setting::Pages, 257),
-        ),
-        (
-            Numbers {
-                elements: 65_537,
-                depth: 0,
-                ..USUAL
-            },
-            bad(Setting::Elements, 65_537),
-        ),
-        (
-            Numbers {
-                depth: 1_001,
-                frame: 0,
-                ..USUAL
-            },
-            bad(Setting::Depth, 1_001),
-        ),
-        (
-            Numbers {
-                frame: 4_097,
-                ..USUAL
-            },
-            bad(Setting::Frame, 4_097),
-        ),
-    ];
-    for (numbers, expected) in rows {
-        assert_eq!(rt; new(numbers), expected, "{numbers:?}");
+    for (numbers, which, value) in OUT_OF_RANGE {
+        let bad = Err(BadNumber { which, value });
+        assert_eq!(rt; new(numbers), bad, "{numbers:?}");
     }
 }
 

@@ -16,10 +16,10 @@ use std::test::Fail;
 use wasm_values::{Items, Outcome, Profile, Val};
 
 // Of profile 3: it reads its whole request to address 0, and answers it.
-pub(crate) static ECHO: [u8; 101] =
+static ECHO: [u8; 101] =
     *b"\0asm\x01\0\0\0\x01\x12\x03\x60\0\x01\x7f\x60\x03\x7f\x7f\x7f\x01\x7f\x60\x02\x7f\x7f\x01\x7f\x02\x25\x03\x04host\x03len\0\0\x04host\x04read\0\x01\x04host\x05write\0\x02\x03\x02\x01\0\x05\x03\x01\0\x01\x07\x05\x01\x01e\0\x03\x0a\x10\x01\x0e\0\x41\0\x41\0\x41\0\x10\0\x10\x01\x10\x02\x0b";
 
-pub(crate) fn wrote(count: u32) -> Outcome {
+fn wrote(count: u32) -> Outcome {
     Outcome::Done(Some(Val::I32(count)))
 }
 

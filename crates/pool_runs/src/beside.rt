@@ -22,14 +22,14 @@ static ADD: [u8; 41] =
 
 // Holds call 1 as it enters until call 2 was answered, and lets call 2 begin then; both for so many turns at most.
 #[derive(Drop)]
-pub(crate) struct HoldingGate {
-    pub entered: AtomicBool,
-    pub answered: AtomicBool,
+struct HoldingGate {
+    entered: AtomicBool,
+    answered: AtomicBool,
 }
 
 const MOST_TURNS: u64 = 2_000_000_000;
 
-pub(crate) fn wait_for(flag: &AtomicBool) {
+fn wait_for(flag: &AtomicBool) {
     for _ in 0..MOST_TURNS {
         if flag.load(Ordering::SeqCst) {
             return;
@@ -38,7 +38,7 @@ pub(crate) fn wait_for(flag: &AtomicBool) {
 }
 
 impl HoldingGate {
-    pub(crate) fn new() -> HoldingGate {
+    fn new() -> HoldingGate {
         HoldingGate {
             entered: AtomicBool::new(false),
             answered: AtomicBool::new(false),

@@ -1,7 +1,7 @@
 //! Each call is made on a fresh instance, whatever ran in its slots before.
 ghost use Rattle.module_store.specs.Names.{Bears};
 
-use crate::callers::{BUMP, open, register};
+use crate::callers::{BUMP, ONE, open, register};
 use host_edge::OpenGate;
 use module_store::{Naming, Opened};
 use pool_host::{LaneAnswer, LaneHost};
@@ -26,6 +26,38 @@ static NXT: [u8; 49] =
 static IND: [u8; 71] =
     *b"\0asm\x01\0\0\0\x01\x0d\x03\x60\0\x01\x7f\x60\x01\x7f\x01\x7f\x60\0\0\x03\x04\x03\0\x02\x01\x04\x04\x01p\0\x03\x07\x05\x01\x01i\0\x02\x09\x08\x01\0\x41\0\x0b\x02\0\x01\x0a\x11\x03\x04\0\x41\x07\x0b\x02\0\x0b\x07\0\x20\0\x11\0\0\x0b";
 
+const ONE_OF_EACH: Share = Share {
+    instances: 1,
+    memories: 1,
+    tables: 1,
+};
+
+const NOTHING: LaneAnswer = LaneAnswer::Done(Outcome::Done(None));
+
+const ZERO: LaneAnswer = LaneAnswer::Done(Outcome::Done(Some(Val::I32(0))));
+
+const SEVEN: LaneAnswer = LaneAnswer::Done(Outcome::Done(Some(Val::I32(7))));
+
+const POKED: [Val; 2] = [Val::I32(0), Val::I32(u32::MAX)];
+
+// Calls one after the other: the module's place, its export, arguments and fuel, and the answer.
+type Row = (usize, &'static str, &'static [Val], u64, LaneAnswer);
+
+const CALLS: [Row; 12] = [
+    (1, "poke", &POKED, 100, NOTHING),
+    (0, "bump", &[], 100, LaneAnswer::Done(ONE)),
+    (1, "poke", &POKED, 100, NOTHING),
+    (0, "bump", &[], 100, LaneAnswer::Done(ONE)),
+    (0, "bump", &[], 100, LaneAnswer::Done(ONE)),
+    (2, "dirty", &[], 50, LaneAnswer::Done(Outcome::Fuel)),
+    (2, "look", &[], 5, ZERO),
+    (3, "n", &[], 5, LaneAnswer::Done(ONE)),
+    (3, "n", &[], 5, LaneAnswer::Done(ONE)),
+    (4, "i", &[Val::I32(0)], 9, SEVEN),
+    (4, "i", &[Val::I64(0)], 9, LaneAnswer::BadArgs),
+    (4, "j", &[Val::I32(0)], 9, LaneAnswer::NoExport),
+];
+
 // One slot of each kind, one call after the other.
 fn check_calls<N: Naming, R: Abort + Wait>(rt: &R, alloc: Global, opened: Opened)
     requires { Bears opened N.shelves N.config }
@@ -38,59 +70,19 @@ fn check_calls<N: Naming, R: Abort + Wait>(rt: &R, alloc: Global, opened: Opened
         register(rt, alloc, &store, &mut desk, Profile::One, NXT.as_slice()),
         register(rt, alloc, &store, &mut desk, Profile::One, IND.as_slice()),
     ];
-    let share = Share {
-        instances: 1,
-        memories: 1,
-        tables: 1,
-    };
-    let mut lane = LaneHost::open(alloc, &store, share).expect(rt, "opened");
-    let ok = |n| LaneAnswer::Done(Outcome::Done(Some(Val::I32(n))));
-    let nothing = LaneAnswer::Done(Outcome::Done(None));
-    let poke = [Val::I32(0), Val::I32(u32::MAX)];
-    let rows = [
-        (1, b"poke".as_slice(), poke.as_slice(), 100, nothing),
-        (0, b"bump".as_slice(), [].as_slice(), 100, ok(1)),
-        (1, b"poke".as_slice(), poke.as_slice(), 100, nothing),
-        (0, b"bump".as_slice(), [].as_slice(), 100, ok(1)),
-        (0, b"bump".as_slice(), [].as_slice(), 100, ok(1)),
-        (
-            2,
-            b"dirty".as_slice(),
-            [].as_slice(),
-            50,
-            LaneAnswer::Done(Outcome::Fuel),
-        ),
-        (2, b"look".as_slice(), [].as_slice(), 5, ok(0)),
-        (3, b"n".as_slice(), [].as_slice(), 5, ok(1)),
-        (3, b"n".as_slice(), [].as_slice(), 5, ok(1)),
-        (4, b"i".as_slice(), [Val::I32(0)].as_slice(), 9, ok(7)),
-        (
-            4,
-            b"i".as_slice(),
-            [Val::I64(0)].as_slice(),
-            9,
-            LaneAnswer::BadArgs,
-        ),
-        (
-            4,
-            b"j".as_slice(),
-            [Val::I32(0)].as_slice(),
-            9,
-            LaneAnswer::NoExport,
-        ),
-    ];
-    for (module, export, args, fuel, expected) in rows {
+    let mut lane = LaneHost::open(alloc, &store, ONE_OF_EACH).expect(rt, "opened");
+    for (module, export, args, fuel, expected) in CALLS {
         let answer = lane.send(
             &store,
             &modules[module % 5],
-            export,
+            export.as_bytes(),
             args,
             &[],
             fuel,
             1,
             &OpenGate,
         );
-        assert_eq!(rt; answer, expected, "{export:?}");
+        assert_eq!(rt; answer, expected, "{export}");
     }
 }
 
@@ -125,12 +117,7 @@ fn check_profile_2<N: Naming, R: Abort + Wait>(rt: &R, alloc: Global, opened: Op
         EXTEND.as_slice(),
     );
     let fill = register(rt, alloc, &store, &mut desk, Profile::Two, FILL.as_slice());
-    let share = Share {
-        instances: 1,
-        memories: 1,
-        tables: 1,
-    };
-    let mut lane = LaneHost::open(alloc, &store, share).expect(rt, "opened");
+    let mut lane = LaneHost::open(alloc, &store, ONE_OF_EACH).expect(rt, "opened");
     for (a, want) in [(127, 127), (128, 0xffff_ff80), (255, u32::MAX), (256, 0)] {
         let got = lane.send(&store, &extend, b"e", &[Val::I32(a)], &[], 2, 1, &OpenGate);
         let want = Outcome::Done(Some(Val::I32(want)));
@@ -166,12 +153,7 @@ fn check_filled<N: Naming, R: Abort + Wait>(rt: &R, alloc: Global, opened: Opene
     let (store, mut desk) = opened.named::<N>();
     let fill = register(rt, alloc, &store, &mut desk, Profile::Two, FILL.as_slice());
     let peek = register(rt, alloc, &store, &mut desk, Profile::One, PEEK.as_slice());
-    let share = Share {
-        instances: 1,
-        memories: 1,
-        tables: 1,
-    };
-    let mut lane = LaneHost::open(alloc, &store, share).expect(rt, "opened");
+    let mut lane = LaneHost::open(alloc, &store, ONE_OF_EACH).expect(rt, "opened");
     let done = |value| LaneAnswer::Done(Outcome::Done(value));
     let all = [Val::I32(0), Val::I32(65_536)];
     for at in [0, 4_092, 4_096, 65_532] {

@@ -1,4 +1,4 @@
-//! Tests of calls on hosts and lanes, and on tenants' hosts: what they are answered, on which slots they run, and how they go in slices. Nothing stands on this crate.
+//! Tests of calls on hosts and lanes: what they are answered, on which slots they run, and how they go in slices. Nothing stands on this crate.
 #![tactic(auto)]
 
 #[cfg(test)]
@@ -14,13 +14,9 @@ mod given_up;
 #[cfg(test)]
 mod handed_on;
 #[cfg(test)]
-mod plans;
-#[cfg(test)]
-mod retirements;
+mod retired_beside;
 #[cfg(test)]
 mod slices;
-#[cfg(test)]
-mod tenants;
 #[cfg(test)]
 mod told;
 #[cfg(test)]

@@ -3,7 +3,7 @@ ghost use Rattle.module_store.specs.Names.{Bears};
 ghost use Rattle.pool_host.specs.Hosts.{IsHostPass};
 ghost use Rattle.pool_host.specs.Pausing.{IsOfHost};
 
-use crate::callers::{one_caller, open, register};
+use crate::callers::{one_caller, one_module, open, register};
 use host_edge::OpenGate;
 use module_store::{ModuleRef, ModuleStore, Naming, Opened};
 use pool_host::{Begun, Host, HostPass, Paused, Turned};
@@ -26,9 +26,13 @@ static STARTED: [u8; 56] =
 static WRITING: [u8; 86] =
     *b"\0asm\x01\0\0\0\x01\x0b\x02\x60\x02\x7f\x7f\x01\x7f\x60\0\x01\x7f\x02\x0e\x01\x04host\x05write\0\0\x03\x02\x01\x01\x05\x03\x01\0\x01\x07\x09\x02\x01w\0\0\x01t\0\x01\x0a\x11\x01\x0f\0\x41\0\x41\x02\x10\0\x1a\x41\x01\x41\x01\x10\0\x0b\x0b\x08\x01\0\x41\0\x0b\x02ab";
 
-fn value(number: u32) -> Outcome {
-    Outcome::Done(Some(Val::I32(number)))
-}
+const ZERO: Outcome = Outcome::Done(Some(Val::I32(0)));
+
+const TWO: Outcome = Outcome::Done(Some(Val::I32(2)));
+
+const THREE: Outcome = Outcome::Done(Some(Val::I32(3)));
+
+const FIVE: Outcome = Outcome::Done(Some(Val::I32(5)));
 
 // Begins a call with a pass of the host.
 pub(crate) fn begun<N: Naming, R: Abort>(
@@ -106,6 +110,27 @@ fn in_slices<N: Naming, R: Abort>(
 // The fuel of a call, its slices, how it ends, and the bytes that it answers.
 type Sliced = (u64, [u64; 3], u64, Outcome, &'static str);
 
+const COUNTED: [Sliced; 4] = [
+    (19, [5, 5, 5], 5, ZERO, ""),
+    (19, [0, 18, 0], 1, ZERO, ""),
+    (19, [0, 0, 0], 19, ZERO, ""),
+    (18, [0, 0, 0], 18, Outcome::Fuel, ""),
+];
+
+const ANSWERED: [Sliced; 4] = [
+    (3, [1, 1, 0], 1, FIVE, ""),
+    (3, [0, 2, 0], 1, FIVE, ""),
+    (9, [0, 0, 1], 8, FIVE, ""),
+    (2, [1, 0, 0], 1, Outcome::Fuel, ""),
+];
+
+const WRITTEN: [Sliced; 4] = [
+    (7, [1, 1, 1], 4, THREE, "abb"),
+    (7, [3, 0, 3], 1, THREE, "abb"),
+    (9, [0, 3, 3], 3, THREE, "abb"),
+    (6, [3, 0, 0], 3, Outcome::Fuel, ""),
+];
+
 fn check_rows<N: Naming, R: Abort>(
     rt: &R,
     host: &Host<N>,
@@ -162,28 +187,10 @@ fn check_slices<N: Naming, R: Abort + Wait>(rt: &R, alloc: Global, opened: Opene
         WRITING.as_slice(),
     );
     let (host, pass) = one_caller(rt, alloc, &store);
-    let rows: [Sliced; 4] = [
-        (19, [5, 5, 5], 5, value(0), ""),
-        (19, [0, 18, 0], 1, value(0), ""),
-        (19, [0, 0, 0], 19, value(0), ""),
-        (18, [0, 0, 0], 18, Outcome::Fuel, ""),
-    ];
     let three = [Val::I32(3)];
-    let pass = check_rows(rt, &host, pass, &store, &counting, "c", &three, rows);
-    let rows: [Sliced; 4] = [
-        (3, [1, 1, 0], 1, value(5), ""),
-        (3, [0, 2, 0], 1, value(5), ""),
-        (9, [0, 0, 1], 8, value(5), ""),
-        (2, [1, 0, 0], 1, Outcome::Fuel, ""),
-    ];
-    let pass = check_rows(rt, &host, pass, &store, &started, "g", &[], rows);
-    let rows: [Sliced; 4] = [
-        (7, [1, 1, 1], 4, value(3), "abb"),
-        (7, [3, 0, 3], 1, value(3), "abb"),
-        (9, [0, 3, 3], 3, value(3), "abb"),
-        (6, [3, 0, 0], 3, Outcome::Fuel, ""),
-    ];
-    check_rows(rt, &host, pass, &store, &writing, "t", &[], rows);
+    let pass = check_rows(rt, &host, pass, &store, &counting, "c", &three, COUNTED);
+    let pass = check_rows(rt, &host, pass, &store, &started, "g", &[], ANSWERED);
+    check_rows(rt, &host, pass, &store, &writing, "t", &[], WRITTEN);
 }
 
 #[test]
@@ -197,20 +204,13 @@ fn a_call_in_slices_ends_as_at_once(rt: HostRuntime) -> Result<(), Fail> {
 fn check_imports<N: Naming, R: Abort + Wait>(rt: &R, alloc: Global, opened: Opened)
     requires { Bears opened N.shelves N.config }
 {
-    let (store, mut desk) = opened.named::<N>();
-    let writing = register(
-        rt,
-        alloc,
-        &store,
-        &mut desk,
-        Profile::Three,
-        WRITING.as_slice(),
-    );
+    let bytes = WRITING.as_slice();
+    let (store, writing) = one_module::<N, R>(rt, alloc, opened, Profile::Three, bytes);
     let (host, pass) = one_caller(rt, alloc, &store);
     let both = [Val::I32(0), Val::I32(2)];
     let paused = begun(rt, &host, pass, &store, &writing, "w", &both, 0);
     let (outcome, pass) = ended(rt, &host, &store, paused, 0);
-    assert_eq!(rt; outcome, value(2));
+    assert_eq!(rt; outcome, TWO);
     assert_eq!(rt; pass.answer(), b"ab".as_slice());
     let paused = begun(rt, &host, pass, &store, &writing, "w", &both, 0);
     let pass = paused.cancel(&host, &store, &OpenGate);
@@ -221,7 +221,7 @@ fn check_imports<N: Naming, R: Abort + Wait>(rt: &R, alloc: Global, opened: Open
     assert_eq!(rt; pass.answer(), b"".as_slice());
     let paused = begun(rt, &host, pass, &store, &writing, "t", &[], 7);
     let (outcome, pass) = ended(rt, &host, &store, paused, 7);
-    assert_eq!(rt; outcome, value(3));
+    assert_eq!(rt; outcome, THREE);
     assert_eq!(rt; pass.answer(), b"abb".as_slice());
 }
 

@@ -1,7 +1,5 @@
 pub mod LineLemmas
-pub mod NumberLemmas
 pub mod ReadingLemmas
-pub mod WordLemmas
 pub mod PlaceLemmas
 pub mod TenantLemmas
 pub mod PlanLemmas

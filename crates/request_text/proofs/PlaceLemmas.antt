@@ -20,7 +20,7 @@ use Rattle.std.proofs.lemmas.List.Folds.{position_or_len_push}
 use Rattle.std.proofs.lemmas.Slice.Eq.{bytes_eq-Decides}
 use Rattle.std.proofs.lemmas.Map.Text.{is_eq-slice_cmp}
 use Rattle.std.proofs.lemmas.Bool.{cases_Bool, cond-true, cond-false}
-use Rattle.request_text.specs.Words.{place_of}
+use Rattle.request_words.specs.Words.{place_of}
 use Rattle.request_text.specs.Reading.{ArePlaces}
 
 -- the place k, which is that of the first of n that passes, or n; of one more, where b says whether it passes

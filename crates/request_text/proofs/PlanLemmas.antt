@@ -12,7 +12,8 @@ use Rattle.pool_limits.proofs.WantLemmas.{may_want}
 use Rattle.request_text.specs.declared.request.Directive.{Directive}
 use Rattle.request_text.specs.declared.request.Reason.{Reason}
 use Rattle.request_text.specs.declared.request.Reason.TheVariants as why
-use Rattle.request_text.specs.Words.{◌>>=◌, demand, is_comment, is_printable, line_words, text_lines}
+use Rattle.request_text.specs.Ladder.{◌>>=◌, demand}
+use Rattle.request_words.specs.Words.{is_comment, is_printable, line_words, text_lines}
 use Rattle.request_text.specs.Profiles.{has_tenants, profile_of}
 use Rattle.request_text.specs.Tenants.{Tenants, for_after, tenant_after}
 use Rattle.request_text.specs.Text.{Asked, FileRefusal, ReadLines, at_line, declared_by, directive_of, is_first, most_bytes, nothing_read, profile_after, profile_in, requests_after, requests_from, requests_of, with_directive, with_tenants, words_after}

@@ -7,7 +7,7 @@ use Rattle.request_text.specs.declared.request.Directive.{Directive}
 use Rattle.request_text.specs.declared.request.Directive.TheVariants.{Module}
 use Rattle.request_text.specs.declared.request.Reason.{Reason}
 use Rattle.request_text.specs.declared.request.Reason.TheVariants.{BadByte, BadWords, UnknownDirective, LateProfile, BadProfile}
-use Rattle.request_text.specs.Words.{line_words, place_of}
+use Rattle.request_words.specs.Words.{line_words, place_of}
 use Rattle.request_text.specs.Profiles.{profile_of}
 use Rattle.request_text.specs.Text.{Asked, BadLine, FileRefusal, directive_of, module_directive_of, profile_after, requests_after, requests_of, send_directive_of, words_after}
 use Rattle.hex.specs.Hex.{decode_pairs}

@@ -11,7 +11,7 @@ use Rattle.request_text.specs.declared.request.Directive.{Directive}
 use Rattle.request_text.specs.declared.request.Directive.TheVariants.{Module, Call, Retire}
 use Rattle.request_text.specs.declared.request.Reason.{Reason}
 use Rattle.request_text.specs.declared.request.Reason.TheVariants.{BadByte, UnknownDirective, BadWords, NameUsedTwice, UnknownModule, RetiredTwice}
-use Rattle.request_text.specs.Words.{line_words, number_up_to, place_of}
+use Rattle.request_words.specs.Words.{line_words, number_up_to, place_of}
 use Rattle.request_text.specs.Profiles.{profile_of}
 use Rattle.request_text.specs.Tenants.{no_tenants, share_of, slots_of, tenant_after, tenants_with}
 use Rattle.request_text.specs.Text.{AreRequests, Asked, BadLine, Declared, FileRefusal, call_count, call_directive_of, call_of, directive_of, module_directive_of, is_retired, modules_of, profile_after, requests_after, requests_of, request_of, retire_directive_of, retired_places, send_directive_of, words_after}

@@ -9,7 +9,7 @@ use Rattle.request_text.specs.declared.request.Directive.{Directive}
 use Rattle.request_text.specs.declared.request.Directive.TheVariants.{Module, Call}
 use Rattle.request_text.specs.declared.request.Reason.{Reason}
 use Rattle.request_text.specs.declared.request.Reason.TheVariants.{BadByte, UnknownDirective, LateProfile, BadWords, BadName, BadShare, NameUsedTwice, TooManyTenants, ShareTooLarge, UnknownModule, UnknownTenant}
-use Rattle.request_text.specs.Words.{line_words, number_up_to, place_of}
+use Rattle.request_words.specs.Words.{line_words, number_up_to, place_of}
 use Rattle.request_text.specs.Profiles.{profile_of}
 use Rattle.request_text.specs.Tenants.{Tenants, for_after, share_number, share_of, slots_of, tenant_after, tenants_with}
 use Rattle.request_text.specs.Text.{AreRequests, Asked, BadLine, FileRefusal, call_directive_of, call_of, directive_of, module_directive_of, profile_after, requests_after, requests_of, words_after}

@@ -15,7 +15,7 @@ use Rattle.pool_limits.specs.Plans.{first_over, plan_fault, HasSlots}
 use Rattle.pool_limits.proofs.WantLemmas.{none_bad}
 use Rattle.request_text.specs.declared.request.Reason.{Reason}
 use Rattle.request_text.specs.declared.request.Reason.TheVariants as why
-use Rattle.request_text.specs.Words.{◌>>=◌, demand}
+use Rattle.request_text.specs.Ladder.{◌>>=◌, demand}
 use Rattle.request_text.specs.Tenants.{Tenants, for_after, share_number, share_of, slots_of, tenant_after, tenant_named, tenants_with}
 
 -- ---- what can't be had

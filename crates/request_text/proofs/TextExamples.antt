@@ -12,7 +12,7 @@ use Rattle.request_text.specs.declared.request.Directive.{Directive}
 use Rattle.request_text.specs.declared.request.Directive.TheVariants.{Module, Call}
 use Rattle.request_text.specs.declared.request.Reason.{Reason}
 use Rattle.request_text.specs.declared.request.Reason.TheVariants.{BadHex, BadName, NameUsedTwice, TooManyModules, UnknownModule, BadFuel, BadRequest, RequestTooLong, BadArgument, TooManyCalls}
-use Rattle.request_text.specs.Words.{argument_of, integer_of, number_up_to, place_of}
+use Rattle.request_words.specs.Words.{argument_of, integer_of, number_up_to, place_of}
 use Rattle.request_text.specs.Text.{Declared, call_directive_of, call_of, module_directive_of, request_of, send_directive_of}
 
 -- so many modules `m`, and so many calls; the calls that follow are tenant 3's

@@ -1,4 +1,4 @@
-pub mod Words
+pub mod Ladder
 pub mod Profiles
 pub mod Tenants
 pub mod Text

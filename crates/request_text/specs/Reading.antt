@@ -12,7 +12,7 @@ use Rattle.request_text.specs.declared.request.ParseFault.{ParseFault}
 use Rattle.request_text.specs.declared.request.ParseFault.TheVariants.{TextFault, TooLong, NoMemory}
 use Rattle.request_text.specs.declared.fault.LineFault.TheVariants as judged
 use Rattle.pool_limits.specs.Plans.{HasSlots}
-use Rattle.request_text.specs.Words.{place_of}
+use Rattle.request_words.specs.Words.{place_of}
 use Rattle.request_text.specs.Tenants.{Tenants}
 use Rattle.request_text.specs.Text.{BadLine, Declared, FileRefusal, is_retired, most_calls, most_modules}
 use Rattle.std.specs.BTreeMap.{BTreeMap, get_by}

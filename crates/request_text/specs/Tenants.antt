@@ -6,7 +6,8 @@ use Rattle.pool_limits.specs.declared.wants.Want.{Want}
 use Rattle.pool_limits.specs.Plans.{first_over}
 use Rattle.request_text.specs.declared.request.Reason.{Reason}
 use Rattle.request_text.specs.declared.request.Reason.TheVariants.{BadWords, BadName, BadShare, NameUsedTwice, TooManyTenants, ShareTooLarge, UnknownTenant}
-use Rattle.request_text.specs.Words.{◌>>=◌, demand, number_up_to, place_of}
+use Rattle.request_text.specs.Ladder.{◌>>=◌, demand}
+use Rattle.request_words.specs.Words.{number_up_to, place_of}
 
 -- The names of the tenants so far, in file order, what each wants, and the number of the one whose calls follow. They are
 -- numbered from 1; tenant 0 has no name.

@@ -14,7 +14,8 @@ use Rattle.request_text.specs.declared.request.Reason.{Reason}
 use Rattle.request_text.specs.declared.request.Reason.TheVariants.{BadByte, UnknownDirective, LateProfile, BadWords, BadName, BadHex, NameUsedTwice, TooManyModules, UnknownModule, RetiredTwice, BadFuel, BadRequest, RequestTooLong, BadArgument, TooManyCalls}
 use Rattle.request_text.specs.declared.request.ParseFault.{ParseFault}
 use Rattle.request_text.specs.declared.request.ParseFault.TheVariants.{TextFault, TooLong, NoMemory}
-use Rattle.request_text.specs.Words.{◌>>=◌, arguments_of, demand, fuel_of, hex_bytes, is_comment, is_empty, is_printable, line_words, place_of, text_lines}
+use Rattle.request_text.specs.Ladder.{◌>>=◌, demand}
+use Rattle.request_words.specs.Words.{arguments_of, fuel_of, hex_bytes, is_comment, is_empty, is_printable, line_words, place_of, text_lines}
 use Rattle.request_text.specs.Profiles.{has_tenants, modules_profile, profile_of, retires, runs_whole, sends}
 use Rattle.request_text.specs.Tenants.{Tenants, for_after, no_tenants, tenant_after}
 
@@ -196,6 +197,10 @@ declared_by before =
       calls = call_count before.directives;
       tenants = before.tenants;
     }
+
+-- they declare this, and what holds of each file that is read holds of them
+abbrev pub HaveDeclared : ReadLines → Declared → Type 0
+HaveDeclared before scope = (scope ≡ declared_by before) × AreRequests before.tenants.wants before.directives
 
 -- what is declared once this directive is read too
 abbrev pub declared_after : Declared → Directive → Declared

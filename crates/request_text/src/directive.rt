@@ -1,19 +1,18 @@
 //! One line of a request file is read.
 ghost use Rattle.std.specs.Prelude.{◌≡◌, ◌<◌, IfOk, length};
 ghost use Rattle.std.specs.Option.{ok_or};
-ghost use Rattle.request_text.specs.Words.{arguments_of, hex_bytes, line_words};
+ghost use Rattle.request_words.specs.Words.{arguments_of, hex_bytes, line_words};
 ghost use Rattle.request_text.specs.Text.{call_directive_of, call_of, directive_of, module_directive_of, request_of, retire_directive_of, send_directive_of};
 ghost use Rattle.request_text.specs.Reading.{Agrees, HasRoom, hex_fault};
 
 use crate::fault::LineFault;
 use crate::file_profile::FileProfile;
 use crate::invocation::Invocation;
-use crate::numbers::{argument, fuel};
 use crate::request::{Directive, MOST_NAME_BYTES, Reason};
 use crate::scope::Scope;
-use crate::words::next_word;
 use call_payload::Payload;
 use hex::FromHexError;
+use request_words::{argument, fuel, next_word};
 use std::alloc::Global;
 use wasm_values::{Items, Val};
 

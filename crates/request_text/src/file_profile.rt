@@ -1,10 +1,10 @@
 //! The profile of a request file.
 ghost use Rattle.std.specs.Prelude.{◌≡◌};
-ghost use Rattle.request_text.specs.Words.{line_words};
+ghost use Rattle.request_words.specs.Words.{line_words};
 ghost use Rattle.request_text.specs.Profiles.{has_tenants, modules_profile, profile_named, profile_of, retires, runs_whole, sends};
 
 use crate::request::Reason;
-use crate::words::next_word;
+use request_words::next_word;
 use wasm_values::Profile;
 
 // The profile of a request file.

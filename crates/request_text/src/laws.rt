@@ -6,5 +6,5 @@ ghost use Rattle.request_text.specs.Text.{requests_of};
 
 /// The tenants of each file that is read may have what they want, where there is a plan for none.
 pub fn accepted_wants_have_a_plan()
-    ensures { (numbers : Numbers) (text : List ℕ) → plan_fault numbers [] ≡ None → IfOk (requests_of numbers text) (λ asked. plan_fault numbers asked.wants ≡ None) }
+    ensures { (config : Numbers) (text : List ℕ) → plan_fault config [] ≡ None → IfOk (requests_of config text) (λ read. plan_fault config read.wants ≡ None) }
 {}

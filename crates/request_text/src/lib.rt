@@ -6,7 +6,6 @@ mod fault;
 mod file_profile;
 mod invocation;
 pub mod laws;
-mod numbers;
 mod parser;
 mod reading;
 mod refusal;
@@ -14,7 +13,6 @@ mod request;
 mod retired;
 mod scope;
 mod tenants;
-mod words;
 
 pub use invocation::Invocation;
 pub use parser::parse;

@@ -1,7 +1,7 @@
 //! A request file is read line by line.
 ghost use Rattle.std.specs.Prelude.{◌≡◌, ◌↔◌, ◌<◌, ◌≤◌, [], None, length, IfOk, IfErr, IfSome, IsErrOf};
 ghost use Rattle.pool_limits.specs.Plans.{plan_fault};
-ghost use Rattle.request_text.specs.Words.{text_lines};
+ghost use Rattle.request_words.specs.Words.{text_lines};
 ghost use Rattle.request_text.specs.Text.{nothing_read, requests_from, requests_of, file_refusal_of};
 ghost use Rattle.request_text.specs.Reading.{fault_at, Reports};
 

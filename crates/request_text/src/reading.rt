@@ -1,6 +1,6 @@
 //! What was read so far.
 ghost use Rattle.std.specs.Prelude.{◌≡◌, IfOk, IfErr};
-ghost use Rattle.request_text.specs.Words.{line_words};
+ghost use Rattle.request_words.specs.Words.{line_words};
 ghost use Rattle.request_text.specs.Tenants.{for_after, tenant_after};
 ghost use Rattle.request_text.specs.Text.{asked_by, declared_by, directive_of, nothing_read, profile_after, profile_in, requests_after, with_directive, with_tenants, words_after};
 ghost use Rattle.request_text.specs.Reading.{Agrees, HasRoom};
@@ -10,8 +10,8 @@ use crate::fault::LineFault;
 use crate::file_profile::FileProfile;
 use crate::request::{Directive, Reason, Requests};
 use crate::scope::Scope;
-use crate::words::{is_comment, is_printable, next_word};
 use pool_limits::PoolConfig;
+use request_words::{is_comment, is_printable, next_word};
 use std::alloc::Global;
 use std::marker::Model;
 
@@ -24,14 +24,13 @@ pub(crate) struct Reading {
 }
 
 impl Model for Reading {
-    ghost use Rattle.std.specs.Prelude.{◌≡◌};
-    ghost use Rattle.request_text.specs.Text.{AreRequests, ReadLines, declared_by};
+    ghost use Rattle.request_text.specs.Text.{HaveDeclared, ReadLines};
 
     ghost Value = { ReadLines };
 
     ghost view = { λ r. record { profile = r.profile; tenants = r.scope.tenants; directives = r.directives.items } };
 
-    ghost invariant = { λ r. (r.scope ≡ declared_by (record { profile = r.profile; tenants = r.scope.tenants; directives = r.directives.items })) × AreRequests r.scope.tenants.wants r.directives.items };
+    ghost invariant = { λ r. HaveDeclared (record { profile = r.profile; tenants = r.scope.tenants; directives = r.directives.items }) r.scope };
 }
 
 impl Reading {

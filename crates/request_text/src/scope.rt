@@ -1,6 +1,6 @@
 //! What the lines of a request file have declared.
 ghost use Rattle.std.specs.Prelude.{◌≡◌, ◌↔◌, ◌<◌, ◌≤◌, [], ◌∷◌, ◌++◌, None, length, IsTrue, IfOk, IfSome};
-ghost use Rattle.request_text.specs.Words.{line_words, place_of};
+ghost use Rattle.request_words.specs.Words.{line_words, place_of};
 ghost use Rattle.request_text.specs.Tenants.{for_after, tenant_after};
 ghost use Rattle.request_text.specs.Text.{declared_after, declared_by, is_retired, nothing_read};
 ghost use Rattle.request_text.specs.Reading.{Agrees, ArePlaces, HasRoom, declared_with};

@@ -2,15 +2,14 @@
 ghost use Rattle.std.specs.Prelude.{◌≡◌, ◌<◌, ◌≤◌, length, is_none, IfOk, IfSome};
 ghost use Rattle.std.specs.List.{All};
 ghost use Rattle.pool_limits.specs.Plans.{first_over, HasSlots};
-ghost use Rattle.request_text.specs.Words.{line_words, place_of};
+ghost use Rattle.request_words.specs.Words.{line_words, place_of};
 ghost use Rattle.request_text.specs.Tenants.{for_after, no_tenants, share_number, share_of, slots_of, tenant_after, tenant_named, tenants_with};
 ghost use Rattle.request_text.specs.Reading.{Agrees};
 
 use crate::fault::LineFault;
-use crate::numbers::number_up_to;
 use crate::request::{MOST_NAME_BYTES, Reason};
-use crate::words::next_word;
 use pool_limits::{MOST_TENANTS, PoolConfig, Want};
+use request_words::{next_word, number_up_to};
 use std::alloc::Global;
 use std::marker::Model;
 use wasm_values::Items;
@@ -84,7 +83,7 @@ fn may_want(config: &PoolConfig, wants: &[Want]) -> bool
 }
 
 // The place of a name among these, from 0.
-#[tactic(auto, unfolding(crate::specs::Words::place_of))]
+#[tactic(auto, unfolding(request_words::specs::Words::place_of))]
 fn place(names: &[Items<u8>], name: &[u8]) -> Option<usize>
     ensures place { result ≡ place_of names.now name.now }
     ensures within { IfSome result (λ place. place < length names.now) }

@@ -8,9 +8,9 @@ use Rattle.job_queue.specs.declared.jobs.Jobs.{Jobs}
 use Rattle.job_queue.specs.declared.run_queue.RunAccount.{RunAccount}
 use Rattle.job_queue.specs.declared.run_queue.RunQueue.{RunQueue}
 use Rattle.job_queue.specs.Accounts.{with_given}
-use Rattle.job_queue.specs.Passes.{IsJobPass, JobPass, given_to, put_by, share_of}
+use Rattle.job_queue.specs.Passes.{IsJobPass, JobPass, account_of, given_to, put_by, share_of}
 use Rattle.job_queue.specs.RunAccounts.{with_run_put}
-use Rattle.job_queue.specs.RunPasses.{IsRunPass, RunPass, run_given_to, run_put_by, run_share}
+use Rattle.job_queue.specs.RunPasses.{IsRunPass, RunPass, run_account_of, run_given_to, run_put_by, run_share}
 use Rattle.module_store.specs.declared.naming.Naming.{Ghosts}
 use Rattle.pool_limits.specs.declared.numbers.Numbers.{Numbers}
 use Rattle.pool_worlds.specs.Contents.{Named}
@@ -18,7 +18,10 @@ use Rattle.pool_host.specs.declared.host.Host.{Host}
 use Rattle.due_calls.specs.declared.calls.Due.{Due}
 use Rattle.due_calls.specs.declared.entries.Worked.{Worked}
 use Rattle.slice_workers.specs.declared.queued.Queued.{Queued}
+use Rattle.slice_workers.specs.declared.crew.Sliced.{Sliced}
+use Rattle.slice_workers.specs.declared.shared.SliceShared.{SliceShared}
 use Rattle.slice_workers.specs.declared.slices.Slice.{Slice}
+use Rattle.slice_workers.specs.declared.steps.Slicer.{Slicer}
 use Rattle.slice_workers.specs.declared.steps.Step.{Step}
 use Rattle.slice_workers.specs.declared.steps.Step.TheVariants.{Again, End, Entry}
 use Rattle.due_calls.specs.Entries.{IsEntry, Pair, called, zeros}
@@ -96,6 +99,35 @@ module _ {N : Type 0} {G : Ghosts N} where
     pub after_is : after ≡ before ++ more
     pub did : DidSlices config calls 0 account account was now more
 
+  -- ---- the same of a worker, by its passes before and after
+
+  -- it put back what a slice of the call of this pair left
+  abbrev pub WorkerPutBack : Numbers → List Due → Pair → Slicer N G → Slicer N G → Step → Type 0
+  WorkerPutBack config calls pair old new step = PutBack config calls pair (run_account_of old.place) (run_account_of new.place) step
+
+  -- it took from the queue of calls with an idle pass
+  abbrev pub WorkerTook : Numbers → List Due → Slicer N G → Slicer N G → Step → Type 0
+  WorkerTook config calls old new step = TookCall config calls (account_of old.own) (account_of new.own) (run_account_of old.place) (run_account_of new.place) step
+
+  -- it made slices, was so often told to end, and made these entries
+  abbrev pub WorkerDid : Numbers → List Due → ℕ → Slicer N G → Slicer N G → List Worked → Type 0
+  WorkerDid config calls ends old new entries =
+      DidSlices config calls ends (account_of old.own) (account_of new.own) (run_account_of old.place) (run_account_of new.place) entries
+
+  -- the same where it keeps idle passes, which it may still put
+  abbrev pub WorkerDidKeeping : Numbers → List Due → ℕ → Slicer N G → Slicer N G → List Worked → Type 0
+  WorkerDidKeeping config calls ends old new entries =
+      DidSlices config calls ends (account_of old.own) (account_of new.own) (roomless (run_account_of old.place)) (roomless (run_account_of new.place)) entries
+
+  -- it made slices of calls that went round, and its entries went from these to those
+  abbrev pub WorkerHelped : Numbers → List Due → Slicer N G → Slicer N G → List Worked → List Worked → Type 0
+  WorkerHelped config calls old new before after = HelpedWith config calls (account_of old.own) (run_account_of old.place) (run_account_of new.place) before after
+
+  -- the same where it keeps idle passes, which it may still put
+  abbrev pub WorkerHelpedKeeping : Numbers → List Due → Slicer N G → Slicer N G → List Worked → List Worked → Type 0
+  WorkerHelpedKeeping config calls old new before after =
+      HelpedWith config calls (account_of old.own) (roomless (run_account_of old.place)) (roomless (run_account_of new.place)) before after
+
 -- What passes of both queues did that stand for so many workers and for whoever put the idle passes: the workers were told to end, and
 -- the calls that they were given and that they took as they went round are those that went round and those of these entries, each as often.
 pub record HaveSliced {N A : Type 0} {G : Ghosts N} (config : Numbers) (jobs : Jobs (Option Named)) (queue : RunQueue (Queued N G) A) (calls : List Due)
@@ -109,6 +141,11 @@ pub record HaveSliced {N A : Type 0} {G : Ghosts N} (config : Numbers) (jobs : J
   pub made : List Pair
   pub entries_are : AllZip (IsEntry config calls) made entries
   pub even : IsPermutation (called (given_to own) ++ pairs_of (run_given_to place)) (pairs_of (run_put_by place) ++ made)
+
+-- the same of as many workers as the pass of the queue of calls stands for
+abbrev pub WorkersHaveSliced : {N A : Type 0} {G : Ghosts N} → Numbers → SliceShared N → RunQueue (Queued N G) A → Sliced N → RunPass (Queued N G) → Type 0
+WorkersHaveSliced config shared queue sliced place =
+    HaveSliced config shared.jobs queue shared.calls.items sliced.own place (share_of sliced.own) sliced.entries.items
 
 -- A pass of the queue of calls that stands for so many workers, each of which was told to end, and the entries of all calls that they were
 -- given, in some order.

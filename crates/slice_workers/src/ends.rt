@@ -5,7 +5,7 @@ ghost use Rattle.job_queue.specs.RunPasses.{FitsWhere, HasAllRunPasses, run_capa
 ghost use Rattle.due_calls.specs.Entries.{AnswersAll, EndsAll, IsEntry};
 ghost use Rattle.slice_workers.specs.Crews.{HasIdle, IsSliceDone};
 ghost use Rattle.slice_workers.specs.Queued.{IsOfRun, IsPausedIn, paused_pair};
-ghost use Rattle.slice_workers.specs.Slices.{HasSlicedAll, HaveSliced};
+ghost use Rattle.slice_workers.specs.Slices.{HasSlicedAll, HaveSliced, WorkersHaveSliced};
 
 use crate::crew::{SliceDone, Sliced};
 use crate::queued::Queued;
@@ -46,9 +46,9 @@ fn join_next<N: Naming, A: Admits<Queued<N>>>(
     sliced: &mut Sliced<N>,
     done: SliceDone<N>,
 ) -> Result<(), NoMemory>
-    requires sliced { HaveSliced N.config shared.now.jobs queue.now shared.now.calls.items sliced.old.own first.old (share_of sliced.old.own) sliced.old.entries.items }
+    requires sliced { WorkersHaveSliced N.config shared.now queue.now sliced.old first.old }
     requires done { IsSliceDone queue.now N.config shared.now.jobs shared.now.calls.items done }
-    ensures sliced { OnOk result (HaveSliced N.config shared.now.jobs queue.now shared.now.calls.items sliced.new.own first.new (share_of sliced.new.own) sliced.new.entries.items) }
+    ensures sliced { OnOk result (WorkersHaveSliced N.config shared.now queue.now sliced.new first.new) }
     ensures share { OnOk result (share_of sliced.new.own ≡ share_of sliced.old.own + 1) }
 {
     let SliceDone { worker, made } = done;
@@ -70,7 +70,7 @@ pub(crate) fn join_slicers<N: Naming, A: Admits<Queued<N>>>(
     requires one { IsSliceDone queue.now N.config shared.now.jobs shared.now.calls.items one }
     requires others { All (IsSliceDone queue.now N.config shared.now.jobs shared.now.calls.items) others.items }
     ensures share { IfOk result (λ sliced. share_of sliced.own ≡ length others.items + 1) }
-    ensures sliced { IfOk result (λ sliced. HaveSliced N.config shared.now.jobs queue.now shared.now.calls.items sliced.own first.new (share_of sliced.own) sliced.entries.items) }
+    ensures sliced { IfOk result (λ sliced. WorkersHaveSliced N.config shared.now queue.now sliced first.new) }
 {
     let mut sliced = join_first(shared, queue, first, one)?;
     while let Some(next) = others.pop() {
@@ -110,7 +110,7 @@ pub(crate) fn end_paused<N: Naming, A: Admits<Queued<N>>, R: Wait, G: Gate>(
     gate: &G,
 ) -> Result<(), NoMemory>
     requires whole { HasAllRunPasses queue.now first.old }
-    requires sliced { HaveSliced N.config shared.now.jobs queue.now shared.now.calls.items sliced.old.own first.old (share_of sliced.old.own) sliced.old.entries.items }
+    requires sliced { WorkersHaveSliced N.config shared.now queue.now sliced.old first.old }
     requires fits { FitsWhere A.fits (IsOfRun shared.now.host shared.now.calls.items) }
     ensures { OnOk result (HasSlicedAll N.config shared.now.jobs shared.now.calls.items sliced.new.own (share_of sliced.old.own) sliced.new.entries.items) }
 {

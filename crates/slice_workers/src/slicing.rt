@@ -1,11 +1,11 @@
 //! The work of one worker that makes calls in slices.
 ghost use Rattle.std.specs.Prelude.{◌≡◌, ◌+◌, All, IfOk, OnOk, length};
-ghost use Rattle.job_queue.specs.Passes.{IsJobPass, account_of};
-ghost use Rattle.job_queue.specs.RunPasses.{FitsWhere, IsRunPass, run_account_of, run_room};
+ghost use Rattle.job_queue.specs.Passes.{IsJobPass};
+ghost use Rattle.job_queue.specs.RunPasses.{FitsWhere, IsRunPass, run_room};
 ghost use Rattle.pool_host.specs.Hosts.{IsHostPass};
 ghost use Rattle.due_calls.specs.declared.entries.Worked.{Worked};
 ghost use Rattle.slice_workers.specs.Queued.{IsOfRun};
-ghost use Rattle.slice_workers.specs.Slices.{DidSlices, HelpedWith, roomless};
+ghost use Rattle.slice_workers.specs.Slices.{WorkerDid, WorkerHelped, WorkerHelpedKeeping};
 
 use crate::queued::Queued;
 use crate::shared::SliceShared;
@@ -35,7 +35,7 @@ fn work_until_end<N: Naming, A: Admits<Queued<N>>, R: Wait, G: Gate>(
     requires fits { FitsWhere A.fits (IsOfRun shared.now.host shared.now.calls.items) }
     ensures own { IsJobPass shared.now.jobs worker.new.own }
     ensures place { IsRunPass queue.now worker.new.place }
-    ensures did { IfOk result (λ made. DidSlices N.config shared.now.calls.items 1 (account_of worker.old.own) (account_of worker.new.own) (run_account_of worker.old.place) (run_account_of worker.new.place) made.items) }
+    ensures did { IfOk result (λ made. WorkerDid N.config shared.now.calls.items 1 worker.old worker.new made.items) }
 {
     let mut made = Vec::new(alloc);
     let mut waits = Waits::none();
@@ -77,7 +77,7 @@ fn help_keeping<N: Naming, A: Admits<Queued<N>>, R: Wait, G: Gate>(
     ensures place { IsRunPass queue.now worker.new.place }
     ensures kept { All (IsHostPass shared.now.host) kept.new.items }
     ensures room { run_room worker.new.place + length kept.old.items ≡ run_room worker.old.place + length kept.new.items }
-    ensures did { OnOk result (HelpedWith N.config shared.now.calls.items (account_of worker.old.own) (roomless (run_account_of worker.old.place)) (roomless (run_account_of worker.new.place)) made.old.items made.new.items) }
+    ensures did { OnOk result (WorkerHelpedKeeping N.config shared.now.calls.items worker.old worker.new made.old.items made.new.items) }
 {
     let mut idle = 0;
     for _ in rt.forever() {
@@ -117,7 +117,7 @@ fn help<N: Naming, A: Admits<Queued<N>>, R: Wait, G: Gate>(
     requires fits { FitsWhere A.fits (IsOfRun shared.now.host shared.now.calls.items) }
     ensures own { worker.new.own ≡ worker.old.own }
     ensures place { IsRunPass queue.now worker.new.place }
-    ensures did { OnOk result (HelpedWith N.config shared.now.calls.items (account_of worker.old.own) (run_account_of worker.old.place) (run_account_of worker.new.place) made.old.items made.new.items) }
+    ensures did { OnOk result (WorkerHelped N.config shared.now.calls.items worker.old worker.new made.old.items made.new.items) }
 {
     let mut kept = Vec::new(alloc);
     let helped = help_keeping(rt, store, shared, queue, worker, &mut kept, made, gate);
@@ -146,7 +146,7 @@ pub(crate) fn work_in_slices<N: Naming, A: Admits<Queued<N>>, R: Wait, G: Gate>(
     requires fits { FitsWhere A.fits (IsOfRun shared.now.host shared.now.calls.items) }
     ensures own { IsJobPass shared.now.jobs worker.new.own }
     ensures place { IsRunPass queue.now worker.new.place }
-    ensures did { IfOk result (λ made. DidSlices N.config shared.now.calls.items 1 (account_of worker.old.own) (account_of worker.new.own) (run_account_of worker.old.place) (run_account_of worker.new.place) made.items) }
+    ensures did { IfOk result (λ made. WorkerDid N.config shared.now.calls.items 1 worker.old worker.new made.items) }
 {
     let mut made = work_until_end(rt, alloc, store, shared, queue, worker, gate)?;
     help(rt, alloc, store, shared, queue, worker, &mut made, gate)?;

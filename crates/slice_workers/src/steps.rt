@@ -1,11 +1,11 @@
 //! One step of a worker that makes calls in slices.
 ghost use Rattle.std.specs.Prelude.{◌≡◌, ◌+◌, ◌-◌, ◌<◌, ◌≤◌, ◌∷◌, [], All, IfOk, length};
-ghost use Rattle.job_queue.specs.Passes.{IsJobPass, account_of};
+ghost use Rattle.job_queue.specs.Passes.{IsJobPass};
 ghost use Rattle.job_queue.specs.RunAccounts.{with_run_put};
 ghost use Rattle.job_queue.specs.RunPasses.{FitsWhere, IsRunPass, run_account_of, run_room};
 ghost use Rattle.pool_host.specs.Hosts.{IsHostPass};
 ghost use Rattle.slice_workers.specs.Queued.{IsOfRun, IsPausedIn, paused_pair};
-ghost use Rattle.slice_workers.specs.Slices.{DidSlices, PutBack, TookCall, ends_of, entries_of, roomless, step_of};
+ghost use Rattle.slice_workers.specs.Slices.{WorkerDid, WorkerDidKeeping, WorkerPutBack, WorkerTook, ends_of, entries_of, step_of};
 
 use crate::queued::Queued;
 use crate::shared::SliceShared;
@@ -100,7 +100,7 @@ fn take_call<N: Naming, A: Admits<Queued<N>>, R: Wait, G: Gate>(
     requires fits { FitsWhere A.fits (IsOfRun shared.now.host shared.now.calls.items) }
     ensures own { IsJobPass shared.now.jobs worker.new.own }
     ensures place { IsRunPass queue.now worker.new.place }
-    ensures took { IfOk result (TookCall N.config shared.now.calls.items (account_of worker.old.own) (account_of worker.new.own) (run_account_of worker.old.place) (run_account_of worker.new.place)) }
+    ensures took { IfOk result (WorkerTook N.config shared.now.calls.items worker.old worker.new) }
 {
     match shared.jobs.next(rt, &mut worker.own) {
         None => {
@@ -136,7 +136,7 @@ fn resume_call<N: Naming, A: Admits<Queued<N>>, R: Wait, G: Gate>(
     ensures own { worker.new.own ≡ worker.old.own }
     ensures place { IsRunPass queue.now worker.new.place }
     ensures room { run_room worker.new.place ≡ run_room worker.old.place - 1 }
-    ensures put { IfOk result (PutBack N.config shared.now.calls.items (paused_pair paused) (run_account_of worker.old.place) (run_account_of worker.new.place)) }
+    ensures put { IfOk result (WorkerPutBack N.config shared.now.calls.items (paused_pair paused) worker.old worker.new) }
 {
     let slice = resume(shared, store, paused, worker.slice as u64, gate);
     put_back(rt, queue, &mut worker.place, slice)
@@ -157,7 +157,7 @@ fn take_turn<N: Naming, A: Admits<Queued<N>>, R: Wait, G: Gate>(
     requires fits { FitsWhere A.fits (IsOfRun shared.now.host shared.now.calls.items) }
     ensures own { IsJobPass shared.now.jobs worker.new.own }
     ensures place { IsRunPass queue.now worker.new.place }
-    ensures did { IfOk result (λ step. DidSlices N.config shared.now.calls.items (ends_of step) (account_of worker.old.own) (account_of worker.new.own) (run_account_of worker.old.place) (run_account_of worker.new.place) (entries_of step)) }
+    ensures did { IfOk result (λ step. WorkerDid N.config shared.now.calls.items (ends_of step) worker.old worker.new (entries_of step)) }
 {
     match queue.next(rt, &mut worker.place) {
         None => {
@@ -192,7 +192,7 @@ pub(crate) fn go_on<N: Naming, A: Admits<Queued<N>>, R: Wait, G: Gate>(
     ensures own { worker.new.own ≡ worker.old.own }
     ensures place { IsRunPass queue.now worker.new.place }
     ensures never_ends { IfOk result (λ step. ends_of step ≡ 0) }
-    ensures did { IfOk result (λ step. DidSlices N.config shared.now.calls.items 0 (account_of worker.old.own) (account_of worker.new.own) (run_account_of worker.old.place) (run_account_of worker.new.place) (entries_of step)) }
+    ensures did { IfOk result (λ step. WorkerDid N.config shared.now.calls.items 0 worker.old worker.new (entries_of step)) }
 {
     match queue.next(rt, &mut worker.place) {
         None => {
@@ -232,7 +232,7 @@ pub(crate) fn go_on_keeping<N: Naming, A: Admits<Queued<N>>, R: Wait, G: Gate>(
     ensures place { IsRunPass queue.now worker.new.place }
     ensures kept { All (IsHostPass shared.now.host) kept.new.items }
     ensures room { run_room worker.new.place + length kept.old.items ≡ run_room worker.old.place + length kept.new.items }
-    ensures did { IfOk result (λ step. DidSlices N.config shared.now.calls.items 0 (account_of worker.old.own) (account_of worker.new.own) (roomless (run_account_of worker.old.place)) (roomless (run_account_of worker.new.place)) (entries_of step)) }
+    ensures did { IfOk result (λ step. WorkerDidKeeping N.config shared.now.calls.items 0 worker.old worker.new (entries_of step)) }
 {
     kept.reserve(1).map_err(|_| NoMemory)?;
     match queue.next(rt, &mut worker.place) {
@@ -265,7 +265,7 @@ pub(crate) fn put_kept<N: Naming, A: Admits<Queued<N>>, R: Wait>(
     ensures own { worker.new.own ≡ worker.old.own }
     ensures place { IsRunPass queue.now worker.new.place }
     ensures room { run_room worker.new.place + length kept.items ≡ run_room worker.old.place }
-    ensures put { DidSlices N.config shared.now.calls.items 0 (account_of worker.old.own) (account_of worker.old.own) (roomless (run_account_of worker.old.place)) (roomless (run_account_of worker.new.place)) [] }
+    ensures put { WorkerDidKeeping N.config shared.now.calls.items 0 worker.old worker.new [] }
 {
     while let Some(pass) = kept.pop() {
         put_idle(rt, queue, &mut worker.place, pass);
@@ -292,7 +292,7 @@ pub(crate) fn next_step<N: Naming, A: Admits<Queued<N>>, R: Wait, G: Gate>(
     requires fits { FitsWhere A.fits (IsOfRun shared.now.host shared.now.calls.items) }
     ensures own { IsJobPass shared.now.jobs worker.new.own }
     ensures place { IsRunPass queue.now worker.new.place }
-    ensures did { IfOk result (λ step. DidSlices N.config shared.now.calls.items (ends_of step) (account_of worker.old.own) (account_of worker.new.own) (run_account_of worker.old.place) (run_account_of worker.new.place) (entries_of step)) }
+    ensures did { IfOk result (λ step. WorkerDid N.config shared.now.calls.items (ends_of step) worker.old worker.new (entries_of step)) }
 {
     if may_begin {
         take_turn(rt, alloc, store, shared, queue, worker, gate)

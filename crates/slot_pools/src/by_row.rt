@@ -1,12 +1,10 @@
 //! A slot is taken, with a row for so many words.
 ghost use Rattle.std.specs.Prelude.{◌<◌, ◌≤◌, IfOk, OnErr};
 ghost use Rattle.pool_core.specs.declared.limits.TheConstants.{MOST_SLOTS};
-ghost use Rattle.slot_words.specs.Leases.{lease_number, lease_word};
-ghost use Rattle.slot_words.specs.Parts.{Grew};
-ghost use Rattle.slot_words.specs.Passes.{IsIdle, IsSamePass, share_of, trail};
-ghost use Rattle.slot_words.specs.Owned.{IsPassOf, slots_of, limit_of, passes_of};
+ghost use Rattle.slot_words.specs.Passes.{IsIdle, IsSamePass, share_of};
+ghost use Rattle.slot_words.specs.Owned.{IsPassOf, slots_of, passes_of};
 ghost use Rattle.slot_words.specs.Rows.{HasTaken};
-ghost use Rattle.slot_pools.specs.Takes.{IsBatchedTake, IsFullBatchedTake, IsAffineTake, IsFullAffineTake, IsAnyTake, IsFullAnyTake};
+ghost use Rattle.slot_pools.specs.Takes.{TakesBatched, MeetsFullBatched, TakesAffine, MeetsFullAffine, TakesAny, MeetsFullAny};
 
 use crate::answers::Full;
 use crate::looking::look;
@@ -27,8 +25,8 @@ pub(crate) fn batched_by_row<V: Pooled, const ROOM: usize>(
     requires room { (slots_of words.now ≤ ROOM) × (ROOM ≤ MOST_SLOTS) }
     ensures same { IsSamePass pass.old pass.new }
     ensures taken { IfOk result (HasTaken V.fits words.now pass.new) }
-    ensures trail { IfOk result (λ l. Grew (IsBatchedTake (limit_of words.now) (slots_of words.now) tag (lease_number l) (lease_word l)) (trail pass.old) (trail pass.new)) }
-    ensures full { OnErr result (IsIdle pass.new × Grew (IsFullBatchedTake (limit_of words.now) (slots_of words.now) tag) (trail pass.old) (trail pass.new)) }
+    ensures trail { IfOk result (TakesBatched words.now tag pass.old pass.new) }
+    ensures full { OnErr result (MeetsFullBatched words.now tag pass.old pass.new) }
     ensures another { OnErr result (share_of pass.old < passes_of words.now) }
 {
     let mut row = [0; ROOM];
@@ -50,8 +48,8 @@ pub(crate) fn affine_by_row<V: Pooled, const ROOM: usize>(
     requires room { (slots_of words.now ≤ ROOM) × (ROOM ≤ MOST_SLOTS) }
     ensures same { IsSamePass pass.old pass.new }
     ensures taken { IfOk result (HasTaken V.fits words.now pass.new) }
-    ensures trail { IfOk result (λ l. Grew (IsAffineTake (limit_of words.now) (slots_of words.now) tag (lease_number l) (lease_word l)) (trail pass.old) (trail pass.new)) }
-    ensures full { OnErr result (IsIdle pass.new × Grew (IsFullAffineTake (limit_of words.now) (slots_of words.now) tag) (trail pass.old) (trail pass.new)) }
+    ensures trail { IfOk result (TakesAffine words.now tag pass.old pass.new) }
+    ensures full { OnErr result (MeetsFullAffine words.now tag pass.old pass.new) }
     ensures another { OnErr result (share_of pass.old < passes_of words.now) }
 {
     let mut row = [0; ROOM];
@@ -72,8 +70,8 @@ pub(crate) fn any_by_row<V: Pooled, const ROOM: usize>(
     requires room { (slots_of words.now ≤ ROOM) × (ROOM ≤ MOST_SLOTS) }
     ensures same { IsSamePass pass.old pass.new }
     ensures taken { IfOk result (HasTaken V.fits words.now pass.new) }
-    ensures trail { IfOk result (λ l. Grew (IsAnyTake (slots_of words.now) (lease_number l) (lease_word l)) (trail pass.old) (trail pass.new)) }
-    ensures full { OnErr result (IsIdle pass.new × Grew (IsFullAnyTake (slots_of words.now)) (trail pass.old) (trail pass.new)) }
+    ensures trail { IfOk result (TakesAny words.now pass.old pass.new) }
+    ensures full { OnErr result (MeetsFullAny words.now pass.old pass.new) }
     ensures another { OnErr result (share_of pass.old < passes_of words.now) }
 {
     let mut row = [0; ROOM];

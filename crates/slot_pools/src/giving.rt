@@ -3,10 +3,9 @@ ghost use Rattle.std.specs.Prelude.{◌≡◌, ◌<◌, ℕ, false};
 ghost use Rattle.pool_core.specs.declared.words.State.{State as AnyState};
 ghost use Rattle.pool_core.specs.StateWords.{is_cold};
 ghost use Rattle.slot_words.specs.Leases.{lease_number};
-ghost use Rattle.slot_words.specs.Parts.{Grew};
-ghost use Rattle.slot_words.specs.Passes.{IsIdle, IsSamePass, Holds, trail};
-ghost use Rattle.slot_words.specs.Owned.{IsPassOf, slots_of, limit_of};
-ghost use Rattle.slot_pools.specs.Gives.{IsWarmGive, IsColdGive};
+ghost use Rattle.slot_words.specs.Passes.{IsIdle, IsSamePass, Holds};
+ghost use Rattle.slot_words.specs.Owned.{IsPassOf, slots_of};
+ghost use Rattle.slot_pools.specs.Gives.{GivesWarm, GivesCold};
 
 use pool_core::{State, Target};
 use slot_words::{Lease, Pass, Pooled, Words};
@@ -24,7 +23,7 @@ pub fn give_warm<V: Pooled>(
     requires used { (s : AnyState) × (tag : ℕ) × (is_cold s ≡ false) × V.fits s tag lease.value }
     ensures same { IsSamePass pass.old pass.new }
     ensures idle { IsIdle pass.new }
-    ensures trail { Grew (IsWarmGive (limit_of words.now) (lease_number lease) (V.own_tag lease.value)) (trail pass.old) (trail pass.new) }
+    ensures trail { GivesWarm words.now (V.own_tag lease.value) lease pass.old pass.new }
 {
     let mut lease = lease;
     if words.warm_up(pass) {
@@ -49,7 +48,7 @@ pub fn give_cold<V: Pooled>(words: &Words<V>, pass: &mut Pass<V>, lease: Lease<V
     requires holds { Holds pass.old (lease_number lease) false false false }
     ensures same { IsSamePass pass.old pass.new }
     ensures idle { IsIdle pass.new }
-    ensures trail { Grew (IsColdGive (lease_number lease)) (trail pass.old) (trail pass.new) }
+    ensures trail { GivesCold lease pass.old pass.new }
 {
     let mut lease = lease;
     lease.value.clear();

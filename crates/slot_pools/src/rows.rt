@@ -1,12 +1,12 @@
 //! Claims of some numbers, one after another.
 ghost use Rattle.std.specs.Prelude.{◌<◌, IfOk, OnErr};
-ghost use Rattle.std.specs.List.{range_with_len};
-ghost use Rattle.slot_words.specs.Leases.{lease_number, lease_word};
 ghost use Rattle.slot_words.specs.Parts.{Grew};
 ghost use Rattle.slot_words.specs.Passes.{IsIdle, IsSamePass, share_of, trail};
 ghost use Rattle.slot_words.specs.Owned.{IsPassOf, slots_of, passes_of};
 ghost use Rattle.slot_words.specs.Rows.{HasWon};
-ghost use Rattle.slot_pools.specs.Rows.{AreLost, IsWonAlong};
+ghost use Rattle.slot_pools.specs.Rows.{AreLost};
+ghost use Rattle.slot_pools.specs.Wins.{all_numbers};
+ghost use Rattle.slot_pools.specs.LookWins.{WinsAlong};
 
 use slot_words::{Lease, Pass, Pooled, Words};
 
@@ -23,8 +23,8 @@ pub(crate) fn claim_any<V: Pooled>(
     requires idle { IsIdle pass.old }
     ensures same { IsSamePass pass.old pass.new }
     ensures won { IfOk result (HasWon V.fits words.now pass.new) }
-    ensures trail { IfOk result (λ l. Grew (IsWonAlong (range_with_len 0 (slots_of words.now)) (lease_number l) (lease_word l)) (trail pass.old) (trail pass.new)) }
-    ensures held { OnErr result (IsIdle pass.new × Grew (AreLost (range_with_len 0 (slots_of words.now))) (trail pass.old) (trail pass.new)) }
+    ensures trail { IfOk result (λ l. Grew (WinsAlong l (all_numbers (slots_of words.now))) (trail pass.old) (trail pass.new)) }
+    ensures held { OnErr result (IsIdle pass.new × Grew (AreLost (all_numbers (slots_of words.now))) (trail pass.old) (trail pass.new)) }
     ensures another { OnErr result (share_of pass.old < passes_of words.now) }
 {
     for n in 0..words.slots() {

@@ -1,11 +1,9 @@
 //! A slot is taken. A take reads each slot's word into a row on its stack, and a small pool's row is small: a row is zeroed before it is used.
 ghost use Rattle.std.specs.Prelude.{◌<◌, IfOk, OnErr};
-ghost use Rattle.slot_words.specs.Leases.{lease_number, lease_word};
-ghost use Rattle.slot_words.specs.Parts.{Grew};
-ghost use Rattle.slot_words.specs.Passes.{IsIdle, IsSamePass, share_of, trail};
-ghost use Rattle.slot_words.specs.Owned.{IsPassOf, slots_of, limit_of, passes_of};
+ghost use Rattle.slot_words.specs.Passes.{IsIdle, IsSamePass, share_of};
+ghost use Rattle.slot_words.specs.Owned.{IsPassOf, passes_of};
 ghost use Rattle.slot_words.specs.Rows.{HasTaken};
-ghost use Rattle.slot_pools.specs.Takes.{IsBatchedTake, IsFullBatchedTake, IsAffineTake, IsFullAffineTake, IsAnyTake, IsFullAnyTake};
+ghost use Rattle.slot_pools.specs.Takes.{TakesBatched, MeetsFullBatched, TakesAffine, MeetsFullAffine, TakesAny, MeetsFullAny};
 
 use crate::answers::Full;
 use crate::by_row::{affine_by_row, any_by_row, batched_by_row};
@@ -30,10 +28,10 @@ pub fn take_batched<V: Pooled>(
 
     // a claim was won, of the slot that the lease names
     ensures taken { IfOk result (HasTaken V.fits words.now pass.new) }
-    ensures trail { IfOk result (λ l. Grew (IsBatchedTake (limit_of words.now) (slots_of words.now) tag (lease_number l) (lease_word l)) (trail pass.old) (trail pass.new)) }
+    ensures trail { IfOk result (TakesBatched words.now tag pass.old pass.new) }
 
     // none was won, and other passes held the slots
-    ensures full { OnErr result (IsIdle pass.new × Grew (IsFullBatchedTake (limit_of words.now) (slots_of words.now) tag) (trail pass.old) (trail pass.new)) }
+    ensures full { OnErr result (MeetsFullBatched words.now tag pass.old pass.new) }
     ensures another { OnErr result (share_of pass.old < passes_of words.now) }
 {
     let slots = words.slots() as usize;
@@ -62,10 +60,10 @@ pub fn take_affine<V: Pooled>(
 
     // a claim was won, of the slot that the lease names
     ensures taken { IfOk result (HasTaken V.fits words.now pass.new) }
-    ensures trail { IfOk result (λ l. Grew (IsAffineTake (limit_of words.now) (slots_of words.now) tag (lease_number l) (lease_word l)) (trail pass.old) (trail pass.new)) }
+    ensures trail { IfOk result (TakesAffine words.now tag pass.old pass.new) }
 
     // none was won, and other passes held the slots
-    ensures full { OnErr result (IsIdle pass.new × Grew (IsFullAffineTake (limit_of words.now) (slots_of words.now) tag) (trail pass.old) (trail pass.new)) }
+    ensures full { OnErr result (MeetsFullAffine words.now tag pass.old pass.new) }
     ensures another { OnErr result (share_of pass.old < passes_of words.now) }
 {
     let slots = words.slots() as usize;
@@ -90,10 +88,10 @@ pub fn take_any<V: Pooled>(words: &Words<V>, pass: &mut Pass<V>) -> Result<Lease
 
     // a claim was won, of the slot that the lease names
     ensures taken { IfOk result (HasTaken V.fits words.now pass.new) }
-    ensures trail { IfOk result (λ l. Grew (IsAnyTake (slots_of words.now) (lease_number l) (lease_word l)) (trail pass.old) (trail pass.new)) }
+    ensures trail { IfOk result (TakesAny words.now pass.old pass.new) }
 
     // none was won, and other passes held the slots
-    ensures full { OnErr result (IsIdle pass.new × Grew (IsFullAnyTake (slots_of words.now)) (trail pass.old) (trail pass.new)) }
+    ensures full { OnErr result (MeetsFullAny words.now pass.old pass.new) }
     ensures another { OnErr result (share_of pass.old < passes_of words.now) }
 {
     let slots = words.slots() as usize;

@@ -1,15 +1,13 @@
 //! Claims of slots until one is won.
 ghost use Rattle.std.specs.Prelude.{◌≡◌, ◌<◌, length, IfOk, OnErr};
-ghost use Rattle.slot_words.specs.Leases.{lease_number, lease_word};
 ghost use Rattle.slot_words.specs.Parts.{Grew};
 ghost use Rattle.slot_words.specs.Passes.{IsIdle, IsSamePass, share_of, trail};
-ghost use Rattle.slot_words.specs.Owned.{IsPassOf, slots_of, limit_of, passes_of};
+ghost use Rattle.slot_words.specs.Owned.{IsPassOf, slots_of, passes_of};
 ghost use Rattle.slot_words.specs.Rows.{HasWon};
 ghost use Rattle.affinity_index.specs.Unheld.{unheld};
-ghost use Rattle.slot_pools.specs.Rows.{AreLost, IsWonAlong};
+ghost use Rattle.slot_pools.specs.Rows.{AreLost};
 ghost use Rattle.slot_pools.specs.Looks.{AreWords};
-ghost use Rattle.slot_pools.specs.Wins.{all_numbers, IsAfterFlush, IsFlushLoss, IsDirectLoss};
-ghost use Rattle.slot_pools.specs.LookWins.{AlongOrder, WinsByFlush, WinsDirectly};
+ghost use Rattle.slot_pools.specs.LookWins.{AfterFlush, AlongOrder, LosesByFlush, LosesDirectly, WinsAlong, WinsByFlush, WinsDirectly};
 
 use crate::claiming::{claim_first_unheld, claim_in_order};
 use crate::rows::{AllHeld, claim_any};
@@ -26,8 +24,8 @@ fn claim_after_flush<V: Pooled>(
     requires idle { IsIdle pass.old }
     ensures same { IsSamePass pass.old pass.new }
     ensures won { IfOk result (HasWon V.fits words.now pass.new) }
-    ensures trail { IfOk result (λ l. Grew (IsAfterFlush (limit_of words.now) (slots_of words.now) (IsWonAlong (all_numbers (slots_of words.now)) (lease_number l) (lease_word l))) (trail pass.old) (trail pass.new)) }
-    ensures held { OnErr result (IsIdle pass.new × Grew (IsAfterFlush (limit_of words.now) (slots_of words.now) (AreLost (all_numbers (slots_of words.now)))) (trail pass.old) (trail pass.new)) }
+    ensures trail { IfOk result (λ l. Grew (AfterFlush words.now (WinsAlong l)) (trail pass.old) (trail pass.new)) }
+    ensures held { OnErr result (IsIdle pass.new × Grew (AfterFlush words.now AreLost) (trail pass.old) (trail pass.new)) }
     ensures another { OnErr result (share_of pass.old < passes_of words.now) }
 {
     words.await_load(pass);
@@ -51,7 +49,7 @@ pub(crate) fn win_after_flush<V: Pooled>(
     ensures won { IfOk result (HasWon V.fits words.now pass.new) }
     ensures trail { IfOk result (λ l. Grew (AlongOrder words.now tag warm seen.now (WinsByFlush words.now l)) (trail pass.old) (trail pass.new)) }
     ensures idle { OnErr result (IsIdle pass.new) }
-    ensures held { OnErr result (Grew (AlongOrder words.now tag warm seen.now (IsFlushLoss (limit_of words.now) (slots_of words.now))) (trail pass.old) (trail pass.new)) }
+    ensures held { OnErr result (Grew (AlongOrder words.now tag warm seen.now (LosesByFlush words.now)) (trail pass.old) (trail pass.new)) }
     ensures another { OnErr result (share_of pass.old < passes_of words.now) }
 {
     if let Ok(lease) = claim_in_order(words, pass, seen, warm, tag) {
@@ -75,7 +73,7 @@ pub(crate) fn win<V: Pooled>(
     ensures won { IfOk result (HasWon V.fits words.now pass.new) }
     ensures trail { IfOk result (λ l. Grew (AlongOrder words.now tag warm seen.now (WinsDirectly words.now l)) (trail pass.old) (trail pass.new)) }
     ensures idle { OnErr result (IsIdle pass.new) }
-    ensures held { OnErr result (Grew (AlongOrder words.now tag warm seen.now (IsDirectLoss (slots_of words.now))) (trail pass.old) (trail pass.new)) }
+    ensures held { OnErr result (Grew (AlongOrder words.now tag warm seen.now (LosesDirectly words.now)) (trail pass.old) (trail pass.new)) }
     ensures another { OnErr result (share_of pass.old < passes_of words.now) }
 {
     if let Ok(lease) = claim_in_order(words, pass, seen, warm, tag) {
@@ -97,7 +95,7 @@ pub(crate) fn win_any<V: Pooled>(
     ensures won { IfOk result (HasWon V.fits words.now pass.new) }
     ensures trail { IfOk result (λ l. Grew (WinsDirectly words.now l (unheld seen.now)) (trail pass.old) (trail pass.new)) }
     ensures idle { OnErr result (IsIdle pass.new) }
-    ensures held { OnErr result (Grew (IsDirectLoss (slots_of words.now) (unheld seen.now)) (trail pass.old) (trail pass.new)) }
+    ensures held { OnErr result (Grew (LosesDirectly words.now (unheld seen.now)) (trail pass.old) (trail pass.new)) }
     ensures another { OnErr result (share_of pass.old < passes_of words.now) }
 {
     if let Ok(lease) = claim_first_unheld(words, pass, seen) {

@@ -2,11 +2,10 @@
 ghost use Rattle.std.specs.Prelude.{◌≡◌, ◌<◌, true, false, is_some, IfOk, OnErr};
 ghost use Rattle.pool_core.specs.declared.words.State.TheVariants.{Warm};
 ghost use Rattle.slot_words.specs.Leases.{lease_number, lease_word};
-ghost use Rattle.slot_words.specs.Owned.{IsPassOf, limit_of, passes_of, slots_of};
-ghost use Rattle.slot_words.specs.Parts.{Grew};
-ghost use Rattle.slot_words.specs.Passes.{Holds, IsIdle, IsSamePass, share_of, trail};
-ghost use Rattle.slot_pools.specs.Gives.{IsWarmGive};
-ghost use Rattle.slot_pools.specs.Takes.{IsAffineTake, IsFullAffineTake};
+ghost use Rattle.slot_words.specs.Owned.{IsPassOf, passes_of, slots_of};
+ghost use Rattle.slot_words.specs.Passes.{Holds, IsIdle, IsSamePass, share_of};
+ghost use Rattle.slot_pools.specs.Gives.{GivesWarm};
+ghost use Rattle.slot_pools.specs.Takes.{TakesAffine, MeetsFullAffine};
 ghost use Rattle.pool_worlds.specs.Contents.{IsTableOf, Matches};
 ghost use Rattle.pool_worlds.specs.declared.kinds.Kind.TheVariants.{Table};
 ghost use Rattle.pool_worlds.specs.Handed.{own_tag, IsHandedOut};
@@ -38,10 +37,10 @@ pub fn take<N: Naming>(
     ensures holds { IfOk result (λ l. Holds pass.new (lease_number l) false false false) }
     ensures table { IfOk result (λ l. IsTableOf l.value «module».now) }
     ensures handed { IfOk result (λ l. IsHandedOut N.config.pages Table «module».now (lease_word l) l.value) }
-    ensures trail { IfOk result (λ l. Grew (IsAffineTake (limit_of pool.now) (slots_of pool.now) «module».now.tag (lease_number l) (lease_word l)) (trail pass.old) (trail pass.new)) }
+    ensures trail { IfOk result (TakesAffine pool.now «module».now.tag pass.old pass.new) }
 
     // it won nothing
-    ensures full { OnErr result (IsIdle pass.new × Grew (IsFullAffineTake (limit_of pool.now) (slots_of pool.now) «module».now.tag) (trail pass.old) (trail pass.new)) }
+    ensures full { OnErr result (MeetsFullAffine pool.now «module».now.tag pass.old pass.new) }
     ensures another { OnErr result (share_of pass.old < passes_of pool.now) }
 {
     let mut lease = take_affine(pool, pass, module.tag())?;
@@ -63,7 +62,7 @@ pub fn give<N: Naming>(
     ensures same { IsSamePass pass.old pass.new }
     ensures idle { IsIdle pass.new }
     ensures took { Matches N.config.pages Table Warm (own_tag Table lease.value) lease.value }
-    ensures trail { Grew (IsWarmGive (limit_of pool.now) (lease_number lease) (own_tag Table lease.value)) (trail pass.old) (trail pass.new) }
+    ensures trail { GivesWarm pool.now (own_tag Table lease.value) lease pass.old pass.new }
 {
     lease.value.is_its_modules();
     give_warm(pool, pass, lease, store);

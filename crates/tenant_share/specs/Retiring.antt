@@ -1,5 +1,5 @@
 -- What a caller's passes are after a module was retired.
-use Rattle.std.specs.Prelude.{◌≡◌, ◌≢◌, ℕ, slice_get, Some}
+use Rattle.std.specs.Prelude.{◌≡◌, ◌≢◌, ℕ, slice_get}
 use Rattle.retired_tags.specs.Passes.{steps}
 use Rattle.retired_tags.specs.Steps.{Knows}
 use Rattle.module_store.specs.declared.naming.Naming.{Ghosts}
@@ -11,9 +11,8 @@ use Rattle.pool_host.specs.declared.retiring.Retire.TheVariants.{Already}
 use Rattle.pool_host.specs.Looks.{SetsBit}
 use Rattle.pool_host.specs.Retiring.{is_already, Sweeps}
 use Rattle.tenant_share.specs.declared.passes.Caller.{Caller}
-use Rattle.tenant_share.specs.declared.passes.TenantPass.{TenantPass}
 use Rattle.tenant_share.specs.declared.share_host.ShareHost.{ShareHost}
-use Rattle.tenant_share.specs.Tenants.{IsHostOf}
+use Rattle.tenant_share.specs.Tenants.{OnTenant}
 
 module _ {N : Type 0} {G : Ghosts N} where
   -- a pass of the host retired the module, and was answered so
@@ -26,8 +25,7 @@ module _ {N : Type 0} {G : Ghosts N} where
 
   -- so did a caller's pass of this tenant on the tenant's host
   abbrev pub HasRetired : ShareHost N → Named → (tenant : ℕ) → (was now : Caller N G) → Type 0
-  HasRetired share m tenant was now = (host : Host N) (before after : TenantPass N G) → IsHostOf share tenant host
-      → slice_get was.passes.items tenant ≡ Some before → slice_get now.passes.items tenant ≡ Some after → IsRetirement host m before.pass after.pass
+  HasRetired share m tenant was now = OnTenant share tenant was now (λ host. IsRetirement host m)
 
   -- and its other passes are as they were
   pub record RetiredAt (share : ShareHost N) (m : Named) (tenant : ℕ) (was now : Caller N G) : Type 0 where

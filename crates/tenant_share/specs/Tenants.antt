@@ -6,6 +6,7 @@ use Rattle.pool_limits.specs.declared.wants.Want.{Want}
 use Rattle.retired_tags.specs.Passes.{IsNewTagPass, TagPass}
 use Rattle.module_store.specs.declared.naming.Naming.{Ghosts}
 use Rattle.pool_host.specs.declared.host.Host.{Host}
+use Rattle.pool_host.specs.declared.passes.HostPass.{HostPass}
 use Rattle.pool_host.specs.declared.passes.Passes.{Passes}
 use Rattle.pool_host.specs.Hosts.{AreNewPassesOf, HandedOut, HasShare, IsHostPass, IsNewHostPass, IsSameHostPass}
 use Rattle.tenant_share.specs.declared.passes.Caller.{Caller}
@@ -69,6 +70,11 @@ module _ {N : Type 0} {G : Ghosts N} where
   -- its pass at the retired tags of a tenant's host
   abbrev pub tags_at : Caller N G → ℕ → Option TagPass
   tags_at caller tenant = option_map (λ pass. pass.pass.retired) (slice_get caller.passes.items tenant)
+
+  -- so it is of this tenant's host, and of the caller's pass there, as it was and as it is
+  abbrev pub OnTenant : ShareHost N → (tenant : ℕ) → (was now : Caller N G) → (Host N → (before after : HostPass N G) → Type 0) → Type 0
+  OnTenant share tenant was now P = (host : Host N) (before after : TenantPass N G) → IsHostOf share tenant host
+      → slice_get was.passes.items tenant ≡ Some before → slice_get now.passes.items tenant ≡ Some after → P host before.pass after.pass
 
   -- the bytes that its last call for a tenant answered
   abbrev pub answer_of : Caller N G → ℕ → List ℕ

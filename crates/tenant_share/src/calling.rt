@@ -7,8 +7,7 @@ ghost use Rattle.pool_host.specs.CallWords.{IfFull, IsHostAnswer};
 ghost use Rattle.pool_host.specs.Hosts.{AreSamePasses};
 ghost use Rattle.pool_host.specs.Looks.{look_of, Looked};
 ghost use Rattle.pool_host.specs.Trails.{AddsTrails, HasCause};
-ghost use Rattle.retired_tags.specs.Passes.{TagPass};
-ghost use Rattle.tenant_share.specs.Tenants.{answer_of, passes_at, tags_at, tenants_of, IsCaller, IsHostOf, IsSameTenantPass, IsTenantPass};
+ghost use Rattle.tenant_share.specs.Tenants.{answer_of, passes_at, tags_at, tenants_of, IsCaller, IsHostOf, IsSameTenantPass, IsTenantPass, OnTenant};
 
 use crate::passes::{Caller, TenantPass};
 use crate::share_host::ShareHost;
@@ -27,24 +26,22 @@ pub struct Asked<'a> {
 }
 
 impl<N: Naming> ShareHost<N> {
-    /// Calls a module's export as [`Host::send`](pool_host::Host::send) does, on slots of the pass's tenant alone.
+    /// Calls what is asked of a module as [`Host::send`](pool_host::Host::send) does, on slots of the pass's tenant alone.
     pub fn send<G: Gate>(
         &self,
         pass: &mut TenantPass<N>,
         store: &ModuleStore<N>,
         module: &ModuleRef<N>,
-        export: &[u8],
-        args: &[Val],
-        request: &[u8],
-        fuel: u64,
+        asked: &Asked<'_>,
         number: u64,
         gate: &G,
     ) -> Answer
         requires pass { IsTenantPass self.now pass.old }
-        requires request { length request.now ≤ 65536 }
+        requires request { length asked.now.request.now ≤ 65536 }
         ensures own { IsTenantPass self.now pass.new }
         ensures same { IsSameTenantPass pass.old pass.new }
-        ensures answer { IsHostAnswer «module».now.tree (run_limits N.config) export.now args.now request.now fuel result pass.new.pass.answer }
+        ensures answer { IsHostAnswer «module».now.tree (run_limits N.config) asked.now.export.now asked.now.args.now asked.now.request.now asked.now.fuel
+            result pass.new.pass.answer }
 
         // all of it on the tenant's own host: where a kind is full, other passes of the tenant held its slots; a module is retired there
         ensures trails { (host : Host N) → IsHostOf self.now pass.old.tenant host
@@ -59,10 +56,10 @@ impl<N: Naming> ShareHost<N> {
             &mut pass.pass,
             store,
             module,
-            export,
-            args,
-            request,
-            fuel,
+            asked.export,
+            asked.args,
+            asked.request,
+            asked.fuel,
             number,
             gate,
         )
@@ -88,27 +85,14 @@ impl<N: Naming> ShareHost<N> {
 
         // to the caller's passes of this tenant, on this tenant's host; those of other tenants stay, with their bytes
         ensures same { (p q : Passes N) → passes_at caller.old tenant ≡ Some p → passes_at caller.new tenant ≡ Some q → AreSamePasses p q }
-        ensures trails { (host : Host N) (p q : Passes N) → IsHostOf self.now tenant host → passes_at caller.old tenant ≡ Some p → passes_at caller.new tenant ≡ Some q
-            → AddsTrails N.config host «module».now result p q }
-        ensures full { (host : Host N) (p q : Passes N) → IsHostOf self.now tenant host → passes_at caller.old tenant ≡ Some p → passes_at caller.new tenant ≡ Some q
-            → IfFull result (HasCause N.config host «module».now p q) }
-        ensures looked { (host : Host N) (p q : TagPass) → IsHostOf self.now tenant host → tags_at caller.old tenant ≡ Some p → tags_at caller.new tenant ≡ Some q
-            → Looked host.retired.tags «module».now.tag p q (look_of result) }
+        ensures trails { OnTenant self.now tenant caller.old caller.new (λ h p q. AddsTrails N.config h «module».now result p.passes q.passes) }
+        ensures full { OnTenant self.now tenant caller.old caller.new (λ h p q. IfFull result (HasCause N.config h «module».now p.passes q.passes)) }
+        ensures looked { OnTenant self.now tenant caller.old caller.new (λ h p q. Looked h.retired.tags «module».now.tag p.retired q.retired (look_of result)) }
         ensures others { (t : ℕ) → t ≢ tenant → passes_at caller.new t ≡ passes_at caller.old t }
         ensures tags { (t : ℕ) → t ≢ tenant → tags_at caller.new t ≡ tags_at caller.old t }
         ensures bytes { (t : ℕ) → t ≢ tenant → answer_of caller.new t ≡ answer_of caller.old t }
     {
         let pass = &mut caller.passes[tenant as usize];
-        self.send(
-            pass,
-            store,
-            module,
-            asked.export,
-            asked.args,
-            asked.request,
-            asked.fuel,
-            number,
-            gate,
-        )
+        self.send(pass, store, module, asked, number, gate)
     }
 }

@@ -3,39 +3,55 @@ use report_text::{
     CallLine, ModuleLine, ReportLine, report_text, write_call, write_module, write_retire,
     write_summary,
 };
+use std::alloc::{AllocError, Global};
 use std::test::Fail;
 use wasm_values::{Items, Outcome, TrapKind, Val};
+
+const MODULES: [ModuleLine; 6] = [
+    ModuleLine::Accepted,
+    ModuleLine::Malformed,
+    ModuleLine::Unsupported,
+    ModuleLine::Invalid,
+    ModuleLine::Limit,
+    ModuleLine::Segment,
+];
+
+const ENDS: [Outcome; 13] = [
+    Outcome::Done(None),
+    Outcome::Done(Some(Val::I32(5))),
+    Outcome::Done(Some(Val::I32(2147483648))),
+    Outcome::Done(Some(Val::I64(18446744073709551615))),
+    Outcome::Trap(TrapKind::Unreachable),
+    Outcome::Trap(TrapKind::Memory),
+    Outcome::Trap(TrapKind::Element),
+    Outcome::Trap(TrapKind::Uninit),
+    Outcome::Trap(TrapKind::Signature),
+    Outcome::Trap(TrapKind::Divide),
+    Outcome::Trap(TrapKind::Overflow),
+    Outcome::Trap(TrapKind::Exhausted),
+    Outcome::Fuel,
+];
+
+// Their lines: modules, a retirement, and calls from 1 on, the last six refused or answered with bytes.
+const APPENDED: &str =
+    "module e ok\nmodule e refused malformed\nmodule e refused unsupported\nmodule e refused invalid\n\
+    module e refused limit\nmodule e refused segment\nretire e done\n1 ok\n2 ok i32:5\n3 ok i32:-2147483648\n4 ok i64:-1\n\
+    5 trap unreachable\n6 trap memory\n7 trap element\n8 trap uninit\n9 trap signature\n10 trap divide\n\
+    11 trap overflow\n12 trap exhausted\n13 fuel\n14 refused module\n15 refused export\n16 refused args\n\
+    17 ok i32:3 out:00ff\n18 ok out:-\n19 refused retired\n";
 
 #[test]
 fn lines_are_appended(rt: HostRuntime) -> Result<(), Fail> {
     let alloc = rt.alloc();
     let mut out = Vec::new(alloc);
-    let modules = [
-        ModuleLine::Accepted,
-        ModuleLine::Malformed,
-        ModuleLine::Unsupported,
-        ModuleLine::Invalid,
-        ModuleLine::Limit,
-        ModuleLine::Segment,
-    ];
-    for line in modules {
+    for line in MODULES {
         write_module(alloc, &mut out, b"e", line)?;
     }
     write_retire(alloc, &mut out, b"e")?;
-    let calls = [
-        CallLine::Done(Outcome::Done(None)),
-        CallLine::Done(Outcome::Done(Some(Val::I32(5)))),
-        CallLine::Done(Outcome::Done(Some(Val::I32(2147483648)))),
-        CallLine::Done(Outcome::Done(Some(Val::I64(18446744073709551615)))),
-        CallLine::Done(Outcome::Trap(TrapKind::Unreachable)),
-        CallLine::Done(Outcome::Trap(TrapKind::Memory)),
-        CallLine::Done(Outcome::Trap(TrapKind::Element)),
-        CallLine::Done(Outcome::Trap(TrapKind::Uninit)),
-        CallLine::Done(Outcome::Trap(TrapKind::Signature)),
-        CallLine::Done(Outcome::Trap(TrapKind::Divide)),
-        CallLine::Done(Outcome::Trap(TrapKind::Overflow)),
-        CallLine::Done(Outcome::Trap(TrapKind::Exhausted)),
-        CallLine::Done(Outcome::Fuel),
+    for (k, end) in (1..14u32).zip(ENDS) {
+        write_call(alloc, &mut out, k, &CallLine::Done(end))?;
+    }
+    let others = [
         CallLine::NoModule,
         CallLine::NoExport,
         CallLine::BadArgs,
@@ -46,33 +62,25 @@ fn lines_are_appended(rt: HostRuntime) -> Result<(), Fail> {
         CallLine::Sent(None, Items::new(Vec::new(alloc))),
         CallLine::Retired,
     ];
-    let mut k = 1u32;
-    for line in &calls {
+    for (k, line) in (14..20u32).zip(&others) {
         write_call(alloc, &mut out, k, line)?;
-        k = k.saturating_add(1);
     }
-    let want =
-        "module e ok\nmodule e refused malformed\nmodule e refused unsupported\nmodule e refused invalid\n\
-        module e refused limit\nmodule e refused segment\nretire e done\n1 ok\n2 ok i32:5\n3 ok i32:-2147483648\n4 ok i64:-1\n\
-        5 trap unreachable\n6 trap memory\n7 trap element\n8 trap uninit\n9 trap signature\n10 trap divide\n\
-        11 trap overflow\n12 trap exhausted\n13 fuel\n14 refused module\n15 refused export\n16 refused args\n\
-        17 ok i32:3 out:00ff\n18 ok out:-\n19 refused retired\n";
-    assert_eq!(rt; out.as_slice(), want.as_bytes());
+    assert_eq!(rt; out.as_slice(), APPENDED.as_bytes());
     Ok(())
 }
 
-#[test]
-fn a_report_has_its_text_and_its_summary(rt: HostRuntime) -> Result<(), Fail> {
-    let alloc = rt.alloc();
+const FILE_MODULES: [ModuleLine; 5] = [
+    ModuleLine::Accepted,
+    ModuleLine::Malformed,
+    ModuleLine::Accepted,
+    ModuleLine::Segment,
+    ModuleLine::Limit,
+];
+
+// Lines of a report: modules, calls, and a retirement.
+fn report(alloc: Global) -> Result<Vec<ReportLine>, AllocError> {
     let mut lines = Vec::new(alloc);
-    let modules = [
-        ModuleLine::Accepted,
-        ModuleLine::Malformed,
-        ModuleLine::Accepted,
-        ModuleLine::Segment,
-        ModuleLine::Limit,
-    ];
-    for line in modules {
+    for line in FILE_MODULES {
         let name = Items::new(Vec::from_slice(alloc, b"calls")?);
         lines.push(ReportLine::Module { name, line })?;
     }
@@ -95,6 +103,13 @@ fn a_report_has_its_text_and_its_summary(rt: HostRuntime) -> Result<(), Fail> {
     }
     let name = Items::new(Vec::from_slice(alloc, b"calls")?);
     lines.push(ReportLine::Retired { name })?;
+    Ok(lines)
+}
+
+#[test]
+fn a_report_has_its_text_and_its_summary(rt: HostRuntime) -> Result<(), Fail> {
+    let alloc = rt.alloc();
+    let lines = report(alloc)?;
     let mut out = Vec::from_slice(alloc, b"before\n")?;
     write_summary(alloc, &mut out, &lines)?;
     let want =

@@ -2,6 +2,7 @@
 use pool_limits::{Numbers, PoolConfig};
 use request_text::{Directive, Invocation, ParseFault, Reason, Requests, parse, write_text_fault};
 use std::alloc::{AllocError, Global};
+use std::process::Abort;
 use std::test::Fail;
 use wasm_values::Profile;
 
@@ -123,115 +124,140 @@ fn described(alloc: Global, parsed: &Result<Requests, ParseFault>) -> Result<Str
     Ok(text)
 }
 
-#[test]
-fn texts_are_read_or_refused_at_their_first_bad_line(rt: HostRuntime) -> Result<(), Fail> {
-    let alloc = rt.alloc();
+// Texts, and what is read of them.
+const CALLS: [(&str, &str); 29] = [
+    ("", ""),
+    ("module a 00FFab\n", "module a 00ffab\n"),
+    (
+        "# \x01\x02\n\n   \n  module   a 00 \n#module a 00\nmodule b 01",
+        "module a 00\nmodule b 01\n",
+    ),
+    (
+        "module a 00\nmodule b 01\ncall b f 7\ncall a g 0004294967295",
+        "module a 00\nmodule b 01\ncall 1 f 7\ncall 0 g 4294967295\n",
+    ),
+    (
+        "module a 00\ncall a f 0 i32:-2147483648 i32:4294967295 i32:-0 i32:007 i32:-1",
+        "module a 00\ncall 0 f 0 I32(2147483648) I32(4294967295) I32(0) I32(7) I32(4294967295)\n",
+    ),
+    (
+        "module a 00\ncall a f 0 i64:-9223372036854775808 i64:18446744073709551615 i64:-1",
+        "module a 00\ncall 0 f 0 I64(9223372036854775808) I64(18446744073709551615) I64(18446744073709551615)\n",
+    ),
+    ("call a f 1", "line 1: unknown module"),
+    ("#\n\nmodule a 00\tx\nmodule a 0", "line 3: bad byte"),
+    ("module a 00\r\n", "line 1: bad byte"),
+    ("module a \x7f", "line 1: bad byte"),
+    ("Module a 00", "line 1: unknown directive"),
+    (" #", "line 1: unknown directive"),
+    ("module a", "line 1: bad words"),
+    ("module a 00 x", "line 1: bad words"),
+    ("module a 00\ncall a f", "line 2: bad words"),
+    ("module a 0", "line 1: bad hex"),
+    ("module a 0g", "line 1: bad hex"),
+    ("module a 00\nmodule a 0", "line 2: bad hex"),
+    ("module a 00\nmodule a 00", "line 2: name used twice"),
+    ("module a 00\ncall b f -1", "line 2: unknown module"),
+    ("module a 00\ncall a f +1 x", "line 2: bad fuel"),
+    ("module a 00\ncall a f 4294967296", "line 2: bad fuel"),
+    (
+        "module a 00\ncall a f 1 i32:4294967296",
+        "line 2: bad argument",
+    ),
+    (
+        "module a 00\ncall a f 1 i32:-2147483649",
+        "line 2: bad argument",
+    ),
+    (
+        "module a 00\ncall a f 1 i64:18446744073709551616",
+        "line 2: bad argument",
+    ),
+    (
+        "module a 00\ncall a f 1 i64:-9223372036854775809",
+        "line 2: bad argument",
+    ),
+    ("module a 00\ncall a f 1 i32:", "line 2: bad argument"),
+    ("module a 00\ncall a f 1 i32:+1", "line 2: bad argument"),
+    (
+        "module a 00\ncall a f 1 i32:1 f32:1",
+        "line 2: bad argument",
+    ),
+];
+
+// The same of files that name a profile.
+const PROFILES: [(&str, &str); 11] = [
+    (
+        "# first\n\n profile 2\nmodule a 00",
+        "profile 2\nmodule a 00\n",
+    ),
+    ("profile 1\nmodule a 00", "module a 00\n"),
+    ("module a 00\nprofile 2", "line 2: late profile"),
+    ("profile 1\nprofile 2", "line 2: late profile"),
+    ("module a 00\nprofile", "line 2: late profile"),
+    ("profile 9", "line 1: bad profile"),
+    ("profile", "line 1: bad profile"),
+    ("profile 02", "line 1: bad profile"),
+    ("profile 1 2", "line 1: bad profile"),
+    ("profile 2\t", "line 1: bad byte"),
+    ("profiles 2", "line 1: unknown directive"),
+];
+
+// The same of calls that are sent bytes.
+const REQUESTS: [(&str, &str); 10] = [
+    (
+        "profile 3\nmodule a 00\nsend a f 7 00fFaB i32:1\nsend a f 0 -\ncall a - 1",
+        "profile 3\nmodule a 00\nsend 0 f 7 =00ffab I32(1)\nsend 0 f 0 =\ncall 0 - 1\n",
+    ),
+    ("module a 00\nsend a f 1 -", "line 2: unknown directive"),
+    (
+        "profile 2\nmodule a 00\nsend a f 1 -",
+        "line 3: unknown directive",
+    ),
+    ("profile 3\nmodule a 00\nsend a f 1", "line 3: bad words"),
+    ("profile 3\nsend a f x 0 x", "line 2: unknown module"),
+    ("profile 3\nmodule a 00\nsend a f x 0 x", "line 3: bad fuel"),
+    (
+        "profile 3\nmodule a 00\nsend a f 1 0 x",
+        "line 3: bad request",
+    ),
+    (
+        "profile 3\nmodule a 00\nsend a f 1 0g",
+        "line 3: bad request",
+    ),
+    (
+        "profile 3\nmodule a 00\nsend a f 1 -- x",
+        "line 3: bad request",
+    ),
+    (
+        "profile 3\nmodule a 00\nsend a f 1 - x",
+        "line 3: bad argument",
+    ),
+];
+
+fn check_texts<R: Abort>(rt: &R, alloc: Global, rows: &[(&str, &str)]) -> Result<(), Fail> {
     let config = PoolConfig::new(NUMBERS)?;
-    let rows = [
-        ("", ""),
-        ("module a 00FFab\n", "module a 00ffab\n"),
-        (
-            "# \x01\x02\n\n   \n  module   a 00 \n#module a 00\nmodule b 01",
-            "module a 00\nmodule b 01\n",
-        ),
-        (
-            "module a 00\nmodule b 01\ncall b f 7\ncall a g 0004294967295",
-            "module a 00\nmodule b 01\ncall 1 f 7\ncall 0 g 4294967295\n",
-        ),
-        (
-            "module a 00\ncall a f 0 i32:-2147483648 i32:4294967295 i32:-0 i32:007 i32:-1",
-            "module a 00\ncall 0 f 0 I32(2147483648) I32(4294967295) I32(0) I32(7) I32(4294967295)\n",
-        ),
-        (
-            "module a 00\ncall a f 0 i64:-9223372036854775808 i64:18446744073709551615 i64:-1",
-            "module a 00\ncall 0 f 0 I64(9223372036854775808) I64(18446744073709551615) I64(18446744073709551615)\n",
-        ),
-        ("call a f 1", "line 1: unknown module"),
-        ("#\n\nmodule a 00\tx\nmodule a 0", "line 3: bad byte"),
-        ("module a 00\r\n", "line 1: bad byte"),
-        ("module a \x7f", "line 1: bad byte"),
-        ("Module a 00", "line 1: unknown directive"),
-        (" #", "line 1: unknown directive"),
-        ("module a", "line 1: bad words"),
-        ("module a 00 x", "line 1: bad words"),
-        ("module a 00\ncall a f", "line 2: bad words"),
-        ("module a 0", "line 1: bad hex"),
-        ("module a 0g", "line 1: bad hex"),
-        ("module a 00\nmodule a 0", "line 2: bad hex"),
-        ("module a 00\nmodule a 00", "line 2: name used twice"),
-        ("module a 00\ncall b f -1", "line 2: unknown module"),
-        ("module a 00\ncall a f +1 x", "line 2: bad fuel"),
-        ("module a 00\ncall a f 4294967296", "line 2: bad fuel"),
-        (
-            "module a 00\ncall a f 1 i32:4294967296",
-            "line 2: bad argument",
-        ),
-        (
-            "module a 00\ncall a f 1 i32:-2147483649",
-            "line 2: bad argument",
-        ),
-        (
-            "module a 00\ncall a f 1 i64:18446744073709551616",
-            "line 2: bad argument",
-        ),
-        (
-            "module a 00\ncall a f 1 i64:-9223372036854775809",
-            "line 2: bad argument",
-        ),
-        (
-            "# first\n\n profile 2\nmodule a 00",
-            "profile 2\nmodule a 00\n",
-        ),
-        ("profile 1\nmodule a 00", "module a 00\n"),
-        ("module a 00\nprofile 2", "line 2: late profile"),
-        ("profile 1\nprofile 2", "line 2: late profile"),
-        ("module a 00\nprofile", "line 2: late profile"),
-        ("profile 9", "line 1: bad profile"),
-        ("profile", "line 1: bad profile"),
-        ("profile 02", "line 1: bad profile"),
-        ("profile 1 2", "line 1: bad profile"),
-        ("profile 2\t", "line 1: bad byte"),
-        ("profiles 2", "line 1: unknown directive"),
-        (
-            "profile 3\nmodule a 00\nsend a f 7 00fFaB i32:1\nsend a f 0 -\ncall a - 1",
-            "profile 3\nmodule a 00\nsend 0 f 7 =00ffab I32(1)\nsend 0 f 0 =\ncall 0 - 1\n",
-        ),
-        ("module a 00\nsend a f 1 -", "line 2: unknown directive"),
-        (
-            "profile 2\nmodule a 00\nsend a f 1 -",
-            "line 3: unknown directive",
-        ),
-        ("profile 3\nmodule a 00\nsend a f 1", "line 3: bad words"),
-        ("profile 3\nsend a f x 0 x", "line 2: unknown module"),
-        ("profile 3\nmodule a 00\nsend a f x 0 x", "line 3: bad fuel"),
-        (
-            "profile 3\nmodule a 00\nsend a f 1 0 x",
-            "line 3: bad request",
-        ),
-        (
-            "profile 3\nmodule a 00\nsend a f 1 0g",
-            "line 3: bad request",
-        ),
-        (
-            "profile 3\nmodule a 00\nsend a f 1 -- x",
-            "line 3: bad request",
-        ),
-        (
-            "profile 3\nmodule a 00\nsend a f 1 - x",
-            "line 3: bad argument",
-        ),
-        ("module a 00\ncall a f 1 i32:", "line 2: bad argument"),
-        ("module a 00\ncall a f 1 i32:+1", "line 2: bad argument"),
-        (
-            "module a 00\ncall a f 1 i32:1 f32:1",
-            "line 2: bad argument",
-        ),
-    ];
     for (text, want) in rows {
         let got = described(alloc, &parse(alloc, &config, text.as_bytes()))?;
-        assert_eq!(rt; got.as_str(), want, "of {text}");
+        assert_eq!(rt; got.as_str(), *want, "of {text}");
     }
     Ok(())
+}
+
+#[test]
+fn modules_and_calls_are_read_or_refused_at_the_first_bad_line(
+    rt: HostRuntime,
+) -> Result<(), Fail> {
+    check_texts(&rt, rt.alloc(), &CALLS)
+}
+
+#[test]
+fn a_profile_is_read_or_refused_at_the_first_bad_line(rt: HostRuntime) -> Result<(), Fail> {
+    check_texts(&rt, rt.alloc(), &PROFILES)
+}
+
+#[test]
+fn requests_are_read_or_refused_at_the_first_bad_line(rt: HostRuntime) -> Result<(), Fail> {
+    check_texts(&rt, rt.alloc(), &REQUESTS)
 }
 
 // A file of 1,048,576 modules, `m0` to `m1048575`.
@@ -384,75 +410,71 @@ fn calls_are_those_of_the_tenant_that_was_named_last(rt: HostRuntime) -> Result<
     Ok(())
 }
 
+// Texts that name tenants, and their first bad line.
+const TENANTS: [(&str, &str); 34] = [
+    ("tenant a 1 1 1 0", "line 1: unknown directive"),
+    ("profile 3\ntenant a 1 1 1 0", "line 2: unknown directive"),
+    ("profile 3\nfor a", "line 2: unknown directive"),
+    ("profile 4\ntenants a 1 1 1 0", "line 2: unknown directive"),
+    ("profile 4\nFor a", "line 2: unknown directive"),
+    (
+        "profile 4\ntenant a 1 1 1 0\nprofile 4",
+        "line 3: late profile",
+    ),
+    ("profile 6\ntenant a 1 1 1 0", "line 1: bad profile"),
+    ("profile 4\n\ntenant a 1 1 1", "line 3: bad words"),
+    ("profile 4\ntenant a 1 1 1 0 0", "line 2: bad words"),
+    ("profile 4\nfor", "line 2: bad words"),
+    ("profile 4\nfor a a", "line 2: bad words"),
+    ("profile 4\nfor a\t", "line 2: bad byte"),
+    ("profile 4\ntenant a 0 1 1 0", "line 2: bad share"),
+    ("profile 4\ntenant a 1 0 1 0", "line 2: bad share"),
+    ("profile 4\ntenant a 1 1 0 0", "line 2: bad share"),
+    ("profile 4\ntenant a 1025 1 1 0", "line 2: bad share"),
+    ("profile 4\ntenant a 1 1025 1 0", "line 2: bad share"),
+    ("profile 4\ntenant a 1 1 1025 0", "line 2: bad share"),
+    ("profile 4\ntenant a 1 1 1 1025", "line 2: bad share"),
+    ("profile 4\ntenant a +1 1 1 0", "line 2: bad share"),
+    ("profile 4\ntenant a 1 1 1 -0", "line 2: bad share"),
+    ("profile 4\ntenant a 1024 1 1 0", "line 2: share too large"),
+    ("profile 4\ntenant a 1 1 1 1024", "line 2: share too large"),
+    ("profile 4\ntenant a 5 1 1 0", "line 2: share too large"),
+    ("profile 4\ntenant a 1 6 1 0", "line 2: share too large"),
+    ("profile 4\ntenant a 1 1 7 0", "line 2: share too large"),
+    ("profile 4\ntenant a 1 1 1 8", "line 2: share too large"),
+    (
+        "profile 4\ntenant a 3 1 1 0\ntenant b 2 1 1 0",
+        "line 3: share too large",
+    ),
+    (
+        "profile 4\ntenant a 1 1 1 4\ntenant b 1 1 1 4",
+        "line 3: share too large",
+    ),
+    (
+        "profile 4\ntenant a 1 1 1 0\ntenant a 0 1 1 0",
+        "line 3: bad share",
+    ),
+    (
+        "profile 4\ntenant a 1 1 1 0\ntenant a 9 1 1 0",
+        "line 3: name used twice",
+    ),
+    (
+        "profile 4\nmodule a 00\ntenant b 1 1 1 0\nfor a",
+        "line 4: unknown tenant",
+    ),
+    (
+        "profile 4\nfor a\ntenant a 1 1 1 0",
+        "line 2: unknown tenant",
+    ),
+    (
+        "profile 4\ntenant a 1 1 1 0\nfor a\nfor 0",
+        "line 4: unknown tenant",
+    ),
+];
+
 #[test]
 fn tenants_are_refused_at_the_first_bad_line(rt: HostRuntime) -> Result<(), Fail> {
-    let alloc = rt.alloc();
-    let config = PoolConfig::new(NUMBERS)?;
-    let rows = [
-        ("tenant a 1 1 1 0", "line 1: unknown directive"),
-        ("profile 3\ntenant a 1 1 1 0", "line 2: unknown directive"),
-        ("profile 3\nfor a", "line 2: unknown directive"),
-        ("profile 4\ntenants a 1 1 1 0", "line 2: unknown directive"),
-        ("profile 4\nFor a", "line 2: unknown directive"),
-        (
-            "profile 4\ntenant a 1 1 1 0\nprofile 4",
-            "line 3: late profile",
-        ),
-        ("profile 6\ntenant a 1 1 1 0", "line 1: bad profile"),
-        ("profile 4\n\ntenant a 1 1 1", "line 3: bad words"),
-        ("profile 4\ntenant a 1 1 1 0 0", "line 2: bad words"),
-        ("profile 4\nfor", "line 2: bad words"),
-        ("profile 4\nfor a a", "line 2: bad words"),
-        ("profile 4\nfor a\t", "line 2: bad byte"),
-        ("profile 4\ntenant a 0 1 1 0", "line 2: bad share"),
-        ("profile 4\ntenant a 1 0 1 0", "line 2: bad share"),
-        ("profile 4\ntenant a 1 1 0 0", "line 2: bad share"),
-        ("profile 4\ntenant a 1025 1 1 0", "line 2: bad share"),
-        ("profile 4\ntenant a 1 1025 1 0", "line 2: bad share"),
-        ("profile 4\ntenant a 1 1 1025 0", "line 2: bad share"),
-        ("profile 4\ntenant a 1 1 1 1025", "line 2: bad share"),
-        ("profile 4\ntenant a +1 1 1 0", "line 2: bad share"),
-        ("profile 4\ntenant a 1 1 1 -0", "line 2: bad share"),
-        ("profile 4\ntenant a 1024 1 1 0", "line 2: share too large"),
-        ("profile 4\ntenant a 1 1 1 1024", "line 2: share too large"),
-        ("profile 4\ntenant a 5 1 1 0", "line 2: share too large"),
-        ("profile 4\ntenant a 1 6 1 0", "line 2: share too large"),
-        ("profile 4\ntenant a 1 1 7 0", "line 2: share too large"),
-        ("profile 4\ntenant a 1 1 1 8", "line 2: share too large"),
-        (
-            "profile 4\ntenant a 3 1 1 0\ntenant b 2 1 1 0",
-            "line 3: share too large",
-        ),
-        (
-            "profile 4\ntenant a 1 1 1 4\ntenant b 1 1 1 4",
-            "line 3: share too large",
-        ),
-        (
-            "profile 4\ntenant a 1 1 1 0\ntenant a 0 1 1 0",
-            "line 3: bad share",
-        ),
-        (
-            "profile 4\ntenant a 1 1 1 0\ntenant a 9 1 1 0",
-            "line 3: name used twice",
-        ),
-        (
-            "profile 4\nmodule a 00\ntenant b 1 1 1 0\nfor a",
-            "line 4: unknown tenant",
-        ),
-        (
-            "profile 4\nfor a\ntenant a 1 1 1 0",
-            "line 2: unknown tenant",
-        ),
-        (
-            "profile 4\ntenant a 1 1 1 0\nfor a\nfor 0",
-            "line 4: unknown tenant",
-        ),
-    ];
-    for (text, want) in rows {
-        let got = described(alloc, &parse(alloc, &config, text.as_bytes()))?;
-        assert_eq!(rt; got.as_str(), want, "of {text}");
-    }
-    Ok(())
+    check_texts(&rt, rt.alloc(), &TENANTS)
 }
 
 #[test]
@@ -505,43 +527,45 @@ fn at_most_15_tenants_share(rt: HostRuntime) -> Result<(), Fail> {
     Ok(())
 }
 
+// Lines behind the profile, and what is read of them.
+const RETIREMENTS: [(&str, &str); 15] = [
+    (
+        "module a 00\ncall a f 1\nretire a\ncall a f 2\n retire  b ",
+        "line 6: unknown module",
+    ),
+    (
+        "module a 00\nmodule b 01\ncall a f 1\n retire  b \ncall a f 2\ncall b f 3\nretire a\ncall b f 4\ncall a f 5\nmodule c 02\ncall c f 6\nretire c",
+        "profile 3\nwhole\nmodule a 00\nmodule b 01\ncall 0 f 1\nretire 1 b\ncall 0 f 2\nretired: call 1 f 3\nretire 0 a\nretired: call 1 f 4\nretired: call 0 f 5\nmodule c 02\ncall 2 f 6\nretire 2 c\n",
+    ),
+    (
+        "tenant t 1 1 1 0\nmodule a 00\nfor t\nretire a\nsend a f 1 0a",
+        "profile 3\nwhole\nwants 1 1 1 0\nmodule a 00\nretire 0 a\nfor 1: retired: send 0 f 1 =0a\n",
+    ),
+    ("tenant t 1 1 1 0\nretire t", "line 3: unknown module"),
+    ("retire a\nmodule a 00", "line 2: unknown module"),
+    ("module a 00\nretire A", "line 3: unknown module"),
+    ("module a 00\nretire a\nretire a", "line 4: retired twice"),
+    (
+        "module a 00\nmodule b 00\nretire b\nretire a\n#\nretire b",
+        "line 7: retired twice",
+    ),
+    ("module a 00\nretire a\nretire a a", "line 4: bad words"),
+    ("retire", "line 2: bad words"),
+    ("retire b b", "line 2: bad words"),
+    ("retire a\t", "line 2: bad byte"),
+    ("Retire a", "line 2: unknown directive"),
+    (
+        "module a 00\nretire a\nmodule a 00",
+        "line 4: name used twice",
+    ),
+    ("module a 00\nretire a\nprofile 5", "line 4: late profile"),
+];
+
 #[test]
 fn modules_are_retired_from_profile_5_on(rt: HostRuntime) -> Result<(), Fail> {
     let alloc = rt.alloc();
     let config = PoolConfig::new(NUMBERS)?;
-    let rows = [
-        (
-            "module a 00\ncall a f 1\nretire a\ncall a f 2\n retire  b ",
-            "line 6: unknown module",
-        ),
-        (
-            "module a 00\nmodule b 01\ncall a f 1\n retire  b \ncall a f 2\ncall b f 3\nretire a\ncall b f 4\ncall a f 5\nmodule c 02\ncall c f 6\nretire c",
-            "profile 3\nwhole\nmodule a 00\nmodule b 01\ncall 0 f 1\nretire 1 b\ncall 0 f 2\nretired: call 1 f 3\nretire 0 a\nretired: call 1 f 4\nretired: call 0 f 5\nmodule c 02\ncall 2 f 6\nretire 2 c\n",
-        ),
-        (
-            "tenant t 1 1 1 0\nmodule a 00\nfor t\nretire a\nsend a f 1 0a",
-            "profile 3\nwhole\nwants 1 1 1 0\nmodule a 00\nretire 0 a\nfor 1: retired: send 0 f 1 =0a\n",
-        ),
-        ("tenant t 1 1 1 0\nretire t", "line 3: unknown module"),
-        ("retire a\nmodule a 00", "line 2: unknown module"),
-        ("module a 00\nretire A", "line 3: unknown module"),
-        ("module a 00\nretire a\nretire a", "line 4: retired twice"),
-        (
-            "module a 00\nmodule b 00\nretire b\nretire a\n#\nretire b",
-            "line 7: retired twice",
-        ),
-        ("module a 00\nretire a\nretire a a", "line 4: bad words"),
-        ("retire", "line 2: bad words"),
-        ("retire b b", "line 2: bad words"),
-        ("retire a\t", "line 2: bad byte"),
-        ("Retire a", "line 2: unknown directive"),
-        (
-            "module a 00\nretire a\nmodule a 00",
-            "line 4: name used twice",
-        ),
-        ("module a 00\nretire a\nprofile 5", "line 4: late profile"),
-    ];
-    for (lines, want) in rows {
+    for (lines, want) in RETIREMENTS {
         let text = format!(in alloc; "profile 5\n{lines}")?;
         let got = described(alloc, &parse(alloc, &config, text.as_bytes()))?;
         assert_eq!(rt; got.as_str(), want, "of {lines}");

@@ -1,3 +1,4 @@
+pub mod Decoding
 pub mod Pairs
 pub mod Bodies
 pub mod Sections

@@ -1,10 +1,10 @@
 //! Modules, from their sections.
 
-ghost use Rattle.std.specs.Prelude.{◌≡◌, ◌++◌, ◌<◌, ℕ, List, length, map, IfOk, IsErrOf, OnErr, MatchOption, MatchResult};
+ghost use Rattle.std.specs.Prelude.{◌≡◌, ◌++◌, ◌<◌, ℕ, List, length, map, IfOk, IsErrOf, OnErr, MatchOption};
 ghost use Rattle.wasm_types.specs.Tree.{function_tree, module_tree};
 ghost use Rattle.wasm_spec.specs.TypeGrammar.{TakesTableType};
 ghost use Rattle.wasm_spec.specs.Grammar.{SpellsVec, SpellsFields, Spells, section};
-ghost use Rattle.instr_decode.specs.Decoding.{IsNone};
+ghost use Rattle.wasm_decode.specs.Decoding.{Decodes};
 ghost use Rattle.wasm_decode.specs.Fields.{SpellsFunctions, SpellsDefinitions, SpellsInitialization, definitions_tree, initialization_tree};
 ghost use Rattle.wasm_decode.specs.Sections.{section_of, WantsModule};
 
@@ -32,7 +32,7 @@ const HEADER: [u8; 8] = [0x00, 0x61, 0x73, 0x6D, 0x01, 0x00, 0x00, 0x00];
 /// `Malformed` exactly where the bytes spell no module; `NoMemory` only where memory was refused, and never before a section
 /// behind the header has been read.
 pub fn decode(alloc: Global, profile: Profile, bytes: &[u8]) -> Result<Module, DecodeFault>
-    ensures read { MatchResult result (λ m. Spells profile bytes.now (module_tree m)) (IsNone (Spells profile bytes.now)) }
+    ensures read { Decodes (Spells profile bytes.now) module_tree result }
     ensures wanted { IsErrOf result DecodeFault.NoMemory → WantsModule bytes.now }
 {
     let Some(after) = after_header(bytes) else {
@@ -71,7 +71,7 @@ fn decode_tables(
     profile: Profile,
     sections: &[Section],
 ) -> Result<Items<Limits>, DecodeFault>
-    ensures read { MatchResult result (λ ls. SpellsVec TakesTableType ls (section 4 (map section_of sections.now))) (IsNone (λ ls. SpellsVec TakesTableType ls (section 4 (map section_of sections.now)))) }
+    ensures read { Decodes (λ ls. SpellsVec TakesTableType ls (section 4 (map section_of sections.now))) (λ ls. ls) result }
     ensures wanted { IsErrOf result DecodeFault.NoMemory → 0 < length sections.now }
 {
     let tables: Items<TableType> = decode_section(alloc, profile, sections, 4)?;
@@ -84,7 +84,7 @@ fn decode_functions(
     profile: Profile,
     sections: &[Section],
 ) -> Result<Items<Function>, DecodeFault>
-    ensures read { MatchResult result (λ fs. SpellsFunctions profile (map section_of sections.now) (map function_tree fs)) (IsNone (SpellsFunctions profile (map section_of sections.now))) }
+    ensures read { Decodes (SpellsFunctions profile (map section_of sections.now)) (map function_tree) result }
     ensures wanted { IsErrOf result DecodeFault.NoMemory → 0 < length sections.now }
 {
     let type_indices: Items<u32> = decode_section(alloc, profile, sections, 3)?;
@@ -112,7 +112,7 @@ fn decode_definitions(
     profile: Profile,
     sections: &[Section],
 ) -> Result<Definitions, DecodeFault>
-    ensures read { MatchResult result (λ d. SpellsDefinitions profile (map section_of sections.now) (definitions_tree d)) (IsNone (SpellsDefinitions profile (map section_of sections.now))) }
+    ensures read { Decodes (SpellsDefinitions profile (map section_of sections.now)) definitions_tree result }
     ensures wanted { IsErrOf result DecodeFault.NoMemory → 0 < length sections.now }
 {
     let types = decode_section(alloc, profile, sections, 1)?;
@@ -143,7 +143,7 @@ fn decode_initialization(
     profile: Profile,
     sections: &[Section],
 ) -> Result<Initialization, DecodeFault>
-    ensures read { MatchResult result (λ i. SpellsInitialization profile (map section_of sections.now) (initialization_tree i)) (IsNone (SpellsInitialization profile (map section_of sections.now))) }
+    ensures read { Decodes (SpellsInitialization profile (map section_of sections.now)) initialization_tree result }
     ensures wanted { IsErrOf result DecodeFault.NoMemory → 0 < length sections.now }
 {
     let start = decode_start(alloc, profile, sections)?;
@@ -166,7 +166,7 @@ fn decode_fields(
     profile: Profile,
     sections: &[Section],
 ) -> Result<Module, DecodeFault>
-    ensures read { MatchResult result (λ m. SpellsFields profile (map section_of sections.now) (module_tree m)) (IsNone (SpellsFields profile (map section_of sections.now))) }
+    ensures read { Decodes (SpellsFields profile (map section_of sections.now)) module_tree result }
     ensures wanted { IsErrOf result DecodeFault.NoMemory → 0 < length sections.now }
 {
     let imports = decode_section(alloc, profile, sections, 2)?;

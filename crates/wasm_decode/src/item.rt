@@ -1,12 +1,13 @@
 //! Items of the binary format: what stands alone, in a row, and in a vector.
 
-ghost use Rattle.std.specs.Prelude.{◌≡◌, ℕ, List, [], map, IsErrOf, MatchResult};
+ghost use Rattle.std.specs.Prelude.{◌≡◌, ℕ, List, [], map, IsErrOf};
 ghost use Rattle.wasm_values.specs.declared.profile.Profile.{Profile as AProfile};
 ghost use Rattle.wasm_spec.specs.Numbers.{TakesUnsigned, TakesVec, TakesBytes, IsUnambiguous};
 ghost use Rattle.wasm_spec.proofs.UnambiguousNumbers.{unsigned-unique, vec-unique, byte-unique};
-ghost use Rattle.leb_read.specs.Reading.{rest, IsRead, TakesByte};
-ghost use Rattle.instr_decode.specs.Decoding.{IsNone, BeginsWithNone};
+ghost use Rattle.leb_read.specs.Reading.{rest, TakesByte};
+ghost use Rattle.instr_decode.specs.Decoding.{ReadsAs};
 ghost use Rattle.instr_decode.specs.Wants.{WantsVec};
+ghost use Rattle.wasm_decode.specs.Decoding.{Decodes};
 ghost use Rattle.wasm_decode.specs.Pairs.{TakesPair, WantsPair, pair-unique};
 
 use instr_decode::DecodeFault;
@@ -28,7 +29,7 @@ pub(crate) trait Item: Sized + Drop {
 
     // The item at the cursor, which then stands just after it.
     fn decode(alloc: Global, profile: Profile, cursor: &mut Cursor) -> Result<Self, DecodeFault>
-        ensures read { MatchResult result (λ x. IsRead (Takes profile) cursor.old cursor.new (tree x)) (BeginsWithNone (Takes profile) (rest cursor.old)) }
+        ensures read { ReadsAs (Takes profile) tree cursor.old cursor.new result }
         ensures wanted { IsErrOf result DecodeFault.NoMemory → Wants profile (rest cursor.old) };
 
     ghost unique: { (profile : AProfile) → IsUnambiguous (Takes profile) };
@@ -110,7 +111,7 @@ impl<T: Item> Item for Items<T> {
 
 // A size, and that many bytes.
 pub(crate) fn read_bytes<'a>(cursor: &mut Cursor<'a>) -> Result<&'a [u8], DecodeFault>
-    ensures read { MatchResult result (λ xs. IsRead TakesBytes cursor.old cursor.new xs.now) (BeginsWithNone TakesBytes (rest cursor.old)) }
+    ensures read { ReadsAs TakesBytes (λ xs. xs.now) cursor.old cursor.new result }
     ensures wanted { IsErrOf result DecodeFault.NoMemory → ⊥ }
 {
     let size = cursor.u32()?;
@@ -123,7 +124,7 @@ pub(crate) fn decode_whole<T: Item>(
     profile: Profile,
     bytes: &[u8],
 ) -> Result<T, DecodeFault>
-    ensures read { MatchResult result (λ x. T.Takes profile (T.tree x) bytes.now []) (IsNone (λ x. T.Takes profile x bytes.now [])) }
+    ensures read { Decodes (λ x. T.Takes profile x bytes.now []) T.tree result }
     ensures wanted { IsErrOf result DecodeFault.NoMemory → T.Wants profile bytes.now }
 {
     let mut cursor = Cursor::new(bytes);

@@ -1,11 +1,11 @@
 //! The sections of a module.
 
-ghost use Rattle.std.specs.Prelude.{◌≡◌, ◌↔◌, ◌<◌, ◌≤◌, ℕ, [], IsTrue, IfOk, IsErrOf, map, option_map, MatchResult};
+ghost use Rattle.std.specs.Prelude.{◌≡◌, ◌↔◌, ◌<◌, ◌≤◌, ℕ, [], IsTrue, IfOk, IsErrOf, map, option_map};
 ghost use Rattle.wasm_spec.specs.Numbers.{TakesEach, TakesUnsigned};
 ghost use Rattle.wasm_spec.specs.Grammar.{TakesSection, IsCustom, IsOrderedAbove, SpellsVec, SpellsStart, SpellsCount, last_id, place, section};
-ghost use Rattle.leb_read.specs.Reading.{rest, IsRead};
-ghost use Rattle.instr_decode.specs.Decoding.{IsNone, BeginsWithNone};
+ghost use Rattle.instr_decode.specs.Decoding.{ReadsAs};
 ghost use Rattle.instr_decode.specs.Wants.{BeginsWith};
+ghost use Rattle.wasm_decode.specs.Decoding.{Decodes};
 ghost use Rattle.wasm_decode.specs.Sections.{section_of, WantsSection};
 
 use crate::item::{Item, decode_whole, read_bytes};
@@ -23,7 +23,7 @@ pub(crate) struct Section<'a> {
 
 // The section at the cursor, which then stands just after it.
 fn read_section<'a>(cursor: &mut Cursor<'a>) -> Result<Section<'a>, DecodeFault>
-    ensures section { MatchResult result (λ s. IsRead TakesSection cursor.old cursor.new (section_of s)) (BeginsWithNone TakesSection (rest cursor.old)) }
+    ensures section { ReadsAs TakesSection section_of cursor.old cursor.new result }
     ensures forth { IfOk result (λ _. cursor.old.place < cursor.new.place) }
     ensures wanted { IsErrOf result DecodeFault.NoMemory → ⊥ }
 {
@@ -37,7 +37,7 @@ pub(crate) fn read_sections<'a>(
     alloc: Global,
     bytes: &'a [u8],
 ) -> Result<Vec<Section<'a>>, DecodeFault>
-    ensures read { MatchResult result (λ ss. TakesEach TakesSection (map section_of ss.items) bytes.now []) (IsNone (λ ss. TakesEach TakesSection ss bytes.now [])) }
+    ensures read { Decodes (λ ss. TakesEach TakesSection ss bytes.now []) (λ ss. map section_of ss.items) result }
     ensures wanted { IsErrOf result DecodeFault.NoMemory → BeginsWith TakesSection bytes.now }
 {
     let mut cursor = Cursor::new(bytes);
@@ -118,7 +118,7 @@ pub(crate) fn decode_section<T: Item>(
     sections: &[Section],
     id: u8,
 ) -> Result<Items<T>, DecodeFault>
-    ensures read { MatchResult result (λ xs. SpellsVec (T.Takes profile) (map T.tree xs) (section id (map section_of sections.now))) (IsNone (λ xs. SpellsVec (T.Takes profile) xs (section id (map section_of sections.now)))) }
+    ensures read { Decodes (λ xs. SpellsVec (T.Takes profile) xs (section id (map section_of sections.now))) (map T.tree) result }
     ensures wanted { IsErrOf result DecodeFault.NoMemory → WantsSection (T.Takes profile) (T.Wants profile) (section id (map section_of sections.now)) }
 {
     match find_contents(sections, id) {
@@ -133,7 +133,7 @@ pub(crate) fn decode_start(
     profile: Profile,
     sections: &[Section],
 ) -> Result<Option<u32>, DecodeFault>
-    ensures read { MatchResult result (λ x. SpellsStart x (section 8 (map section_of sections.now))) (IsNone (λ x. SpellsStart x (section 8 (map section_of sections.now)))) }
+    ensures read { Decodes (λ x. SpellsStart x (section 8 (map section_of sections.now))) (λ x. x) result }
     ensures wanted { IsErrOf result DecodeFault.NoMemory → ⊥ }
 {
     match find_contents(sections, 8) {

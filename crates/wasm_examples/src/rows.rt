@@ -2,11 +2,12 @@
 //! it is valid. The verdicts are those of another engine, the needs those of the standard's algorithm (appendix A.3).
 
 use crate::rows::Step::{
-    Binary, Block, Br, BrIf, BrTable, Call, CallIndirect, Compare, Drop, Eqz, Extend, GlobalGet,
-    GlobalSet, I32, I64, If, Load, LoadPacked, LocalGet, LocalSet, LocalTee, Loop, MemoryGrow,
-    MemorySize, Nop, Return, Select, Store, StorePacked, Unary, Unreachable, Wrap,
+    Binary, Block, Br, BrIf, BrTable, Call, CallIndirect, Compare, Drop, Eqz, Extend, Float,
+    GlobalGet, GlobalSet, I32, I64, If, Load, LoadPacked, LocalGet, LocalSet, LocalTee, Loop,
+    MemoryGrow, MemorySize, Nop, Return, Select, Store, StorePacked, Unary, Unreachable, Wrap,
 };
 use wasm_types::{PackSize, Sign, ValType, Width};
+use wasm_validate::ValidFault;
 
 /// An instruction of a row. Inner sequences are named by number.
 #[derive(Clone, Copy)]
@@ -227,3 +228,28 @@ pub(crate) static WITHOUT_TABLE: [Row; 1] = [(
     &[&[I32(1), I64(2), I32(0), CallIndirect(0)]],
     None,
 )];
+
+/// A body, with the number of its function's type and the need that its module has, if it is taken.
+pub(crate) type Other = (u32, &'static [&'static [Step]], Result<u64, ValidFault>);
+
+/// Bodies of modules that another source gives.
+pub(crate) const OTHERS: [Other; 6] = [
+    (1, &[&[Float, Drop]], Err(ValidFault::Unsupported)),
+    (
+        1,
+        &[&[I32(65), Binary(Width::W32), Drop]],
+        Err(ValidFault::Invalid),
+    ),
+    (4, &[&[Unreachable, Binary(Width::W32)]], Ok(2)),
+    (4, &[&[Unreachable, I64(0)]], Err(ValidFault::Invalid)),
+    (6, &[&[LocalGet(0), LocalGet(1), Binary(Width::W32)]], Ok(5)),
+    (
+        5,
+        &[
+            &[I32(0)],
+            &[LocalGet(0), I32(1), Binary(Width::W32), Call(1)],
+            &[LocalGet(0), Eqz(Width::W32), If(Some(ValType::I32), 0, 1)],
+        ],
+        Ok(5),
+    ),
+];

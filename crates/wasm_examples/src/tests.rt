@@ -1,12 +1,14 @@
 //! Modules whose verdicts and needs come from elsewhere.
 
-use crate::rows::{BRANCHES, OPERANDS, Row, Step, VARIABLES, WITHOUT_MEMORY, WITHOUT_TABLE};
+use crate::rows::{
+    BRANCHES, OPERANDS, OTHERS, Row, Step, VARIABLES, WITHOUT_MEMORY, WITHOUT_TABLE,
+};
 use std::alloc::{AllocError, Global};
 use std::process::Abort;
 use std::test::Fail;
 use wasm_types::{
     BinaryOp, CompareOp, Export, ExportDesc, Expr, FuncType, Function, GlobalType, Instr, Limits,
-    LocalRun, MemArg, Module, Op, UnaryOp, ValType, Width,
+    LocalRun, MemArg, Module, Op, UnaryOp, ValType,
 };
 use wasm_validate::{ValidFault, validate};
 use wasm_values::{Items, Profile, Val};
@@ -275,52 +277,7 @@ fn locals_are_counted_one_by_one_and_have_the_type_of_their_run(
 #[test]
 fn modules_of_other_sources_are_refused_or_need_what_they_say(rt: HostRuntime) -> Result<(), Fail> {
     let alloc = rt.alloc();
-    let cases: [(u32, &[&[Step]], Result<u64, ValidFault>); 6] = [
-        (
-            1,
-            &[&[Step::Float, Step::Drop]],
-            Err(ValidFault::Unsupported),
-        ),
-        (
-            1,
-            &[&[Step::I32(65), Step::Binary(Width::W32), Step::Drop]],
-            Err(ValidFault::Invalid),
-        ),
-        (4, &[&[Step::Unreachable, Step::Binary(Width::W32)]], Ok(2)),
-        (
-            4,
-            &[&[Step::Unreachable, Step::I64(0)]],
-            Err(ValidFault::Invalid),
-        ),
-        (
-            6,
-            &[&[
-                Step::LocalGet(0),
-                Step::LocalGet(1),
-                Step::Binary(Width::W32),
-            ]],
-            Ok(5),
-        ),
-        (
-            5,
-            &[
-                &[Step::I32(0)],
-                &[
-                    Step::LocalGet(0),
-                    Step::I32(1),
-                    Step::Binary(Width::W32),
-                    Step::Call(1),
-                ],
-                &[
-                    Step::LocalGet(0),
-                    Step::Eqz(Width::W32),
-                    Step::If(Some(ValType::I32), 0, 1),
-                ],
-            ],
-            Ok(5),
-        ),
-    ];
-    for (type_index, sequences, need) in cases {
+    for (type_index, sequences, need) in OTHERS {
         let last = function(alloc, type_index, &[], sequences)?;
         assert_eq!(rt; need_of(alloc, module(alloc, true, true, last)?), need);
     }

@@ -110,7 +110,8 @@ fn enter_function(machine: &mut Machine, m: &Module, x: usize, count: usize)
 #[inline(always)]
 fn invoke(machine: &mut Machine, inputs: &Inputs, x: usize) -> Step
     requires { (request : List ℕ) × CanCall inputs.now.m.now (terms inputs.now.limits request) machine.old x }
-    ensures steps { (request : List ℕ) (frame : ℕ) (store : Store) (r : ℕ → Ended) → IsRunnable inputs.now.m.now frame → SimulatesCall inputs.now.m.now (terms inputs.now.limits request) frame machine.old store x r
+    ensures steps { (request : List ℕ) (frame : ℕ) (store : Store) (r : ℕ → Ended) → IsRunnable inputs.now.m.now frame
+        → SimulatesCall inputs.now.m.now (terms inputs.now.limits request) frame machine.old store x r
         → SimulatesStep result inputs.now.m.now (terms inputs.now.limits request) frame machine.new store r }
     ensures room { KeepsRoom machine.old machine.new }
     ensures moves { result ≢ step.Stays }

@@ -203,17 +203,23 @@ impl Stacks {
         requires frame { FitsFrame valid.now self.old.room.frame }
         requires memory { IsMemory (room_for valid.now.memories limits.pages) memory.old }
         requires request { length request.now ≤ 65536 }
-        ensures result { (r : ℕ → Ended) → Resumes valid.now (terms limits request.now) self.old (lent_store valid.now memory.old table.now globals.old answer.old) r
-            → result_of (r fuel) ≡ Some (record { outcome = result.outcome; store = lent_store valid.now memory.new table.now globals.new answer.new; fuel = result.left }) }
-        ensures ended { HasEnded result.outcome → (r : ℕ → Ended) → Resumes valid.now (terms limits request.now) self.old (lent_store valid.now memory.old table.now globals.old answer.old) r
-            → (more : ℕ) → result_of (r (fuel - result.left + more)) ≡ Some (record { outcome = result.outcome; store = lent_store valid.now memory.new table.now globals.new answer.new; fuel = more }) }
-        ensures stands { IsOutOfFuel result.outcome → (r : ℕ → Ended) → Resumes valid.now (terms limits request.now) self.old (lent_store valid.now memory.old table.now globals.old answer.old) r
+        ensures result { (r : ℕ → Ended)
+            → Resumes valid.now (terms limits request.now) self.old (lent_store valid.now memory.old table.now globals.old answer.old) r
+            → result_of (r fuel)
+            ≡ Some (record { outcome = result.outcome; store = lent_store valid.now memory.new table.now globals.new answer.new; fuel = result.left }) }
+        ensures ended { HasEnded result.outcome → (r : ℕ → Ended)
+            → Resumes valid.now (terms limits request.now) self.old (lent_store valid.now memory.old table.now globals.old answer.old) r
+            → (more : ℕ) → result_of (r (fuel - result.left + more))
+            ≡ Some (record { outcome = result.outcome; store = lent_store valid.now memory.new table.now globals.new answer.new; fuel = more }) }
+        ensures stands { IsOutOfFuel result.outcome → (r : ℕ → Ended)
+            → Resumes valid.now (terms limits request.now) self.old (lent_store valid.now memory.old table.now globals.old answer.old) r
             → Resumes valid.now (terms limits request.now) self.new (lent_store valid.now memory.new table.now globals.new answer.new) (after fuel r) }
         ensures left { result.left ≤ fuel }
         ensures memory { IsMemory (room_for valid.now.memories limits.pages) memory.new }
         ensures store { IsDone result.outcome → IsTypedStore valid.now (lent_store valid.now memory.new table.now globals.new answer.new) }
 
-        ensures marked { (r : ℕ → Ended) → Resumes valid.now (terms limits request.now) self.old (lent_store valid.now memory.old table.now globals.old answer.old) r
+        ensures marked { (r : ℕ → Ended)
+            → Resumes valid.now (terms limits request.now) self.old (lent_store valid.now memory.old table.now globals.old answer.old) r
             → (turns : ℕ) (x : CallResult) → turns ≤ fuel → result_of (r turns) ≡ Some x
             → KeepsUnmarked memory.old.bytes.items x.store.memory memory.old.marks.items memory.new.marks.items }
         ensures unspent { result.left ≡ fuel → memory.new.marks.items ≡ memory.old.marks.items }
@@ -264,20 +270,24 @@ impl Stacks {
         requires request { length request.now ≤ 65536 }
         requires frames { limits.depth ≤ self.old.room.depth }
         requires frame { FitsFrame valid.now self.old.room.frame }
-        ensures result { function_result (module_tree valid.now) (terms limits request.now) function args.now (lent_store valid.now memory.old table.now globals.old answer.old) fuel
+        ensures result { function_result (module_tree valid.now) (terms limits request.now) function args.now
+            (lent_store valid.now memory.old table.now globals.old answer.old) fuel
             ≡ Some (record { outcome = result.outcome; store = lent_store valid.now memory.new table.now globals.new answer.new; fuel = result.left }) }
         ensures ended { HasEnded result.outcome → (more : ℕ)
-            → function_result (module_tree valid.now) (terms limits request.now) function args.now (lent_store valid.now memory.old table.now globals.old answer.old) (fuel - result.left + more)
+            → function_result (module_tree valid.now) (terms limits request.now) function args.now
+            (lent_store valid.now memory.old table.now globals.old answer.old) (fuel - result.left + more)
             ≡ Some (record { outcome = result.outcome; store = lent_store valid.now memory.new table.now globals.new answer.new; fuel = more }) }
         ensures stands { IsOutOfFuel result.outcome
             → Resumes valid.now (terms limits request.now) self.new (lent_store valid.now memory.new table.now globals.new answer.new)
-            (after fuel (run_function (module_tree valid.now) (terms limits request.now) function args.now (lent_store valid.now memory.old table.now globals.old answer.old))) }
+            (after fuel (run_function (module_tree valid.now) (terms limits request.now) function args.now
+            (lent_store valid.now memory.old table.now globals.old answer.old))) }
         ensures left { result.left ≤ fuel }
         ensures memory { IsMemory (room_for valid.now.memories limits.pages) memory.new }
         ensures store { IsDone result.outcome → IsTypedStore valid.now (lent_store valid.now memory.new table.now globals.new answer.new) }
 
         ensures marked { (turns : ℕ) (r : CallResult) → turns ≤ fuel
-            → function_result (module_tree valid.now) (terms limits request.now) function args.now (lent_store valid.now memory.old table.now globals.old answer.old) turns ≡ Some r
+            → function_result (module_tree valid.now) (terms limits request.now) function args.now
+            (lent_store valid.now memory.old table.now globals.old answer.old) turns ≡ Some r
             → KeepsUnmarked memory.old.bytes.items r.store.memory memory.old.marks.items memory.new.marks.items }
         ensures unspent { length valid.now.imports ≤ function → result.left ≡ fuel → memory.new.marks.items ≡ memory.old.marks.items }
         ensures still { IsOutOfFuel result.outcome → result.left ≡ fuel → memory.new.marks.items ≡ memory.old.marks.items }
@@ -327,14 +337,16 @@ pub fn run(
     requires request { length request.now ≤ 65536 }
     requires frames { limits.depth ≤ stacks.old.room.depth }
     requires frame { FitsFrame valid.now stacks.old.room.frame }
-    ensures result { function_result (module_tree valid.now) (terms limits request.now) function args.now (lent_store valid.now memory.old table.now globals.old answer.old) fuel
+    ensures result { function_result (module_tree valid.now) (terms limits request.now) function args.now
+        (lent_store valid.now memory.old table.now globals.old answer.old) fuel
         ≡ Some (record { outcome = result.outcome; store = lent_store valid.now memory.new table.now globals.new answer.new; fuel = result.left }) }
     ensures left { result.left ≤ fuel }
     ensures memory { IsMemory (room_for valid.now.memories limits.pages) memory.new }
     ensures store { IsDone result.outcome → IsTypedStore valid.now (lent_store valid.now memory.new table.now globals.new answer.new) }
 
     ensures marked { (turns : ℕ) (r : CallResult) → turns ≤ fuel
-        → function_result (module_tree valid.now) (terms limits request.now) function args.now (lent_store valid.now memory.old table.now globals.old answer.old) turns ≡ Some r
+        → function_result (module_tree valid.now) (terms limits request.now) function args.now
+        (lent_store valid.now memory.old table.now globals.old answer.old) turns ≡ Some r
         → KeepsUnmarked memory.old.bytes.items r.store.memory memory.old.marks.items memory.new.marks.items }
     ensures unspent { length valid.now.imports ≤ function → result.left ≡ fuel → memory.new.marks.items ≡ memory.old.marks.items }
     ensures counted { HasFewMarks (module_tree valid.now) → count_marks memory.new ≤ count_marks memory.old + 2 * (fuel - result.left) }

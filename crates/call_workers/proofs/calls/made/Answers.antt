@@ -2,7 +2,8 @@ use Rattle.std.proofs.Common.{◌∙◌, List, ℕ, ap, sym}
 use Rattle.std.proofs.lemmas.Option.{same_Some}
 use Rattle.request_text.specs.Invocations.{shown_of}
 use Rattle.tenant_share.specs.Tenants.{answer_of}
-use Rattle.call_workers.proofs.PassLemmas.{pools_at, same_at_host, tags_there}
+use Rattle.call_workers.specs.Made.{HasCalled}
+use Rattle.call_workers.proofs.PassLemmas.{from_passes, same_at_host}
 use Rattle.call_workers.proofs.calls.made.Goals as goal
 
 pub returns-clause-answered : goal.returns-clause-answered
@@ -15,10 +16,10 @@ returns-clause-call g c = λ tenant host before after there had has.
     let e = c.send_for-answer.ensures in
     let was = c.args.caller.now in
     let now = c.send_for-answer.new.caller in record {
-      own = λ is. record {
-        trails = e.trails host before.pools after.pools (rw is there) (rw is (pools_at was tenant before had)) (rw is (pools_at now tenant after has));
-        full = e.full host before.pools after.pools (rw is there) (rw is (pools_at was tenant before had)) (rw is (pools_at now tenant after has));
-        looked = e.looked host before.tags after.tags (rw is there) (rw is (tags_there was tenant before had)) (rw is (tags_there now tenant after has));
-      };
+      own = λ is. from_passes (HasCalled g.N.Naming.config host c.args.called.now c.send_for-answer.result) was now tenant before after had has (λ b a at_b at_a. record {
+        trails = e.trails host b a (rw is there) (rw is at_b) (rw is at_a);
+        full = e.full host b a (rw is there) (rw is at_b) (rw is at_a);
+        looked = e.looked host b a (rw is there) (rw is at_b) (rw is at_a);
+      });
       others = λ apart. same_Some after before (sym has ∙ (same_at_host was now tenant (e.others tenant (λ same. apart (sym same))) (e.tags tenant (λ same. apart (sym same))) ∙ had));
     }

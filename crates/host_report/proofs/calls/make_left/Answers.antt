@@ -18,7 +18,7 @@ loop-at-init g c = record {
   above = omega arith;
   within = c.requires.span.order;
   number_is = c.requires.span.calls_are;
-  lines = c.requires.lines;
+  lines = c.requires.books.lines;
   lane = refl;
   tags = λ tag has. has;
   left = left_begin _ _ _ _ _ _ _;
@@ -32,7 +32,7 @@ entry_at-entry-requires g c =
     let here = got_item all c.loop-at.at _ (omega arith) (rw c.directives-directives.ensures.all at c.index-directives-at.is) ∙ ap (λ (d : Directive). Some d) c.in-Call.is in
     let placed = placed_call all 0 c.loop-at.at _ _ _ _ c.directives-directives.ensures.lawful.placed here in
     let fewer = fewer_modules all c.loop-at.at c.args.span.to c.loop-at.invariant.within in
-    let many = many_entries (limits_in c.args.requests.now.profile g.N.Naming.config) all c.args.span.to _ _ c.requires.entered in
+    let many = many_entries (limits_in c.args.requests.now.profile g.N.Naming.config) all c.args.span.to _ _ c.requires.books.entered in
     rw c.deref.ensures.value (omega arith)
 
 pub call_line-requires-after_bounds : goal.call_line-requires-after_bounds
@@ -42,7 +42,7 @@ call_line-requires-after_bounds g c κs within =
     let test = c.loop-at-test.true in
     let here = got_item all c.loop-at.at _ (omega arith) (rw c.directives-directives.ensures.all at c.index-directives-at.is) ∙ ap (λ (d : Directive). Some d) c.in-Call.is in
     let there = rw c.deref.ensures.value at c.entry_at-entry.ensures in
-    unset_here _ _ _ all c.args.span.from c.loop-at.at _ _ _ _ (steps c.loop-at.lane.pass.retired) c.directives-directives.ensures.lawful c.requires.entered.tagged (λ tag has. c.requires.tags tag (c.loop-at.invariant.tags tag has)) c.loop-at.invariant.above here
+    unset_here _ _ _ all c.args.span.from c.loop-at.at _ _ _ _ (steps c.loop-at.lane.pass.retired) c.directives-directives.ensures.lawful c.requires.books.entered.tagged (λ tag has. c.requires.tags tag (c.loop-at.invariant.tags tag has)) c.loop-at.invariant.above here
     c.entry_at-entry.result.now there
 
 pub returns-in_err-line-clause-tags : goal.returns-in_err-line-clause-tags
@@ -84,7 +84,7 @@ loop-at-preserved g c =
           let asked = rw at at w.is_left.ensures in
           let none = none_there _ _ _ there asked w.if-is_left.true in
           let stood = rw w.deref.ensures.value at w.entry_at-entry.ensures in
-          let (bytes, of_module, entry) = entry_of_place limits all c.args.span.to _ _ c.requires.entered w.in-Call.module _ stood in
+          let (bytes, of_module, entry) = entry_of_place limits all c.args.span.to _ _ c.requires.books.entered w.in-Call.module _ stood in
           let collected = rw at at w.collect.ensures in
           let called = module_there _ w.in-Call.module _ (module_of w.entry_at-entry.result.now) stood refl in
           let made = rw (i.lane, called) at w.in_ok-line.ensures.made in

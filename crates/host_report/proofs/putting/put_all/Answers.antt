@@ -5,4 +5,4 @@ use Rattle.pool_worlds.specs.Contents.{Named}
 use Rattle.host_report.proofs.putting.put_all.Goals as goal
 
 pub returns-clause-ends : goal.returns-clause-ends
-returns-clause-ends g c = (put_by c.put_calls-put.new.own, ap (λ (a : Account (Option Named)). a.put) c.put_ends.ensures.put)
+returns-clause-ends g c = (put_by c.put_calls-put.new.putter.own, ap (λ (a : Account (Option Named)). a.put) c.put_ends.ensures.put)

@@ -10,21 +10,18 @@ use Rattle.host_report.proofs.PutLemmas.{calls_of_span}
 use Rattle.host_report.proofs.rounds.make_round.Goals as goal
 use Rattle.host_report.proofs.rounds.make_round.Goals.{in-Some+in_ok-books-in-Some, in-None+in_ok-enter_round-in-None}
 
-pub make_left-requires-clause-entered : goal.make_left-requires-clause-entered
-make_left-requires-clause-entered g c κs within = elim c.match-crew.branch [
-  | in-Some+in_ok-books-in-Some w ↦ rw w.books-is w.in_ok-books-in-Some.ensures.books.entered
-  | in-None+in_ok-enter_round-in-None w ↦ rw w.books-is w.in_ok-enter_round-in-None.ensures.entered
-]
-
-pub make_left-requires-clause-lines : goal.make_left-requires-clause-lines
-make_left-requires-clause-lines g c κs within =
+pub make_left-requires-clause-books : goal.make_left-requires-clause-books
+make_left-requires-clause-books g c κs within =
     let all = c.args.requests.now.directives in
     let calls = c.requires.run.calls_are in
     let order = c.requires.to in
     let later = fewer_calls all c.args.run.done c.args.to order.0 in
     elim c.match-crew.branch [
-      | in-Some+in_ok-books-in-Some w ↦ rw w.books-is w.in_ok-books-in-Some.ensures.books.lines
-      | in-None+in_ok-enter_round-in-None w ↦ rw w.books-is (lines_wider (limits_in c.args.requests.now.profile g.N.Naming.config) all _ _ _ _ c.requires.run.books.lines (omega arith))
+      | in-Some+in_ok-books-in-Some w ↦ rw w.books-is w.in_ok-books-in-Some.ensures.books
+      | in-None+in_ok-enter_round-in-None w ↦ rw w.books-is (record {
+        entered = w.in_ok-enter_round-in-None.ensures.entered;
+        lines = lines_wider (limits_in c.args.requests.now.profile g.N.Naming.config) all _ _ _ _ c.requires.run.books.lines (omega arith);
+      })
     ]
 
 pub make_left-requires-clause-tags : goal.make_left-requires-clause-tags
@@ -59,13 +56,7 @@ returns-clause-run g c =
     ] in record {
       within = order.1;
       calls_are = last;
-      books = record {
-        entered = rw c.in_ok-make_left.ensures.registry (elim c.match-crew.branch [
-          | in-Some+in_ok-books-in-Some w ↦ rw w.books-is w.in_ok-books-in-Some.ensures.books.entered
-          | in-None+in_ok-enter_round-in-None w ↦ rw w.books-is w.in_ok-enter_round-in-None.ensures.entered
-        ]);
-        lines = rw last c.in_ok-make_left.ensures.lines;
-      };
+      books = rw last c.in_ok-make_left.ensures.books;
       lane = rw c.in_ok-make_left.ensures.registry (retired_later _ _ _ _ _ (steps c.args.run.lane.pass.retired) (steps c.make_left.new.lane.pass.retired) c.requires.run.lane kept order.0 c.in_ok-make_left.ensures.tags);
       crew = elim c.match-crew.branch [
         | in-Some+in_ok-books-in-Some w ↦ rw w.crew-is w.in_ok-books-in-Some.ensures.crew

@@ -3,6 +3,7 @@ use Rattle.job_queue.specs.declared.accounts.Account.{Account}
 use Rattle.job_queue.specs.Passes.{IsJobPass, IsPutter, capacity_of, count_of, first_of, put_by}
 use Rattle.pool_worlds.specs.Contents.{Named}
 use Rattle.request_text.specs.Text.{call_count}
+use Rattle.host_report.specs.Put.{CanPutAll}
 use Rattle.host_report.specs.Rounds.{directives_in}
 use Rattle.host_report.proofs.DueLemmas.{length-dues}
 use Rattle.host_report.proofs.PlaceLemmas.{all_calls, fewer_calls}
@@ -46,11 +47,12 @@ join-done-requires-after_bounds g c κs within =
     let first : first_of c.in_ok-round.round.jobs ≡ c.args.span.calls + 1 = r.first_is in
     let enough : call_count (directives_in all c.args.span) ≤ count_of c.in_ok-round.round.jobs = omega arith in
     let room : call_count (directives_in all c.args.span) + c.len-many.result ≤ capacity_of c.in_ok-round.round.jobs = omega arith in
-    search (rules, numbers, own, putter, none, first, enough, room)
+    let can : CanPutAll g.N.Naming.config c.args.requests.now c.args.span c.in_ok-round.round.jobs c.len-many.result (record { registry = c.args.registry; own = c.in_ok-round.round.putter }) =
+    record { span_is = c.requires.span; entered = c.requires.entered; own = own; puts = putter; none = none; first = first; count = enough; room = room } in search (rules, numbers, can)
 
 pub finish-requires-clause-ends : goal.finish-requires-clause-ends
 finish-requires-clause-ends g c =
-    let put = rw c.in_ok-registry.was at c.join-done.ensures.second.1.1.1 in
+    let put = rw c.in_ok-registry.was at c.join-done.ensures.second.put in
     let done = rw c.in_ok-done.was at c.join-done.ensures.first.0 in
     let many = c.len-many.ensures in
     let each : length c.in_ok-done.field-0.items ≡ c.len-many.result = omega arith in

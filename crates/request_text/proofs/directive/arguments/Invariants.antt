@@ -1,6 +1,6 @@
 use Rattle.std.proofs.Common.{◌≡◌, ◌++◌, length}
 use Rattle.std.specs.Option.{option_map}
-use Rattle.request_text.specs.Words.{line_words, arguments_of}
+use Rattle.request_words.specs.Words.{line_words, arguments_of}
 use Rattle.request_text.proofs.directive.arguments.Given as goal
 
 -- the words that are left give the arguments after those that were read

@@ -2,7 +2,7 @@ use Rattle.std.proofs.Common.{◌==◌, rules, arith, tests}
 use Rattle.std.proofs.lemmas.Iterator.Splits.{YieldsList-from_slice_split}
 use Rattle.std.proofs.lemmas.Iterator.Consumers.{YieldsList-turn, YieldsList-end}
 use Rattle.std.proofs.lemmas.List.{length_push}
-use Rattle.request_text.specs.Words.{text_lines}
+use Rattle.request_words.specs.Words.{text_lines}
 use Rattle.request_text.proofs.LineLemmas.{one_read, one_refused, all_read}
 use Rattle.request_text.proofs.parser.read_lines.Goals as goal
 

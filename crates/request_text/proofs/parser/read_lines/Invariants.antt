@@ -1,5 +1,5 @@
 use Rattle.std.proofs.Common.{◌≡◌, ◌+◌, length, drop}
-use Rattle.request_text.specs.Words.{text_lines}
+use Rattle.request_words.specs.Words.{text_lines}
 use Rattle.request_text.specs.Text.{nothing_read, requests_from}
 use Rattle.request_text.proofs.parser.read_lines.Given as goal
 

@@ -2,13 +2,13 @@ use Rattle.std.proofs.Common.{◌≡◌, ◌+◌, length}
 use Rattle.std.specs.List.{All}
 use Rattle.job_queue.specs.Passes.{share_of}
 use Rattle.slice_workers.specs.Crews.{IsSliceDone}
-use Rattle.slice_workers.specs.Slices.{HaveSliced}
+use Rattle.slice_workers.specs.Slices.{WorkersHaveSliced}
 use Rattle.slice_workers.proofs.ends.join_slicers.Given as goal
 
 abbrev pub invariant-loop-next : goal.invariant-loop-next
 invariant-loop-next g l = record {
   share : share_of l.sliced.own + length l.others.items ≡ length l.initial.others.items + 1;
-  joined : HaveSliced g.N.Naming.config l.shared.jobs l.queue l.shared.calls.items l.sliced.own l.first (share_of l.sliced.own) l.sliced.entries.items;
+  joined : WorkersHaveSliced g.N.Naming.config l.shared l.queue l.sliced l.first;
   others : All (IsSliceDone l.queue g.N.Naming.config l.shared.jobs l.shared.calls.items) l.others.items;
 }
 

@@ -83,3 +83,17 @@ returns-in-MemoryFill-clause-does c m limits table answer most stays =
     let after : Store = store_of c.memory_fill.new.memory table c.args.globals.now answer in
     as_instr m limits c.args.instr.now instr.MemoryFill c.args.self.now c.memory_fill.new.self before after (trap_of c.unless_trapped-in-MemoryFill.result) c.in-MemoryFill.is
     (subst (λ (o : Option TrapKind). Executes m limits instr.MemoryFill c.args.self.now before o c.memory_fill.new.self after) (said c.memory_fill.result c.unless_trapped-in-MemoryFill.result c.unless_trapped-in-MemoryFill.ensures) (c.memory_fill.ensures.does m limits table c.args.globals.now answer))
+
+pub returns-in-Compare-clause-does : goal.returns-in-Compare-clause-does
+returns-in-Compare-clause-does c m limits table answer most stays =
+    let store : Store = store_of c.args.memory.now table c.args.globals.now answer in
+    let i : Instr = instr.Compare c.in-Compare.width c.in-Compare.op in
+    as_instr m limits c.args.instr.now i c.args.self.now c.on_two.new.self store store (trap_of c.unless_trapped-in-Compare.result) c.in-Compare.is
+    (subst (λ (o : Option TrapKind). Executes m limits i c.args.self.now store o c.on_two.new.self store) (said c.on_two.result c.unless_trapped-in-Compare.result c.unless_trapped-in-Compare.ensures) (c.on_two.ensures.does m limits store))
+
+pub returns-in-Binary-clause-does : goal.returns-in-Binary-clause-does
+returns-in-Binary-clause-does c m limits table answer most stays =
+    let store : Store = store_of c.args.memory.now table c.args.globals.now answer in
+    let i : Instr = instr.Binary c.in-Binary.width c.in-Binary.op in
+    as_instr m limits c.args.instr.now i c.args.self.now c.on_two-in-Binary.new.self store store (trap_of c.unless_trapped-in-Binary.result) c.in-Binary.is
+    (subst (λ (o : Option TrapKind). Executes m limits i c.args.self.now store o c.on_two-in-Binary.new.self store) (said c.on_two-in-Binary.result c.unless_trapped-in-Binary.result c.unless_trapped-in-Binary.ensures) (c.on_two-in-Binary.ensures.does m limits store))

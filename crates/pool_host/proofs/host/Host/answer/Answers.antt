@@ -18,4 +18,4 @@ returns-in-Ok-take_slots-clause-trails g c =
     all_served config host m x c.args.passes.now c.take_slots.new.passes c.give_slots.new.passes c.in-Ok-take_slots.ensures.fresh c.in-Ok-take_slots.ensures.took gave c.run-outcome.result
 
 pub returns-in-Ok-take_slots-clause-answer : goal.returns-in-Ok-take_slots-clause-answer
-returns-in-Ok-take_slots-clause-answer g c = c.run-outcome.ensures.ends c.args.export.now c.in-Ok.ensures.found
+returns-in-Ok-take_slots-clause-answer g c = c.run-outcome.ensures.ends c.args.asked.now.export.now c.in-Ok.ensures.found

@@ -1,6 +1,6 @@
 use Rattle.std.proofs.Common.{◌≡◌, rules}
 use Rattle.std.specs.Prelude.{Ok}
-use Rattle.request_text.specs.Words.{line_words}
+use Rattle.request_words.specs.Words.{line_words}
 use Rattle.request_text.specs.Tenants.{tenant_after}
 use Rattle.request_text.specs.Text.{ReadLines}
 use Rattle.request_text.specs.Reading.{declared_with}

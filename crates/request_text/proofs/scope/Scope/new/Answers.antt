@@ -4,7 +4,7 @@ use Rattle.std.specs.Ordering.{nat_cmp}
 use Rattle.std.specs.BTreeMap.{is_at}
 use Rattle.std.specs.Cmp.Lexicographic.{slice_cmp}
 use Rattle.std.specs.Map.{lookup}
-use Rattle.request_text.specs.Words.{place_of}
+use Rattle.request_words.specs.Words.{place_of}
 use Rattle.request_text.proofs.scope.Scope.new.Goals as goal
 
 pub invariant_of-result : goal.invariant_of-result

@@ -1,6 +1,6 @@
 use Rattle.std.proofs.Common.{◌≡◌, ℕ, ◌<◌, length, subst, sym, rules}
 use Rattle.std.specs.Prelude.{Option, IfSome}
-use Rattle.request_text.specs.Words.{place_of}
+use Rattle.request_words.specs.Words.{place_of}
 use Rattle.request_text.proofs.PlaceLemmas.{place_within}
 use Rattle.request_text.proofs.scope.Scope.place.Goals as goal
 

@@ -5,7 +5,7 @@ use Rattle.pool_host.specs.CallWords.{IfFull, IsHostAnswer}
 use Rattle.pool_host.specs.Hosts.{AreSamePasses}
 use Rattle.pool_host.specs.Looks.{look_of, Looked}
 use Rattle.pool_host.specs.Trails.{AddsTrails, HasCause}
-use Rattle.tenant_share.proofs.CallerLemmas.{answer_elsewhere, answer_there, at_both, host_read, part_elsewhere, read_own, still_caller}
+use Rattle.tenant_share.proofs.CallerLemmas.{answer_elsewhere, answer_there, at_both, at_tenant, host_read, part_elsewhere, read_own, still_caller}
 use Rattle.tenant_share.proofs.share_host.ShareHost.send_for.Goals as goal
 
 pub send-requires-clause-pass : goal.send-requires-clause-pass
@@ -26,22 +26,22 @@ returns-clause-same g c = let r = c.requires in let i = c.index_mut-pass in
     (λ x. x.pass.passes) AreSamePasses c.send.ensures.same.same.pools
 
 pub returns-clause-trails : goal.returns-clause-trails
-returns-clause-trails g c = λ host p q there. let r = c.requires in let i = c.index_mut-pass in
-    at_both c.args.self.now c.args.caller.now r.caller c.args.tenant r.tenant i.result.now i.ensures.value (record { passes = with_item c.args.caller.now.passes c.args.tenant c.send.new.pass }) c.send.new.pass refl
-    (λ x. x.pass.passes) (AddsTrails g.N.Naming.config host c.args.module.now c.send.result)
-    (c.send.ensures.trails host (host_read c.args.self.now c.args.caller.now r.caller c.args.tenant r.tenant i.result.now i.ensures.value host there)) p q
+returns-clause-trails g c = λ host before after there. let r = c.requires in let i = c.index_mut-pass in
+    at_tenant c.args.self.now c.args.caller.now r.caller c.args.tenant r.tenant i.result.now i.ensures.value (record { passes = with_item c.args.caller.now.passes c.args.tenant c.send.new.pass }) c.send.new.pass refl
+    (λ x y. AddsTrails g.N.Naming.config host c.args.module.now c.send.result x.pass.passes y.pass.passes)
+    (c.send.ensures.trails host (host_read c.args.self.now c.args.caller.now r.caller c.args.tenant r.tenant i.result.now i.ensures.value host there)) before after
 
 pub returns-clause-full : goal.returns-clause-full
-returns-clause-full g c = λ host p q there. let r = c.requires in let i = c.index_mut-pass in
-    at_both c.args.self.now c.args.caller.now r.caller c.args.tenant r.tenant i.result.now i.ensures.value (record { passes = with_item c.args.caller.now.passes c.args.tenant c.send.new.pass }) c.send.new.pass refl
-    (λ x. x.pass.passes) (λ x y. IfFull c.send.result (HasCause g.N.Naming.config host c.args.module.now x y))
-    (c.send.ensures.full host (host_read c.args.self.now c.args.caller.now r.caller c.args.tenant r.tenant i.result.now i.ensures.value host there)) p q
+returns-clause-full g c = λ host before after there. let r = c.requires in let i = c.index_mut-pass in
+    at_tenant c.args.self.now c.args.caller.now r.caller c.args.tenant r.tenant i.result.now i.ensures.value (record { passes = with_item c.args.caller.now.passes c.args.tenant c.send.new.pass }) c.send.new.pass refl
+    (λ x y. IfFull c.send.result (HasCause g.N.Naming.config host c.args.module.now x.pass.passes y.pass.passes))
+    (c.send.ensures.full host (host_read c.args.self.now c.args.caller.now r.caller c.args.tenant r.tenant i.result.now i.ensures.value host there)) before after
 
 pub returns-clause-looked : goal.returns-clause-looked
-returns-clause-looked g c = λ host p q there. let r = c.requires in let i = c.index_mut-pass in
-    at_both c.args.self.now c.args.caller.now r.caller c.args.tenant r.tenant i.result.now i.ensures.value (record { passes = with_item c.args.caller.now.passes c.args.tenant c.send.new.pass }) c.send.new.pass refl
-    (λ x. x.pass.retired) (λ x y. Looked host.retired.tags c.args.module.now.tag x y (look_of c.send.result))
-    (c.send.ensures.looked host (host_read c.args.self.now c.args.caller.now r.caller c.args.tenant r.tenant i.result.now i.ensures.value host there)) p q
+returns-clause-looked g c = λ host before after there. let r = c.requires in let i = c.index_mut-pass in
+    at_tenant c.args.self.now c.args.caller.now r.caller c.args.tenant r.tenant i.result.now i.ensures.value (record { passes = with_item c.args.caller.now.passes c.args.tenant c.send.new.pass }) c.send.new.pass refl
+    (λ x y. Looked host.retired.tags c.args.module.now.tag x.pass.retired y.pass.retired (look_of c.send.result))
+    (c.send.ensures.looked host (host_read c.args.self.now c.args.caller.now r.caller c.args.tenant r.tenant i.result.now i.ensures.value host there)) before after
 
 pub returns-clause-others : goal.returns-clause-others
 returns-clause-others g c = let r = c.requires in let i = c.index_mut-pass in

@@ -1,0 +1,99 @@
+//! What a word stands for: a fuel, an argument.
+ghost use Rattle.std.specs.Prelude.{◌≡◌, ◌^◌, ◌<◌, ◌≤◌, ◌&&◌, true, not, length, IfSome, MatchOption};
+ghost use Rattle.std.specs.Char.{is_ascii_digit};
+ghost use Rattle.std.specs.List.{list_all};
+ghost use Rattle.std.specs.Str.Parse.{digits_value};
+ghost use Rattle.request_words.specs.Words.{is_empty, number_up_to, fuel_of, integer_of, argument_of};
+
+use wasm_values::Val;
+
+// Whether each byte is a digit.
+fn are_digits(word: &[u8]) -> bool
+    ensures { result ≡ list_all is_ascii_digit word.now }
+{
+    word.iter().all(|byte| byte.is_ascii_digit())
+}
+
+// Whether a word is digits alone.
+#[tactic(auto, using(crate::proofs::NumberLemmas::empty_is))]
+fn is_numeral(word: &[u8]) -> bool
+    ensures { result ≡ (not (is_empty word.now) && list_all is_ascii_digit word.now) }
+{
+    !word.is_empty() && are_digits(word)
+}
+
+// The number that digits write, if it is below 2^64.
+fn number(digits: &[u8]) -> Option<u64>
+    requires some { 0 < length digits.now }
+    requires digits { list_all is_ascii_digit digits.now ≡ true }
+    ensures { MatchOption result (2 ^ 64 ≤ digits_value 10 digits.now) (λ n. n ≡ digits_value 10 digits.now) }
+{
+    match str::from_utf8(digits) {
+        Ok(text) => text.parse::<u64>().ok(),
+        Err(_) => None,
+    }
+}
+
+/// The number that a word of digits alone writes, if it is at most `most`.
+#[tactic(auto, unfolding(crate::specs::Words::number_up_to))]
+pub fn number_up_to(most: u64, word: &[u8]) -> Option<u64>
+    ensures value { result ≡ number_up_to most word.now }
+    ensures within { IfSome result (λ n. n ≤ most) }
+{
+    if !is_numeral(word) {
+        return None;
+    }
+    let number = number(word)?;
+    if number <= most { Some(number) } else { None }
+}
+
+/// The fuel that a word gives.
+pub fn fuel(word: &[u8]) -> Option<u32>
+    ensures { result ≡ fuel_of word.now }
+{
+    let number = number_up_to(u64::from(u32::MAX), word)?;
+    Some(number as u32)
+}
+
+// The number of an `i32` argument, from -2^31 to 2^32 - 1, modulo 2^32.
+#[tactic(auto, unfolding(crate::specs::Words::integer_of))]
+fn integer_32(text: &[u8]) -> Option<u32>
+    ensures { result ≡ integer_of 32 text.now }
+{
+    match text.strip_prefix(b"-") {
+        Some(digits) => {
+            let number = number_up_to(1 << 31, digits)?;
+            Some((number as u32).wrapping_neg())
+        }
+        None => {
+            let number = number_up_to(u64::from(u32::MAX), text)?;
+            Some(number as u32)
+        }
+    }
+}
+
+// The number of an `i64` argument, from -2^63 to 2^64 - 1, modulo 2^64.
+#[tactic(auto, unfolding(crate::specs::Words::integer_of))]
+fn integer_64(text: &[u8]) -> Option<u64>
+    ensures { result ≡ integer_of 64 text.now }
+{
+    match text.strip_prefix(b"-") {
+        Some(digits) => {
+            let number = number_up_to(1 << 63, digits)?;
+            Some(number.wrapping_neg())
+        }
+        None => number_up_to(u64::MAX, text),
+    }
+}
+
+/// The argument that a word gives, by its type and its number.
+#[tactic(auto, unfolding(crate::specs::Words::argument_of))]
+pub fn argument(word: &[u8]) -> Option<Val>
+    ensures { result ≡ argument_of word.now }
+{
+    if let Some(text) = word.strip_prefix(b"i32:") {
+        return integer_32(text).map(Val::I32);
+    }
+    let text = word.strip_prefix(b"i64:")?;
+    integer_64(text).map(Val::I64)
+}

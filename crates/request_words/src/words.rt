@@ -1,0 +1,52 @@
+//! The words of a line.
+ghost use Rattle.std.specs.Prelude.{◌≡◌, ◌==◌, ◌≤◌, not, [], ◌∷◌, length, take, drop, position, MatchOption, IfSome};
+ghost use Rattle.std.specs.List.{list_all, position_or_len};
+ghost use Rattle.request_words.specs.Words.{is_comment, is_printable, line_words};
+
+// Where the first word of a line begins, if the line has one.
+fn word_start(line: &[u8]) -> Option<usize>
+    ensures place { result ≡ position (λ b. not (b == 32)) line.now }
+    ensures within { IfSome result (λ start. start ≤ length line.now) }
+{
+    line.iter().position(|byte| *byte != b' ')
+}
+
+// Where the first space of a text is, if it has one.
+fn first_space(text: &[u8]) -> Option<usize>
+    ensures place { result ≡ position (λ b. b == 32) text.now }
+    ensures within { IfSome result (λ end. end ≤ length text.now) }
+{
+    text.iter().position(|byte| *byte == b' ')
+}
+
+// The word with which a text begins, and what follows it.
+fn split_word(text: &[u8]) -> (&[u8], &[u8])
+    ensures word { result.0.now ≡ take (position_or_len (λ b. b == 32) text.now) text.now }
+    ensures rest { result.1.now ≡ drop (position_or_len (λ b. b == 32) text.now) text.now }
+{
+    let end = first_space(text).unwrap_or(text.len());
+    text.split_at(end)
+}
+
+/// The first word of a line, and what follows it.
+pub fn next_word(line: &[u8]) -> Option<(&[u8], &[u8])>
+    ensures { MatchOption result (line_words line.now ≡ [])
+        (λ r. line_words line.now ≡ r.0.now ∷ line_words r.1.now) }
+{
+    let start = word_start(line)?;
+    Some(split_word(&line[start..]))
+}
+
+/// Whether a line is a comment.
+pub fn is_comment(line: &[u8]) -> bool
+    ensures { result ≡ is_comment line.now }
+{
+    line.first() == Some(&b'#')
+}
+
+/// Whether each byte is printable ASCII.
+pub fn is_printable(line: &[u8]) -> bool
+    ensures { result ≡ list_all is_printable line.now }
+{
+    line.iter().all(|byte| b' ' <= *byte && *byte <= b'~')
+}
