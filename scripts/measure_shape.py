@@ -4,15 +4,16 @@
 Usage: scripts/measure_shape.py (at the top of a checkout)
 
 Prints the lines of the definitions of WebAssembly and of the pool, without comments, blank lines and imports;
-each function whose body has more than 40 lines; each signature with more than eight parameters; each line of a
-clause that has more than 160 characters; each crate that has more than 1,500 lines of code or 100 functions.
+each function whose body has more than 40 lines; each signature with more than eight parameters; how many lines of
+clauses have more than 160 characters (with -v also where); each crate that has more than 1,500 lines of code or 100
+functions.
 """
 import glob
 import re
 import sys
 
 WASM = ["wasm_types", "wasm_spec"]
-POOL = ["slot_words", "pool_core", "pool_worlds", "slot_pools", "memory_slots", "table_slots", "instance_slots", "pool_host"]
+POOL = ["memory_blocks", "slot_words", "pool_core", "pool_worlds", "slot_pools", "memory_slots", "table_slots", "instance_slots", "pool_host"]
 
 
 def lines_of(path):
@@ -29,6 +30,17 @@ def definition_lines(crate):
             if text and not re.match(r"--|use |pub use |mod |pub mod |import ", text):
                 count += 1
     return count
+
+
+def clause_lines(lines):
+    """The numbers of the lines on which a clause stands, its later lines among them."""
+    depth, found = 0, []
+    for number, line in enumerate(lines, 1):
+        begins = re.match(r" *(requires|ensures|invariant|ghost)\b", line) and not line.strip().startswith("ghost use")
+        if begins or depth > 0:
+            found.append(number)
+            depth = (0 if begins else depth) + line.count("{") - line.count("}")
+    return found
 
 
 def functions(path):
@@ -74,10 +86,11 @@ def main():
                 print(f"{path}:{line}: the body of {name} has {body} lines")
             if parameters > 8:
                 print(f"{path}:{line}: {name} has {parameters} parameters")
-        for number, line in enumerate(lines_of(path), 1):
-            if re.match(r" *(requires|ensures|invariant|ghost)\b", line) and len(line) > 160 and not line.strip().startswith("ghost use"):
-                wide.setdefault(path, []).append(number)
-    print(f"clauses of more than 160 characters: {sum(map(len, wide.values()))} in {len(wide)} files")
+        lines = lines_of(path)
+        long = [number for number in clause_lines(lines) if len(lines[number - 1]) > 160]
+        if long:
+            wide[path] = long
+    print(f"lines of clauses of more than 160 characters: {sum(map(len, wide.values()))} in {len(wide)} files")
     if "-v" in sys.argv:
         for path, numbers in wide.items():
             print(f"  {path}: {numbers}")

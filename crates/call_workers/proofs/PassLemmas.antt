@@ -8,12 +8,8 @@ use Rattle.tenant_share.specs.declared.passes.TenantPass.{TenantPass}
 use Rattle.tenant_share.specs.declared.share_host.ShareHost.{ShareHost}
 use Rattle.tenant_share.specs.Tenants.{passes_at, tags_at, IsCaller, IsHostOf}
 use Rattle.tenant_share.proofs.CallerLemmas.{has_pass}
+use Rattle.tenant_share.proofs.PlaceLemmas.{option_map_some}
 use Rattle.call_workers.specs.Passes.{at_host, AtHost}
-
--- where a function gave this
-mapped_from : {A B : Type 0} (f : A → B) (o : Option A) (y : B) → option_map f o ≡ Some y → (a : A) × (o ≡ Some a) × (f a ≡ y)
-mapped_from f None y is = absurd (none-some y is)
-mapped_from f (Some a) y is = (a, refl, same_Some (f a) y is)
 
 module _ {N : Type 0} {G : Ghosts N} where
   abbrev pub host_part : TenantPass N G → AtHost N
@@ -23,8 +19,8 @@ module _ {N : Type 0} {G : Ghosts N} where
   pub from_passes : (R : (before after : AtHost N) → Type 0) (was now : Caller N G) (tenant : ℕ) (before after : AtHost N) → at_host was tenant ≡ Some before → at_host now tenant ≡ Some after
       → ((b a : TenantPass N G) → slice_get was.passes.items tenant ≡ Some b → slice_get now.passes.items tenant ≡ Some a → R (host_part b) (host_part a)) → R before after
   from_passes R was now tenant before after had has holds =
-      let b = mapped_from host_part (slice_get was.passes.items tenant) before had in
-      let a = mapped_from host_part (slice_get now.passes.items tenant) after has in
+      let b = option_map_some host_part (slice_get was.passes.items tenant) before had in
+      let a = option_map_some host_part (slice_get now.passes.items tenant) after has in
       subst (λ (x : AtHost N). R x after) b.2 (subst (λ (y : AtHost N). R (host_part b.0) y) a.2 (holds b.0 a.0 b.1 a.1))
 
   same_parts : (a b : TenantPass N G) → a.pass.passes ≡ b.pass.passes → a.pass.retired ≡ b.pass.retired → host_part a ≡ host_part b

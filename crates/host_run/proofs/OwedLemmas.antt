@@ -7,7 +7,7 @@ use Rattle.request_text.specs.Text.{Asked, FileRefusal, requests_of}
 use Rattle.command_line.specs.declared.words.Command.TheVariants.{Run}
 use Rattle.host_run.specs.declared.due.Due.{Due}
 use Rattle.host_run.specs.Owed.{Owes}
-use Rattle.host_run.specs.Serving.{Answer, IsFileAnswer, shown}
+use Rattle.host_run.specs.Serving.{Answer, IsFileAnswer, due_answer}
 use Rattle.host_run.specs.Streams.{ReadsInput}
 use Rattle.host_run.proofs.DueLemmas.{at_end_of_report, due_of_all, no_longer}
 
@@ -24,19 +24,19 @@ all_read (Some all) after bytes read = λ few. let fewer = no_longer all bytes a
 
 -- the answer to a file that was read; `text` is its bytes as they were handed on
 pub owes_file : {S : Type 0} (left : S → Option (List ℕ)) (faults : S → ℕ) (numbers : Numbers) (summary : Bool) (slice : ℕ) (before after : S) (bytes text : List ℕ) (due : Due)
-    → ReadsInput (left before) (left after) bytes → faults after ≡ faults before → text ≡ bytes → IsFileAnswer numbers summary text (shown due)
+    → ReadsInput (left before) (left after) bytes → faults after ≡ faults before → text ≡ bytes → IsFileAnswer numbers summary text (due_answer due)
     → Owes left faults (Some (Run numbers summary slice)) before after (Ok due)
 owes_file left faults numbers summary slice before after bytes text due read quiet same is =
-    let answer : IsFileAnswer numbers summary bytes (shown due) = subst (λ (b : List ℕ). IsFileAnswer numbers summary b (shown due)) same is in
+    let answer : IsFileAnswer numbers summary bytes (due_answer due) = subst (λ (b : List ℕ). IsFileAnswer numbers summary b (due_answer due)) same is in
     record {
-      due = due_of_all numbers summary (left before) (left after) bytes text (shown due) read same is;
+      due = due_of_all numbers summary (left before) (left after) bytes text (due_answer due) read same is;
       taken = (bytes, read.taken, answer);
       refused = λ none. absurd (cc);
       load = λ seed count load. absurd (cc);
-      status = file_status numbers summary bytes (shown due) (requests_of numbers bytes) refl answer;
+      status = file_status numbers summary bytes (due_answer due) (requests_of numbers bytes) refl answer;
       accepted = λ _. refl;
       unread = λ reads. absurd (cc);
-      end = λ zero reads. at_end_of_report numbers summary (left before) (left after) bytes text (shown due) read same is zero;
+      end = λ zero reads. at_end_of_report numbers summary (left before) (left after) bytes text (due_answer due) read same is zero;
       all_read = λ reads. all_read (left before) (left after) bytes read;
       at_most = (bytes, read.taken, read.size);
       short = tt;

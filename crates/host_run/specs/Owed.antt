@@ -4,7 +4,7 @@ use Rattle.std.specs.Io.KnownBytes.{Consumes, IsAtEnd}
 use Rattle.host_edge.specs.Streams.{Rose}
 use Rattle.command_line.specs.declared.words.Command.{Command}
 use Rattle.command_line.specs.declared.words.Command.TheVariants.{Make}
-use Rattle.host_run.specs.Serving.{IsOwed, load_of, reads_source, refused_words, shown}
+use Rattle.host_run.specs.Serving.{IsOwed, load_of, reads_source, refused_words, due_answer}
 use Rattle.host_run.specs.Streams.{TakesAtMost}
 use Rattle.host_run.specs.declared.due.Due.{Due}
 use Rattle.host_run.specs.declared.streams.InputFault.{InputFault}
@@ -14,10 +14,10 @@ use Rattle.host_run.specs.declared.streams.InputFault.TheVariants.{Failed, NoMem
 -- is as `after`.
 pub record Owes {S : Type 0} (left : S → Option (List ℕ)) (faults : S → ℕ) (asked : Option Command) (before after : S) (result : Result Due InputFault) : Type 0 where
   -- the answer that is due for all bytes that the source had left, and for those that were taken
-  pub due : IfOk result (λ due. IfSome (left before) (λ bytes. IsOwed asked bytes (shown due)))
-  pub taken : IfOk result (λ due. (bytes : List ℕ) × Consumes (left before) (left after) bytes × IsOwed asked bytes (shown due))
-  pub refused : IfOk result (λ due. asked ≡ None → shown due ≡ refused_words)
-  pub load : IfOk result (λ due. (seed count : ℕ) → asked ≡ Some (Make seed count) → shown due ≡ load_of seed count)
+  pub due : IfOk result (λ due. IfSome (left before) (λ bytes. IsOwed asked bytes (due_answer due)))
+  pub taken : IfOk result (λ due. (bytes : List ℕ) × Consumes (left before) (left after) bytes × IsOwed asked bytes (due_answer due))
+  pub refused : IfOk result (λ due. asked ≡ None → due_answer due ≡ refused_words)
+  pub load : IfOk result (λ due. (seed count : ℕ) → asked ≡ Some (Make seed count) → due_answer due ≡ load_of seed count)
   pub status : IfOk result (λ due. (due.status ≡ 0) ⊎ (due.status ≡ 2))
   pub accepted : IfOk result (λ due. due.status ≡ 0 → is_some asked ≡ true)
   -- how much is read

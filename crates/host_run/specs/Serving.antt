@@ -81,8 +81,8 @@ reads_source asked = option_map_or is_run asked false
 abbrev pub reads : List (List ℕ) → Bool
 reads words = reads_source (command_of words)
 
-abbrev pub shown : Due → Answer
-shown due = record { status = due.status; text = bytes_of due.text }
+abbrev pub due_answer : Due → Answer
+due_answer due = record { status = due.status; text = bytes_of due.text }
 
 -- Where a run ends with 0 or 2, that is the status of a due answer whose whole text was written; where it ends with 4,
 -- a first part of a due text was written.

@@ -2,7 +2,7 @@
 ghost use Rattle.std.specs.Prelude.{[], ◌≡◌, ◌⊎◌, ◌<◌, IfOk, IsOk, IsSomeAnd, None, length, option_map};
 ghost use Rattle.std.specs.Result.{result_ok};
 ghost use Rattle.host_run.specs.Refusal.{told};
-ghost use Rattle.host_run.specs.Serving.{IsFileAnswer, IsReported, lines_text, refused, shown};
+ghost use Rattle.host_run.specs.Serving.{IsFileAnswer, IsReported, lines_text, refused, due_answer};
 ghost use Rattle.pool_limits.specs.Plans.{plan_fault};
 ghost use Rattle.request_text.specs.Refusal.{refusal_line};
 ghost use Rattle.request_text.specs.Text.{BadLine, file_refusal_of};
@@ -46,7 +46,7 @@ fn reported<R: Threads + Wait + Sync, G: Gate>(
     gate: &G,
 ) -> Result<Due, NoMemory>
     requires plan { (plan_fault config [] ≡ None) → plan_fault config requests.now.wants ≡ None }
-    ensures { IfOk result (λ due. IsReported config summary requests.now (shown due)) }
+    ensures { IfOk result (λ due. IsReported config summary requests.now (due_answer due)) }
 {
     let lines = report(rt, alloc, config, slice, requests, gate)?;
     let text = lines_text(alloc, &lines, summary)?;
@@ -66,7 +66,7 @@ pub(crate) fn answer<R: Threads + Wait + Sync, G: Gate>(
     bytes: &[u8],
     gate: &G,
 ) -> Result<Due, NoMemory>
-    ensures answer { IfOk result (λ due. IsFileAnswer config summary bytes.now (shown due)) }
+    ensures answer { IfOk result (λ due. IsFileAnswer config summary bytes.now (due_answer due)) }
     ensures status { IfOk result (λ due. (due.status ≡ 0) ⊎ (due.status ≡ 2)) }
     ensures too_long { MOST_BYTES < length bytes.now → IsOk result }
 {
@@ -96,7 +96,7 @@ fn refusal_of(fault: ParseFault) -> Result<Refusal, NoMemory>
 
 // What is due for a request file that is refused, unless the fault was want of memory.
 fn refused_file(alloc: Global, fault: ParseFault) -> Result<Due, NoMemory>
-    ensures due { IfOk result (λ due. IsSomeAnd (file_refusal_of fault) (λ why. shown due ≡ refused (refusal_line why))) }
+    ensures due { IfOk result (λ due. IsSomeAnd (file_refusal_of fault) (λ why. due_answer due ≡ refused (refusal_line why))) }
     ensures too_long { fault ≡ ParseFault.TooLong → IsOk result }
 {
     match refusal_of(fault)? {
@@ -107,7 +107,7 @@ fn refused_file(alloc: Global, fault: ParseFault) -> Result<Due, NoMemory>
 
 // What is due for a request file of which this line is refused.
 fn line_due(alloc: Global, line: u32, reason: Reason) -> Result<Due, NoMemory>
-    ensures { IfOk result (λ due. shown due ≡ refused (refusal_line (BadLine line reason))) }
+    ensures { IfOk result (λ due. due_answer due ≡ refused (refusal_line (BadLine line reason))) }
 {
     let mut text = Vec::new(alloc);
     write_text_fault(alloc, &mut text, line, reason)?;

@@ -1,7 +1,7 @@
 //! What a run owes: a status, and the text that is due before it.
 ghost use Rattle.std.specs.Prelude.{◌≡◌, IfOk, MatchResult, Some};
 ghost use Rattle.host_run.specs.Owed.{Owes};
-ghost use Rattle.host_run.specs.Serving.{load_of, refused, refused_words, shown, texts_of};
+ghost use Rattle.host_run.specs.Serving.{load_of, refused, refused_words, due_answer, texts_of};
 ghost use Rattle.command_line.specs.Words.{command_of};
 ghost use Rattle.command_line.specs.declared.words.Command.TheVariants.{Run};
 
@@ -49,7 +49,7 @@ pub(crate) struct Due {
 
 // What is due for a refusal: this line, with status 2.
 pub(crate) fn refusal(line: &'static [u8]) -> Due
-    ensures { shown result ≡ refused line.now }
+    ensures { due_answer result ≡ refused line.now }
 {
     Due {
         status: Status::Refused.code(),
@@ -75,7 +75,7 @@ fn run_due<R: Threads + Wait + Sync, S: Source, G: Gate>(
 
 // What is due for a load: its text, with status 0.
 fn load_due(alloc: Global, seed: u64, count: u32) -> Result<Due, NoMemory>
-    ensures { IfOk result (λ due. shown due ≡ load_of seed count) }
+    ensures { IfOk result (λ due. due_answer due ≡ load_of seed count) }
 {
     let text = make(alloc, seed, count)?;
     Ok(Due {
@@ -87,7 +87,7 @@ fn load_due(alloc: Global, seed: u64, count: u32) -> Result<Due, NoMemory>
 // What is due where the words give no command, unless that is for want of memory.
 fn words_due(fault: WordsFault) -> Result<Due, InputFault>
     ensures { MatchResult result
-        (λ due. (fault ≡ WordsFault.Refused) × (shown due ≡ refused_words))
+        (λ due. (fault ≡ WordsFault.Refused) × (due_answer due ≡ refused_words))
         (λ error. (fault ≡ WordsFault.NoMemory) × (error ≡ InputFault.NoMemory)) }
 {
     match fault {

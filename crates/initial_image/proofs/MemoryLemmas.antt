@@ -6,7 +6,7 @@ use Rattle.std.proofs.lemmas.Bool.{cases_lt}
 use Rattle.wasm_spec.specs.Store.{written}
 use Rattle.sparse_bytes.specs.declared.bytes.SparseBytes.{SparseBytes}
 use Rattle.sparse_bytes.specs.SparseBytes.{IsWritten}
-use Rattle.initial_image.specs.Image.{Shows}
+use Rattle.initial_image.specs.Image.{ShowsBytes}
 
 module _ (at : ℕ) (items bytes : List ℕ) (fits : at + length items ≤ length bytes) where
   first : length (take at bytes) ≡ at
@@ -29,7 +29,7 @@ module _ (at : ℕ) (items bytes : List ℕ) (fits : at + length items ≤ lengt
       ∙ ap (λ (n : ℕ). get_or bytes n 0) (omega arith)
 
   -- what shows a list shows it after the same bytes were written into both
-  pub shows-written : (old new : SparseBytes) → Shows old bytes → IsWritten at items old new → Shows new (written bytes at items)
+  pub shows-written : (old new : SparseBytes) → ShowsBytes old bytes → IsWritten at items old new → ShowsBytes new (written bytes at items)
   shows-written old new shows is i = elim (cases_lt i at) [
     | inl lt ↦ is.before i lt ∙ shows i ∙ sym (before i lt)
     | inr le ↦ elim (cases_lt i (at + length items)) [

@@ -7,8 +7,8 @@ use Rattle.sparse_bytes.specs.SparseBytes.{HasCell, Touches, byte_at}
 use Rattle.initial_image.specs.declared.image.Image.{Image}
 
 -- these bytes, and zeros after them
-abbrev pub Shows : SparseBytes → List ℕ → Type 0
-Shows memory bytes = (i : ℕ) → byte_at memory i ≡ slice_index bytes i
+abbrev pub ShowsBytes : SparseBytes → List ℕ → Type 0
+ShowsBytes memory bytes = (i : ℕ) → byte_at memory i ≡ slice_index bytes i
 
 -- a data segment of the module has bytes in the cell of this number
 pub record IsNeeded (m : ModuleTree) (number : ℕ) : Type 0 where
@@ -18,7 +18,7 @@ pub record IsNeeded (m : ModuleTree) (number : ℕ) : Type 0 where
   pub touches : Touches (offset_of m segment.offset) (length segment.bytes) number
 
 pub record IsImageOf (m : ModuleTree) (image : Image) : Type 0 where
-  pub memory : Shows image.memory (fresh_store m).memory
+  pub memory : ShowsBytes image.memory (fresh_store m).memory
   -- its memory has no other cells
   pub cells : (number : ℕ) → HasCell image.memory number → IsNeeded m number
   pub globals : image.globals ≡ (fresh_store m).globals

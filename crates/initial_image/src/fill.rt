@@ -3,7 +3,7 @@ ghost use Rattle.std.specs.Prelude.{◌≡◌, ℕ, ◌≤◌, ◌++◌, None, S
 ghost use Rattle.wasm_types.specs.Tree.{global_tree, module_tree};
 ghost use Rattle.wasm_spec.specs.Store.{first_misfit, fresh_store, table_size, write_elements};
 ghost use Rattle.sparse_bytes.specs.SparseBytes.{HasCell};
-ghost use Rattle.initial_image.specs.Image.{IsNeeded, Shows};
+ghost use Rattle.initial_image.specs.Image.{IsNeeded, ShowsBytes};
 ghost use Rattle.initial_image.specs.Segments.{first_data_misfit, first_element_misfit, first_value};
 
 use crate::segments::{minimum, offset_of};
@@ -54,9 +54,9 @@ pub fn write_table(valid: &Valid, entries: &mut [Option<u32>]) -> usize
 // Writes the data segments over zeros, in order.
 fn write_data(m: &Module, memory: &mut SparseBytes) -> Result<(), NoMemory>
     requires fit { first_data_misfit (module_tree m.now) ≡ None }
-    requires zeros { Shows memory.old [] }
+    requires zeros { ShowsBytes memory.old [] }
     requires cells { (number : ℕ) → HasCell memory.old number → ⊥ }
-    ensures memory { OnOk result (Shows memory.new (fresh_store (module_tree m.now)).memory) }
+    ensures memory { OnOk result (ShowsBytes memory.new (fresh_store (module_tree m.now)).memory) }
     ensures cells { OnOk result ((number : ℕ) → HasCell memory.new number → IsNeeded (module_tree m.now) number) }
 {
     for segment in m.data_segments.as_slice() {
@@ -69,7 +69,7 @@ fn write_data(m: &Module, memory: &mut SparseBytes) -> Result<(), NoMemory>
 // The memory of a new instance.
 pub(crate) fn filled_memory(alloc: Global, m: &Module) -> Result<SparseBytes, NoMemory>
     requires fit { first_data_misfit (module_tree m.now) ≡ None }
-    ensures memory { IfOk result (λ b. Shows b (fresh_store (module_tree m.now)).memory) }
+    ensures memory { IfOk result (λ b. ShowsBytes b (fresh_store (module_tree m.now)).memory) }
     ensures cells { IfOk result (λ b. (number : ℕ) → HasCell b number → IsNeeded (module_tree m.now) number) }
 {
     let mut memory = SparseBytes::zeros(alloc);

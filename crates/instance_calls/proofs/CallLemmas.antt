@@ -20,7 +20,7 @@ use Rattle.wasm_spec.specs.Store.{Store, fresh_store}
 use Rattle.wasm_spec.specs.Result.{answer_by, result_from}
 use Rattle.wasm_machine.specs.Calls.{IsCall}
 use Rattle.pool_limits.specs.declared.numbers.Numbers.{Numbers}
-use Rattle.pool_worlds.specs.Contents.{Contents, shown}
+use Rattle.pool_worlds.specs.Contents.{Contents, shown_store}
 use Rattle.pool_worlds.specs.declared.kinds.Kind.{Kind}
 use Rattle.instance_calls.specs.CallWords.{EndsWith, LacksTypes, MayCall, kept_by, run_limits}
 use Rattle.instance_calls.specs.Runs.{RanOn}
@@ -78,7 +78,7 @@ kept_is outcome.Fuel s = refl
 
 -- what ran on a fresh instance ends as the call does
 pub ended : (config : Numbers) (m : ModuleTree) (export : List ℕ) (x : ℕ) (args : List Val) (request : List ℕ) (fuel : ℕ) (old new : (k : Kind) → Contents k) (left answer : List ℕ) (outcome : Outcome)
-    → MayCall m export x args → shown m old ≡ fresh_store m → answer ≡ kept_by outcome left → RanOn config m x args request fuel old new left outcome
+    → MayCall m export x args → shown_store m old ≡ fresh_store m → answer ≡ kept_by outcome left → RanOn config m x args request fuel old new left outcome
     → EndsWith m (run_limits config) export args request fuel outcome answer
 ended config m export x args request fuel old new left answer outcome may fresh kept ran = record {
   function = x;
@@ -87,7 +87,7 @@ ended config m export x args request fuel old new left answer outcome may fresh 
   fit = may.fit;
   result = ran.result;
   ends = ap (λ (s : Store). result_from m (terms (run_limits config) request) x args s fuel) (sym fresh)
-      ∙ gives config.pages m (terms (run_limits config) request) x args (shown m old) fuel old new ran.marks ran.result m.start ran.runs;
+      ∙ gives config.pages m (terms (run_limits config) request) x args (shown_store m old) fuel old new ran.marks ran.result m.start ran.runs;
   shows = ran.ends;
   answers = kept ∙ (λ i. kept_by (ran.ends i) (ran.answer i)) ∙ kept_is ran.result.outcome ran.result.store;
 }

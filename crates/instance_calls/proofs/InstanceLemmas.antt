@@ -19,13 +19,13 @@ use Rattle.slot_words.specs.declared.leases.Lease.{Lease}
 use Rattle.pool_limits.specs.declared.numbers.Numbers.{Numbers}
 use Rattle.pool_worlds.specs.Contents as contents
 use Rattle.pool_worlds.specs.declared.kinds.Kind.TheVariants as kind
-use Rattle.pool_worlds.specs.Contents.{Contents, MemoryContents, Named, TableContents, needs, shown, shown_memory, shown_table, turned}
+use Rattle.pool_worlds.specs.Contents.{Contents, MemoryContents, Named, TableContents, needs, shown_store, shown_memory, shown_table, turned}
 use Rattle.pool_worlds.specs.declared.kinds.Kind.{Kind}
 use Rattle.pool_worlds.specs.declared.kinds.Kind.TheVariants.{Memory, Table, Ticket}
 use Rattle.pool_worlds.specs.Runs.{Leaves, LeavesFrom, RunsFunction}
 use Rattle.memory_slots.specs.Lent.{parts, store_in}
 use Rattle.memory_slots.proofs.LentLemmas.{globals_left, globals_there}
-use Rattle.instance_calls.specs.Instances.{IsFreshMemory, IsFreshTable, bare_store}
+use Rattle.instance_calls.specs.Instances.{HasFreshMemory, IsFreshTable, bare_store}
 use Rattle.instance_calls.specs.Parts.{memory_in, table_in}
 
 pub has_some : {A : Type 0} (xs : List A) → xs ≢ [] → nat_lt 0 (length xs) ≡ true
@@ -57,11 +57,11 @@ module _ (m : Module) (globals : List Val) (memory : MemoryContents) (table : Op
   abbrev lent : (k : Kind) → Contents k
   lent = parts memory (table_in table).holds (table_in table).entries globals
 
-  pub with_memory : (answer : List ℕ) → needs Memory (module_tree m) ≡ true → answer_set answer (shown (module_tree m) lent) ≡ store_in m memory (table_in table).entries globals answer
+  pub with_memory : (answer : List ℕ) → needs Memory (module_tree m) ≡ true → answer_set answer (shown_store (module_tree m) lent) ≡ store_in m memory (table_in table).entries globals answer
   with_memory answer some =
       same_store _ _ _ _ _ _ _ (ap (λ (b : Bool). shown_memory b memory) some) (table_shown (needs Table (module_tree m)) table had) (own_is m globals)
 
-  pub without_memory : (answer : List ℕ) → needs Memory (module_tree m) ≡ false → answer_set answer (shown (module_tree m) lent) ≡ bare_store m (table_in table).entries globals answer
+  pub without_memory : (answer : List ℕ) → needs Memory (module_tree m) ≡ false → answer_set answer (shown_store (module_tree m) lent) ≡ bare_store m (table_in table).entries globals answer
   without_memory answer none =
       same_store _ _ _ _ _ _ _ (ap (λ (b : Bool). shown_memory b memory) none) (table_shown (needs Table (module_tree m)) table had) (own_is m globals)
 
@@ -86,7 +86,7 @@ module _ (pages : ℕ) (m : Module) (result : Store → ℕ → Option CallResul
       (record { outcome = outcome; store = after; fuel = left })
 
   abbrev shown_with : MemoryContents → List Val → List ℕ → Store
-  shown_with x globals answer = answer_set answer (shown (module_tree m) (parts x (table_in table).holds (table_in table).entries globals))
+  shown_with x globals answer = answer_set answer (shown_store (module_tree m) (parts x (table_in table).holds (table_in table).entries globals))
 
   pub runs_with_memory : (l : Lease MemoryContents) (y : MemoryContents) → memory ≡ Some l
       → ((owner : Option Named) → Leaves pages (module_tree m) (result (store_in m l.value entries old said)) fuel (parts l.value owner entries old) (parts y owner entries new) y.marks
@@ -163,11 +163,11 @@ module _ (pages : ℕ) (m : Module) (x : MemoryContents) (owner : Option Named) 
 -- ---- a fresh instance
 
 pub fresh_is : (m : ModuleTree) (globals : List Val) (memory : Option (Lease MemoryContents)) (table : Option (Lease TableContents)) (config : Numbers)
-    → take (length m.globals) globals ≡ (fresh_store m).globals → IsFreshMemory config m memory → IsFreshTable m table
-    → shown m (parts (memory_in memory) (table_in table).holds (table_in table).entries globals) ≡ fresh_store m
+    → take (length m.globals) globals ≡ (fresh_store m).globals → HasFreshMemory config m memory → IsFreshTable m table
+    → shown_store m (parts (memory_in memory) (table_in table).holds (table_in table).entries globals) ≡ fresh_store m
 fresh_is m globals memory table config same_globals same_memory same_table = same_store _ _ _ _ _ _ _ same_memory.shown same_table.shown same_globals
 
-pub bare_memory : (config : Numbers) (m : ModuleTree) → m.memories ≡ [] → length (fresh_store m).memory ≡ memory_size m → IsFreshMemory config m None
+pub bare_memory : (config : Numbers) (m : ModuleTree) → m.memories ≡ [] → length (fresh_store m).memory ≡ memory_size m → HasFreshMemory config m None
 bare_memory config m none size =
     let no = has_none m.memories none in
     let zero : minimum_of m.memories ≡ 0 = ap minimum_of none in

@@ -21,7 +21,7 @@ use Rattle.wasm_machine.specs.TypedConfiguration.{IsRunnable}
 use Rattle.wasm_machine.proofs.OutsideLemmas.{outside_callee, own_call}
 use Rattle.slot_words.specs.declared.leases.Lease.{Lease}
 use Rattle.pool_limits.specs.declared.numbers.Numbers.{Numbers}
-use Rattle.pool_worlds.specs.Contents.{Contents, MemoryContents, Named, needs, shown}
+use Rattle.pool_worlds.specs.Contents.{Contents, MemoryContents, Named, needs, shown_store}
 use Rattle.pool_worlds.specs.declared.kinds.Kind.{Kind}
 use Rattle.pool_worlds.specs.declared.kinds.Kind.TheVariants.{Memory, Table}
 use Rattle.pool_worlds.specs.Runs.{LeavesFrom}
@@ -100,17 +100,17 @@ module _ {N : Type 0} {config : Numbers} {m : Named} {request : List ℕ} {begun
   had_table = h.paused.parts.table ∙ ap (needs Table) (sym tree_is)
 
   -- in the words of what runs it
-  stands_lent : Stands valid (terms limits request) begun x.ticket.value.args call x.ticket.value.stacks (answer_set said (shown (module_tree valid) (instance_contents x)))
+  stands_lent : Stands valid (terms limits request) begun x.ticket.value.args call x.ticket.value.stacks (answer_set said (shown_store (module_tree valid) (instance_contents x)))
   stands_lent =
-      subst (λ (t : ModuleTree). Stands valid (terms limits request) begun x.ticket.value.args call x.ticket.value.stacks (answer_set said (shown t (instance_contents x)))) (sym tree_is)
-      (subst (λ (k : Module). Stands k (terms limits request) begun x.ticket.value.args call x.ticket.value.stacks (answer_set said (shown m.tree (instance_contents x)))) (sym h.code)
-      (subst (λ (l : RunLimits). Stands m.code (terms l request) begun x.ticket.value.args call x.ticket.value.stacks (answer_set said (shown m.tree (instance_contents x)))) (sym h.limits_are) h.paused.stands))
+      subst (λ (t : ModuleTree). Stands valid (terms limits request) begun x.ticket.value.args call x.ticket.value.stacks (answer_set said (shown_store t (instance_contents x)))) (sym tree_is)
+      (subst (λ (k : Module). Stands k (terms limits request) begun x.ticket.value.args call x.ticket.value.stacks (answer_set said (shown_store m.tree (instance_contents x)))) (sym h.code)
+      (subst (λ (l : RunLimits). Stands m.code (terms l request) begun x.ticket.value.args call x.ticket.value.stacks (answer_set said (shown_store m.tree (instance_contents x)))) (sym h.limits_are) h.paused.stands))
 
   pub stands_with_memory : (l : Lease MemoryContents) → x.memory ≡ Some l → Stands valid (terms limits request) begun x.ticket.value.args call x.ticket.value.stacks (store_in valid l.value entries x.ticket.value.globals said)
   stands_with_memory l is =
       let needed : needs Memory (module_tree valid) ≡ true = sym had_memory ∙ ap is_some is in
-      let shows : answer_set said (shown (module_tree valid) (instance_contents x)) ≡ store_in valid l.value entries x.ticket.value.globals said =
-      ap (λ (o : Option (Lease MemoryContents)). answer_set said (shown (module_tree valid) (parts (memory_in o) (table_in x.table).holds (table_in x.table).entries x.ticket.value.globals))) is
+      let shows : answer_set said (shown_store (module_tree valid) (instance_contents x)) ≡ store_in valid l.value entries x.ticket.value.globals said =
+      ap (λ (o : Option (Lease MemoryContents)). answer_set said (shown_store (module_tree valid) (parts (memory_in o) (table_in x.table).holds (table_in x.table).entries x.ticket.value.globals))) is
       ∙ with_memory valid x.ticket.value.globals l.value x.table had_table said needed
       ∙ ap (λ (es : List (Option ℕ)). store_in valid l.value es x.ticket.value.globals said) (sym h.entries_are) in
       subst (λ (s : Store). Stands valid (terms limits request) begun x.ticket.value.args call x.ticket.value.stacks s) shows stands_lent
@@ -118,19 +118,19 @@ module _ {N : Type 0} {config : Numbers} {m : Named} {request : List ℕ} {begun
   pub stands_without_memory : x.memory ≡ None → Stands valid (terms limits request) begun x.ticket.value.args call x.ticket.value.stacks (bare_store valid entries x.ticket.value.globals said)
   stands_without_memory is =
       let unneeded : needs Memory (module_tree valid) ≡ false = sym had_memory ∙ ap is_some is in
-      let shows : answer_set said (shown (module_tree valid) (instance_contents x)) ≡ bare_store valid entries x.ticket.value.globals said =
+      let shows : answer_set said (shown_store (module_tree valid) (instance_contents x)) ≡ bare_store valid entries x.ticket.value.globals said =
       without_memory valid x.ticket.value.globals (memory_in x.memory) x.table had_table said unneeded
       ∙ ap (λ (es : List (Option ℕ)). bare_store valid es x.ticket.value.globals said) (sym h.entries_are) in
       subst (λ (s : Store). Stands valid (terms limits request) begun x.ticket.value.args call x.ticket.value.stacks s) shows stands_lent
 
   -- what a slice on what is lent comes to, it comes to for the call
-  pub turned_there : (slice : ℕ) (t : Turned) (s : Store) (says : List ℕ) (y : (k : Kind) → Contents k) → s ≡ answer_set says (shown (module_tree valid) y)
+  pub turned_there : (slice : ℕ) (t : Turned) (s : Store) (says : List ℕ) (y : (k : Kind) → Contents k) → s ≡ answer_set says (shown_store (module_tree valid) y)
       → HasTurned (whole valid (terms limits request) call x.ticket.value.args begun) call slice s t
-      → HasTurned (whole m.code (terms (run_limits config) request) call x.ticket.value.args begun) call slice (answer_set says (shown m.tree y)) t
+      → HasTurned (whole m.code (terms (run_limits config) request) call x.ticket.value.args begun) call slice (answer_set says (shown_store m.tree y)) t
   turned_there slice t s says y shows turned =
-      subst (λ (tree : ModuleTree). HasTurned (whole m.code (terms (run_limits config) request) call x.ticket.value.args begun) call slice (answer_set says (shown tree y)) t) tree_is
-      (subst (λ (l : RunLimits). HasTurned (whole m.code (terms l request) call x.ticket.value.args begun) call slice (answer_set says (shown (module_tree valid) y)) t) h.limits_are
-      (subst (λ (k : Module). HasTurned (whole k (terms limits request) call x.ticket.value.args begun) call slice (answer_set says (shown (module_tree valid) y)) t) h.code
+      subst (λ (tree : ModuleTree). HasTurned (whole m.code (terms (run_limits config) request) call x.ticket.value.args begun) call slice (answer_set says (shown_store tree y)) t) tree_is
+      (subst (λ (l : RunLimits). HasTurned (whole m.code (terms l request) call x.ticket.value.args begun) call slice (answer_set says (shown_store (module_tree valid) y)) t) h.limits_are
+      (subst (λ (k : Module). HasTurned (whole k (terms limits request) call x.ticket.value.args begun) call slice (answer_set says (shown_store (module_tree valid) y)) t) h.code
       (subst (λ (u : Store). HasTurned (whole valid (terms limits request) call x.ticket.value.args begun) call slice u t) shows turned)))
 
   -- a slice on what is lent is one on the instance
@@ -154,25 +154,25 @@ module _ {N : Type 0} {config : Numbers} {m : Named} {request : List ℕ} {begun
   -- the call that comes of it is paused on the instance that comes of it
   pub paused_there : (next : PausedCall) (says : List ℕ) (y : Instance N) → y.table ≡ x.table → is_some y.memory ≡ is_some x.memory
       → (m.code.memories ≢ [] → IsReady (room_for m.code.memories config.pages) (memory_in y.memory))
-      → Stands valid (terms limits request) begun y.ticket.value.args next y.ticket.value.stacks (answer_set says (shown (module_tree valid) (instance_contents y))) → IsPausedOn config m request begun next says y
+      → Stands valid (terms limits request) begun y.ticket.value.args next y.ticket.value.stacks (answer_set says (shown_store (module_tree valid) (instance_contents y))) → IsPausedOn config m request begun next says y
   paused_there next says y table memory ready stands = record {
     code = h.paused.code;
     parts = record { memory = memory ∙ h.paused.parts.memory; table = ap is_some table ∙ h.paused.parts.table };
     frame = h.paused.frame;
     memory = ready;
-    stands = subst (λ (t : ModuleTree). Stands m.code (terms (run_limits config) request) begun y.ticket.value.args next y.ticket.value.stacks (answer_set says (shown t (instance_contents y)))) tree_is
-        (subst (λ (l : RunLimits). Stands m.code (terms l request) begun y.ticket.value.args next y.ticket.value.stacks (answer_set says (shown (module_tree valid) (instance_contents y)))) h.limits_are
-        (subst (λ (k : Module). Stands k (terms limits request) begun y.ticket.value.args next y.ticket.value.stacks (answer_set says (shown (module_tree valid) (instance_contents y)))) h.code stands));
+    stands = subst (λ (t : ModuleTree). Stands m.code (terms (run_limits config) request) begun y.ticket.value.args next y.ticket.value.stacks (answer_set says (shown_store t (instance_contents y)))) tree_is
+        (subst (λ (l : RunLimits). Stands m.code (terms l request) begun y.ticket.value.args next y.ticket.value.stacks (answer_set says (shown_store (module_tree valid) (instance_contents y)))) h.limits_are
+        (subst (λ (k : Module). Stands k (terms limits request) begun y.ticket.value.args next y.ticket.value.stacks (answer_set says (shown_store (module_tree valid) (instance_contents y)))) h.code stands));
   }
 
   pub shown_with : (l : Lease MemoryContents) (y : MemoryContents) (globals : List Val) (says : List ℕ) → x.memory ≡ Some l
-      → store_in valid y entries globals says ≡ answer_set says (shown (module_tree valid) (parts y (table_in x.table).holds (table_in x.table).entries globals))
+      → store_in valid y entries globals says ≡ answer_set says (shown_store (module_tree valid) (parts y (table_in x.table).holds (table_in x.table).entries globals))
   shown_with l y globals says is =
       let needed : needs Memory (module_tree valid) ≡ true = sym had_memory ∙ ap is_some is in
       ap (λ (es : List (Option ℕ)). store_in valid y es globals says) h.entries_are ∙ sym (with_memory valid globals y x.table had_table says needed)
 
   pub shown_bare : (globals : List Val) (says : List ℕ) → x.memory ≡ None
-      → bare_store valid entries globals says ≡ answer_set says (shown (module_tree valid) (parts (memory_in x.memory) (table_in x.table).holds (table_in x.table).entries globals))
+      → bare_store valid entries globals says ≡ answer_set says (shown_store (module_tree valid) (parts (memory_in x.memory) (table_in x.table).holds (table_in x.table).entries globals))
   shown_bare globals says is =
       let unneeded : needs Memory (module_tree valid) ≡ false = sym had_memory ∙ ap is_some is in
       ap (λ (es : List (Option ℕ)). bare_store valid es globals says) h.entries_are ∙ sym (without_memory valid globals (memory_in x.memory) x.table had_table says unneeded)

@@ -8,7 +8,7 @@ use Rattle.wasm_spec.specs.Store.{Store}
 use Rattle.wasm_spec.specs.Execution.{Terms, answer_set, terms}
 use Rattle.wasm_spec.specs.Result.{CallResult, after_start, function_result, if_done, if_done_by}
 use Rattle.pool_limits.specs.declared.numbers.Numbers.{Numbers}
-use Rattle.pool_worlds.specs.Contents.{Contents, shown}
+use Rattle.pool_worlds.specs.Contents.{Contents, shown_store}
 use Rattle.pool_worlds.specs.declared.kinds.Kind.{Kind}
 use Rattle.pool_worlds.specs.Runs.{GoesOn, HostRunsBy, RunsFunction}
 use Rattle.instance_calls.specs.CallWords.{run_limits}
@@ -16,18 +16,18 @@ use Rattle.instance_calls.specs.Runs.{RanOn}
 
 module _ (config : Numbers) (m : ModuleTree) (x : ℕ) (args : List Val) (request : List ℕ) (fuel : ℕ) (old : (k : Kind) → Contents k) where
   abbrev Runs : Option ℕ → (new : (k : Kind) → Contents k) → List Bool → CallResult → Type 0
-  Runs start new marks r = HostRunsBy config.pages m (terms (run_limits config) request) start x args (shown m old) fuel old new marks r
+  Runs start new marks r = HostRunsBy config.pages m (terms (run_limits config) request) start x args (shown_store m old) fuel old new marks r
 
   -- it begins without an answer
   pub from_none : (start : ℕ) (values : List Val) (answer : List ℕ) (new : (k : Kind) → Contents k) (marks : List Bool) (r : CallResult) → answer ≡ []
-      → RunsFunction config.pages m (terms (run_limits config) request) start values (answer_set answer (shown m old)) fuel old new marks r
-      → RunsFunction config.pages m (terms (run_limits config) request) start values (shown m old) fuel old new marks r
+      → RunsFunction config.pages m (terms (run_limits config) request) start values (answer_set answer (shown_store m old)) fuel old new marks r
+      → RunsFunction config.pages m (terms (run_limits config) request) start values (shown_store m old) fuel old new marks r
   from_none start values answer new marks r none =
-      subst (λ (a : List ℕ). RunsFunction config.pages m (terms (run_limits config) request) start values (answer_set a (shown m old)) fuel old new marks r) none
+      subst (λ (a : List ℕ). RunsFunction config.pages m (terms (run_limits config) request) start values (answer_set a (shown_store m old)) fuel old new marks r) none
 
   -- without a start function
   pub ran_alone : (new : (k : Kind) → Contents k) (marks : List Bool) (r : CallResult) → m.start ≡ None
-      → RunsFunction config.pages m (terms (run_limits config) request) x args (shown m old) fuel old new marks r → RanOn config m x args request fuel old new r.store.answer r.outcome
+      → RunsFunction config.pages m (terms (run_limits config) request) x args (shown_store m old) fuel old new marks r → RanOn config m x args request fuel old new r.store.answer r.outcome
   ran_alone new marks r none runs = record {
     marks = marks;
     result = r;
@@ -37,7 +37,7 @@ module _ (config : Numbers) (m : ModuleTree) (x : ℕ) (args : List Val) (reques
   }
 
   module _ (start : ℕ) (mid : (k : Kind) → Contents k) (mid_marks : List Bool) (first : CallResult) (is : m.start ≡ Some start)
-      (starts : RunsFunction config.pages m (terms (run_limits config) request) start [] (shown m old) fuel old mid mid_marks first) where
+      (starts : RunsFunction config.pages m (terms (run_limits config) request) start [] (shown_store m old) fuel old mid mid_marks first) where
     goes_on : (new : (k : Kind) → Contents k) (marks : List Bool) (r : CallResult)
         → GoesOn config.pages m (terms (run_limits config) request) x args first.outcome first mid new mid_marks marks r → RanOn config m x args request fuel old new r.store.answer r.outcome
     goes_on new marks r next = record {

@@ -11,7 +11,7 @@ use Rattle.wasm_machine.specs.Lent.{own}
 use Rattle.wasm_machine.specs.TypedConfiguration.{IsTypedStore}
 use Rattle.slot_words.specs.declared.leases.Lease.{Lease}
 use Rattle.pool_limits.specs.declared.numbers.Numbers.{Numbers}
-use Rattle.pool_worlds.specs.Contents.{Contents, MemoryContents, TableContents, needs, shown, shown_memory, shown_table}
+use Rattle.pool_worlds.specs.Contents.{Contents, MemoryContents, TableContents, needs, shown_store, shown_memory, shown_table}
 use Rattle.pool_worlds.specs.declared.kinds.Kind.{Kind}
 use Rattle.pool_worlds.specs.declared.kinds.Kind.TheVariants.{Memory, Table}
 use Rattle.memory_slots.specs.Lent.{IsReady, parts}
@@ -23,7 +23,7 @@ abbrev pub bare_store : Module → List (Option ℕ) → List Val → List ℕ �
 bare_store m table globals answer = record { memory = []; table = table; globals = own m globals; answer = answer }
 
 -- the memory of an instance of the module as it begins, if the module has one
-pub record IsFreshMemory (config : Numbers) (m : ModuleTree) (memory : Option (Lease MemoryContents)) : Type 0 where
+pub record HasFreshMemory (config : Numbers) (m : ModuleTree) (memory : Option (Lease MemoryContents)) : Type 0 where
   pub had : is_some memory ≡ needs Memory m
   pub shown : shown_memory (needs Memory m) (memory_in memory) ≡ (fresh_store m).memory
   pub ready : m.memories ≢ [] → IsReady (room_for m.memories config.pages) (memory_in memory)
@@ -37,7 +37,7 @@ pub record IsFreshTable (m : ModuleTree) (table : Option (Lease TableContents)) 
 pub record MayRun (config : Numbers) (m : Module) (x : (k : Kind) → Contents k) : Type 0 where
   pub depth : 0 < config.depth
   pub memory : m.memories ≢ [] → IsReady (room_for m.memories config.pages) (x Memory)
-  pub store : IsTypedStore m (shown (module_tree m) x)
+  pub store : IsTypedStore m (shown_store (module_tree m) x)
   pub frame : FitsFrame m config.frame
 
 module _ {N : Type 0} where
@@ -47,7 +47,7 @@ module _ {N : Type 0} where
 
   -- the store that they show to a call of the module which has answered this so far
   abbrev pub instance_store : ModuleTree → (answer : List ℕ) → Instance N → Store
-  instance_store m answer x = answer_set answer (shown m (instance_contents x))
+  instance_store m answer x = answer_set answer (shown_store m (instance_contents x))
 
   -- it has a slot of each kind that the module needs, and no other
   pub record HasParts (m : ModuleTree) (x : Instance N) : Type 0 where
@@ -57,7 +57,7 @@ module _ {N : Type 0} where
   -- it is one of the module as it begins
   pub record IsFreshInstance (config : Numbers) (m : ModuleTree) (x : Instance N) : Type 0 where
     pub globals : take (length m.globals) x.ticket.value.globals ≡ (fresh_store m).globals
-    pub memory : IsFreshMemory config m x.memory
+    pub memory : HasFreshMemory config m x.memory
     pub table : IsFreshTable m x.table
 
   -- it has the slots that it had, and their contents belong to whom they did

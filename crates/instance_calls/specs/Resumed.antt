@@ -33,7 +33,7 @@ pub record IsBegun (m : Named) (function : ℕ) (args : List Val) (fuel : ℕ) (
   pub no_answer : v.answer ≡ []
 
 -- it is the same call of the same module in the same slots, after so many turns more
-pub record GoesOn (slice : ℕ) (v w : PausedView) : Type 0 where
+pub record GoesOnPaused (slice : ℕ) (v w : PausedView) : Type 0 where
   pub ticket : w.ticket ≡ v.ticket
   pub memory : w.memory ≡ v.memory
   pub table : w.table ≡ v.table
@@ -46,7 +46,7 @@ pub record GoesOn (slice : ℕ) (v w : PausedView) : Type 0 where
 -- it goes on
 pub record HasMore (config : Numbers) (v : PausedView) (slice : ℕ) (w : PausedView) : Type 0 where
   pub waits : Waits (comes_to config v) v.call.fuel (v.call.turns + slice)
-  pub goes_on : GoesOn slice v w
+  pub goes_on : GoesOnPaused slice v w
   pub went : ResumedOn config v.named [] (fresh_store v.named.tree) v.args v.call slice (contents_in v) (contents_in w)
 
 -- on all its fuel it ends so, and answers these bytes

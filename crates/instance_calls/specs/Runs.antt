@@ -7,7 +7,7 @@ use Rattle.wasm_spec.specs.Execution.{terms}
 use Rattle.wasm_spec.specs.Result.{CallResult}
 use Rattle.wasm_machine.specs.declared.invocation.RunEnd.{RunEnd}
 use Rattle.pool_limits.specs.declared.numbers.Numbers.{Numbers}
-use Rattle.pool_worlds.specs.Contents.{Contents, shown}
+use Rattle.pool_worlds.specs.Contents.{Contents, shown_store}
 use Rattle.pool_worlds.specs.declared.kinds.Kind.{Kind}
 use Rattle.pool_worlds.specs.Runs.{HostRunsBy, RunsFunction}
 use Rattle.instance_calls.specs.declared.instance.Instance.{Instance}
@@ -20,7 +20,7 @@ use Rattle.instance_calls.specs.Parts.{memory_in}
 pub record RanOn (config : Numbers) (m : ModuleTree) (function : ℕ) (args : List Val) (request : List ℕ) (fuel : ℕ) (old new : (k : Kind) → Contents k) (left : List ℕ) (outcome : Outcome) : Type 0 where
   pub marks : List Bool
   pub result : CallResult
-  pub runs : HostRunsBy config.pages m (terms (run_limits config) request) m.start function args (shown m old) fuel old new marks result
+  pub runs : HostRunsBy config.pages m (terms (run_limits config) request) m.start function args (shown_store m old) fuel old new marks result
   pub answer : left ≡ result.store.answer
   pub ends : outcome ≡ result.outcome
 

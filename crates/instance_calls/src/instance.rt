@@ -195,7 +195,8 @@ impl<N: Naming> Instance<N> {
         ensures paused { result ≡ Turned.Again → (begun : Store) → IsPausedOn N.config «module».now request.now begun call.old answer.old self.old
             → IsPausedOn N.config «module».now request.now begun call.new answer.new self.new }
         ensures resumed { (begun : Store) → IsPausedOn N.config «module».now request.now begun call.old answer.old self.old
-            → ResumedOn N.config «module».now request.now begun self.old.ticket.value.args call.old slice (instance_contents self.old) (instance_contents self.new) }
+            → ResumedOn N.config «module».now request.now begun self.old.ticket.value.args call.old slice (instance_contents self.old)
+            (instance_contents self.new) }
         ensures args { self.new.ticket.value.args ≡ self.old.ticket.value.args }
         ensures same { (call.new.function ≡ call.old.function) × (call.new.fuel ≡ call.old.fuel) }
         ensures turns { result ≡ Turned.Again → call.new.turns ≡ call.old.turns + slice }

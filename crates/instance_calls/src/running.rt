@@ -71,7 +71,8 @@ pub(crate) fn run_with_memory<N: Naming>(
     requires frame { FitsFrame valid.now N.config.frame }
     requires request { length request.now ≤ 65536 }
     ensures leaves { (owner : Option Named) → Leaves N.config.pages (module_tree valid.now)
-        (function_result (module_tree valid.now) (terms limits request.now) function args.now (store_in valid.now memory.old table.now ticket.old.globals answer.old)) fuel
+        (function_result (module_tree valid.now) (terms limits request.now) function args.now
+        (store_in valid.now memory.old table.now ticket.old.globals answer.old)) fuel
         (parts memory.old owner table.now ticket.old.globals) (parts memory.new owner table.now ticket.new.globals) memory.new.marks
         (record { outcome = result.outcome; store = store_in valid.now memory.new table.now ticket.new.globals answer.new; fuel = result.left }) }
     ensures holds { memory.new.holds ≡ memory.old.holds }
@@ -112,7 +113,8 @@ pub(crate) fn run_without_memory<N: Naming>(
     requires frame { FitsFrame valid.now N.config.frame }
     requires request { length request.now ≤ 65536 }
     ensures leaves { (x : MemoryContents) (owner : Option Named) → Leaves N.config.pages (module_tree valid.now)
-        (function_result (module_tree valid.now) (terms limits request.now) function args.now (bare_store valid.now table.now ticket.old.globals answer.old)) fuel
+        (function_result (module_tree valid.now) (terms limits request.now) function args.now
+        (bare_store valid.now table.now ticket.old.globals answer.old)) fuel
         (parts x owner table.now ticket.old.globals) (parts x owner table.now ticket.new.globals) x.marks
         (record { outcome = result.outcome; store = bare_store valid.now table.now ticket.new.globals answer.new; fuel = result.left }) }
     ensures store { IsDone result.outcome → IsTypedStore valid.now (bare_store valid.now table.now ticket.new.globals answer.new) }
@@ -159,7 +161,8 @@ pub(crate) fn resume_with_memory<N: Naming>(
     ensures leaves { (begun : Store)
         → StandsWithMemory valid.now (terms limits request.now) begun call.old ticket.old memory.old table.now answer.old
         → (owner : Option Named) → (r : CallResult)
-        × LeavesFrom N.config.pages (module_tree valid.now) (whole valid.now (terms limits request.now) call.old ticket.old.args begun) call.old.turns (upto call.old slice)
+        × LeavesFrom N.config.pages (module_tree valid.now) (whole valid.now (terms limits request.now) call.old ticket.old.args begun) call.old.turns
+        (upto call.old slice)
         (parts memory.old owner table.now ticket.old.globals) (parts memory.new owner table.now ticket.new.globals) memory.new.marks r }
     ensures holds { memory.new.holds ≡ memory.old.holds }
     ensures ready { IsReady (room_for valid.now.memories N.config.pages) memory.new }
@@ -207,7 +210,8 @@ pub(crate) fn resume_without_memory<N: Naming>(
     ensures leaves { (begun : Store)
         → StandsWithoutMemory valid.now (terms limits request.now) begun call.old ticket.old table.now answer.old
         → (x : MemoryContents) (owner : Option Named) → (r : CallResult)
-        × LeavesFrom N.config.pages (module_tree valid.now) (whole valid.now (terms limits request.now) call.old ticket.old.args begun) call.old.turns (upto call.old slice)
+        × LeavesFrom N.config.pages (module_tree valid.now) (whole valid.now (terms limits request.now) call.old ticket.old.args begun) call.old.turns
+        (upto call.old slice)
         (parts x owner table.now ticket.old.globals) (parts x owner table.now ticket.new.globals) x.marks r }
     ensures args { ticket.new.args ≡ ticket.old.args }
     ensures same { (call.new.function ≡ call.old.function) × (call.new.fuel ≡ call.old.fuel) }

@@ -15,10 +15,10 @@ use Rattle.instr_decode.specs.declared.fault.DecodeFault.{DecodeFault}
 use Rattle.instr_decode.specs.Decoding.{BeginsWithNone}
 use Rattle.instr_decode.proofs.Decoding.{begins-through}
 use Rattle.instr_decode.proofs.Tokens.{Arms, first-token, behind, from-leaf}
-use Rattle.instr_decode.specs.Contexts.{prepend, Enclosing, LastArm, ThenArm, Context, Represents, pushed, opened, BeginsElseAt, BeginsElse, EndsAt, Ends}
+use Rattle.instr_decode.specs.Contexts.{prepend, Enclosing, LastArm, ThenArm, ExprContext, RepresentsContext, pushed, opened, BeginsElseAt, BeginsElse, EndsAt, Ends}
 
 -- where nothing has been read
-abbrev pub start : Context
+abbrev pub start : ExprContext
 start = record { inner = λ c. c; enclosing = [] }
 
 module _ (profile : Profile) where
@@ -40,16 +40,16 @@ module _ (profile : Profile) where
   CompletesEnclosing t rest (ThenArm wrap ∷ enclosing) ByElse c mid = Completes (Ended (λ d m. Completes (CompletesEnclosing t rest enclosing) (wrap c d) m)) (λ d. d) mid
 
   -- from this place the bytes complete the whole, which is t, and rest follows it
-  abbrev pub CompletesTo : Context → List ℕ → Code → List ℕ → Type 0
+  abbrev pub CompletesTo : ExprContext → List ℕ → Code → List ℕ → Type 0
   CompletesTo s bytes t rest = Completes (CompletesEnclosing t rest s.enclosing) s.inner bytes
 
   -- both places are completed alike
-  pub record SameCompletions (s : Context) (bytes : List ℕ) (s' : Context) (bytes' : List ℕ) : Type 0 where
+  pub record SameCompletions (s : ExprContext) (bytes : List ℕ) (s' : ExprContext) (bytes' : List ℕ) : Type 0 where
     pub to : (t : Code) (rest : List ℕ) → CompletesTo s bytes t rest → CompletesTo s' bytes' t rest
     pub from : (t : Code) (rest : List ℕ) → CompletesTo s' bytes' t rest → CompletesTo s bytes t rest
 
   -- behind profile a leaf
-  pub same-pushed : (o : Op) (bytes more : List ℕ) (s : Context) → TakesLeaf profile o bytes more → SameCompletions s bytes (pushed o s) more
+  pub same-pushed : (o : Op) (bytes more : List ℕ) (s : ExprContext) → TakesLeaf profile o bytes more → SameCompletions s bytes (pushed o s) more
   same-pushed o bytes more s a = record {
     to = λ t rest (k, c, mid, h, f).
         let b = behind profile (token.Leaf o) k c bytes more mid a h in
@@ -58,7 +58,7 @@ module _ (profile : Profile) where
   }
 
   -- behind profile what opens a sequence
-  module _ (bytes more : List ℕ) (s : Context) (v : Option ValType) (t : Code) (rest : List ℕ) where
+  module _ (bytes more : List ℕ) (s : ExprContext) (v : Option ValType) (t : Code) (rest : List ℕ) where
     to-block : TakesToken profile (token.Open block_kind.Block v) bytes more → CompletesTo s bytes t rest → CompletesTo (opened block_kind.Block v s) more t rest
     to-block a (k, c, mid, h, f) =
         let b = behind profile (token.Open block_kind.Block v) k c bytes more mid a h in
@@ -93,7 +93,7 @@ module _ (profile : Profile) where
     from-if a (ByElse, b, m, h, (ByEnd, e, n, i, (k, d, mid, g, f))) = (k, If v b e d, mid, (a.0, a.1, more, a.2, n, inr (m, h, i), g), f)
     from-if a (ByElse, b, m, h, (ByElse, e, n, i, f)) = absurd f
 
-  pub same-opened : (o : BlockKind) (v : Option ValType) (bytes more : List ℕ) (s : Context) → TakesToken profile (token.Open o v) bytes more → SameCompletions s bytes (opened o v s) more
+  pub same-opened : (o : BlockKind) (v : Option ValType) (bytes more : List ℕ) (s : ExprContext) → TakesToken profile (token.Open o v) bytes more → SameCompletions s bytes (opened o v s) more
   same-opened block_kind.Block v bytes more s a = record { to = λ t rest. to-block bytes more s v t rest a; from = λ t rest. from-block bytes more s v t rest a }
   same-opened block_kind.Loop v bytes more s a = record { to = λ t rest. to-loop bytes more s v t rest a; from = λ t rest. from-loop bytes more s v t rest a }
   same-opened block_kind.If v bytes more s a = record { to = λ t rest. to-if bytes more s v t rest a; from = λ t rest. from-if bytes more s v t rest a }
@@ -113,7 +113,7 @@ module _ (profile : Profile) where
   pub same-start : (bytes : List ℕ) → SameCompletions start bytes start bytes
   same-start bytes = record { to = λ t rest h. h; from = λ t rest h. h }
 
-  pub same-then : (r s t : Context) (a b c : List ℕ) → SameCompletions r a s b → SameCompletions s b t c → SameCompletions r a t c
+  pub same-then : (r s t : ExprContext) (a b c : List ℕ) → SameCompletions r a s b → SameCompletions s b t c → SameCompletions r a t c
   same-then r s t a b c f g = record { to = λ x rest h. g.to x rest (f.to x rest h); from = λ x rest h. f.from x rest (g.from x rest h) }
 
   pub expr-to : (c : Code) (bytes rest : List ℕ) → TakesExpr profile c bytes rest → CompletesTo start bytes c rest
@@ -124,7 +124,7 @@ module _ (profile : Profile) where
   expr-of c bytes rest (ByElse, d, mid, h, e) = absurd e
 
   -- no code where no token stands
-  pub none-token : (s : Context) (bytes here : List ℕ) (fault : DecodeFault) → SameCompletions start bytes s here → BeginsWithNone (TakesToken profile) here fault → BeginsWithNone (TakesExpr profile) bytes fault
+  pub none-token : (s : ExprContext) (bytes here : List ℕ) (fault : DecodeFault) → SameCompletions start bytes s here → BeginsWithNone (TakesToken profile) here fault → BeginsWithNone (TakesExpr profile) bytes fault
   none-token s bytes here fault same none =
       begins-through (TakesToken profile) (TakesExpr profile) here bytes fault none (λ c rest h.
       let g = same.to c rest (expr-to c bytes rest h) in
@@ -132,9 +132,9 @@ module _ (profile : Profile) where
       (f.first, f.more, f.begins))
 
   -- the place that a builder stands for, completed as this one is
-  pub record IsReached (n : ExprBuilder) (s : Context) (bytes more : List ℕ) : Type 0 where
-    pub context : Context
-    pub stands : Represents n context
+  pub record IsReached (n : ExprBuilder) (s : ExprContext) (bytes more : List ℕ) : Type 0 where
+    pub context : ExprContext
+    pub stands : RepresentsContext n context
     pub same : SameCompletions s bytes context more
 
   -- an `else` in the first arm of an `if`
@@ -151,7 +151,7 @@ module _ (profile : Profile) where
     };
   }
 
-  pub else-reached : (s : Context) (begun : Bool) (n : ExprBuilder) (bytes more : List ℕ) → bytes ≡ 0x05 ∷ more → begun ≡ true → BeginsElse s begun n → IsReached n s bytes more
+  pub else-reached : (s : ExprContext) (begun : Bool) (n : ExprBuilder) (bytes more : List ℕ) → bytes ≡ 0x05 ∷ more → begun ≡ true → BeginsElse s begun n → IsReached n s bytes more
   else-reached s begun n bytes more e b t = else-at s.inner s.enclosing begun n bytes more e b t
 
   -- and elsewhere
@@ -161,7 +161,7 @@ module _ (profile : Profile) where
   no-else inner (LastArm wrap ∷ enclosing) begun n more t rest b h a = a
   no-else inner (ThenArm wrap ∷ enclosing) begun n more t rest b h a = let f : true ≡ false = sym h.0 ∙ b in cc
 
-  pub none-else : (s : Context) (begun : Bool) (n : ExprBuilder) (bytes here more : List ℕ) → SameCompletions start bytes s here → here ≡ 0x05 ∷ more → begun ≡ false → BeginsElse s begun n
+  pub none-else : (s : ExprContext) (begun : Bool) (n : ExprBuilder) (bytes here more : List ℕ) → SameCompletions start bytes s here → here ≡ 0x05 ∷ more → begun ≡ false → BeginsElse s begun n
       → (c : Code) (rest : List ℕ) → TakesExpr profile c bytes rest → ⊥
   none-else s begun n bytes here more same e b t c rest h =
       no-else s.inner s.enclosing begun n more c rest b t (to-closed (CompletesEnclosing c rest s.enclosing) s.inner ByElse here more e (same.to c rest (expr-to c bytes rest h)))
@@ -187,7 +187,7 @@ module _ (profile : Profile) where
     };
   }
 
-  pub end-reached : (s : Context) (ended : Bool) (n : ExprBuilder) (bytes more : List ℕ) → bytes ≡ 0x0B ∷ more → ended ≡ false → Ends s ended n → IsReached n s bytes more
+  pub end-reached : (s : ExprContext) (ended : Bool) (n : ExprBuilder) (bytes more : List ℕ) → bytes ≡ 0x0B ∷ more → ended ≡ false → Ends s ended n → IsReached n s bytes more
   end-reached s ended n bytes more e b h = end-at s.inner s.enclosing ended n bytes more e b h
 
   -- and of the outermost one
@@ -199,6 +199,6 @@ module _ (profile : Profile) where
   whole-at inner (LastArm wrap ∷ enclosing) ended n bytes from more tree same e b h q = absurd (let f : true ≡ false = sym b ∙ h.0 in cc)
   whole-at inner (ThenArm wrap ∷ enclosing) ended n bytes from more tree same e b h q = absurd (let f : true ≡ false = sym b ∙ h.0 in cc)
 
-  pub whole-read : (s : Context) (ended : Bool) (n : ExprBuilder) (bytes from more : List ℕ) (tree : Code) → SameCompletions start bytes s from
+  pub whole-read : (s : ExprContext) (ended : Bool) (n : ExprBuilder) (bytes from more : List ℕ) (tree : Code) → SameCompletions start bytes s from
       → from ≡ 0x0B ∷ more → ended ≡ true → Ends s ended n → tree ≡ expr_tree (record { sequences = n.sequences.items }) → TakesExpr profile tree bytes more
   whole-read s ended n bytes from more tree same e b h q = whole-at s.inner s.enclosing ended n bytes from more tree same e b h q

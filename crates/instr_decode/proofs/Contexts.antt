@@ -13,7 +13,7 @@ use Rattle.instr_decode.specs.declared.expr_builder.FrameKind.TheVariants as kin
 use Rattle.instr_decode.specs.declared.expr_builder.Frame.{Frame}
 use Rattle.instr_decode.specs.declared.expr_builder.ExprBuilder.{ExprBuilder}
 use Rattle.instr_decode.specs.Tokens.{IsLeaf}
-use Rattle.instr_decode.specs.Contexts.{prepend, prepend_all, Enclosing, LastArm, ThenArm, Context, IsFrame, AreFrames, StandsFor, pushed, BeginsElseAt, EndsAt}
+use Rattle.instr_decode.specs.Contexts.{prepend, prepend_all, Enclosing, LastArm, ThenArm, ExprContext, IsFrame, AreFrames, StandsFor, pushed, BeginsElseAt, EndsAt}
 
 prepend_all-push : (all : List Code) (ops : List Op) (o : Op) (c : Code) → prepend_all all (ops ++ o ∷ []) c ≡ prepend_all all ops (prepend all o c)
 prepend_all-push all [] o c = refl
@@ -52,7 +52,7 @@ frames-grow earlier x (o ∷ frames) [] h = absurd h
 frames-grow earlier x (o ∷ frames) (p ∷ enclosing) h = (frame-grows earlier x o.ops.items o.block_type o.kind p h.0, frames-grow earlier x frames enclosing h.1)
 
 -- a leaf
-pub stands-pushed : (sequences : List (List Op)) (frames : List Frame) (ops : List Op) (o : Op) (s : Context)
+pub stands-pushed : (sequences : List (List Op)) (frames : List Frame) (ops : List Op) (o : Op) (s : ExprContext)
     → IsLeaf o → StandsFor sequences frames ops s → StandsFor sequences frames (ops ++ o ∷ []) (pushed o s)
 stands-pushed sequences frames ops o s leaf h = record {
   inner = λ more c. prepend_all-push _ ops o c ∙ h.inner more (prepend _ o c) ∙ ap s.inner (prepend-leaf _ o c leaf);
@@ -60,7 +60,7 @@ stands-pushed sequences frames ops o s leaf h = record {
 }
 
 -- the tree of a sequence that is numbered
-number-tree : (sequences : List (List Op)) (frames : List Frame) (ops : List Op) (s : Context) → StandsFor sequences frames ops s
+number-tree : (sequences : List (List Op)) (frames : List Frame) (ops : List Op) (s : ExprContext) → StandsFor sequences frames ops s
     → codes_from [] (sequences ++ ops ∷ []) ≡ codes_from [] sequences ++ s.inner End ∷ []
 number-tree sequences frames ops s h =
     let earlier = codes_from [] sequences in
@@ -102,7 +102,7 @@ inner-ends : (sequences : List (List Op)) (frames : List Frame) (ops : List Op) 
     → Names o.kind o.block_type k x → k ≡ length sequences → StandsFor sequences (frames ++ o ∷ []) ops (record { inner = inner; enclosing = LastArm wrap ∷ enclosing })
     → StandsFor (sequences ++ ops ∷ []) frames (o.ops.items ++ x ∷ []) (record { inner = wrap (inner End); enclosing = enclosing })
 inner-ends sequences frames ops o k x inner wrap enclosing names n h =
-    let s : Context = record { inner = inner; enclosing = LastArm wrap ∷ enclosing } in
+    let s : ExprContext = record { inner = inner; enclosing = LastArm wrap ∷ enclosing } in
     let earlier = codes_from [] sequences in
     let e : codes_from [] (sequences ++ ops ∷ []) ≡ earlier ++ inner End ∷ [] = number-tree sequences (frames ++ o ∷ []) ops s h in
     let parts : AreFrames earlier (o ∷ reverse frames) (LastArm wrap ∷ enclosing) = subst (λ (l : List Frame). AreFrames earlier l (LastArm wrap ∷ enclosing)) (last-first frames o) h.enclosing in
@@ -112,7 +112,7 @@ inner-ends sequences frames ops o k x inner wrap enclosing names n h =
     }
 
 -- the frames, from the innermost on
-frames-of : (sequences : List (List Op)) (frames : List Frame) (ops : List Op) (o : Frame) (s : Context) → StandsFor sequences (frames ++ o ∷ []) ops s
+frames-of : (sequences : List (List Op)) (frames : List Frame) (ops : List Op) (o : Frame) (s : ExprContext) → StandsFor sequences (frames ++ o ∷ []) ops s
     → AreFrames (codes_from [] sequences) (o ∷ reverse frames) s.enclosing
 frames-of sequences frames ops o s h = subst (λ (l : List Frame). AreFrames (codes_from [] sequences) l s.enclosing) (last-first frames o) h.enclosing
 
@@ -140,7 +140,7 @@ else-begun : (sequences : List (List Op)) (frames : List Frame) (ops : List Op) 
     → o.kind ≡ kind.If → k ≡ length sequences → StandsFor sequences (frames ++ o ∷ []) ops (record { inner = inner; enclosing = ThenArm wrap ∷ enclosing })
     → StandsFor (sequences ++ ops ∷ []) (frames ++ second_of o k ∷ []) [] (record { inner = λ c. c; enclosing = LastArm (wrap (inner End)) ∷ enclosing })
 else-begun sequences frames ops o k inner wrap enclosing q n h =
-    let s : Context = record { inner = inner; enclosing = ThenArm wrap ∷ enclosing } in
+    let s : ExprContext = record { inner = inner; enclosing = ThenArm wrap ∷ enclosing } in
     let earlier = codes_from [] sequences in
     let e : codes_from [] (sequences ++ ops ∷ []) ≡ earlier ++ inner End ∷ [] = number-tree sequences (frames ++ o ∷ []) ops s h in
     let parts = frames-of sequences frames ops o s h in

@@ -4,7 +4,7 @@ use Rattle.std.specs.Prelude.{Result, MatchResult, IsErrAnd}
 use Rattle.std.proofs.lemmas.Result.{err_from_is_err_and}
 use Rattle.wasm_spec.specs.Numbers.{TakesUnsigned, TakesEach, TakesVec, TakesBytes, IsUnambiguous}
 use Rattle.wasm_spec.proofs.UnambiguousNumbers.{unsigned-unique}
-use Rattle.leb_read.specs.Reading.{Position, rest, IsRead, TakesSlice}
+use Rattle.leb_read.specs.Reading.{CursorView, rest, IsRead, TakesSlice}
 use Rattle.instr_decode.specs.Decoding.{IsNone, BeginsWithNone}
 use Rattle.instr_decode.specs.declared.fault.DecodeFault.{DecodeFault}
 use Rattle.instr_decode.specs.declared.fault.DecodeFault.TheVariants.{Malformed, NoMemory}
@@ -21,12 +21,12 @@ begins-through P Q here from Malformed none through = λ b after q. let m = thro
 begins-through P Q here from NoMemory none through = tt
 
 -- an item that another one is made of
-pub read-as : {A B : Type 0} (P : A → List ℕ → List ℕ → Type 0) (Q : B → List ℕ → List ℕ → Type 0) (old new : Position) (a : A) (b : B)
+pub read-as : {A B : Type 0} (P : A → List ℕ → List ℕ → Type 0) (Q : B → List ℕ → List ℕ → Type 0) (old new : CursorView) (a : A) (b : B)
     → IsRead P old new a → (P a (rest old) (rest new) → Q b (rest old) (rest new)) → IsRead Q old new b
 read-as P Q old new a b r f = record { whole = r.whole; forth = r.forth; within = r.within; spelled = f r.spelled }
 
 -- and one after another
-pub read-both : {A B C : Type 0} (P : A → List ℕ → List ℕ → Type 0) (Q : B → List ℕ → List ℕ → Type 0) (R : C → List ℕ → List ℕ → Type 0) (old mid new : Position) (a : A) (b : B) (x : C)
+pub read-both : {A B C : Type 0} (P : A → List ℕ → List ℕ → Type 0) (Q : B → List ℕ → List ℕ → Type 0) (R : C → List ℕ → List ℕ → Type 0) (old mid new : CursorView) (a : A) (b : B) (x : C)
     → IsRead P old mid a → IsRead Q mid new b → (P a (rest old) (rest mid) → Q b (rest mid) (rest new) → R x (rest old) (rest new)) → IsRead R old new x
 read-both P Q R old mid new a b x r s f = record { whole = s.whole ∙ r.whole; forth = omega arith; within = s.within; spelled = f r.spelled s.spelled }
 

@@ -33,7 +33,7 @@ pub data Enclosing : Type 0 where
 
 -- code that is still read: the innermost sequence as a function of the code to come, and those that enclose it, from the
 -- inside outwards
-pub record Context : Type 0 where
+pub record ExprContext : Type 0 where
   pub inner : Code → Code
   pub enclosing : List Enclosing
 
@@ -53,19 +53,19 @@ AreFrames earlier (o ∷ frames) (p ∷ enclosing) = IsFrame earlier o.ops.items
 AreFrames earlier _ _ = ⊥
 
 -- and so of all parts of a builder
-pub record StandsFor (sequences : List (List Op)) (frames : List Frame) (ops : List Op) (s : Context) : Type 0 where
+pub record StandsFor (sequences : List (List Op)) (frames : List Frame) (ops : List Op) (s : ExprContext) : Type 0 where
   pub inner : (more : List Code) (c : Code) → prepend_all (codes_from [] sequences ++ more) ops c ≡ s.inner c
   pub enclosing : AreFrames (codes_from [] sequences) (reverse frames) s.enclosing
 
-abbrev pub Represents : ExprBuilder → Context → Type 0
-Represents n s = StandsFor n.sequences.items n.frames.items n.ops.items s
+abbrev pub RepresentsContext : ExprBuilder → ExprContext → Type 0
+RepresentsContext n s = StandsFor n.sequences.items n.frames.items n.ops.items s
 
 -- whatever code the old builder stands for, the new one stands for that code after this step
-abbrev pub Steps : ExprBuilder → ExprBuilder → (Context → Context) → Type 0
-Steps old new step = (s : Context) → Represents old s → Represents new (step s)
+abbrev pub Steps : ExprBuilder → ExprBuilder → (ExprContext → ExprContext) → Type 0
+Steps old new step = (s : ExprContext) → RepresentsContext old s → RepresentsContext new (step s)
 
 -- the steps: a leaf, and a sequence that opens inside
-abbrev pub pushed : Op → Context → Context
+abbrev pub pushed : Op → ExprContext → ExprContext
 pushed o s = record { inner = λ c. s.inner (prepend [] o c); enclosing = s.enclosing }
 
 abbrev pub enclosing_of : BlockKind → Option ValType → (Code → Code) → Enclosing
@@ -73,22 +73,22 @@ enclosing_of block_kind.Block t inner = LastArm (λ b c. inner (Block t b c))
 enclosing_of block_kind.Loop t inner = LastArm (λ b c. inner (Loop t b c))
 enclosing_of block_kind.If t inner = ThenArm (λ b d c. inner (If t b d c))
 
-abbrev pub opened : BlockKind → Option ValType → Context → Context
+abbrev pub opened : BlockKind → Option ValType → ExprContext → ExprContext
 opened o t s = record { inner = λ c. c; enclosing = enclosing_of o t s.inner ∷ s.enclosing }
 
 -- the second arm of an `if` begins, if the first is the innermost sequence
 abbrev pub BeginsElseAt : (Code → Code) → List Enclosing → Bool → ExprBuilder → Type 0
-BeginsElseAt inner (ThenArm wrap ∷ enclosing) begun n = (begun ≡ true) × Represents n (record { inner = λ c. c; enclosing = LastArm (wrap (inner End)) ∷ enclosing })
+BeginsElseAt inner (ThenArm wrap ∷ enclosing) begun n = (begun ≡ true) × RepresentsContext n (record { inner = λ c. c; enclosing = LastArm (wrap (inner End)) ∷ enclosing })
 BeginsElseAt inner _ begun n = begun ≡ false
 
-abbrev pub BeginsElse : Context → Bool → ExprBuilder → Type 0
+abbrev pub BeginsElse : ExprContext → Bool → ExprBuilder → Type 0
 BeginsElse s begun n = BeginsElseAt s.inner s.enclosing begun n
 
 -- the innermost sequence ends, and the expression with it if that is the outermost one
 abbrev pub EndsAt : (Code → Code) → List Enclosing → Bool → ExprBuilder → Type 0
 EndsAt inner [] ended n = (ended ≡ true) × (expr_tree (record { sequences = n.sequences.items }) ≡ inner End)
-EndsAt inner (LastArm wrap ∷ enclosing) ended n = (ended ≡ false) × Represents n (record { inner = wrap (inner End); enclosing = enclosing })
-EndsAt inner (ThenArm wrap ∷ enclosing) ended n = (ended ≡ false) × Represents n (record { inner = wrap (inner End) End; enclosing = enclosing })
+EndsAt inner (LastArm wrap ∷ enclosing) ended n = (ended ≡ false) × RepresentsContext n (record { inner = wrap (inner End); enclosing = enclosing })
+EndsAt inner (ThenArm wrap ∷ enclosing) ended n = (ended ≡ false) × RepresentsContext n (record { inner = wrap (inner End) End; enclosing = enclosing })
 
-abbrev pub Ends : Context → Bool → ExprBuilder → Type 0
+abbrev pub Ends : ExprContext → Bool → ExprBuilder → Type 0
 Ends s ended n = EndsAt s.inner s.enclosing ended n

@@ -3,7 +3,7 @@
 ghost use Rattle.std.specs.Prelude.{◌≡◌, [], ◌∷◌, ◌++◌, length, IfOk};
 ghost use Rattle.wasm_types.specs.Tree.{expr_tree};
 ghost use Rattle.instr_decode.specs.Tokens.{IsLeaf};
-ghost use Rattle.instr_decode.specs.Contexts.{Context, Represents, Steps, pushed, opened, BeginsElse, Ends};
+ghost use Rattle.instr_decode.specs.Contexts.{ExprContext, RepresentsContext, Steps, pushed, opened, BeginsElse, Ends};
 
 use crate::token::BlockKind;
 use std::alloc::{AllocError, Global};
@@ -41,7 +41,7 @@ pub(crate) struct ExprBuilder {
 impl ExprBuilder {
     // No instruction yet, of the outermost sequence.
     pub(crate) fn new(alloc: Global) -> Self
-        ensures { Represents result (record { inner = λ c. c; enclosing = [] }) }
+        ensures { RepresentsContext result (record { inner = λ c. c; enclosing = [] }) }
     {
         ExprBuilder {
             sequences: Vec::new(alloc),
@@ -108,7 +108,7 @@ impl ExprBuilder {
 
     // Ends the first arm of an `if` and begins the second, if the first is the innermost sequence; says whether it is.
     pub(crate) fn begin_else(&mut self, alloc: Global) -> Result<bool, AllocError>
-        ensures { IfOk result (λ begun. (s : Context) → Represents self.old s → BeginsElse s begun self.new) }
+        ensures { IfOk result (λ begun. (s : ExprContext) → RepresentsContext self.old s → BeginsElse s begun self.new) }
     {
         let first = self.finish_sequence(alloc)?;
         let Some(frame) = self.frames.pop() else {
@@ -127,7 +127,7 @@ impl ExprBuilder {
 
     // Ends the innermost sequence, and says whether that was the outermost one.
     pub(crate) fn end(&mut self, alloc: Global) -> Result<bool, AllocError>
-        ensures { IfOk result (λ ended. (s : Context) → Represents self.old s → Ends s ended self.new) }
+        ensures { IfOk result (λ ended. (s : ExprContext) → RepresentsContext self.old s → Ends s ended self.new) }
     {
         let last = self.finish_sequence(alloc)?;
         let Some(frame) = self.frames.pop() else {

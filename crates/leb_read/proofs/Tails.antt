@@ -4,7 +4,7 @@ use Rattle.std.specs.Prelude.{slice_index_or}
 use Rattle.std.proofs.lemmas.List.{drop_at, take-append-drop, length-drop, drop_all, append_assoc, take_all}
 use Rattle.std.proofs.lemmas.Bool.{eqb-true, eq-eqb}
 use Rattle.wasm_spec.specs.Numbers.{TakesUnsigned, TakesSigned, TakesBytes, TakesName}
-use Rattle.leb_read.specs.Reading.{Position, rest, IsTail, IsMoved, IsRead}
+use Rattle.leb_read.specs.Reading.{CursorView, rest, IsTail, IsMoved, IsRead}
 
 pub unsigned-tail : (n x : ℕ) (bytes r : List ℕ) → TakesUnsigned n x bytes r → IsTail r bytes
 unsigned-tail n x [] r h = absurd h
@@ -40,14 +40,14 @@ moved whole r place t =
     ap (drop (length whole - length r)) w.1 ∙ drop_at w.0 r (length whole - length r) n
 
 -- nothing is left exactly at the end
-pub left : (p : Position) → p.place ≤ length p.whole → IsTrue (nat_eq p.place (length p.whole)) ↔ (rest p ≡ [])
+pub left : (p : CursorView) → p.place ≤ length p.whole → IsTrue (nat_eq p.place (length p.whole)) ↔ (rest p ≡ [])
 left p h = (
   λ e. drop_all p.place p.whole (omega (arith, eqb-true p.place (length p.whole) e)),
   λ e. eq-eqb p.place (length p.whole) (omega (arith, h, ap length e, length-drop p.place p.whole)),
 )
 
 -- going to where r is left
-pub goes : (p : Position) (r : List ℕ) → p.place ≤ length p.whole → IsTail r (rest p) → IsMoved p (record { whole = p.whole; place = length p.whole - length r }) r
+pub goes : (p : CursorView) (r : List ℕ) → p.place ≤ length p.whole → IsTail r (rest p) → IsMoved p (record { whole = p.whole; place = length p.whole - length r }) r
 goes p r h t = record {
   whole = refl;
   forth = omega (arith, h, ap length t.1, length-append t.0 r, length-drop p.place p.whole);
@@ -55,11 +55,11 @@ goes p r h t = record {
   rest = moved p.whole r p.place t;
 }
 
-pub shorter : (p : Position) (r : List ℕ) → IsTail r (rest p) → length r ≤ length p.whole
+pub shorter : (p : CursorView) (r : List ℕ) → IsTail r (rest p) → length r ≤ length p.whole
 shorter p r t = omega (arith, ap length t.1, length-append t.0 r, length-drop p.place p.whole)
 
 -- an item that stood at a place, and the place just after it
-pub read_is : {A : Type 0} (Takes : A → List ℕ → List ℕ → Type 0) (x : A) (old new : Position) (bytes r : List ℕ)
+pub read_is : {A : Type 0} (Takes : A → List ℕ → List ℕ → Type 0) (x : A) (old new : CursorView) (bytes r : List ℕ)
     → bytes ≡ rest old → Takes x bytes r → IsMoved old new r → IsRead Takes old new x
 read_is Takes x old new bytes r e h m = record {
   whole = m.whole;

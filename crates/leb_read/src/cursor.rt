@@ -29,9 +29,9 @@ pub struct Cursor<'a> {
 
 impl<'a> Model for Cursor<'a> {
     ghost use Rattle.std.specs.Prelude.{◌≤◌, length};
-    ghost use Rattle.leb_read.specs.Reading.{Position};
+    ghost use Rattle.leb_read.specs.Reading.{CursorView};
 
-    ghost Value = { Position };
+    ghost Value = { CursorView };
 
     ghost view = { λ c. record { whole = c.bytes.now; place = c.place } };
 

@@ -1,4 +1,3 @@
 pub mod WrittenBytes
 pub mod GrownBytes
 pub mod MarkedBlocks
-pub mod Examples

@@ -8,7 +8,9 @@ use Rattle.std.proofs.lemmas.List.Folds.{sum_by-replicate}
 use Rattle.wasm_spec.specs.Store.{written}
 use Rattle.linear_memory.specs.declared.memory.Memory.{Memory}
 use Rattle.linear_memory.specs.Bytes.{IsMemory, shown, size_of}
-use Rattle.linear_memory.specs.Marks.{KeepsUnmarked, MarksChanges, is_marked, touched}
+use Rattle.memory_blocks.specs.Blocks.{KeepsUnmarked, is_marked}
+use Rattle.memory_blocks.proofs.KeepingLemmas.{unmarked_more}
+use Rattle.linear_memory.specs.Marks.{MarksChanges, touched}
 use Rattle.wasm_spec.proofs.StoreSizes.{length-written}
 use Rattle.linear_memory.proofs.WrittenBytes.{drop-written, outside_written, take-written}
 
@@ -143,9 +145,6 @@ changes_none old new bytes marks = record {
 }
 
 -- one change after another
-pub unmarked_more : (a b c : List ℕ) (x y z : List Bool) → KeepsUnmarked a b x y → KeepsUnmarked b c y z → KeepsUnmarked a c x z
-unmarked_more a b c x y z p q = record { bytes = λ i u. q.bytes i u ∙ p.bytes i (q.marks i u); marks = λ i u. p.marks i (q.marks i u) }
-
 pub changes_more : (a b c : Memory) (n k j : ℕ) → MarksChanges a b n → MarksChanges b c k → n + k ≡ j → MarksChanges a c j
 changes_more a b c n k j p q e = record {
   unmarked = unmarked_more a.bytes.items b.bytes.items c.bytes.items a.marks.items b.marks.items c.marks.items p.unmarked q.unmarked;

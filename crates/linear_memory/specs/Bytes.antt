@@ -2,7 +2,7 @@
 use Rattle.std.specs.Prelude.{◌≡◌, ℕ, ◌+◌, ◌-◌, ◌*◌, ◌/◌, ◌<◌, ◌≤◌, List, ◌++◌, false, Option, Some, None, length, take, drop, replicate}
 use Rattle.wasm_spec.specs.Store.{page_size}
 use Rattle.linear_memory.specs.declared.memory.Memory.{Memory}
-use Rattle.linear_memory.specs.Marks.{block_size}
+use Rattle.memory_blocks.specs.Blocks.{block_size}
 
 -- the size in bytes
 abbrev pub size_of : Memory → ℕ

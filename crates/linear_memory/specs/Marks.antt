@@ -1,19 +1,7 @@
--- Which blocks of a memory are marked, and what lies outside them.
-use Rattle.std.specs.Prelude.{◌≡◌, ℕ, zero, suc, ◌+◌, ◌-◌, ◌/◌, ◌≤◌, List, Bool, false, length, slice_index, slice_index_or, count_by}
+-- How many blocks of a memory are marked, and by how much.
+use Rattle.std.specs.Prelude.{◌≡◌, ℕ, zero, suc, ◌+◌, ◌-◌, ◌/◌, ◌≤◌, length, count_by}
+use Rattle.memory_blocks.specs.Blocks.{KeepsUnmarked, block_size}
 use Rattle.linear_memory.specs.declared.memory.Memory.{Memory}
-
-abbrev pub block_size : ℕ
-block_size = 4096
-
--- whether the byte at i lies in a marked block
-abbrev pub is_marked : List Bool → ℕ → Bool
-is_marked marks i = slice_index_or marks (i / block_size) false
-
--- Each byte outside the blocks that are marked afterwards is as it was (zero past the end of a list), and was in no marked
--- block before.
-pub record KeepsUnmarked (old new : List ℕ) (before after : List Bool) : Type 0 where
-  pub bytes : (i : ℕ) → is_marked after i ≡ false → slice_index new i ≡ slice_index old i
-  pub marks : (i : ℕ) → is_marked after i ≡ false → is_marked before i ≡ false
 
 -- how many blocks so many bytes from an address on lie in
 abbrev pub touched : ℕ → ℕ → ℕ

@@ -3,7 +3,8 @@ ghost use Rattle.std.specs.Prelude.{◌≡◌, ℕ, ◌+◌, ◌-◌, ◌*◌, �
 ghost use Rattle.std.specs.Int.{from_le_bytes, w8, w16, w32, w64};
 ghost use Rattle.wasm_spec.specs.Store.{written, loaded};
 ghost use Rattle.linear_memory.specs.Bytes.{Grows, IsMemory, IsZeroed, shown};
-ghost use Rattle.linear_memory.specs.Marks.{MarksChanges, block_size, touched};
+ghost use Rattle.memory_blocks.specs.Blocks.{block_size};
+ghost use Rattle.linear_memory.specs.Marks.{MarksChanges, touched};
 
 use std::alloc::{AllocError, Global};
 use wasm_types::PAGE_SIZE;

@@ -19,7 +19,7 @@ use Rattle.machine_steps.specs.declared.machine.Machine.{Machine}
 use Rattle.linear_memory.specs.declared.memory.Memory.{Memory}
 use Rattle.machine_steps.specs.Configuration.{Configuration, state}
 use Rattle.machine_steps.specs.StackLayout.{Represents}
-use Rattle.machine_steps.specs.InstructionKinds.{takes_width, gives_width, IsLoad, IsStoring, offset_of, access_width, loaded_as, stored_as}
+use Rattle.machine_steps.specs.InstructionKinds.{takes_width, gives_width, IsLoad, IsStoring, address_offset, access_width, loaded_as, stored_as}
 use Rattle.linear_memory.specs.Bytes.{IsMemory, Grows, shown}
 use Rattle.machine_steps.specs.Lent.{store_of}
 use Rattle.machine_steps.specs.PlainSteps.{EndsAs}
@@ -67,7 +67,7 @@ at_pair : (w : Width) (offset : ℕ) (vs : List Val) (go : ℕ → ℕ → List 
 at_pair w offset vs go t = ap (λ (l : List Val). on_pair w offset l go) t.are ∙ given_at (number w t.top) t.n (λ n. go n (t.base + offset) t.rest) t.is
 
 module _ (m : ModuleTree) (limits : Terms) where
-  load_is : (i : Instr) (s : State) → IsLoad i → plain m limits i s ≡ on_address (offset_of i) s.operands (λ at vs. load_number (access_width i) (λ n. value (gives_width i) (loaded_as i n)) at vs s)
+  load_is : (i : Instr) (s : State) → IsLoad i → plain m limits i s ≡ on_address (address_offset i) s.operands (λ at vs. load_number (access_width i) (λ n. value (gives_width i) (loaded_as i n)) at vs s)
   load_is (instr.Load w a) s h = refl
   load_is (instr.LoadPacked w p e a) s h = refl
   load_is _ s h = absurd h
@@ -75,15 +75,15 @@ module _ (m : ModuleTree) (limits : Terms) where
   pub load_of : (i : Instr) (k : Configuration) (store : Store) → IsLoad i → plain m limits i (state k store) ≢ Stuck → One k.operands
   load_of i k store h fine =
       let go : ℕ → List Val → Signal = λ at vs. load_number (access_width i) (λ n. value (gives_width i) (loaded_as i n)) at vs (state k store) in
-      address_there (offset_of i) k.operands go (λ e. fine (load_is i (state k store) h ∙ e))
+      address_there (address_offset i) k.operands go (λ e. fine (load_is i (state k store) h ∙ e))
 
   pub load_means : (i : Instr) (k : Configuration) (store : Store) → IsLoad i → (t : One k.operands)
-      → plain m limits i (state k store) ≡ load_number (access_width i) (λ n. value (gives_width i) (loaded_as i n)) (t.n + offset_of i) t.rest (state k store)
+      → plain m limits i (state k store) ≡ load_number (access_width i) (λ n. value (gives_width i) (loaded_as i n)) (t.n + address_offset i) t.rest (state k store)
   load_means i k store h t =
       let go : ℕ → List Val → Signal = λ at vs. load_number (access_width i) (λ n. value (gives_width i) (loaded_as i n)) at vs (state k store) in
-      load_is i (state k store) h ∙ at_one (offset_of i) k.operands go t
+      load_is i (state k store) h ∙ at_one (address_offset i) k.operands go t
 
-  store_is : (i : Instr) (s : State) → IsStoring i → plain m limits i s ≡ on_pair (takes_width i) (offset_of i) s.operands (λ n at vs. store_number (access_width i) (stored_as i n) at vs s)
+  store_is : (i : Instr) (s : State) → IsStoring i → plain m limits i s ≡ on_pair (takes_width i) (address_offset i) s.operands (λ n at vs. store_number (access_width i) (stored_as i n) at vs s)
   store_is (instr.Store w a) s h = refl
   store_is (instr.StorePacked w p a) s h = refl
   store_is _ s h = absurd h
@@ -91,13 +91,13 @@ module _ (m : ModuleTree) (limits : Terms) where
   pub store_of_pair : (i : Instr) (k : Configuration) (store : Store) → IsStoring i → plain m limits i (state k store) ≢ Stuck → Pair (takes_width i) k.operands
   store_of_pair i k store h fine =
       let go : ℕ → ℕ → List Val → Signal = λ n at vs. store_number (access_width i) (stored_as i n) at vs (state k store) in
-      pair_there (takes_width i) (offset_of i) k.operands go (λ e. fine (store_is i (state k store) h ∙ e))
+      pair_there (takes_width i) (address_offset i) k.operands go (λ e. fine (store_is i (state k store) h ∙ e))
 
   pub store_means : (i : Instr) (k : Configuration) (store : Store) → IsStoring i → (t : Pair (takes_width i) k.operands)
-      → plain m limits i (state k store) ≡ store_number (access_width i) (stored_as i t.n) (t.base + offset_of i) t.rest (state k store)
+      → plain m limits i (state k store) ≡ store_number (access_width i) (stored_as i t.n) (t.base + address_offset i) t.rest (state k store)
   store_means i k store h t =
       let go : ℕ → ℕ → List Val → Signal = λ n at vs. store_number (access_width i) (stored_as i n) at vs (state k store) in
-      store_is i (state k store) h ∙ at_pair (takes_width i) (offset_of i) k.operands go t
+      store_is i (state k store) h ∙ at_pair (takes_width i) (address_offset i) k.operands go t
 
   pub grow_of : (k : Configuration) (store : Store) → plain m limits instr.MemoryGrow (state k store) ≢ Stuck → Single W32 k.operands
   grow_of k store fine = single_there W32 k.operands (λ n vs. execution.grow (most_pages m.memories limits.pages) n vs (state k store)) fine

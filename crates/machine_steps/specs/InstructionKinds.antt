@@ -79,12 +79,12 @@ IsStoring (instr.Store w a) = Unit {0}
 IsStoring (instr.StorePacked w p a) = Unit {0}
 IsStoring _ = ⊥
 
-abbrev pub offset_of : Instr → ℕ
-offset_of (instr.Load w a) = a.offset
-offset_of (instr.LoadPacked w p s a) = a.offset
-offset_of (instr.Store w a) = a.offset
-offset_of (instr.StorePacked w p a) = a.offset
-offset_of _ = 0
+abbrev pub address_offset : Instr → ℕ
+address_offset (instr.Load w a) = a.offset
+address_offset (instr.LoadPacked w p s a) = a.offset
+address_offset (instr.Store w a) = a.offset
+address_offset (instr.StorePacked w p a) = a.offset
+address_offset _ = 0
 
 -- how much of memory is accessed
 abbrev pub access_width : Instr → int.Width

@@ -10,7 +10,7 @@ ghost use Rattle.wasm_spec.specs.Execution.{extended, value};
 ghost use Rattle.wasm_spec.specs.Execution as execution;
 ghost use Rattle.wasm_spec.specs.Operators.{bit_width, extend_s, int_width, wrap, pack_bits, pack_width};
 ghost use Rattle.machine_steps.specs.StackLayout.{KeepsRoom};
-ghost use Rattle.machine_steps.specs.InstructionKinds.{IsLoad, IsStoring, access_width, gives_width, loaded_as, offset_of, stored_as, takes_width};
+ghost use Rattle.machine_steps.specs.InstructionKinds.{IsLoad, IsStoring, access_width, gives_width, loaded_as, address_offset, stored_as, takes_width};
 ghost use Rattle.linear_memory.specs.Bytes.{IsMemory, shown};
 ghost use Rattle.linear_memory.specs.Marks.{MarksChanges};
 ghost use Rattle.machine_steps.specs.Lent.{store_of};
@@ -192,7 +192,7 @@ impl Machine {
     // A load from the topmost operand and this offset.
     pub(crate) fn load(&mut self, memory: &Memory, instr: &Instr, offset: u32) -> Option<TrapKind>
         requires kind { IsLoad instr.now }
-        requires offset { offset ≡ offset_of instr.now }
+        requires offset { offset ≡ address_offset instr.now }
         requires can { CanExecute instr.now self.old }
         requires memory { (most : ℕ) × IsMemory most memory.now }
         ensures does { (m : ModuleTree) (limits : Terms) (table : List (Option ℕ)) (globals : List AVal) (answer : List ℕ)
@@ -217,7 +217,7 @@ impl Machine {
         offset: u32,
     ) -> Option<TrapKind>
         requires kind { IsStoring instr.now }
-        requires offset { offset ≡ offset_of instr.now }
+        requires offset { offset ≡ address_offset instr.now }
         requires can { CanExecute instr.now self.old }
         requires memory { (most : ℕ) × IsMemory most memory.old }
         ensures does { (m : ModuleTree) (limits : Terms) (table : List (Option ℕ)) (globals : List AVal) (answer : List ℕ)

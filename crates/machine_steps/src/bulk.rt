@@ -27,7 +27,8 @@ impl Machine {
         requires can { CanExecute instr.MemoryCopy self.old }
         requires memory { (most : ℕ) × IsMemory most memory.old }
         ensures does { (m : ModuleTree) (limits : Terms) (table : List (Option ℕ)) (globals : List AVal) (answer : List ℕ)
-            → Executes m limits instr.MemoryCopy self.old (store_of memory.old table globals answer) result self.new (store_of memory.new table globals answer) }
+            → Executes m limits instr.MemoryCopy self.old (store_of memory.old table globals answer) result self.new
+            (store_of memory.new table globals answer) }
         ensures room { KeepsRoom self.old self.new }
         ensures memory { (most : ℕ) → IsMemory most memory.old → IsMemory most memory.new }
         ensures marks { MarksChanges memory.old memory.new (length memory.old.marks.items) }
@@ -43,7 +44,8 @@ impl Machine {
         requires can { CanExecute instr.MemoryFill self.old }
         requires memory { (most : ℕ) × IsMemory most memory.old }
         ensures does { (m : ModuleTree) (limits : Terms) (table : List (Option ℕ)) (globals : List AVal) (answer : List ℕ)
-            → Executes m limits instr.MemoryFill self.old (store_of memory.old table globals answer) result self.new (store_of memory.new table globals answer) }
+            → Executes m limits instr.MemoryFill self.old (store_of memory.old table globals answer) result self.new
+            (store_of memory.new table globals answer) }
         ensures room { KeepsRoom self.old self.new }
         ensures memory { (most : ℕ) → IsMemory most memory.old → IsMemory most memory.new }
         ensures marks { MarksChanges memory.old memory.new (length memory.old.marks.items) }

@@ -96,7 +96,8 @@ impl Machine {
         requires can { (request : List ℕ) × CanCallHost request host.Write self.old }
         requires memory { (most : ℕ) × IsMemory most memory.now }
         ensures does { (request : List ℕ) (table : List (Option ℕ)) (globals : List AVal)
-            → CallsHost request host.Write self.old (store_of memory.now table globals answer.old) result self.new (store_of memory.now table globals answer.new) }
+            → CallsHost request host.Write self.old (store_of memory.now table globals answer.old) result self.new
+            (store_of memory.now table globals answer.new) }
         ensures room { KeepsRoom self.old self.new }
     {
         let count = self.pop32();
@@ -123,7 +124,8 @@ impl Machine {
         requires memory { (most : ℕ) × IsMemory most memory.old }
         requires short { length request.now < 2 ^ 32 }
         ensures does { (table : List (Option ℕ)) (globals : List AVal)
-            → CallsHost request.now function self.old (store_of memory.old table globals answer.old) result self.new (store_of memory.new table globals answer.new) }
+            → CallsHost request.now function self.old (store_of memory.old table globals answer.old) result self.new
+            (store_of memory.new table globals answer.new) }
         ensures room { KeepsRoom self.old self.new }
         ensures memory { (most : ℕ) → IsMemory most memory.old → IsMemory most memory.new }
         ensures marks { (added : ℕ) × MarksChanges memory.old memory.new added }

@@ -8,11 +8,9 @@ mod locals;
 mod machine;
 mod operands;
 mod plain;
-mod stack;
 mod values;
 
 pub use host::{append_memory, copy_request};
 pub use machine::{Label, Machine, Position};
 pub use plain::Effect;
-pub use stack::push;
 pub use values::ValueStack;

@@ -2,7 +2,6 @@
 ghost use Rattle.std.specs.Prelude.{◌≡◌, ◌<◌, ◌≤◌, IfOk, List, length, vec_len, vec_capacity};
 ghost use Rattle.wasm_types.specs.declared.types.ValType.{ValType};
 
-use crate::stack;
 use crate::values::ValueStack;
 use std::alloc::{AllocError, Global};
 
@@ -67,6 +66,7 @@ impl Machine {
     }
 
     /// Enters a block, a loop or an arm: goes on in its sequence.
+    #[inline(always)]
     pub fn enter_block(&mut self, arity: usize, target: usize, sequence: usize)
         requires { vec_len self.old.labels < vec_capacity self.old.labels }
         ensures represents { (k : Configuration) (label ends : List ValType) → Represents k self.old → arity ≡ length label
@@ -80,7 +80,7 @@ impl Machine {
             after: self.at.place,
             target,
         };
-        stack::push(&mut self.labels, label);
+        self.labels.push_reserved(label);
         self.at.sequence = sequence;
         self.at.place = 0;
     }

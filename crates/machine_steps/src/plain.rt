@@ -52,7 +52,8 @@ impl Machine {
         ensures stays { result ≢ effect.Jumps → IsFalse (jumps instr.now) }
         ensures does { (m : ModuleTree) (limits : Terms) (table : List (Option ℕ)) (answer : List ℕ)
             → most ≡ most_pages m.memories limits.pages → IsFalse (jumps instr.now)
-            → Executes m limits instr.now self.old (store_of memory.old table globals.old answer) (trap_of result) self.new (store_of memory.new table globals.new answer) }
+            → Executes m limits instr.now self.old (store_of memory.old table globals.old answer) (trap_of result) self.new
+            (store_of memory.new table globals.new answer) }
         ensures room { KeepsRoom self.old self.new }
         ensures memory { (limit : ℕ) → most ≤ limit → IsMemory limit memory.old → IsMemory limit memory.new }
         ensures marks { MarksChanges memory.old memory.new (marks_by instr.now (length memory.old.marks.items)) }

@@ -4,7 +4,6 @@ ghost use Rattle.std.specs.List.{copy_within};
 ghost use Rattle.wasm_values.specs.declared.outcome.Val.{Val as AVal};
 ghost use Rattle.wasm_values.specs.declared.outcome.Val.TheVariants as val;
 
-use crate::stack::push;
 use std::alloc::{AllocError, Global};
 use std::marker::Model;
 use wasm_values::Val;
@@ -15,17 +14,6 @@ use wasm_values::Val;
 pub struct ValueStack {
     cells: Vec<Val>,
     height: usize,
-}
-
-// One cell more, in the room that there is. Few pushes come to it.
-#[cold]
-#[inline(never)]
-fn add_cell(cells: &mut Vec<Val>)
-    requires { vec_len cells.old < vec_capacity cells.old }
-    ensures items { cells.new.items ≡ cells.old.items ++ val.I32 0 ∷ [] }
-    ensures capacity { vec_capacity cells.old ≤ vec_capacity cells.new }
-{
-    push(cells, Val::I32(0));
 }
 
 // Moves n values from one place to another.
@@ -120,8 +108,7 @@ impl ValueStack {
         if height < self.cells.len() {
             self.cells[height] = v;
         } else {
-            add_cell(&mut self.cells);
-            self.cells[height] = v;
+            self.cells.push_reserved(v);
         }
     }
 

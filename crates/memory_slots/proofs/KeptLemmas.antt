@@ -14,7 +14,7 @@ use Rattle.pool_worlds.proofs.Images.{clean_is}
 use Rattle.pool_limits.specs.declared.numbers.Numbers.{Numbers}
 use Rattle.module_limits.specs.Limits.{load_limits}
 use Rattle.loaded_modules.specs.Within.{IsWithin}
-use Rattle.memory_slots.specs.Kept.{IsKept, contents_of}
+use Rattle.memory_slots.specs.Kept.{IsKeptMemory, contents_of}
 use Rattle.memory_slots.specs.Lent.{IsReady}
 
 -- bytes for as many pages, and as many marks
@@ -22,7 +22,7 @@ pub record HasRoomOf (x new : MemoryContents) : Type 0 where
   pub bytes : length new.bytes ≡ length x.bytes
   pub marks : length new.marks ≡ length x.marks
 
-pub prepared_is : (config : Numbers) (m : Named) (x new : MemoryContents) → IsKept config x → IsFreshMemory config.pages new m → HasRoomOf x new
+pub prepared_is : (config : Numbers) (m : Named) (x new : MemoryContents) → IsKeptMemory config x → IsFreshMemory config.pages new m → HasRoomOf x new
     → (belongs_to m x.holds ≡ true → x.holds ≡ Some m) → new ≡ prepared config.pages m kind.Memory x
 prepared_is config m x new kept fresh room own =
     let image : List ℕ = memory_image config.pages (Some m) in
@@ -39,8 +39,8 @@ prepared_is config m x new kept fresh room own =
     λ i. record { bytes = bytes i; pages = pages i; marks = marks i; holds = holds i }
 
 -- all its bytes are its image's
-pub whole_kept : (config : Numbers) (x new : MemoryContents) → IsKept config x → HasRoomOf x new → new.pages ≤ config.pages
-    → new.bytes ≡ memory_image config.pages new.holds → IsKept config new
+pub whole_kept : (config : Numbers) (x new : MemoryContents) → IsKeptMemory config x → HasRoomOf x new → new.pages ≤ config.pages
+    → new.bytes ≡ memory_image config.pages new.holds → IsKeptMemory config new
 whole_kept config x new kept room le bytes = record {
   room = room.bytes ∙ kept.room;
   marked = room.bytes ∙ kept.marked ∙ ap (λ (n : ℕ). 4096 * n) (sym room.marks);
@@ -49,8 +49,8 @@ whole_kept config x new kept room le bytes = record {
   outside = λ i q. ap (λ (l : List ℕ). slice_index l i) bytes;
 }
 
-pub fresh_kept : (config : Numbers) (m : Named) (x new : MemoryContents) → IsKept config x → IsFreshMemory config.pages new m → HasRoomOf x new
-    → minimum_of m.tree.memories ≤ config.pages → IsKept config new
+pub fresh_kept : (config : Numbers) (m : Named) (x new : MemoryContents) → IsKeptMemory config x → IsFreshMemory config.pages new m → HasRoomOf x new
+    → minimum_of m.tree.memories ≤ config.pages → IsKeptMemory config new
 fresh_kept config m x new kept fresh room le =
     whole_kept config x new kept room (subst (λ (n : ℕ). n ≤ config.pages) (sym fresh.size) le) (fresh.bytes ∙ ap (memory_image config.pages) (sym fresh.holds))
 
@@ -80,10 +80,10 @@ module _ (config : Numbers) (m : Named) (x : MemoryContents) (within : IsWithin 
   }
 
 -- what was made fresh for its own module is restored
-pub restored_is : (config : Numbers) (m : Named) (holds : Option Named) (old new : Memory) → holds ≡ Some m → IsKept config (contents_of old holds)
-    → IsFreshMemory config.pages (contents_of new (Some m)) m → IsKept config (contents_of new (Some m)) → new.marks.items ≡ map (λ (marked : Bool). false) old.marks.items
+pub restored_is : (config : Numbers) (m : Named) (holds : Option Named) (old new : Memory) → holds ≡ Some m → IsKeptMemory config (contents_of old holds)
+    → IsFreshMemory config.pages (contents_of new (Some m)) m → IsKeptMemory config (contents_of new (Some m)) → new.marks.items ≡ map (λ (marked : Bool). false) old.marks.items
     → contents_of new holds ≡ restored config.pages kind.Memory (contents_of old holds)
 restored_is config m holds old new is kept fresh after marks =
-    let Q : Option Named → Type 0 = λ h. IsKept config (contents_of old h) → contents_of new h ≡ restored config.pages kind.Memory (contents_of old h) in
+    let Q : Option Named → Type 0 = λ h. IsKeptMemory config (contents_of old h) → contents_of new h ≡ restored config.pages kind.Memory (contents_of old h) in
     subst Q (sym is) (λ k. prepared_is config m (contents_of old (Some m)) (contents_of new (Some m)) k fresh
     (record { bytes = after.room ∙ sym k.room; marks = ap length marks ∙ length-map old.marks.items (λ (marked : Bool). false) }) (λ b. refl)) kept

@@ -13,17 +13,18 @@ use Rattle.wasm_types.specs.declared.types.Limits.{Limits}
 use Rattle.wasm_spec.proofs.StoreSizes.{whole_pages}
 use Rattle.linear_memory.specs.declared.memory.Memory.{Memory}
 use Rattle.linear_memory.specs.Bytes.{IsMemory, shown, size_of}
-use Rattle.linear_memory.specs.Marks.{HasSameRoom, KeepsUnmarked}
+use Rattle.memory_blocks.specs.Blocks.{KeepsUnmarked, is_marked}
+use Rattle.linear_memory.specs.Marks.{HasSameRoom}
 use Rattle.wasm_machine.specs.Lent.{own}
 use Rattle.wasm_machine.specs.TypedConfiguration.{IsTypedStore}
 use Rattle.pool_worlds.specs.declared.kinds.Kind.TheVariants as kind
-use Rattle.pool_worlds.specs.Contents.{Named, MemoryContents, Contents, filled, is_marked, memory_image, needs, turned, Marks}
+use Rattle.pool_worlds.specs.Contents.{Named, MemoryContents, Contents, filled, memory_image, needs, turned}
 use Rattle.pool_worlds.specs.declared.kinds.Kind.{Kind}
 use Rattle.pool_worlds.specs.declared.kinds.Kind.TheVariants.{Ticket, Table}
 use Rattle.pool_worlds.specs.Worlds.{IsZeroPast}
 use Rattle.pool_worlds.proofs.Images.{filled-at}
 use Rattle.pool_limits.specs.declared.numbers.Numbers.{Numbers}
-use Rattle.memory_slots.specs.Kept.{IsKept, contents_of}
+use Rattle.memory_slots.specs.Kept.{IsKeptMemory, contents_of}
 use Rattle.memory_slots.specs.Lent.{IsReady, parts}
 
 -- ---- zeros past a place
@@ -45,7 +46,7 @@ pub room_within : (ms : List Limits) (pages most : ℕ) → pages ≤ most → r
 room_within [] pages most le = omega arith
 room_within (l ∷ ms) pages most le = le
 
-pub is_memory : (config : Numbers) (most : ℕ) (memory : Memory) (holds : Option Named) → IsKept config (contents_of memory holds) → most ≤ config.pages
+pub is_memory : (config : Numbers) (most : ℕ) (memory : Memory) (holds : Option Named) → IsKeptMemory config (contents_of memory holds) → most ≤ config.pages
     → IsReady most (contents_of memory holds) → IsMemory most memory
 is_memory config most memory holds kept le ready =
     let room = kept.room in let marked = kept.marked in record {
@@ -57,7 +58,7 @@ is_memory config most memory holds kept le ready =
 
 -- ---- after it
 
-module _ (config : Numbers) (most : ℕ) (old new : Memory) (holds : Option Named) (kept : IsKept config (contents_of old holds)) (after : IsMemory most new) (room : HasSameRoom old new) where
+module _ (config : Numbers) (most : ℕ) (old new : Memory) (holds : Option Named) (kept : IsKeptMemory config (contents_of old holds)) (after : IsMemory most new) (room : HasSameRoom old new) where
   length-new : length new.bytes.items ≡ config.pages * page_size
   length-new = room.bytes ∙ kept.room
 
@@ -82,7 +83,7 @@ module _ (config : Numbers) (most : ℕ) (old new : Memory) (holds : Option Name
   shown_byte : (i : ℕ) → slice_index new.bytes.items i ≡ slice_index (shown new) i
   shown_byte i = ap (λ (l : List ℕ). slice_index l i) filled_is ∙ filled-at config.pages (shown new) i
 
-  pub is_kept : most ≤ config.pages → KeepsUnmarked old.bytes.items (shown new) old.marks.items new.marks.items → IsKept config (contents_of new holds)
+  pub is_kept : most ≤ config.pages → KeepsUnmarked old.bytes.items (shown new) old.marks.items new.marks.items → IsKeptMemory config (contents_of new holds)
   is_kept le unmarked = record {
     room = length-new;
     marked = room.bytes ∙ kept.marked ∙ ap (λ (n : ℕ). 4096 * n) (sym room.marks);
@@ -126,5 +127,5 @@ parts_left pages m s x y owner table globals new memory entries values kind.Memo
 parts_left pages m s x y owner table globals new memory entries values Table needed = λ i. record { entries = sym entries i; holds = owner }
 
 -- what a run left unmarked, in the words of pools
-pub marks_are : (pages : ℕ) (old shown : List ℕ) (before after : List Bool) → KeepsUnmarked old shown before after → Marks old (filled pages shown) before after
-marks_are pages old shown before after keeps = record { changed = λ i q. filled-at pages shown i ∙ keeps.bytes i q; kept = keeps.marks }
+pub marks_are : (pages : ℕ) (old shown : List ℕ) (before after : List Bool) → KeepsUnmarked old shown before after → KeepsUnmarked old (filled pages shown) before after
+marks_are pages old shown before after keeps = record { bytes = λ i q. filled-at pages shown i ∙ keeps.bytes i q; marks = keeps.marks }

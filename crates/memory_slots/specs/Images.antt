@@ -4,7 +4,7 @@ use Rattle.std.specs.Borrow.{Bor}
 use Rattle.std.specs.List.{range_with_len}
 use Rattle.sparse_bytes.specs.declared.bytes.SparseBytes.{SparseBytes}
 use Rattle.sparse_bytes.specs.SparseBytes.{HasCell, byte_at}
-use Rattle.pool_worlds.specs.Contents.{is_marked}
+use Rattle.memory_blocks.specs.Blocks.{is_marked}
 
 -- the byte of an image at a place; without an image all are zero
 abbrev pub byte_of : Option (Bor SparseBytes) → ℕ → ℕ

@@ -2,14 +2,14 @@
 use Rattle.std.specs.Prelude.{◌≡◌, ℕ, ◌*◌, ◌≤◌, Bool, true, false, List, Option, length, slice_index, slice_index_or}
 use Rattle.wasm_spec.specs.Store.{page_size}
 use Rattle.linear_memory.specs.declared.memory.Memory.{Memory}
-use Rattle.linear_memory.specs.Marks.{block_size}
+use Rattle.memory_blocks.specs.Blocks.{block_size}
 use Rattle.pool_limits.specs.declared.numbers.Numbers.{Numbers}
 use Rattle.pool_worlds.specs.Contents.{Named, MemoryContents, memory_image, HasImageOutside}
 use Rattle.memory_slots.specs.Images.{IsZeroOutside}
 use Rattle.memory_slots.specs.Written.{HasDataIn}
 
 -- bytes for the configured pages, a mark for each block of them, a size within them, and outside the marked blocks its image
-pub record IsKept (config : Numbers) (x : MemoryContents) : Type 0 where
+pub record IsKeptMemory (config : Numbers) (x : MemoryContents) : Type 0 where
   pub room : length x.bytes ≡ config.pages * page_size
   pub marked : length x.bytes ≡ block_size * length x.marks
   pub few : config.pages ≤ 256
@@ -18,7 +18,7 @@ pub record IsKept (config : Numbers) (x : MemoryContents) : Type 0 where
 
 -- a memory in a slot whose image is zero outside the blocks that were written from it, in each of which its module has data
 pub record IsWrittenTo (config : Numbers) (written : List Bool) (x : MemoryContents) : Type 0 where
-  pub kept : IsKept config x
+  pub kept : IsKeptMemory config x
   pub blocks : length written ≡ length x.marks
   pub zeros : IsZeroOutside (length x.bytes) written (slice_index (memory_image config.pages x.holds))
   pub least : (k : ℕ) → slice_index_or written k false ≡ true → HasDataIn x.holds k

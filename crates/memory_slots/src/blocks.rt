@@ -1,6 +1,6 @@
 //! Blocks of a memory, and how they are written over from an image.
 ghost use Rattle.std.specs.Prelude.{◌≡◌, ◌≢◌, ◌+◌, ◌*◌, ◌<◌, ◌≤◌, ◌↔◌, ◌^◌, IsTrue, Bool, true, false, ℕ, length, take, slice_index, slice_index_or, count_by, if◌then◌else◌};
-ghost use Rattle.linear_memory.specs.Marks.{block_size};
+ghost use Rattle.memory_blocks.specs.Blocks.{block_size};
 ghost use Rattle.pool_worlds.specs.Contents.{IsClean};
 ghost use Rattle.memory_slots.specs.Images.{HasCellIn, HasImageFrom, HasImage, HasMarked, KeepsImage, IsZeroOutside, byte_of, count_in};
 

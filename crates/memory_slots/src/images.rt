@@ -4,7 +4,7 @@ ghost use Rattle.wasm_types.specs.Tree.{module_tree};
 ghost use Rattle.wasm_spec.specs.Store.{minimum_of};
 ghost use Rattle.linear_memory.specs.Marks.{count_marks};
 ghost use Rattle.pool_worlds.specs.Contents.{Named, IsFreshMemory};
-ghost use Rattle.memory_slots.specs.Kept.{IsKept, IsWrittenTo, contents_of};
+ghost use Rattle.memory_slots.specs.Kept.{IsKeptMemory, IsWrittenTo, contents_of};
 ghost use Rattle.memory_slots.specs.Written.{WritesAtMost};
 
 use crate::blocks::{restore_marked, write_all};
@@ -31,9 +31,9 @@ pub(crate) fn restore_memory<N: Naming, L: Ledger>(
     own: &ModuleRef<N>,
     steps: &mut Steps<L>,
 )
-    requires { IsKept N.config (contents_of memory.old (Some own.now)) }
+    requires { IsKeptMemory N.config (contents_of memory.old (Some own.now)) }
     ensures fresh { IsFreshMemory N.config.pages (contents_of memory.new (Some own.now)) own.now }
-    ensures kept { IsKept N.config (contents_of memory.new (Some own.now)) }
+    ensures kept { IsKeptMemory N.config (contents_of memory.new (Some own.now)) }
     ensures marks { memory.new.marks.items ≡ map (λ marked. false) memory.old.marks.items }
     ensures steps { steps.new ≡ steps.old + count_marks memory.old }
 {

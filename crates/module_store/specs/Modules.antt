@@ -16,7 +16,7 @@ pub record IsLoaded (config : Numbers) (tree : ModuleTree) : Type 0 where
   pub loads : Loads profile bytes (load_limits config) (Ok tree)
 
 -- a loaded module with its image, under this tag
-pub record IsKept (config : Numbers) (tag : ℕ) (l : Loaded) : Type 0 where
+pub record IsKeptModule (config : Numbers) (tag : ℕ) (l : Loaded) : Type 0 where
   pub tag_is : l.tag ≡ tag
   pub small : tag < MOST_MODULES
   pub loaded : IsLoaded config (module_tree l.valid)

@@ -34,11 +34,11 @@ impl<N: Naming> Model for ModuleRef<N> {
 
     ghost use Rattle.boxcar.specs.Table.{Shows};
     ghost use Rattle.wasm_types.specs.Tree.{module_tree};
-    ghost use Rattle.module_store.specs.Modules.{IsKept};
+    ghost use Rattle.module_store.specs.Modules.{IsKeptModule};
 
     ghost view = { λ r. record { number = r.seen.index; tag = r.tag; tree = module_tree r.seen.value.value.valid; code = r.seen.value.value.valid } };
 
-    ghost invariant = { λ r. Shows N.shelves r.seen × IsKept N.config r.tag r.seen.value.value };
+    ghost invariant = { λ r. Shows N.shelves r.seen × IsKeptModule N.config r.tag r.seen.value.value };
 }
 
 impl<N: Naming> ModuleRef<N> {

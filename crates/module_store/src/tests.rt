@@ -59,60 +59,75 @@ fn answer<N: Naming, R: Wait>(
     Ok((module.number(), module.tag()))
 }
 
+// Bytes that are no module of this store, and why each is refused.
+const REFUSED: [(&[u8], LoadFault); 8] = [
+    (b"\0asm\x01\0\0", LoadFault::Malformed),
+    // A float, and an addition with one operand.
+    (
+        b"\0asm\x01\0\0\0\x01\x04\x01\x60\0\0\x03\x02\x01\0\x0a\x0a\x01\x08\0\x43\0\0\0\0\x1a\x0b",
+        LoadFault::Unsupported,
+    ),
+    (
+        b"\0asm\x01\0\0\0\x01\x04\x01\x60\0\0\x03\x02\x01\0\x0a\x08\x01\x06\0\x41\x01\x6a\x1a\x0b",
+        LoadFault::Invalid,
+    ),
+    // Two bytes at the last address of a page.
+    (
+        b"\0asm\x01\0\0\0\x05\x03\x01\0\x01\x0b\x0a\x01\0\x41\xff\xff\x03\x0b\x02ab",
+        LoadFault::Segment(Misfit {
+            which: SegmentIndex::Data(0),
+            end: 65_537,
+            size: 65_536,
+        }),
+    ),
+    // 33 pages; 4,294,967,295 locals; one local more.
+    (
+        b"\0asm\x01\0\0\0\x05\x03\x01\0\x21",
+        LoadFault::OverLimit(Over {
+            which: Measure::Pages,
+            value: 33,
+            limit: 32,
+        }),
+    ),
+    (
+        b"\0asm\x01\0\0\0\x01\x04\x01\x60\0\0\x03\x02\x01\0\x0a\x0a\x01\x08\x01\xff\xff\xff\xff\x0f\x7f\x0b",
+        LoadFault::OverLimit(Over {
+            which: Measure::Frame(0),
+            value: 4_294_967_296,
+            limit: 1_024,
+        }),
+    ),
+    (
+        b"\0asm\x01\0\0\0\x01\x04\x01\x60\0\0\x03\x02\x01\0\x0a\x0c\x01\x0a\x02\xff\xff\xff\xff\x0f\x7f\x01\x7f\x0b",
+        LoadFault::Malformed,
+    ),
+    // A count of memories that the bytes cannot fill.
+    (
+        b"\0asm\x01\0\0\0\x01\x05\xff\xff\xff\xff\x0f",
+        LoadFault::Malformed,
+    ),
+];
+
 fn check_answers<N: Naming, R: Abort + Wait>(rt: &R, alloc: Global, opened: Opened)
     requires { Bears opened N.shelves N.config }
 {
     let (store, mut desk) = opened.named::<N>();
-    let over = |which, value, limit| Err(LoadFault::OverLimit(Over {
-        which,
-        value,
-        limit,
-    }));
-    let misfit = |which, end, size| Err(LoadFault::Segment(Misfit { which, end, size }));
-    let rows = [
-        (b"\0asm\x01\0\0".as_slice(), Err(LoadFault::Malformed)),
-        (b"\0asm\x01\0\0\0".as_slice(), Ok((0, 0))),
-        // A float, and an addition with one operand.
-        (
-            b"\0asm\x01\0\0\0\x01\x04\x01\x60\0\0\x03\x02\x01\0\x0a\x0a\x01\x08\0\x43\0\0\0\0\x1a\x0b".as_slice(),
-            Err(LoadFault::Unsupported),
-        ),
-        (
-            b"\0asm\x01\0\0\0\x01\x04\x01\x60\0\0\x03\x02\x01\0\x0a\x08\x01\x06\0\x41\x01\x6a\x1a\x0b".as_slice(),
-            Err(LoadFault::Invalid),
-        ),
-        // Two bytes at the last address of a page.
-        (
-            b"\0asm\x01\0\0\0\x05\x03\x01\0\x01\x0b\x0a\x01\0\x41\xff\xff\x03\x0b\x02ab".as_slice(),
-            misfit(SegmentIndex::Data(0), 65_537, 65_536),
-        ),
-        // 33 pages; 4,294,967,295 locals; one local more.
-        (
-            b"\0asm\x01\0\0\0\x05\x03\x01\0\x21".as_slice(),
-            over(Measure::Pages, 33, 32),
-        ),
-        (
-            b"\0asm\x01\0\0\0\x01\x04\x01\x60\0\0\x03\x02\x01\0\x0a\x0a\x01\x08\x01\xff\xff\xff\xff\x0f\x7f\x0b".as_slice(),
-            over(Measure::Frame(0), 4_294_967_296, 1_024),
-        ),
-        (
-            b"\0asm\x01\0\0\0\x01\x04\x01\x60\0\0\x03\x02\x01\0\x0a\x0c\x01\x0a\x02\xff\xff\xff\xff\x0f\x7f\x01\x7f\x0b".as_slice(),
-            Err(LoadFault::Malformed),
-        ),
-        // A count of memories that the bytes cannot fill.
-        (
-            b"\0asm\x01\0\0\0\x01\x05\xff\xff\xff\xff\x0f".as_slice(),
-            Err(LoadFault::Malformed),
-        ),
-        (ADD.as_slice(), Ok((1, 1))),
-        (ADD.as_slice(), Ok((2, 2))),
-    ];
-    for (bytes, expected) in rows {
-        assert_eq!(rt;
-            answer(rt, alloc, &store, &mut desk, Profile::One, bytes),
-            expected,
-            "{bytes:?}"
-        );
+    let first = answer(
+        rt,
+        alloc,
+        &store,
+        &mut desk,
+        Profile::One,
+        b"\0asm\x01\0\0\0",
+    );
+    assert_eq!(rt; first, Ok((0, 0)));
+    for (bytes, fault) in REFUSED {
+        let refused = answer(rt, alloc, &store, &mut desk, Profile::One, bytes);
+        assert_eq!(rt; refused, Err(fault), "{bytes:?}");
+    }
+    for number in [1, 2] {
+        let taken = answer(rt, alloc, &store, &mut desk, Profile::One, ADD.as_slice());
+        assert_eq!(rt; taken, Ok((number, number as u32)));
     }
 }
 

@@ -13,8 +13,8 @@ use Rattle.wasm_spec.specs.Store.{Store}
 use Rattle.wasm_spec.proofs.MoreFuel.{function-more, result-more}
 use Rattle.wasm_spec.proofs.ResultLaws.{result-unfinished}
 use Rattle.linear_memory.specs.declared.memory.Memory.{Memory}
-use Rattle.linear_memory.specs.Marks.{KeepsUnmarked}
-use Rattle.linear_memory.proofs.MarkedBlocks.{unmarked_more}
+use Rattle.memory_blocks.specs.Blocks.{KeepsUnmarked}
+use Rattle.memory_blocks.proofs.KeepingLemmas.{unmarked_more}
 use Rattle.wasm_machine.specs.Calls.{IsCall, IsDone}
 use Rattle.wasm_machine.specs.Lent.{MarksWithin}
 use Rattle.wasm_machine.specs.Resuming.{HasEnded, IsOutOfFuel, Resumes}
@@ -24,7 +24,7 @@ use Rattle.wasm_machine.specs.TypedConfiguration.{IsTypedStore}
 use Rattle.wasm_machine.proofs.RunLemmas.{simulates_same}
 use Rattle.paused_call.specs.declared.call.PausedCall.{PausedCall}
 use Rattle.paused_call.specs.declared.call.Turned.TheVariants.{Done}
-use Rattle.paused_call.specs.Standing.{Current, HasTurned, IsAhead, IsAt, Ran, Shows, Stands, Waits, Went, ahead, followed, whole}
+use Rattle.paused_call.specs.Standing.{Current, HasTurned, IsAhead, IsAt, Ran, ShowsStore, Stands, Waits, Went, ahead, followed, whole}
 
 -- ---- what follows a run
 
@@ -227,7 +227,7 @@ module _ (m : Module) (limits : Terms) (begun : Store) (args : List Val) (call :
   grows = runs_grow (module_tree m) limits ran.current.runs ran.current.given ran.current.from (call.turns - ran.current.since)
 
   -- where it ends there for want of fuel, this is its store
-  shows_there : (last : CallResult) → is_fuel last.outcome ≡ true → whole m limits call args begun (call.turns + n) ≡ Some last → Shows (whole m limits call args begun) begun (call.turns + n) last.store
+  shows_there : (last : CallResult) → is_fuel last.outcome ≡ true → whole m limits call args begun (call.turns + n) ≡ Some last → ShowsStore (whole m limits call args begun) begun (call.turns + n) last.store
   shows_there last out gives = record {
     first = λ none. result-unfinished (module_tree m) limits call.function args begun last out (ap (whole m limits call args begun) (sym none) ∙ gives);
     later = λ some. record { end = last; gives = gives; unfinished = out; leaves = refl };

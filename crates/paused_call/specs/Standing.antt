@@ -9,7 +9,7 @@ use Rattle.wasm_spec.specs.MoreFuel.{is_fuel, is_fuel_end}
 use Rattle.wasm_spec.specs.Result.{CallResult, function_result, if_done, result_from, result_of, run_function}
 use Rattle.wasm_spec.specs.Store.{Store}
 use Rattle.linear_memory.specs.declared.memory.Memory.{Memory}
-use Rattle.linear_memory.specs.Marks.{KeepsUnmarked}
+use Rattle.memory_blocks.specs.Blocks.{KeepsUnmarked}
 use Rattle.wasm_machine.specs.Calls.{IsCall}
 use Rattle.wasm_machine.specs.Lent.{MarksWithin}
 use Rattle.wasm_machine.specs.Resuming.{HasEnded, IsOutOfFuel, Resumes}
@@ -70,7 +70,7 @@ pub record HasLeft (result : ℕ → Option CallResult) (turns : ℕ) (store : S
   pub leaves : end.store ≡ store
 
 -- The store of a call after so many turns. Before the first it is as it began, also where it ends without one.
-pub record Shows (result : ℕ → Option CallResult) (begun : Store) (turns : ℕ) (store : Store) : Type 0 where
+pub record ShowsStore (result : ℕ → Option CallResult) (begun : Store) (turns : ℕ) (store : Store) : Type 0 where
   pub first : turns ≡ 0 → store ≡ begun
   pub later : 0 < turns → HasLeft result turns store
 
@@ -83,7 +83,7 @@ pub record Stands (m : Module) (limits : Terms) (begun : Store) (args : List Val
   pub within : call.turns ≤ call.fuel
   pub typed : IsTypedStore m store
   pub at : IsAt m limits begun args call call.entered stacks store
-  pub shows : Shows (whole m limits call args begun) begun call.turns store
+  pub shows : ShowsStore (whole m limits call args begun) begun call.turns store
 
 -- some call stands in them
 abbrev pub CanResume : Module → Terms → List Val → PausedCall → StacksView → Store → Type 0

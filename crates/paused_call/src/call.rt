@@ -6,7 +6,7 @@ ghost use Rattle.wasm_spec.specs.Instances.{room_for};
 ghost use Rattle.wasm_spec.specs.Result.{CallResult};
 ghost use Rattle.wasm_spec.specs.Store.{Store};
 ghost use Rattle.linear_memory.specs.Bytes.{IsMemory};
-ghost use Rattle.linear_memory.specs.Marks.{KeepsUnmarked};
+ghost use Rattle.memory_blocks.specs.Blocks.{KeepsUnmarked};
 ghost use Rattle.wasm_machine.specs.Calls.{FitsFrame, IsCall, IsDone};
 ghost use Rattle.wasm_machine.specs.Lent.{MarksWithin, lent_store, others};
 ghost use Rattle.wasm_machine.specs.Resuming.{IsOutOfFuel};
@@ -221,7 +221,8 @@ impl PausedCall {
             (lent_store valid.now memory.new table.now globals.new answer.new) result }
         ensures stands { result ≡ Turned.Again → (begun : Store)
             → Stands valid.now (terms limits request.now) begun args.now self.old stacks.old (lent_store valid.now memory.old table.now globals.old answer.old)
-            → Stands valid.now (terms limits request.now) begun args.now self.new stacks.new (lent_store valid.now memory.new table.now globals.new answer.new) }
+            → Stands valid.now (terms limits request.now) begun args.now self.new stacks.new
+            (lent_store valid.now memory.new table.now globals.new answer.new) }
         ensures went { (begun : Store)
             → Stands valid.now (terms limits request.now) begun args.now self.old stacks.old (lent_store valid.now memory.old table.now globals.old answer.old)
             → Went valid.now (whole valid.now (terms limits request.now) self.old args.now begun) self.old.turns (upto self.old slice) memory.old memory.new

@@ -3,7 +3,7 @@ use Rattle.std.proofs.Common.{◌≡◌, ℕ, suc, true, true≢false, List, [],
 use Rattle.std.specs.Prelude.{slice_index}
 use Rattle.slot_words.specs.Passes.{Pass}
 use Rattle.instance_calls.specs.Parts.{Slot}
-use Rattle.pool_host.specs.Leases.{HasSlot}
+use Rattle.pool_host.specs.Leases.{HoldsSlot}
 use Rattle.pool_host.specs.Outs.{HasOut, IsWithin, are_empty}
 
 module _ {V : Type 0} where
@@ -17,6 +17,6 @@ module _ {V : Type 0} where
   one_out ((k, None) ∷ []) n e empty = let same : k ≡ n = ap (λ (l : List ℕ). slice_index l 0) e in ap (λ (j : ℕ). (j, None) ∷ []) same
   one_out ((k, None) ∷ x ∷ xs) n e empty = let long : suc (suc (length (map (λ (e : ℕ × Option V). e.0) xs))) ≡ 1 = ap length e in absurd (omega arith)
 
-  pub out_has : (slots : ℕ) (p : Pass V) (o : Option Slot) → HasOut p o → IsWithin slots o → HasSlot slots p o
+  pub out_has : (slots : ℕ) (p : Pass V) (o : Option Slot) → HasOut p o → IsWithin slots o → HoldsSlot slots p o
   out_has slots p None out within = (out.0, none_out p.me.1 out.1)
   out_has slots p (Some s) out within = ((out.0, one_out p.me.1 s.number out.1 out.2), within)

@@ -11,7 +11,7 @@ use Rattle.instance_calls.specs.Resumed.{HasSlotsOf, SlotsBelong}
 use Rattle.pool_host.specs.declared.host.Host.{Host}
 use Rattle.pool_host.specs.declared.passes.Passes.{Passes}
 use Rattle.pool_host.specs.Hosts.{ArePassesOf, AreSamePasses}
-use Rattle.pool_host.specs.Leases.{Gave, HasSlot}
+use Rattle.pool_host.specs.Leases.{Gave, HoldsSlot}
 use Rattle.pool_host.specs.Outs.{HasOut}
 use Rattle.pool_host.specs.Pausing.{AreOfHost, GaveThose}
 use Rattle.pool_host.specs.Taking.{GaveSlots, HaveSlots}
@@ -21,9 +21,9 @@ use Rattle.pool_host.proofs.OutLemmas.{out_has}
 module _ {N : Type 0} (host : Host N) (p q : Passes N) (v : PausedView) (x : Instance N) (slots : HasSlotsOf x v) where
   pub slots_had : AreOfHost host p v → HasOut p.ticket (Some v.ticket) → HasOut p.memory v.memory → HasOut p.table v.table → SlotsBelong v → HaveSlots host v.named p x
   slots_had own ticket memory table belongs = record {
-    ticket = subst (λ (s : Slot). HasSlot (slots_of host.tickets) p.ticket (Some s)) slots.ticket (out_has (slots_of host.tickets) p.ticket (Some v.ticket) ticket own.ticket);
-    memory = subst (HasSlot (slots_of host.memories) p.memory) slots.memory (out_has (slots_of host.memories) p.memory v.memory memory own.memory);
-    table = subst (HasSlot (slots_of host.tables) p.table) slots.table (out_has (slots_of host.tables) p.table v.table table own.table);
+    ticket = subst (λ (s : Slot). HoldsSlot (slots_of host.tickets) p.ticket (Some s)) slots.ticket (out_has (slots_of host.tickets) p.ticket (Some v.ticket) ticket own.ticket);
+    memory = subst (HoldsSlot (slots_of host.memories) p.memory) slots.memory (out_has (slots_of host.memories) p.memory v.memory memory own.memory);
+    table = subst (HoldsSlot (slots_of host.tables) p.table) slots.table (out_has (slots_of host.tables) p.table v.table table own.table);
     memory_belongs = subst (BelongsTo v.named) slots.memory belongs.memory;
     table_belongs = subst (BelongsTo v.named) slots.table belongs.table;
   }

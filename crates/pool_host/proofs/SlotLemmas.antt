@@ -15,7 +15,7 @@ use Rattle.instance_calls.specs.Parts.{BelongsTo, Slot, memory_slot, table_slot}
 use Rattle.pool_host.specs.declared.answers.Answer.TheVariants.{Done}
 use Rattle.pool_host.specs.declared.host.Host.{Host}
 use Rattle.pool_host.specs.declared.passes.Passes.{Passes}
-use Rattle.pool_host.specs.Leases.{Gave, HasSlot}
+use Rattle.pool_host.specs.Leases.{Gave, HoldsSlot}
 use Rattle.pool_host.specs.Taking.{GaveSlots, HaveSlots, TookSlots}
 use Rattle.pool_host.specs.Trails.{AddsTrails, IsFullMemoryTake, IsFullTableTake, IsFullTicketTake, IsMemoryGive, IsMemoryTake, IsTableGive, IsTableTake, IsTicketGive, IsTicketTake}
 use Rattle.pool_host.proofs.VisitLemmas.{memory_slot_some, served, table_slot_some, visited}
@@ -24,9 +24,9 @@ module _ {N : Type 0} (config : Numbers) (host : Host N) (m : Named) (x y : Inst
   -- the passes still have the slots of the instance after its run
   pub still_have : (p : Passes N) → HaveSlots host m p x → HaveSlots host m p y
   still_have p have = record {
-    ticket = subst (λ (s : Slot). HasSlot (slots_of host.tickets) p.ticket (Some s)) (sym keeps.ticket) have.ticket;
-    memory = subst (λ (o : Option Slot). HasSlot (slots_of host.memories) p.memory o) (sym keeps.memory) have.memory;
-    table = subst (λ (o : Option (Lease TableContents)). HasSlot (slots_of host.tables) p.table (table_slot o)) (sym keeps.table) have.table;
+    ticket = subst (λ (s : Slot). HoldsSlot (slots_of host.tickets) p.ticket (Some s)) (sym keeps.ticket) have.ticket;
+    memory = subst (λ (o : Option Slot). HoldsSlot (slots_of host.memories) p.memory o) (sym keeps.memory) have.memory;
+    table = subst (λ (o : Option (Lease TableContents)). HoldsSlot (slots_of host.tables) p.table (table_slot o)) (sym keeps.table) have.table;
     memory_belongs = subst (λ (o : Option Slot). BelongsTo m o) (sym keeps.memory) have.memory_belongs;
     table_belongs = subst (λ (o : Option (Lease TableContents)). BelongsTo m (table_slot o)) (sym keeps.table) have.table_belongs;
   }

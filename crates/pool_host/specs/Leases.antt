@@ -5,9 +5,9 @@ use Rattle.slot_words.specs.Passes.{Holds, IsIdle, Pass}
 use Rattle.instance_calls.specs.Parts.{Slot}
 
 -- the pass has this slot of so many; without a slot it holds nothing
-abbrev pub HasSlot : {V : Type 0} → ℕ → Pass V → Option Slot → Type 0
-HasSlot slots pass None = IsIdle pass
-HasSlot slots pass (Some s) = Holds pass s.number false false false × (s.number < slots)
+abbrev pub HoldsSlot : {V : Type 0} → ℕ → Pass V → Option Slot → Type 0
+HoldsSlot slots pass None = IsIdle pass
+HoldsSlot slots pass (Some s) = Holds pass s.number false false false × (s.number < slots)
 
 -- what the take of the slot adds, and what its give adds; without a slot nothing
 abbrev pub Took : (ℕ → ℕ → List Operation → Type 0) → Option Slot → List Operation → Type 0

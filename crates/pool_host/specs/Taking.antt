@@ -14,15 +14,15 @@ use Rattle.instance_calls.specs.Parts.{BelongsTo, memory_slot, table_slot, ticke
 use Rattle.pool_host.specs.declared.host.Host.{Host}
 use Rattle.pool_host.specs.declared.passes.Passes.{Passes}
 use Rattle.pool_host.specs.Kinds.{TookSlot}
-use Rattle.pool_host.specs.Leases.{Gave, HasSlot}
+use Rattle.pool_host.specs.Leases.{Gave, HoldsSlot}
 use Rattle.pool_host.specs.Trails.{IsMemoryGive, IsTableGive, IsTicketGive}
 
 module _ {N : Type 0} where
   -- the passes have the slots of an instance, whose contents belong to the module
   pub record HaveSlots (host : Host N) (m : Named) (p : Passes N) (x : Instance N) : Type 0 where
-    pub ticket : HasSlot (slots_of host.tickets) p.ticket (Some (ticket_slot x.ticket))
-    pub memory : HasSlot (slots_of host.memories) p.memory (memory_slot x.memory)
-    pub table : HasSlot (slots_of host.tables) p.table (table_slot x.table)
+    pub ticket : HoldsSlot (slots_of host.tickets) p.ticket (Some (ticket_slot x.ticket))
+    pub memory : HoldsSlot (slots_of host.memories) p.memory (memory_slot x.memory)
+    pub table : HoldsSlot (slots_of host.tables) p.table (table_slot x.table)
     pub memory_belongs : BelongsTo m (memory_slot x.memory)
     pub table_belongs : BelongsTo m (table_slot x.table)
 

@@ -10,7 +10,7 @@ ghost use Rattle.pool_worlds.specs.declared.kinds.Kind.TheVariants.{Memory, Tabl
 ghost use Rattle.pool_worlds.specs.Handed.{own_tag};
 ghost use Rattle.instance_calls.specs.Parts.{BelongsTo, memory_slot, table_slot};
 ghost use Rattle.pool_host.specs.Hosts.{ArePassesOf, AreSamePasses};
-ghost use Rattle.pool_host.specs.Leases.{Gave, HasSlot};
+ghost use Rattle.pool_host.specs.Leases.{Gave, HoldsSlot};
 ghost use Rattle.pool_host.specs.Trails.{IsMemoryGive, IsTableGive, IsTicketGive};
 
 use crate::host::Host;
@@ -30,7 +30,7 @@ pub(crate) fn give_table<N: Naming>(
     table: Option<Lease<TableSlot<N>>>,
 )
     requires own { ArePassesOf host.now passes.old }
-    requires has { HasSlot (slots_of host.now.tables) passes.old.table (table_slot table) }
+    requires has { HoldsSlot (slots_of host.now.tables) passes.old.table (table_slot table) }
     requires belongs { (m : Named) × BelongsTo m (table_slot table) }
     ensures same { AreSamePasses passes.old passes.new }
     ensures others { passes.new ≡ record passes.old { table = passes.new.table } }
@@ -52,7 +52,7 @@ pub(crate) fn give_memory<N: Naming>(
     memory: Option<Lease<MemSlot<N>>>,
 )
     requires own { ArePassesOf host.now passes.old }
-    requires has { HasSlot (slots_of host.now.memories) passes.old.memory (memory_slot memory) }
+    requires has { HoldsSlot (slots_of host.now.memories) passes.old.memory (memory_slot memory) }
     requires belongs { (m : Named) × BelongsTo m (memory_slot memory) }
     requires table { IsIdle passes.old.table }
     ensures same { AreSamePasses passes.old passes.new }

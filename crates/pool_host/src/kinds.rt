@@ -5,10 +5,10 @@ ghost use Rattle.slot_words.specs.Owned.{IsPassOf, slots_of};
 ghost use Rattle.slot_words.specs.Passes.{IsIdle, IsSamePass};
 ghost use Rattle.pool_worlds.specs.declared.kinds.Kind.TheVariants.{Memory, Table};
 ghost use Rattle.pool_worlds.specs.Handed.{IsHandedOut};
-ghost use Rattle.instance_calls.specs.Instances.{IsFreshMemory, IsFreshTable};
+ghost use Rattle.instance_calls.specs.Instances.{HasFreshMemory, IsFreshTable};
 ghost use Rattle.instance_calls.specs.Parts.{BelongsTo, memory_slot, table_slot};
 ghost use Rattle.pool_host.specs.Kinds.{IsTurnedAwayFrom, TookSlot};
-ghost use Rattle.pool_host.specs.Leases.{HasSlot};
+ghost use Rattle.pool_host.specs.Leases.{HoldsSlot};
 
 use instance_calls::{needs_memory, needs_table};
 use memory_slots::MemSlot;
@@ -27,9 +27,9 @@ pub(crate) fn take_memory<N: Naming>(
     requires own { IsPassOf pool.now pass.old }
     requires idle { IsIdle pass.old }
     ensures same { IsSamePass pass.old pass.new }
-    ensures has { IfOk result (λ o. HasSlot (slots_of pool.now) pass.new (memory_slot o)) }
+    ensures has { IfOk result (λ o. HoldsSlot (slots_of pool.now) pass.new (memory_slot o)) }
     ensures belongs { IfOk result (λ o. BelongsTo «module».now (memory_slot o)) }
-    ensures fresh { IfOk result (IsFreshMemory N.config «module».now.tree) }
+    ensures fresh { IfOk result (HasFreshMemory N.config «module».now.tree) }
     ensures handed { IfOk result (λ o. IfSome o (λ l. IsHandedOut N.config.pages Memory «module».now (lease_word l) l.value)) }
     ensures took { IfOk result (λ o. TookSlot Memory pool.now «module».now pass.old pass.new (memory_slot o)) }
     ensures idle { OnErr result (IsIdle pass.new) }
@@ -52,7 +52,7 @@ pub(crate) fn take_table<N: Naming>(
     requires own { IsPassOf pool.now pass.old }
     requires idle { IsIdle pass.old }
     ensures same { IsSamePass pass.old pass.new }
-    ensures has { IfOk result (λ o. HasSlot (slots_of pool.now) pass.new (table_slot o)) }
+    ensures has { IfOk result (λ o. HoldsSlot (slots_of pool.now) pass.new (table_slot o)) }
     ensures belongs { IfOk result (λ o. BelongsTo «module».now (table_slot o)) }
     ensures fresh { IfOk result (IsFreshTable «module».now.tree) }
     ensures handed { IfOk result (λ o. IfSome o (λ l. IsHandedOut N.config.pages Table «module».now (lease_word l) l.value)) }

@@ -1,11 +1,9 @@
 //! How many blocks of its memory a call marks. The store has its name from the test that opens it.
 ghost use Rattle.module_store.specs.Names.{Bears};
-ghost use Rattle.pool_host.specs.Hosts.{AreIdle, ArePassesOf, AreSamePasses, IsHostPass};
+ghost use Rattle.pool_host.specs.Hosts.{IsHostPass};
 
-use crate::passes::Passes;
 use crate::slots::{give_slots, take_slots};
 use crate::{Host, HostPass};
-use call_payload::AnswerBuf;
 use instance_calls::{Instance, find_function};
 use module_store::{Desk, ModuleRef, ModuleStore, Naming, Opened};
 use pool_limits::{Numbers, PoolConfig, Share};
@@ -91,36 +89,6 @@ fn marks_of<N: Naming>(instance: &Instance<N>) -> Option<u32> {
 }
 
 // How a call ends, and how many blocks of its memory it marks.
-fn marks_after<N: Naming>(
-    host: &Host<N>,
-    passes: &mut Passes<N>,
-    store: &ModuleStore<N>,
-    module: &ModuleRef<N>,
-    export: &[u8],
-    args: &[Val],
-    fuel: u64,
-    answer: &mut AnswerBuf,
-) -> Option<(Outcome, Option<u32>)>
-    requires own { ArePassesOf host.now passes.old }
-    requires idle { AreIdle passes.old }
-    ensures same { AreSamePasses passes.old passes.new }
-    ensures idle { AreIdle passes.new }
-{
-    let Ok(function) = find_function(store, module, export, args) else {
-        return None;
-    };
-    match take_slots(host, passes, store, module) {
-        Ok(mut instance) => {
-            let outcome = instance.run(store, module, function, args, fuel, &[], answer);
-            let marks = marks_of(&instance);
-            give_slots(host, passes, store, instance);
-            Some((outcome, marks))
-        }
-        Err(_) => None,
-    }
-}
-
-// The same with a pass of the host.
 fn marked_by<N: Naming>(
     host: &Host<N>,
     pass: &mut HostPass<N>,
@@ -133,16 +101,16 @@ fn marked_by<N: Naming>(
     requires { IsHostPass host.now pass.old }
     ensures { IsHostPass host.now pass.new }
 {
-    marks_after(
-        host,
-        &mut pass.passes,
-        store,
-        module,
-        export,
-        args,
-        fuel,
-        &mut pass.answer,
-    )
+    let Ok(function) = find_function(store, module, export, args) else {
+        return None;
+    };
+    let Ok(mut instance) = take_slots(host, &mut pass.passes, store, module) else {
+        return None;
+    };
+    let outcome = instance.run(store, module, function, args, fuel, &[], &mut pass.answer);
+    let marks = marks_of(&instance);
+    give_slots(host, &mut pass.passes, store, instance);
+    Some((outcome, marks))
 }
 
 fn check_marks<N: Naming, R: Abort + Wait>(rt: &R, alloc: Global, opened: Opened)

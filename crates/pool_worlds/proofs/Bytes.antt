@@ -5,7 +5,8 @@ use Rattle.std.proofs.lemmas.List.{length-replicate, length-take-le, get_or_appe
 use Rattle.std.proofs.lemmas.Bool.{cases_lt}
 use Rattle.wasm_spec.specs.Store.{page_size}
 use Rattle.wasm_spec.proofs.StoreSizes.{zeros-at}
-use Rattle.pool_worlds.specs.Contents.{filled, is_marked, rewritten_from, HasImageOutside}
+use Rattle.memory_blocks.specs.Blocks.{is_marked}
+use Rattle.pool_worlds.specs.Contents.{filled, rewritten_from, HasImageOutside}
 
 pub length-filled : (pages : ℕ) (bytes : List ℕ) → length bytes ≤ pages * page_size → length (filled pages bytes) ≡ pages * page_size
 length-filled pages bytes le = length-append bytes (replicate (pages * page_size - length bytes) 0) ∙ ap (λ (k : ℕ). length bytes + k) (length-replicate (pages * page_size - length bytes) 0) ∙ omega arith

@@ -4,7 +4,8 @@ use Rattle.std.specs.Prelude.{replicate, slice_index, map}
 use Rattle.std.proofs.lemmas.List.{ext_get_or, get_or_append_left, get_or_past, get_or-map, length-map, append_assoc, replicate-append-replicate, length-replicate}
 use Rattle.std.proofs.lemmas.Bool.{cases_lt}
 use Rattle.wasm_spec.specs.Store.{page_size}
-use Rattle.pool_worlds.specs.Contents.{filled, is_marked, IsClean, HasImageOutside}
+use Rattle.memory_blocks.specs.Blocks.{is_marked}
+use Rattle.pool_worlds.specs.Contents.{filled, IsClean, HasImageOutside}
 use Rattle.pool_worlds.proofs.Parts.{length-filled, filled-past}
 
 -- bytes for so many pages that are the image's, and zero past its end, are the image with zeros after it

@@ -12,7 +12,8 @@ use Rattle.wasm_spec.specs.Instances.{IsInstance, room_for}
 use Rattle.wasm_spec.proofs.StoreSizes.{whole_pages, pages_within, minimum_within}
 use Rattle.wasm_spec.proofs.Loading.{no_refusal, first_keeps}
 use Rattle.wasm_spec.proofs.ResultLaws.{length-fresh_memory, length-fresh_table, fresh-instance}
-use Rattle.pool_worlds.specs.Contents.{Named, MemoryContents, TableContents, Contents, owner, belongs_to, filled, memory_image, table_image, rewritten_from, prepared, restored_for, restored, replaced, needs, shown_memory, shown_table, shown, turned, Marks, IsCold, HasImageOutside}
+use Rattle.memory_blocks.specs.Blocks.{KeepsUnmarked}
+use Rattle.pool_worlds.specs.Contents.{Named, MemoryContents, TableContents, Contents, owner, belongs_to, filled, memory_image, table_image, rewritten_from, prepared, restored_for, restored, replaced, needs, shown_memory, shown_table, shown_store, turned, IsCold, HasImageOutside}
 use Rattle.pool_worlds.specs.declared.kinds.Kind.{Kind}
 use Rattle.pool_worlds.specs.declared.kinds.Kind.TheVariants.{Ticket, Memory, Table}
 use Rattle.pool_worlds.specs.PoolMachine.{World, IsModule, load_limits}
@@ -119,7 +120,7 @@ replaced-kept w Table x cold Table y kept = cold-kept w Table x cold
 -- ---- the store that a call has
 
 -- only what the module needs counts
-pub shown-same : (m : ModuleTree) (x y : (k : Kind) → Contents k) → ((k : Kind) → needs k m ≡ true → x k ≡ y k) → shown m x ≡ shown m y
+pub shown-same : (m : ModuleTree) (x y : (k : Kind) → Contents k) → ((k : Kind) → needs k m ≡ true → x k ≡ y k) → shown_store m x ≡ shown_store m y
 shown-same m x y h =
     let memories : (b : Bool) → needs Memory m ≡ b → shown_memory b (x Memory) ≡ shown_memory b (y Memory) = elim [
       | true ↦ λ q. ap (shown_memory true) (h Memory q)
@@ -146,7 +147,7 @@ fresh-table m misfit h = nil_from_length (fresh_store m).table (no-entries m.tab
 
 -- what shows a store of an instance: the memory up to its size, the table, and the first globals
 pub shows-store : (w : World) (m : ModuleTree) (s : Store) (marks : List Bool) (x : (k : Kind) → Contents k) → first_misfit m ≡ None → IsInstance m w.limits.pages (fresh_store m).table s
-    → shown m (λ k. turned w.limits.pages s marks k (x k)) ≡ in_slots s
+    → shown_store m (λ k. turned w.limits.pages s marks k (x k)) ≡ in_slots s
 shows-store w m s marks x misfit is =
     let pages : ℕ = w.limits.pages in
     let whole : length s.memory / page_size * page_size ≡ length s.memory = whole_size (length s.memory) is.size is.whole in
@@ -166,7 +167,7 @@ shows-store w m s marks x misfit is =
 
 -- prepared for a module, they show its fresh store
 pub shows-fresh : (w : World) (m : Named) (x : (k : Kind) → Contents k) → IsModule w m → ((k : Kind) → IsKept w k (x k))
-    → shown m.tree (λ k. prepared w.limits.pages m k (x k)) ≡ fresh_store m.tree
+    → shown_store m.tree (λ k. prepared w.limits.pages m k (x k)) ≡ fresh_store m.tree
 shows-fresh w m x is kept =
     let pages : ℕ = w.limits.pages in let fresh : Store = fresh_store m.tree in let f = fits w m is in
     let memories : (b : Bool) → needs Memory m.tree ≡ b → shown_memory b (prepared pages m Memory (x Memory)) ≡ fresh.memory = elim [
@@ -201,14 +202,14 @@ size-le (l ∷ ms) pages n size e le = omega arith
 
 -- a turn keeps what its slots keep
 pub turned-kept : (w : World) (m : Named) (s : Store) (marks : List Bool) (x : (k : Kind) → Contents k) → IsInstance m.tree w.limits.pages (fresh_store m.tree).table s
-    → (needs Memory m.tree ≡ true → Marks (x Memory).bytes (turned w.limits.pages s marks Memory (x Memory)).bytes (x Memory).marks marks)
+    → (needs Memory m.tree ≡ true → KeepsUnmarked (x Memory).bytes (turned w.limits.pages s marks Memory (x Memory)).bytes (x Memory).marks marks)
     → (needs Table m.tree ≡ true → (x Table).holds ≡ Some m)
     → (k : Kind) → needs k m.tree ≡ true → IsKept w k (x k) → IsKept w k (turned w.limits.pages s marks k (x k))
 turned-kept w m s marks x is marked owner Ticket needed kept = tt
 turned-kept w m s marks x is marked owner Memory needed kept = record {
   room = length-filled w.limits.pages s.memory (room-le m.tree.memories w.limits.pages (length s.memory) is.size is.whole is.within);
   size = size-le m.tree.memories w.limits.pages (length s.memory) is.size is.whole is.within;
-  outside = λ i q. (marked needed).changed i q ∙ kept.outside i ((marked needed).kept i q);
+  outside = λ i q. (marked needed).bytes i q ∙ kept.outside i ((marked needed).marks i q);
   owned = kept.owned;
 }
 turned-kept w m s marks x is marked owner Table needed kept = (kept.0, is.table_is ∙ ap table_image (sym (owner needed)))
@@ -219,13 +220,13 @@ size-is : (pages : ℕ) (bytes memory : List ℕ) → pages * page_size ≤ leng
 size-is pages bytes memory le is = let long : length memory ≡ pages * page_size = ap length (sym is) ∙ length-take-le (pages * page_size) bytes le in ap (λ (n : ℕ). n / page_size) long ∙ whole_pages pages
 
 -- the size of a memory that shows these bytes
-pub size-shown : (w : World) (m : ModuleTree) (x : (k : Kind) → Contents k) (s : Store) → needs Memory m ≡ true → IsKept w Memory (x Memory) → shown m x ≡ s → (x Memory).pages ≡ length s.memory / page_size
+pub size-shown : (w : World) (m : ModuleTree) (x : (k : Kind) → Contents k) (s : Store) → needs Memory m ≡ true → IsKept w Memory (x Memory) → shown_store m x ≡ s → (x Memory).pages ≡ length s.memory / page_size
 size-shown w m x s need kept shows =
     let is : take ((x Memory).pages * page_size) (x Memory).bytes ≡ s.memory = ap (λ (b : Bool). shown_memory b (x Memory)) (sym need) ∙ ap (λ (t : Store). t.memory) shows in
     sym (size-is (x Memory).pages (x Memory).bytes s.memory (pages_within (x Memory).pages w.limits.pages (length (x Memory).bytes) kept.room kept.size) is)
 
 -- contents that show a store are those after a turn that left it and marked nothing
-pub turned-still : (w : World) (m : ModuleTree) (s : Store) (marks : List Bool) (x : (k : Kind) → Contents k) → shown m x ≡ in_slots s → ((k : Kind) → IsKept w k (x k)) → length s.globals ≡ length m.globals
+pub turned-still : (w : World) (m : ModuleTree) (s : Store) (marks : List Bool) (x : (k : Kind) → Contents k) → shown_store m x ≡ in_slots s → ((k : Kind) → IsKept w k (x k)) → length s.globals ≡ length m.globals
     → (needs Memory m ≡ true → IsZeroPast (x Memory)) → (needs Memory m ≡ true → marks ≡ (x Memory).marks) → (k : Kind) → needs k m ≡ true → turned w.limits.pages s marks k (x k) ≡ x k
 turned-still w m s marks x shows kept globals past still Ticket need =
     let is : take (length m.globals) (x Ticket) ≡ s.globals = ap (λ (t : Store). t.globals) shows in

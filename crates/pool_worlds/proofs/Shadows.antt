@@ -6,9 +6,9 @@ use Rattle.wasm_spec.specs.Store.{Store, fresh_store, page_size}
 use Rattle.wasm_spec.specs.Result.{result_from}
 use Rattle.pool_core.specs.Lawful.{Lawful}
 use Rattle.pool_core.proofs.LawfulOpening.{lawful_opening}
-use Rattle.pool_worlds.specs.Contents.{shown, needs}
+use Rattle.pool_worlds.specs.Contents.{shown_store, needs}
 use Rattle.pool_worlds.specs.declared.kinds.Kind.TheVariants.{Memory}
-use Rattle.pool_worlds.specs.PoolMachine.{World, InstanceLimits, Request, Running, Machine, WorldEvent, slots_of, answer, store_or, told, after, after_all, AllMayHappen, IsOpening, terms_of, Step, Prepare, Restore, Clear, Begin, Turn, End, Cancel, slot_of}
+use Rattle.pool_worlds.specs.PoolMachine.{World, InstanceLimits, Request, Running, Machine, WorldEvent, caller_contents, answer, store_or, told, after, after_all, AllMayHappen, IsOpening, terms_of, Step, Prepare, Restore, Clear, Begin, Turn, End, Cancel, slot_of}
 use Rattle.pool_worlds.specs.FreshMachine.{FreshCall, FreshMachine, fresh_store_after, fresh_answer, fresh_after, fresh_after_all, nothing_runs}
 use Rattle.pool_worlds.specs.Worlds.{in_slots, ShadowsCall, AlwaysShadow, IsSameRequest, Reached, Calls, TwoWorldsAgree, answered_by, answered, answers, AnswersAgree}
 use Rattle.pool_worlds.proofs.Parts.{cold-kept, size-shown}
@@ -47,8 +47,8 @@ always-shadow w p es opens may i = sound-shadows w (after_all w p es) i ((after_
 -- ---- two worlds
 
 record Seen (w : World) (p : Machine) (i : ℕ) (r : Running) : Type 0 where
-  pub store : shown r.request.named.tree (slots_of w p i) ≡ in_slots (fresh_store_after w.limits r.request r.turns)
-  pub size : needs Memory r.request.named.tree ≡ true → (slots_of w p i Memory).pages ≡ length (fresh_store_after w.limits r.request r.turns).memory / page_size
+  pub store : shown_store r.request.named.tree (caller_contents w p i) ≡ in_slots (fresh_store_after w.limits r.request r.turns)
+  pub size : needs Memory r.request.named.tree ≡ true → (caller_contents w p i Memory).pages ≡ length (fresh_store_after w.limits r.request r.turns).memory / page_size
   pub answered : answer w r ≡ fresh_answer w.limits r.request
 
 pub good-at : (w : World) (p : Machine) → Reached w p → (f : FreshMachine) × Good w p f
@@ -56,7 +56,7 @@ good-at w p e = (fresh_after_all w.limits nothing_runs e.events, subst (λ (x : 
 
 seen : (w : World) (p : Machine) (i : ℕ) (r : Running) → Calls w p i r → Seen w p i r
 seen w p i r c = let g = good-at w p c.reached in let x = found w p i (p.calls i) (g.0 i) r (g.1.calls i) c.calls in
-    record { store = x.2.store; size = λ need. size-shown w r.request.named.tree (slots_of w p i) (in_slots (fresh_store_after w.limits r.request r.turns)) need (g.1.kept Memory (slot_of w p i Memory)) x.2.store; answered = answer-is w r x.2.begun_is }
+    record { store = x.2.store; size = λ need. size-shown w r.request.named.tree (caller_contents w p i) (in_slots (fresh_store_after w.limits r.request r.turns)) need (g.1.kept Memory (slot_of w p i Memory)) x.2.store; answered = answer-is w r x.2.begun_is }
 
 same-store : (l k : InstanceLimits) (a b : Request) → l ≡ k → IsSameRequest a b → (m n : ℕ) → m ≡ n → fresh_store_after l a m ≡ fresh_store_after k b n
 same-store l k a b e s m n turns = λ i. cond (turns i == 0) (fresh_store (s.tree i)) (store_or (fresh_store (s.tree i)) (result_from (s.tree i) (terms_of (e i) (s.sent i)) (s.function i) (s.arguments i) (fresh_store (s.tree i)) (turns i)))

@@ -5,9 +5,9 @@ use Rattle.wasm_spec.specs.Store.{Store}
 use Rattle.wasm_spec.specs.Result.{CallResult}
 use Rattle.wasm_spec.specs.MoreFuel.{is_fuel, is_fuel_end}
 use Rattle.wasm_spec.proofs.ResultLaws.{result-unfinished}
-use Rattle.pool_worlds.specs.Contents.{Contents, shown, turned}
+use Rattle.pool_worlds.specs.Contents.{Contents, shown_store, turned}
 use Rattle.pool_worlds.specs.declared.kinds.Kind.{Kind}
-use Rattle.pool_worlds.specs.PoolMachine.{World, Request, Running, Machine, slot_of, slots_of, terms_of, result, store_or, store_after}
+use Rattle.pool_worlds.specs.PoolMachine.{World, Request, Running, Machine, slot_of, caller_contents, terms_of, result, store_or, store_after}
 use Rattle.pool_worlds.specs.FreshMachine.{fresh_store_after, fresh_store_on}
 use Rattle.pool_worlds.specs.Runs.{HostResumes, AreTurnsTo}
 use Rattle.pool_worlds.specs.Worlds.{SlicesAreTurns, in_slots}
@@ -26,17 +26,17 @@ fresh-there w p i c b (suc turns) r gives out = let q : Request = c.request in
     ∙ subst (λ (n : ℕ). fresh_store_on w.limits q n ≡ fresh_store_after w.limits q n) up (sym (fresh-later w q turns))
 
 goes-on : (w : World) (p : Machine) (i : ℕ) (c : Running) (to : ℕ) (new : (k : Kind) → Contents k) (marks : List Bool) (r : CallResult) → Begun w p i c → p.calls i ≡ Some c
-    → (within : to ≤ c.request.fuel) → is_fuel r.outcome ≡ true → HostResumes w c to (slots_of w p i) new marks r → (l : Lasts w c to) → l.count ≡ to → (n : ℕ) → c.turns + n ≡ to → AreTurnsTo w p i c to new marks
+    → (within : to ≤ c.request.fuel) → is_fuel r.outcome ≡ true → HostResumes w c to (caller_contents w p i) new marks r → (l : Lasts w c to) → l.count ≡ to → (n : ℕ) → c.turns + n ≡ to → AreTurnsTo w p i c to new marks
 goes-on w p i c to new marks r b e within out run l all zero is = let s = b.sound in
     let here : c.turns ≡ to = omega (arith, is) in
-    let shows : shown c.request.named.tree (slots_of w p i) ≡ in_slots r.store =
+    let shows : shown_store c.request.named.tree (caller_contents w p i) ≡ in_slots r.store =
     s.store ∙ ap (λ (n : ℕ). in_slots (fresh_store_after w.limits c.request n)) here ∙ ap in_slots (sym (fresh-there w p i c b to r run.gives out)) in
     let final : store_after w c to ≡ r.store = ap (store_or c.begun) run.gives in record {
       count = 0;
       reach = is;
       happen = tt;
       calls = e ∙ ap (λ (t : ℕ). Some (at_turn c t)) here;
-      contents = λ k need. sym (run.left k need ∙ turned-still w c.request.named.tree r.store marks (slots_of w p i) shows
+      contents = λ k need. sym (run.left k need ∙ turned-still w c.request.named.tree r.store marks (caller_contents w p i) shows
           (λ k. b.good.kept k (slot_of w p i k)) (ap (λ (x : Store). length x.globals) (sym final) ∙ globals-are w p i c b.fresh s to) s.past
           (λ need. run.still need out (sym here)) k need);
     }
@@ -44,14 +44,14 @@ goes-on w p i c to new marks r b e within out run l all (suc n) is = let s = b.s
     let given : is_some (result w c to) ≡ true = ap (λ (o : Option CallResult). is_some o) run.gives in
     let final : store_after w c to ≡ r.store = ap (store_or c.begun) run.gives in
     let globals : (a d : ℕ) → length (store_after w c a).globals ≡ length (store_after w c d).globals = λ a d. globals-are w p i c b.fresh s a ∙ sym (globals-are w p i c b.fresh s d) in
-    let made = some-turns w i c marks (slots_of w p i) c.turns to within given l globals run.marked n p e (λ k. refl) (omega (arith, is, all)) in record {
+    let made = some-turns w i c marks (caller_contents w p i) c.turns to within given l globals run.marked n p e (λ k. refl) (omega (arith, is, all)) in record {
       count = suc n;
       reach = is;
       happen = made.happen;
       calls = made.at.calls ∙ ap (λ (t : ℕ). Some (at_turn c t)) is;
       contents = λ k need. made.at.contents k need
-          ∙ ap (λ (t : ℕ). turned w.limits.pages (store_after w c t) marks k (slots_of w p i k)) is
-          ∙ ap (λ (x : Store). turned w.limits.pages x marks k (slots_of w p i k)) final ∙ sym (run.left k need);
+          ∙ ap (λ (t : ℕ). turned w.limits.pages (store_after w c t) marks k (caller_contents w p i k)) is
+          ∙ ap (λ (x : Store). turned w.limits.pages x marks k (caller_contents w p i k)) final ∙ sym (run.left k need);
     }
 
 pub slices-are-turns : SlicesAreTurns

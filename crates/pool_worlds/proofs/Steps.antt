@@ -15,10 +15,10 @@ use Rattle.pool_core.specs.RefusalRules.{refusal_of, seat_of}
 use Rattle.pool_core.specs.Lawful.{Lawful}
 use Rattle.pool_core.proofs.Holders.{one_holder}
 use Rattle.pool_core.proofs.LawfulSteps.{lawful_after}
-use Rattle.pool_worlds.specs.Contents.{Named, Contents, prepared, restored, replaced, needs, shown, turned}
+use Rattle.pool_worlds.specs.Contents.{Named, Contents, prepared, restored, replaced, needs, shown_store, turned}
 use Rattle.pool_worlds.specs.declared.kinds.Kind.{Kind}
 use Rattle.pool_worlds.specs.declared.kinds.Kind.TheVariants.{Ticket, Memory, Table}
-use Rattle.pool_worlds.specs.PoolMachine.{World, Request, Running, Machine, WorldEvent, Step, Prepare, Restore, Clear, Begin, Turn, End, Cancel, held_by, slot_of, slots_of, same_kind, is_slot_of_seat, is_slot_of_call, with_contents, with_core, with_call, store_or, store_after, begun, after_turn, after, IsFree, HasOut, IsModule, MarksTurn, MarksEnd, MayHappen, terms_of, last_store, after_end}
+use Rattle.pool_worlds.specs.PoolMachine.{World, Request, Running, Machine, WorldEvent, Step, Prepare, Restore, Clear, Begin, Turn, End, Cancel, held_by, slot_of, caller_contents, same_kind, is_slot_of_seat, is_slot_of_call, with_contents, with_core, with_call, store_or, store_after, begun, after_turn, after, IsFree, HasOut, IsModule, MarksTurn, MarksEnd, MayHappen, terms_of, last_store, after_end}
 use Rattle.pool_worlds.specs.FreshMachine.{FreshCall, FreshMachine, fresh_store_on, fresh_store_after, fresh_turn, with_fresh_call, fresh_after}
 use Rattle.pool_worlds.specs.Worlds.{IsZeroPast, in_slots}
 use Rattle.pool_worlds.proofs.Parts.{IsKept, fits, shown-same, shows-store, shows-fresh, prepared-kept, prepared-past, restored-kept, replaced-kept, turned-kept, turned-past}
@@ -32,9 +32,9 @@ pub record IsSound (w : World) (p : Machine) (i : ℕ) (r : Running) (c : FreshC
   pub begun_is : r.begun ≡ fresh_store r.request.named.tree
   pub fresh : c.store ≡ fresh_store_after w.limits r.request r.turns
   pub holds : (k : Kind) → needs k r.request.named.tree ≡ true → HasOut p k (w.seats k i)
-  pub store : shown r.request.named.tree (slots_of w p i) ≡ in_slots (fresh_store_after w.limits r.request r.turns)
-  pub past : needs Memory r.request.named.tree ≡ true → IsZeroPast (slots_of w p i Memory)
-  pub owner : needs Table r.request.named.tree ≡ true → (slots_of w p i Table).holds ≡ Some r.request.named
+  pub store : shown_store r.request.named.tree (caller_contents w p i) ≡ in_slots (fresh_store_after w.limits r.request r.turns)
+  pub past : needs Memory r.request.named.tree ≡ true → IsZeroPast (caller_contents w p i Memory)
+  pub owner : needs Table r.request.named.tree ≡ true → (caller_contents w p i Table).holds ≡ Some r.request.named
 
 abbrev pub GoodCall : World → Machine → ℕ → Option Running → Option FreshCall → Type 0
 GoodCall w p i None None = Unit {0}
@@ -52,7 +52,7 @@ record SlotStays (w : World) (p q : Machine) (i : ℕ) (k : Kind) : Type 0 where
   pub seat : Stays (seat_at (p.core k) (w.seats k i)) (seat_at (q.core k) (w.seats k i))
   pub contents : q.contents k (slot_of w p i k) ≡ p.contents k (slot_of w p i k)
 
-slots-stay : (w : World) (p q : Machine) (i : ℕ) (k : Kind) → SlotStays w p q i k → slots_of w q i k ≡ slots_of w p i k
+slots-stay : (w : World) (p q : Machine) (i : ℕ) (k : Kind) → SlotStays w p q i k → caller_contents w q i k ≡ caller_contents w p i k
 slots-stay w p q i k s = ap (λ (h : Option ℕ). q.contents k (unwrap_or h 0)) s.seat.holds ∙ s.contents
 
 out-stays : (w : World) (p q : Machine) (i : ℕ) (k : Kind) → SlotStays w p q i k → HasOut p k (w.seats k i) → HasOut q k (w.seats k i)
@@ -66,7 +66,7 @@ sound-stays w p q i r c stay s = record {
   begun_is = s.begun_is;
   fresh = s.fresh;
   holds = λ k need. out-stays w p q i k (stay k need) (s.holds k need);
-  store = shown-same r.request.named.tree (slots_of w q i) (slots_of w p i) (λ k need. slots-stay w p q i k (stay k need)) ∙ s.store;
+  store = shown-same r.request.named.tree (caller_contents w q i) (caller_contents w p i) (λ k need. slots-stay w p q i k (stay k need)) ∙ s.store;
   past = λ need. subst IsZeroPast (sym (slots-stay w p q i Memory (stay Memory need))) (s.past need);
   owner = λ need. ap (λ (x : Contents Table). x.holds) (slots-stay w p q i Table (stay Table need)) ∙ s.owner need;
 }
@@ -189,7 +189,7 @@ other-good w p f i m change g outs j other = let hits : Kind → ℕ → Bool = 
 
 -- and makes of its own what it is to
 pub own-slots : (w : World) (p : Machine) (i : ℕ) (m : ModuleTree) (change : (k : Kind) → Contents k → Contents k) (k : Kind) → needs k m ≡ true
-    → slots_of w (with_contents p (is_slot_of_call w p i m) change) i k ≡ change k (slots_of w p i k)
+    → caller_contents w (with_contents p (is_slot_of_call w p i m) change) i k ≡ change k (caller_contents w p i k)
 own-slots w p i m change k need = let n : ℕ = slot_of w p i k in let x : Contents k = p.contents k n in
     ap (λ (b : Bool). cond (b && n == n) (change k x) x) need ∙ ap (λ (b : Bool). cond b (change k x) x) (eq-eqb n n refl)
 
@@ -212,9 +212,9 @@ begin-good w p f i q g outs is =
     let hits : Kind → ℕ → Bool = is_slot_of_call w p i tree in
     let ready : Machine = with_contents p hits change in
     let own = own-slots w p i tree change in
-    let store : shown tree (slots_of w ready i) ≡ fresh_store tree =
-    shown-same tree (slots_of w ready i) (λ k. change k (slots_of w p i k)) own ∙ shows-fresh w q.named (slots_of w p i) is (λ k. g.kept k (slot_of w p i k)) in
-    let r : Running = record { request = q; begun = shown tree (slots_of w ready i); turns = 0 } in
+    let store : shown_store tree (caller_contents w ready i) ≡ fresh_store tree =
+    shown-same tree (caller_contents w ready i) (λ k. change k (caller_contents w p i k)) own ∙ shows-fresh w q.named (caller_contents w p i) is (λ k. g.kept k (slot_of w p i k)) in
+    let r : Running = record { request = q; begun = shown_store tree (caller_contents w ready i); turns = 0 } in
     let here : IsSound w ready i r (record { request = q; store = fresh_store tree; turns = 0 }) = record {
       is_module = is;
       request = refl;
@@ -223,7 +223,7 @@ begin-good w p f i q g outs is =
       fresh = refl;
       holds = λ k need. let o = outs k need in record { number = o.number; holds = o.holds; out = o.out };
       store = store;
-      past = λ need. subst IsZeroPast (sym (own Memory need)) (prepared-past w q.named (slots_of w p i Memory) is (g.kept Memory (slot_of w p i Memory)));
+      past = λ need. subst IsZeroPast (sym (own Memory need)) (prepared-past w q.named (caller_contents w p i Memory) is (g.kept Memory (slot_of w p i Memory)));
       owner = λ need. ap (λ (x : Contents Table). x.holds) (own Table need);
     } in record {
       lawful = g.lawful;
@@ -269,15 +269,15 @@ turn-good w p f i marks r c g s marked =
       begun_is = s.begun_is;
       fresh = (λ k. fresh_store_on w.limits (s.request k) (s.turns k + 1)) ∙ sym (fresh-later w q r.turns);
       holds = λ k need. let o = s.holds k need in record { number = o.number; holds = o.holds; out = o.out };
-      store = shown-same m.tree (slots_of w ready i) (λ k. change k (slots_of w p i k)) own ∙ shows-store w m.tree next marks (slots_of w p i) f'.misfit instance ∙ ap in_slots (next_is ∙ sym (fresh-later w q r.turns));
-      past = λ need. subst IsZeroPast (sym (own Memory need)) (turned-past pages next marks (slots_of w p i Memory) instance.size instance.whole);
+      store = shown-same m.tree (caller_contents w ready i) (λ k. change k (caller_contents w p i k)) own ∙ shows-store w m.tree next marks (caller_contents w p i) f'.misfit instance ∙ ap in_slots (next_is ∙ sym (fresh-later w q r.turns));
+      past = λ need. subst IsZeroPast (sym (own Memory need)) (turned-past pages next marks (caller_contents w p i Memory) instance.size instance.whole);
       owner = λ need. ap (λ (x : Contents Table). x.holds) (own Table need) ∙ s.owner need;
     } in record {
       lawful = g.lawful;
       kept = kept-with w p hits change g.kept (λ k n hit.
           let both = and_parts (needs k m.tree) (n == slot_of w p i k) hit in
           subst (λ (n : ℕ). IsKept w k (change k (p.contents k n))) (sym (eqb-true n (slot_of w p i k) both.1))
-          (turned-kept w m next marks (slots_of w p i) instance marked s.owner k both.0 (g.kept k (slot_of w p i k))));
+          (turned-kept w m next marks (caller_contents w p i) instance marked s.owner k both.0 (g.kept k (slot_of w p i k))));
       calls = calls-with w (with_call ready i (Some r')) i (Some r') (Some c') p.calls f
           (call-set w ready i (Some r') i (Some r') (Some c') here)
           (λ j other. call-set w ready i (Some r') j (p.calls j) (f j) (other-good w p f i m.tree change g s.holds j other));
@@ -299,7 +299,7 @@ end-good w p f i marks r c g s marked =
       kept = kept-with w p hits change g.kept (λ k n hit.
           let both = and_parts (needs k m.tree) (n == slot_of w p i k) hit in
           subst (λ (n : ℕ). IsKept w k (change k (p.contents k n))) (sym (eqb-true n (slot_of w p i k) both.1))
-          (turned-kept w m last marks (slots_of w p i) instance marked s.owner k both.0 (g.kept k (slot_of w p i k))));
+          (turned-kept w m last marks (caller_contents w p i) instance marked s.owner k both.0 (g.kept k (slot_of w p i k))));
       calls = calls-with w (with_call ready i None) i None None p.calls f tt
           (λ j other. call-set w ready i None j (p.calls j) (f j) (other-good w p f i m.tree change g s.holds j other));
     }

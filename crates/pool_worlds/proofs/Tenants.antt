@@ -15,7 +15,7 @@ use Rattle.pool_core.specs.Lawful.{Lawful}
 use Rattle.pool_worlds.specs.Contents.{needs}
 use Rattle.pool_worlds.specs.declared.kinds.Kind.{Kind}
 use Rattle.pool_worlds.specs.declared.kinds.Kind.TheVariants.{Memory}
-use Rattle.pool_worlds.specs.PoolMachine.{World, InstanceLimits, Request, Running, Machine, WorldEvent, Step, Prepare, Restore, Clear, Begin, Turn, End, Cancel, slots_of, slot_of, same_kind, after, after_all, after_turn, after_end, MayHappen, AllMayHappen, IsOpening}
+use Rattle.pool_worlds.specs.PoolMachine.{World, InstanceLimits, Request, Running, Machine, WorldEvent, Step, Prepare, Restore, Clear, Begin, Turn, End, Cancel, caller_contents, slot_of, same_kind, after, after_all, after_turn, after_end, MayHappen, AllMayHappen, IsOpening}
 use Rattle.pool_worlds.specs.FreshMachine.{FreshCall, FreshMachine, fresh_after, fresh_answer, fresh_store_after, nothing_runs}
 use Rattle.pool_worlds.specs.Worlds.{answered, answered_by, answers, in_slots}
 use Rattle.pool_worlds.specs.Tenants.{TenantEvent, Tenants, Pools, pools_after, pools_after_all, AllMayCome, own_events, claim_read, tenant_reads, tenant_answers, IsSameCall, AreSameCalls, LookSame, OwnEventsDecide, free_warm, OpenWithin, WarmSlotsStayWithin}
@@ -118,9 +118,9 @@ same-sound w v p q f i r c x limits good good' a b = let request : r.request ≡
       request = request;
       turns = turns;
       store = a.store ∙ stores ∙ sym b.store;
-      size = λ need. size-shown w r.request.named.tree (slots_of w p i) (in_slots (fresh_store_after w.limits r.request r.turns)) need (good.kept Memory (slot_of w p i Memory)) a.store
+      size = λ need. size-shown w r.request.named.tree (caller_contents w p i) (in_slots (fresh_store_after w.limits r.request r.turns)) need (good.kept Memory (slot_of w p i Memory)) a.store
           ∙ ap (λ (s : Store). length s.memory / page_size) stores
-          ∙ sym (size-shown v c.request.named.tree (slots_of v q i) (in_slots (fresh_store_after v.limits c.request c.turns)) (ap (λ (o : Request). needs Memory o.named.tree) (sym request) ∙ need) (good'.kept Memory (slot_of v q i Memory)) b.store);
+          ∙ sym (size-shown v c.request.named.tree (caller_contents v q i) (in_slots (fresh_store_after v.limits c.request c.turns)) (ap (λ (o : Request). needs Memory o.named.tree) (sym request) ∙ need) (good'.kept Memory (slot_of v q i Memory)) b.store);
       answer = answer-is w r a.begun_is ∙ fresh-answers w.limits v.limits r.request c.request limits request ∙ sym (answer-is v c b.begun_is);
     }
 

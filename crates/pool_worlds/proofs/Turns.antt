@@ -13,10 +13,12 @@ use Rattle.wasm_spec.specs.Instances.{IsInstance}
 use Rattle.wasm_spec.proofs.ResultLaws.{function-spends, function-keeps, instance-kept, fresh-instance}
 use Rattle.wasm_spec.proofs.MoreFuel.{result-more, function-more, with_more-end}
 use Rattle.wasm_values.specs.declared.outcome.Val.{Val}
-use Rattle.pool_worlds.specs.Contents.{MemoryContents, Contents, needs, filled, turned, Marks, is_marked}
+use Rattle.memory_blocks.specs.Blocks.{KeepsUnmarked, is_marked}
+use Rattle.memory_blocks.proofs.KeepingLemmas.{unmarked_more}
+use Rattle.pool_worlds.specs.Contents.{MemoryContents, Contents, needs, filled, turned}
 use Rattle.pool_worlds.specs.declared.kinds.Kind.{Kind}
 use Rattle.pool_worlds.specs.declared.kinds.Kind.TheVariants.{Memory}
-use Rattle.pool_worlds.specs.PoolMachine.{World, Request, Running, Machine, Turn, End, slots_of, result, answer, store_or, store_after, last_store, after_end, told, IsFuelEnd, CanTurn, after_turn, after, after_all, AllMayHappen, MayHappen, terms_of}
+use Rattle.pool_worlds.specs.PoolMachine.{World, Request, Running, Machine, Turn, End, caller_contents, result, answer, store_or, store_after, last_store, after_end, told, IsFuelEnd, CanTurn, after_turn, after, after_all, AllMayHappen, MayHappen, terms_of}
 use Rattle.pool_worlds.specs.FreshMachine.{FreshCall, FreshMachine}
 use Rattle.pool_worlds.specs.Runs.{Leaves, RunsFunction, GoesOn, StartsAndGoesOn, HostRunsBy, AreItsTurns}
 use Rattle.pool_worlds.specs.Worlds.{Calls, RunsAreTurns, PreparingTwiceIsOnce}
@@ -174,13 +176,13 @@ module _ (w : World) (i : ℕ) (r : Running) (marks : List Bool) (base : (k : Ki
   -- the machine after t turns, of which one or more are from these contents
   pub record At (p : Machine) (t : ℕ) : Type 0 where
     pub calls : p.calls i ≡ Some (at_turn r t)
-    pub contents : (k : Kind) → needs k r.request.named.tree ≡ true → slots_of w p i k ≡ turned w.limits.pages (store_after w r t) marks k (base k)
+    pub contents : (k : Kind) → needs k r.request.named.tree ≡ true → caller_contents w p i k ≡ turned w.limits.pages (store_after w r t) marks k (base k)
 
   after-is : (p : Machine) (t : ℕ) → p.calls i ≡ Some (at_turn r t) → after_turn w p i marks (Some (at_turn r t)) ≡ after w p (Turn i marks)
   after-is p t e = ap (after_turn w p i marks) (sym e)
 
   turned-at : (p : Machine) (t : ℕ) → p.calls i ≡ Some (at_turn r t)
-      → ((k : Kind) → needs k r.request.named.tree ≡ true → turned w.limits.pages (store_after w r (t + 1)) marks k (slots_of w p i k) ≡ turned w.limits.pages (store_after w r (t + 1)) marks k (base k))
+      → ((k : Kind) → needs k r.request.named.tree ≡ true → turned w.limits.pages (store_after w r (t + 1)) marks k (caller_contents w p i k) ≡ turned w.limits.pages (store_after w r (t + 1)) marks k (base k))
       → At (after w p (Turn i marks)) (t + 1)
   turned-at p t e same = subst (λ (q : Machine). At q (t + 1)) (after-is p t e) (record {
     calls = ap (λ (b : Bool). cond b (Some (at_turn r (t + 1))) (p.calls i)) (eq-eqb i i refl);
@@ -193,10 +195,10 @@ pub record Turns (w : World) (p : Machine) (i : ℕ) (r : Running) (marks : List
 
 module _ (w : World) (i : ℕ) (r : Running) (marks : List Bool) (base : (k : Kind) → Contents k) (from to : ℕ) (within : to ≤ r.request.fuel) (given : is_some (result w r to) ≡ true) (l : Lasts w r to)
     (globals : (s t : ℕ) → length (store_after w r s).globals ≡ length (store_after w r t).globals)
-    (each : needs Memory r.request.named.tree ≡ true → (t : ℕ) (x : CallResult) → from ≤ t → t ≤ to → result w r t ≡ Some x → Marks (base Memory).bytes (filled w.limits.pages x.store.memory) (base Memory).marks marks) where
-  marked : needs Memory r.request.named.tree ≡ true → (t : ℕ) → from ≤ t → t ≤ l.count → Marks (base Memory).bytes (filled w.limits.pages (store_after w r t).memory) (base Memory).marks marks
+    (each : needs Memory r.request.named.tree ≡ true → (t : ℕ) (x : CallResult) → from ≤ t → t ≤ to → result w r t ≡ Some x → KeepsUnmarked (base Memory).bytes (filled w.limits.pages x.store.memory) (base Memory).marks marks) where
+  marked : needs Memory r.request.named.tree ≡ true → (t : ℕ) → from ≤ t → t ≤ l.count → KeepsUnmarked (base Memory).bytes (filled w.limits.pages (store_after w r t).memory) (base Memory).marks marks
   marked need t late le = let o = some_of (result w r t) (all-given w r to within given l t le) in let bound = l.within in
-      subst (λ (s : Store). Marks (base Memory).bytes (filled w.limits.pages s.memory) (base Memory).marks marks) (sym (ap (store_or r.begun) o.1)) (each need t o.0 late (omega arith) o.1)
+      subst (λ (s : Store). KeepsUnmarked (base Memory).bytes (filled w.limits.pages s.memory) (base Memory).marks marks) (sym (ap (store_or r.begun) o.1)) (each need t o.0 late (omega arith) o.1)
 
   one-turn : (p : Machine) (t : ℕ) → At w i r marks base p t → from ≤ t → t < l.count → MayHappen w p (Turn i marks) × At w i r marks base (after w p (Turn i marks)) (t + 1)
   one-turn p t at late lt = (
@@ -205,11 +207,11 @@ module _ (w : World) (i : ℕ) (r : Running) (marks : List Bool) (base : (k : Ki
       at.calls,
       can-turn w r to within given l t lt,
       λ need. let le = l.within in
-          let x : MemoryContents = slots_of w p i Memory in
+          let x : MemoryContents = caller_contents w p i Memory in
           let is : x ≡ turned w.limits.pages (store_after w r t) marks Memory (base Memory) = at.contents Memory need in
           let now = marked need t late (omega arith) in let next = marked need (t + 1) (omega arith) (omega arith) in record {
-            changed = λ j h. next.changed j h ∙ sym (now.changed j h) ∙ ap (λ (y : MemoryContents). slice_index y.bytes j) (sym is);
-            kept = λ j h. ap (λ (y : MemoryContents). is_marked y.marks j) is ∙ h;
+            bytes = λ j h. next.bytes j h ∙ sym (now.bytes j h) ∙ ap (λ (y : MemoryContents). slice_index y.bytes j) (sym is);
+            marks = λ j h. ap (λ (y : MemoryContents). is_marked y.marks j) is ∙ h;
           },
     ),
     turned-at w i r marks base p t at.calls (λ k need. ap (turned w.limits.pages (store_after w r (t + 1)) marks k) (at.contents k need)
@@ -224,24 +226,24 @@ module _ (w : World) (i : ℕ) (r : Running) (marks : List Bool) (base : (k : Ki
       record { happen = (one.0, rest.happen); at = subst (At w i r marks base (after_all w p (replicate (suc n) (Turn i marks)))) sum rest.at }
 
   -- the first turn is from the contents that the host began with
-  first-turn : (p : Machine) → p.calls i ≡ Some (at_turn r from) → ((k : Kind) → slots_of w p i k ≡ base k) → from < l.count → MayHappen w p (Turn i marks) × At w i r marks base (after w p (Turn i marks)) (from + 1)
+  first-turn : (p : Machine) → p.calls i ≡ Some (at_turn r from) → ((k : Kind) → caller_contents w p i k ≡ base k) → from < l.count → MayHappen w p (Turn i marks) × At w i r marks base (after w p (Turn i marks)) (from + 1)
   first-turn p e begins lt = (
     (
       at_turn r from,
       e,
       can-turn w r to within given l from lt,
       λ need. let le = l.within in
-          let is : slots_of w p i Memory ≡ base Memory = begins Memory in
+          let is : caller_contents w p i Memory ≡ base Memory = begins Memory in
           let first = marked need (from + 1) (omega arith) (omega arith) in record {
-            changed = λ j h. first.changed j h ∙ ap (λ (y : MemoryContents). slice_index y.bytes j) (sym is);
-            kept = λ j h. ap (λ (y : MemoryContents). is_marked y.marks j) is ∙ first.kept j h;
+            bytes = λ j h. first.bytes j h ∙ ap (λ (y : MemoryContents). slice_index y.bytes j) (sym is);
+            marks = λ j h. ap (λ (y : MemoryContents). is_marked y.marks j) is ∙ first.marks j h;
           },
     ),
     turned-at w i r marks base p from e (λ k need. ap (turned w.limits.pages (store_after w r (from + 1)) marks k) (begins k)),
   )
 
   -- one turn or more
-  pub some-turns : (n : ℕ) (p : Machine) → p.calls i ≡ Some (at_turn r from) → ((k : Kind) → slots_of w p i k ≡ base k) → from + suc n ≤ l.count → Turns w p i r marks base (suc n) (from + suc n)
+  pub some-turns : (n : ℕ) (p : Machine) → p.calls i ≡ Some (at_turn r from) → ((k : Kind) → caller_contents w p i k ≡ base k) → from + suc n ≤ l.count → Turns w p i r marks base (suc n) (from + suc n)
   some-turns n p e begins le =
       let first = first-turn p e begins (omega arith) in
       let rest = more-turns n (from + 1) (after w p (Turn i marks)) first.1 (omega arith) (omega arith) in
@@ -266,14 +268,14 @@ globals-are w p i r c s t = ap (λ (x : Store). length x.globals) (next-is w r s
 
 -- where the call ends after so many turns, its slots become those of the store that it ends with
 end-slots : (w : World) (p : Machine) (i : ℕ) (r : Running) (marks : List Bool) (k : Kind) → p.calls i ≡ Some r → needs k r.request.named.tree ≡ true
-    → slots_of w (after w p (End i marks)) i k ≡ turned w.limits.pages (last_store w r) marks k (slots_of w p i k)
-end-slots w p i r marks k e need = ap (λ (a : Option Running). slots_of w (after_end w p i marks a) i k) e ∙ own-slots w p i r.request.named.tree (turned w.limits.pages (last_store w r) marks) k need
+    → caller_contents w (after w p (End i marks)) i k ≡ turned w.limits.pages (last_store w r) marks k (caller_contents w p i k)
+end-slots w p i r marks k e need = ap (λ (a : Option Running). caller_contents w (after_end w p i marks a) i k) e ∙ own-slots w p i r.request.named.tree (turned w.limits.pages (last_store w r) marks) k need
 
 -- what comes of a call from here to where it can make no turn more
 module _ (w : World) (p : Machine) (i : ℕ) (c : Running) (to : ℕ) (new : (k : Kind) → Contents k) (marks : List Bool) (r : CallResult) (b : Begun w p i c) (e : p.calls i ≡ Some c)
     (within : to ≤ c.request.fuel) (over : CanTurn w (at_turn c to) → ⊥) (gives : result w c to ≡ Some r)
-    (left : (k : Kind) → needs k c.request.named.tree ≡ true → new k ≡ turned w.limits.pages r.store marks k (slots_of w p i k))
-    (each : needs Memory c.request.named.tree ≡ true → (t : ℕ) (x : CallResult) → c.turns ≤ t → t ≤ to → result w c t ≡ Some x → Marks (slots_of w p i Memory).bytes (filled w.limits.pages x.store.memory) (slots_of w p i Memory).marks marks) where
+    (left : (k : Kind) → needs k c.request.named.tree ≡ true → new k ≡ turned w.limits.pages r.store marks k (caller_contents w p i k))
+    (each : needs Memory c.request.named.tree ≡ true → (t : ℕ) (x : CallResult) → c.turns ≤ t → t ≤ to → result w c t ≡ Some x → KeepsUnmarked (caller_contents w p i Memory).bytes (filled w.limits.pages x.store.memory) (caller_contents w p i Memory).marks marks) where
   given : is_some (result w c to) ≡ true
   given = ap is_some gives
 
@@ -289,14 +291,14 @@ module _ (w : World) (p : Machine) (i : ℕ) (c : Running) (to : ℕ) (new : (k 
       let stuck : CanTurn w c → ⊥ = cannot-turn w c to within given l over c.turns (omega (arith, is)) in record {
         count = 0;
         happen = tt;
-        ends = (c, e, stuck, λ need. subst (λ (s : Store). Marks (slots_of w p i Memory).bytes (filled w.limits.pages s.memory) (slots_of w p i Memory).marks marks) (sym last) (each need to r (omega (arith, is)) (omega arith) gives));
-        contents = λ k need. end-slots w p i c marks k e need ∙ ap (λ (s : Store). turned w.limits.pages s marks k (slots_of w p i k)) last ∙ sym (left k need);
+        ends = (c, e, stuck, λ need. subst (λ (s : Store). KeepsUnmarked (caller_contents w p i Memory).bytes (filled w.limits.pages s.memory) (caller_contents w p i Memory).marks marks) (sym last) (each need to r (omega (arith, is)) (omega arith) gives));
+        contents = λ k need. end-slots w p i c marks k e need ∙ ap (λ (s : Store). turned w.limits.pages s marks k (caller_contents w p i k)) last ∙ sym (left k need);
       }
   ends-by l (suc n) is = let s = b.sound in
       let le = l.within in
       let globals : (a d : ℕ) → length (store_after w c a).globals ≡ length (store_after w c d).globals = λ a d. globals-are w p i c b.fresh s a ∙ sym (globals-are w p i c b.fresh s d) in
       let t : ℕ = c.turns + suc n in
-      let made = some-turns w i c marks (slots_of w p i) c.turns to within given l globals each n p e (λ k. refl) (omega (arith, is)) in
+      let made = some-turns w i c marks (caller_contents w p i) c.turns to within given l globals each n p e (λ k. refl) (omega (arith, is)) in
       let q : Machine = after_all w p (replicate (suc n) (Turn i marks)) in
       let before : Store = store_after w c t in record {
         count = suc n;
@@ -306,19 +308,19 @@ module _ (w : World) (p : Machine) (i : ℕ) (c : Running) (to : ℕ) (new : (k 
           made.at.calls,
           cannot-turn w c to within given l over t is,
           λ need.
-              let base : MemoryContents = slots_of w p i Memory in
-              let there : slots_of w q i Memory ≡ turned w.limits.pages before marks Memory base = made.at.contents Memory need in
-              let now = marked w i c marks (slots_of w p i) c.turns to within given l globals each need t (omega arith) (omega (arith, is)) in
-              let end : Marks base.bytes (filled w.limits.pages (last_store w c).memory) base.marks marks =
-              subst (λ (x : Store). Marks base.bytes (filled w.limits.pages x.memory) base.marks marks) (sym last) (each need to r (omega (arith, is)) (omega arith) gives) in record {
-                changed = λ j h. end.changed j h ∙ sym (now.changed j h) ∙ ap (λ (y : MemoryContents). slice_index y.bytes j) (sym there);
-                kept = λ j h. ap (λ (y : MemoryContents). is_marked y.marks j) there ∙ h;
+              let base : MemoryContents = caller_contents w p i Memory in
+              let there : caller_contents w q i Memory ≡ turned w.limits.pages before marks Memory base = made.at.contents Memory need in
+              let now = marked w i c marks (caller_contents w p i) c.turns to within given l globals each need t (omega arith) (omega (arith, is)) in
+              let end : KeepsUnmarked base.bytes (filled w.limits.pages (last_store w c).memory) base.marks marks =
+              subst (λ (x : Store). KeepsUnmarked base.bytes (filled w.limits.pages x.memory) base.marks marks) (sym last) (each need to r (omega (arith, is)) (omega arith) gives) in record {
+                bytes = λ j h. end.bytes j h ∙ sym (now.bytes j h) ∙ ap (λ (y : MemoryContents). slice_index y.bytes j) (sym there);
+                marks = λ j h. ap (λ (y : MemoryContents). is_marked y.marks j) there ∙ h;
               },
         );
         contents = λ k need. end-slots w q i (at_turn c t) marks k made.at.calls need
             ∙ ap (turned w.limits.pages (last_store w c) marks k) (made.at.contents k need)
-            ∙ turned-twice w.limits.pages before (last_store w c) marks marks k (slots_of w p i k) (globals t c.request.fuel)
-            ∙ ap (λ (x : Store). turned w.limits.pages x marks k (slots_of w p i k)) last ∙ sym (left k need);
+            ∙ turned-twice w.limits.pages before (last_store w c) marks marks k (caller_contents w p i k) (globals t c.request.fuel)
+            ∙ ap (λ (x : Store). turned w.limits.pages x marks k (caller_contents w p i k)) last ∙ sym (left k need);
       }
 
   -- it is so many turns, of those that it has, and its end
@@ -326,9 +328,6 @@ module _ (w : World) (p : Machine) (i : ℕ) (c : Running) (to : ℕ) (new : (k 
   ends-are l le = ends-by l (l.count - c.turns) (omega arith)
 
 -- ---- the start function's run and the export's
-
-marks-more : (old mid new : List ℕ) (before between after : List Bool) → Marks old mid before between → Marks mid new between after → Marks old new before after
-marks-more old mid new before between after a b = record { changed = λ i h. b.changed i h ∙ a.changed i (b.kept i h); kept = λ i h. a.kept i (b.kept i h) }
 
 module _ (pages : ℕ) (m : ModuleTree) (limits : Terms) (x : ℕ) (arguments : List Val) (store : Store) (fuel : ℕ) (old new : (k : Kind) → Contents k) (marks : List Bool) (r : CallResult)
     (wide : (s : Store) (g : ℕ) (y : ℕ) (args : List Val) (r : CallResult) → IsInstance m pages (fresh_store m).table s → function_result m limits y args s g ≡ Some r → IsInstance m pages (fresh_store m).table r.store)
@@ -368,8 +367,8 @@ module _ (pages : ℕ) (m : ModuleTree) (limits : Terms) (x : ℕ) (arguments : 
 
     -- the marks of the whole are those of the start function and maybe more
     after-first : (kept : needs Memory m ≡ true → (i : ℕ) → is_marked marks i ≡ false → is_marked run.mid_marks i ≡ false) → needs Memory m ≡ true → (j : ℕ) (z : CallResult) → j ≤ fuel → function_result m limits y [] store j ≡ Some z
-        → Marks (old Memory).bytes (filled pages z.store.memory) (old Memory).marks marks
-    after-first kept need j z le e = let one = run.starts.marked need j z le e in record { changed = λ i h. one.changed i (kept need i h); kept = λ i h. one.kept i (kept need i h) }
+        → KeepsUnmarked (old Memory).bytes (filled pages z.store.memory) (old Memory).marks marks
+    after-first kept need j z le e = let one = run.starts.marked need j z le e in record { bytes = λ i h. one.bytes i (kept need i h); marks = λ i h. one.marks i (kept need i h) }
 
     whole-done : (v : Option Val) → outcome.Done v ≡ first.outcome → RunsFunction pages m limits x arguments first.store first.fuel run.mid new marks r → Leaves pages m (whole y) fuel old new marks r
     whole-done v is second =
@@ -377,17 +376,17 @@ module _ (pages : ℕ) (m : ModuleTree) (limits : Terms) (x : ℕ) (arguments : 
         let one = function-spends m limits y [] store fuel first run.starts.gives in
         let two = function-spends m limits x arguments first.store first.fuel r second.gives in
         let kept : needs Memory m ≡ true → (i : ℕ) → is_marked marks i ≡ false → is_marked run.mid_marks i ≡ false = λ need i h.
-        ap (λ (c : MemoryContents). is_marked c.marks i) (sym (mid-is need)) ∙ (second.marked need first.fuel r (omega arith) second.gives).kept i h in record {
+        ap (λ (c : MemoryContents). is_marked c.marks i) (sym (mid-is need)) ∙ (second.marked need first.fuel r (omega arith) second.gives).marks i h in record {
           gives = ap (λ (o : Option CallResult). if_done o next) run.starts.gives ∙ ap (λ (o : Outcome). if_done_by o first next) (sym is) ∙ second.gives;
           left = λ k need. second.left k need ∙ ap (turned pages r.store marks k) (run.starts.left k need)
               ∙ turned-twice pages first.store r.store run.mid_marks marks k (old k) (first-instance.globals_are ∙ sym last.globals_are);
           marked = λ need j z le e.
-              let split : (b : Bool) → is_fuel_end (function_result m limits y [] store j) ≡ b → Marks (old Memory).bytes (filled pages z.store.memory) (old Memory).marks marks = elim [
+              let split : (b : Bool) → is_fuel_end (function_result m limits y [] store j) ≡ b → KeepsUnmarked (old Memory).bytes (filled pages z.store.memory) (old Memory).marks marks = elim [
                 | true ↦ λ h. after-first kept need j z le (sym (runs-on (function_result m limits y [] store j) h) ∙ e)
                 | false ↦ λ h. let b = ended-as j le h in
                     let there : next first.store (b.0).fuel ≡ Some z = ap (λ (s : Store). next s (b.0).fuel) (sym b.3) ∙ ap (λ (o : Outcome). if_done_by o b.0 next) (is ∙ sym b.2) ∙ ap (λ (o : Option CallResult). if_done o next) (sym b.1) ∙ e in
-                    marks-more (old Memory).bytes (run.mid Memory).bytes (filled pages z.store.memory) (old Memory).marks (run.mid Memory).marks marks
-                    (subst (λ (c : MemoryContents). Marks (old Memory).bytes c.bytes (old Memory).marks c.marks) (sym (mid-is need)) (run.starts.marked need fuel first (omega arith) run.starts.gives))
+                    unmarked_more (old Memory).bytes (run.mid Memory).bytes (filled pages z.store.memory) (old Memory).marks (run.mid Memory).marks marks
+                    (subst (λ (c : MemoryContents). KeepsUnmarked (old Memory).bytes c.bytes (old Memory).marks c.marks) (sym (mid-is need)) (run.starts.marked need fuel first (omega arith) run.starts.gives))
                     (second.marked need (b.0).fuel z b.4 there)
               ] in split (is_fuel_end (function_result m limits y [] store j)) refl;
         }
@@ -398,12 +397,12 @@ module _ (pages : ℕ) (m : ModuleTree) (limits : Terms) (x : ℕ) (arguments : 
           gives = ap (λ (o : Option CallResult). if_done o next) run.starts.gives ∙ stops first refl ∙ ap (λ (a : CallResult). Some a) (sym same.0);
           left = λ k need. same.2 k need ∙ run.starts.left k need ∙ (λ i. turned pages ((sym same.0) i).store ((sym same.1) i) k (old k));
           marked = λ need j z le e.
-              let split : (b : Bool) → is_fuel_end (function_result m limits y [] store j) ≡ b → Marks (old Memory).bytes (filled pages z.store.memory) (old Memory).marks marks = elim [
+              let split : (b : Bool) → is_fuel_end (function_result m limits y [] store j) ≡ b → KeepsUnmarked (old Memory).bytes (filled pages z.store.memory) (old Memory).marks marks = elim [
                 | true ↦ λ h. after-first kept need j z le (sym (runs-on (function_result m limits y [] store j) h) ∙ e)
                 | false ↦ λ h. let b = ended-as j le h in
                     let there : ◌≡◌ {A = Option CallResult} (Some b.0) (Some z) = sym (stops b.0 b.2) ∙ ap (λ (o : Option CallResult). if_done o next) (sym b.1) ∙ e in
                     let store_is : first.store ≡ z.store = sym b.3 ∙ ap (store_or (b.0).store) there in
-                    subst (λ (s : Store). Marks (old Memory).bytes (filled pages s.memory) (old Memory).marks marks) store_is (after-first kept need fuel first (omega arith) run.starts.gives)
+                    subst (λ (s : Store). KeepsUnmarked (old Memory).bytes (filled pages s.memory) (old Memory).marks marks) store_is (after-first kept need fuel first (omega arith) run.starts.gives)
               ] in split (is_fuel_end (function_result m limits y [] store j)) refl;
         }
 
@@ -423,9 +422,9 @@ runs-are-turns w p i c new marks r calls none runs = let b = begun-at w p i c ca
     let wide : (s : Store) (g : ℕ) (y : ℕ) (args : List Val) (r : CallResult) → IsInstance m w.limits.pages (fresh_store m).table s → function_result m limits y args s g ≡ Some r → IsInstance m w.limits.pages (fresh_store m).table r.store =
     λ s g y args r is e. function-keeps m limits (IsInstance m w.limits.pages (fresh_store m).table) (instance-kept m limits (fresh_store m).table) y args s g r is e in
     let begins : IsInstance m w.limits.pages (fresh_store m).table c.begun = subst (IsInstance m w.limits.pages (fresh_store m).table) (sym s.begun_is) (fresh-instance m f.misfit w.limits.pages f.size) in
-    let run = whole-is w.limits.pages m limits q.function q.arguments c.begun q.fuel (slots_of w p i) new marks r wide begins m.start runs in
+    let run = whole-is w.limits.pages m limits q.function q.arguments c.begun q.fuel (caller_contents w p i) new marks r wide begins m.start runs in
     let over : CanTurn w (at_turn c q.fuel) → ⊥ = λ can. let lt = can.fuel in absurd (omega arith) in
-    let each : needs Memory m ≡ true → (t : ℕ) (x : CallResult) → c.turns ≤ t → t ≤ q.fuel → result w c t ≡ Some x → Marks (slots_of w p i Memory).bytes (filled w.limits.pages x.store.memory) (slots_of w p i Memory).marks marks =
+    let each : needs Memory m ≡ true → (t : ℕ) (x : CallResult) → c.turns ≤ t → t ≤ q.fuel → result w c t ≡ Some x → KeepsUnmarked (caller_contents w p i Memory).bytes (filled w.limits.pages x.store.memory) (caller_contents w p i Memory).marks marks =
     λ need t x late le e. run.marked need t x le e in
     let all : q.fuel ≤ q.fuel = omega arith in (
       ends-are w p i c q.fuel new marks r b calls.calls all over run.gives run.left each (lasts w c q.fuel) (omega (arith, none)),

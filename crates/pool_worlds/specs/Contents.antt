@@ -4,6 +4,7 @@ use Rattle.wasm_values.specs.declared.outcome.Val.{Val}
 use Rattle.wasm_types.specs.declared.module.Module.{Module}
 use Rattle.wasm_types.specs.Tree.{ModuleTree}
 use Rattle.wasm_spec.specs.Store.{Store, fresh_store, minimum_of, page_size}
+use Rattle.memory_blocks.specs.Blocks.{is_marked}
 use Rattle.pool_worlds.specs.declared.kinds.Kind.{Kind}
 use Rattle.pool_worlds.specs.declared.kinds.Kind.TheVariants.{Ticket, Memory, Table}
 use Rattle.pool_core.specs.declared.words.State.{State}
@@ -58,10 +59,6 @@ abbrev pub table_image : Option Named → List (Option ℕ)
 table_image None = []
 table_image (Some m) = (fresh_store m.tree).table
 
--- whether the byte at i lies in a marked block
-abbrev pub is_marked : List Bool → ℕ → Bool
-is_marked marks i = slice_index_or marks (i / 4096) false
-
 -- the bytes from the place i on, of which those in marked blocks are written anew from the image
 abbrev pub rewritten_from : ℕ → List Bool → List ℕ → List ℕ → List ℕ
 rewritten_from i marks image [] = []
@@ -114,8 +111,8 @@ shown_table true x = x.entries
 
 -- the store that a call of the module has in these contents: the memory up to its size, the table, and the module's globals.
 -- An answer does not lie in a slot.
-abbrev pub shown : ModuleTree → ((k : Kind) → Contents k) → Store
-shown m x = record {
+abbrev pub shown_store : ModuleTree → ((k : Kind) → Contents k) → Store
+shown_store m x = record {
   memory = shown_memory (needs Memory m) (x Memory);
   table = shown_table (needs Table m) (x Table);
   globals = take (length m.globals) (x Ticket);
@@ -127,11 +124,6 @@ abbrev pub turned : ℕ → Store → List Bool → (k : Kind) → Contents k �
 turned pages store marks Ticket x = store.globals ++ drop (length store.globals) x
 turned pages store marks Memory x = record x { bytes = filled pages store.memory; pages = length store.memory / page_size; marks = marks }
 turned pages store marks Table x = record x { entries = store.table }
-
--- every block that changed is marked, and none that was marked is not
-pub record Marks (old new : List ℕ) (before after : List Bool) : Type 0 where
-  pub changed : (i : ℕ) → is_marked after i ≡ false → slice_index new i ≡ slice_index old i
-  pub kept : (i : ℕ) → is_marked after i ≡ false → is_marked before i ≡ false
 
 -- ---- fitting a state word
 

@@ -19,7 +19,8 @@ use Rattle.pool_core.specs.declared.events.Event.{Event}
 use Rattle.pool_core.specs.PoolCore.{PoolCore, seat_at, opening_core}
 use Rattle.pool_core.specs.EventEffects.{core_after}
 use Rattle.pool_core.specs.RefusalRules.{refusal_of, seat_of}
-use Rattle.pool_worlds.specs.Contents.{Named, MemoryContents, Contents, owner, prepared, restored, replaced, needs, shown, turned, Marks, IsCold}
+use Rattle.memory_blocks.specs.Blocks.{KeepsUnmarked}
+use Rattle.pool_worlds.specs.Contents.{Named, MemoryContents, Contents, owner, prepared, restored, replaced, needs, shown_store, turned, IsCold}
 use Rattle.pool_worlds.specs.declared.kinds.Kind.{Kind}
 use Rattle.pool_worlds.specs.declared.kinds.Kind.TheVariants.{Ticket, Memory, Table}
 
@@ -88,8 +89,8 @@ held_by p k s = unwrap_or (seat_at (p.core k) s).holds 0
 abbrev pub slot_of : World → Machine → ℕ → Kind → ℕ
 slot_of w p i k = held_by p k (w.seats k i)
 
-abbrev pub slots_of : World → Machine → ℕ → (k : Kind) → Contents k
-slots_of w p i k = p.contents k (slot_of w p i k)
+abbrev pub caller_contents : World → Machine → ℕ → (k : Kind) → Contents k
+caller_contents w p i k = p.contents k (slot_of w p i k)
 
 abbrev pub same_kind : Kind → Kind → Bool
 same_kind Ticket Ticket = true
@@ -159,7 +160,7 @@ pub record CanTurn (w : World) (r : Running) : Type 0 where
 abbrev pub begun : World → Machine → ℕ → Request → Machine
 begun w p i q =
     let ready : Machine = with_contents p (is_slot_of_call w p i q.named.tree) (prepared w.limits.pages q.named) in
-    with_call ready i (Some (record { request = q; begun = shown q.named.tree (slots_of w ready i); turns = 0 }))
+    with_call ready i (Some (record { request = q; begun = shown_store q.named.tree (caller_contents w ready i); turns = 0 }))
 
 abbrev pub after_turn : World → Machine → ℕ → List Bool → Option Running → Machine
 after_turn w p i marks None = p
@@ -210,9 +211,9 @@ pub record IsCallable (q : Request) : Type 0 where
 
 -- the marks where a call's memory becomes that of a store
 abbrev pub MarksStore : World → Machine → ℕ → Running → Store → List Bool → Type 0
-MarksStore w p i r store marks = let old : MemoryContents = slots_of w p i Memory in
+MarksStore w p i r store marks = let old : MemoryContents = caller_contents w p i Memory in
     let new : MemoryContents = turned w.limits.pages store marks Memory old in
-    needs Memory r.request.named.tree ≡ true → Marks old.bytes new.bytes old.marks marks
+    needs Memory r.request.named.tree ≡ true → KeepsUnmarked old.bytes new.bytes old.marks marks
 
 -- those of a turn, and of its end
 abbrev pub MarksTurn : World → Machine → ℕ → Running → List Bool → Type 0

@@ -8,10 +8,11 @@ use Rattle.wasm_types.specs.Tree.{ModuleTree}
 use Rattle.wasm_spec.specs.MoreFuel.{is_fuel}
 use Rattle.wasm_spec.specs.Store.{Store}
 use Rattle.wasm_spec.specs.Result.{CallResult, function_result}
-use Rattle.pool_worlds.specs.Contents.{Contents, needs, filled, turned, Marks}
+use Rattle.memory_blocks.specs.Blocks.{KeepsUnmarked}
+use Rattle.pool_worlds.specs.Contents.{Contents, needs, filled, turned}
 use Rattle.pool_worlds.specs.declared.kinds.Kind.{Kind}
 use Rattle.pool_worlds.specs.declared.kinds.Kind.TheVariants.{Memory}
-use Rattle.pool_worlds.specs.PoolMachine.{World, Running, Machine, Turn, End, slots_of, terms_of, result, after, after_all, AllMayHappen, MayHappen}
+use Rattle.pool_worlds.specs.PoolMachine.{World, Running, Machine, Turn, End, caller_contents, terms_of, result, after, after_all, AllMayHappen, MayHappen}
 
 -- What comes of a run that gives `result` on each fuel, where it is made on this fuel from these contents.
 pub record Leaves (pages : ℕ) (m : ModuleTree) (result : ℕ → Option CallResult) (fuel : ℕ) (old new : (k : Kind) → Contents k) (marks : List Bool) (r : CallResult) : Type 0 where
@@ -20,7 +21,7 @@ pub record Leaves (pages : ℕ) (m : ModuleTree) (result : ℕ → Option CallRe
   pub left : (k : Kind) → needs k m ≡ true → new k ≡ turned pages r.store marks k (old k)
   -- every block that differs after any number of turns is marked, even if a later turn changed it back, and no mark was taken away
   pub marked : needs Memory m ≡ true → (turns : ℕ) (x : CallResult) → turns ≤ fuel → result turns ≡ Some x
-      → Marks (old Memory).bytes (filled pages x.store.memory) (old Memory).marks marks
+      → KeepsUnmarked (old Memory).bytes (filled pages x.store.memory) (old Memory).marks marks
 
 -- the contract of the machine's `run`: one function, on this fuel, from parts that show this store
 abbrev pub RunsFunction : ℕ → ModuleTree → Terms → ℕ → List Val → Store → ℕ → (old new : (k : Kind) → Contents k) → List Bool → CallResult → Type 0
@@ -53,7 +54,7 @@ pub record AreItsTurns (w : World) (p : Machine) (i : ℕ) (r : Running) (new : 
   pub count : ℕ
   pub happen : AllMayHappen w p (replicate count (Turn i marks))
   pub ends : MayHappen w (after_all w p (replicate count (Turn i marks))) (End i marks)
-  pub contents : (k : Kind) → needs k r.request.named.tree ≡ true → slots_of w (after w (after_all w p (replicate count (Turn i marks))) (End i marks)) i k ≡ new k
+  pub contents : (k : Kind) → needs k r.request.named.tree ≡ true → caller_contents w (after w (after_all w p (replicate count (Turn i marks))) (End i marks)) i k ≡ new k
 
 -- ---- slices
 
@@ -64,7 +65,7 @@ pub record LeavesFrom (pages : ℕ) (m : ModuleTree) (result : ℕ → Option Ca
   -- as of a run
   pub left : (k : Kind) → needs k m ≡ true → new k ≡ turned pages r.store marks k (old k)
   pub marked : needs Memory m ≡ true → (turns : ℕ) (x : CallResult) → from ≤ turns → turns ≤ to → result turns ≡ Some x
-      → Marks (old Memory).bytes (filled pages x.store.memory) (old Memory).marks marks
+      → KeepsUnmarked (old Memory).bytes (filled pages x.store.memory) (old Memory).marks marks
   -- without a turn a run that goes on marks nothing
   pub still : needs Memory m ≡ true → is_fuel r.outcome ≡ true → to ≡ from → marks ≡ (old Memory).marks
 
@@ -78,4 +79,4 @@ pub record AreTurnsTo (w : World) (p : Machine) (i : ℕ) (r : Running) (to : �
   pub reach : r.turns + count ≡ to
   pub happen : AllMayHappen w p (replicate count (Turn i marks))
   pub calls : (after_all w p (replicate count (Turn i marks))).calls i ≡ Some (record r { turns = to })
-  pub contents : (k : Kind) → needs k r.request.named.tree ≡ true → slots_of w (after_all w p (replicate count (Turn i marks))) i k ≡ new k
+  pub contents : (k : Kind) → needs k r.request.named.tree ≡ true → caller_contents w (after_all w p (replicate count (Turn i marks))) i k ≡ new k

@@ -6,10 +6,10 @@ use Rattle.pool_core.specs.StateWords.{packed}
 use Rattle.pool_core.specs.Lawful.{is_free_warm}
 use Rattle.pool_core.specs.PoolCore.{PoolCore, word_at}
 use Rattle.pool_core.specs.declared.events.Event.TheVariants.{Claim}
-use Rattle.pool_worlds.specs.Contents.{needs, shown}
+use Rattle.pool_worlds.specs.Contents.{needs, shown_store}
 use Rattle.pool_worlds.specs.declared.kinds.Kind.{Kind}
 use Rattle.pool_worlds.specs.declared.kinds.Kind.TheVariants.{Memory}
-use Rattle.pool_worlds.specs.PoolMachine.{World, Request, Running, Machine, WorldEvent, Step, slots_of, answer, after, MayHappen, IsOpening}
+use Rattle.pool_worlds.specs.PoolMachine.{World, Request, Running, Machine, WorldEvent, Step, caller_contents, answer, after, MayHappen, IsOpening}
 use Rattle.pool_worlds.specs.Worlds.{answered}
 
 -- an event of one tenant's passes
@@ -60,8 +60,8 @@ tenant_answers ws ps (e ∷ es) t i = (if t == e.tenant then answered (ws t) (ps
 pub record IsSameCall (w v : World) (p q : Machine) (i : ℕ) (r c : Running) : Type 0 where
   pub request : r.request ≡ c.request
   pub turns : r.turns ≡ c.turns
-  pub store : shown r.request.named.tree (slots_of w p i) ≡ shown c.request.named.tree (slots_of v q i)
-  pub size : needs Memory r.request.named.tree ≡ true → (slots_of w p i Memory).pages ≡ (slots_of v q i Memory).pages
+  pub store : shown_store r.request.named.tree (caller_contents w p i) ≡ shown_store c.request.named.tree (caller_contents v q i)
+  pub size : needs Memory r.request.named.tree ≡ true → (caller_contents w p i Memory).pages ≡ (caller_contents v q i Memory).pages
   pub answer : answer w r ≡ answer v c
 
 abbrev pub AreSameCalls : (w v : World) (p q : Machine) (i : ℕ) → Option Running → Option Running → Type 0

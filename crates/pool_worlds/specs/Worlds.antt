@@ -3,10 +3,10 @@ use Rattle.std.specs.Prelude.{◌≡◌, ℕ, ◌*◌, ◌≤◌, ◌⊎◌, Boo
 use Rattle.wasm_values.specs.declared.outcome.Outcome.{Outcome}
 use Rattle.wasm_spec.specs.Store.{Store, page_size}
 use Rattle.wasm_spec.specs.Result.{CallResult, answer_of}
-use Rattle.pool_worlds.specs.Contents.{Named, MemoryContents, Contents, prepared, needs, shown}
+use Rattle.pool_worlds.specs.Contents.{Named, MemoryContents, Contents, prepared, needs, shown_store}
 use Rattle.pool_worlds.specs.declared.kinds.Kind.{Kind}
 use Rattle.pool_worlds.specs.declared.kinds.Kind.TheVariants.{Memory}
-use Rattle.pool_worlds.specs.PoolMachine.{World, Request, Running, Machine, WorldEvent, slots_of, answer, after_all, AllMayHappen, IsOpening, IsModule, End, after, result, IsFuelEnd, CanTurn}
+use Rattle.pool_worlds.specs.PoolMachine.{World, Request, Running, Machine, WorldEvent, caller_contents, answer, after_all, AllMayHappen, IsOpening, IsModule, End, after, result, IsFuelEnd, CanTurn}
 use Rattle.pool_worlds.specs.Runs.{HostRuns, AreItsTurns, HostResumes, AreTurnsTo}
 use Rattle.pool_worlds.specs.FreshMachine.{FreshCall, FreshMachine, fresh_answer, fresh_after_all, nothing_runs}
 
@@ -22,8 +22,8 @@ in_slots s = record s { answer = [] }
 pub record Shadows (w : World) (p : Machine) (i : ℕ) (r : Running) (c : FreshCall) : Type 0 where
   pub request : r.request ≡ c.request
   pub turns : r.turns ≡ c.turns
-  pub store : shown r.request.named.tree (slots_of w p i) ≡ in_slots c.store
-  pub past : needs Memory r.request.named.tree ≡ true → IsZeroPast (slots_of w p i Memory)
+  pub store : shown_store r.request.named.tree (caller_contents w p i) ≡ in_slots c.store
+  pub past : needs Memory r.request.named.tree ≡ true → IsZeroPast (caller_contents w p i Memory)
   pub answer : answer w r ≡ fresh_answer w.limits c.request
 
 abbrev pub ShadowsCall : World → Machine → ℕ → Option Running → Option FreshCall → Type 0
@@ -64,8 +64,8 @@ pub record Calls (w : World) (q : Machine) (i : ℕ) (r : Running) : Type 0 wher
 -- Two calls of one request, in worlds with the same limits: whatever else runs there, after the same turns their memory, its
 -- size, their table and their globals are the same, and so are their answers, the bytes among them.
 pub record SameToCaller (w v : World) (p q : Machine) (i j : ℕ) (r c : Running) : Type 0 where
-  pub stores : r.turns ≡ c.turns → shown r.request.named.tree (slots_of w p i) ≡ shown c.request.named.tree (slots_of v q j)
-  pub sizes : r.turns ≡ c.turns → needs Memory r.request.named.tree ≡ true → (slots_of w p i Memory).pages ≡ (slots_of v q j Memory).pages
+  pub stores : r.turns ≡ c.turns → shown_store r.request.named.tree (caller_contents w p i) ≡ shown_store c.request.named.tree (caller_contents v q j)
+  pub sizes : r.turns ≡ c.turns → needs Memory r.request.named.tree ≡ true → (caller_contents w p i Memory).pages ≡ (caller_contents v q j Memory).pages
   pub answers : answer w r ≡ answer v c
 
 abbrev pub TwoWorldsAgree : Type 0
@@ -95,7 +95,7 @@ AnswersAgree = (w v : World) (p q : Machine) (es ds : List WorldEvent) (i j n m 
 -- What a host does for a call that has just begun is turns of it, as many as it can make; and it answers as the call does.
 abbrev pub RunsAreTurns : Type 0
 RunsAreTurns = (w : World) (p : Machine) (i : ℕ) (c : Running) (new : (k : Kind) → Contents k) (marks : List Bool) (r : CallResult) → Calls w p i c → c.turns ≡ 0
-    → HostRuns w c (slots_of w p i) new marks r → AreItsTurns w p i c new marks × (answer w c ≡ Some (r.outcome, answer_of r))
+    → HostRuns w c (caller_contents w p i) new marks r → AreItsTurns w p i c new marks × (answer w c ≡ Some (r.outcome, answer_of r))
 
 -- a call that has made no turn, or waits for its next
 abbrev pub IsPaused : World → Running → Type 0
@@ -109,7 +109,7 @@ pub record AreTurnsOf (w : World) (p : Machine) (i : ℕ) (c : Running) (to : �
 -- What a host does for a slice of a paused call is turns of it.
 abbrev pub SlicesAreTurns : Type 0
 SlicesAreTurns = (w : World) (p : Machine) (i : ℕ) (c : Running) (to : ℕ) (new : (k : Kind) → Contents k) (marks : List Bool) (r : CallResult) → Calls w p i c → IsPaused w c
-    → c.turns ≤ to → to ≤ c.request.fuel → HostResumes w c to (slots_of w p i) new marks r → AreTurnsOf w p i c to new marks r
+    → c.turns ≤ to → to ≤ c.request.fuel → HostResumes w c to (caller_contents w p i) new marks r → AreTurnsOf w p i c to new marks r
 
 -- To prepare what is prepared for the same module changes nothing. So a pool's take may prepare before the call begins.
 abbrev pub PreparingTwiceIsOnce : Type 0

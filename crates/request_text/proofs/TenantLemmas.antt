@@ -16,7 +16,7 @@ use Rattle.pool_limits.proofs.WantLemmas.{none_bad}
 use Rattle.request_text.specs.declared.request.Reason.{Reason}
 use Rattle.request_text.specs.declared.request.Reason.TheVariants as why
 use Rattle.request_text.specs.Ladder.{◌>>=◌, demand}
-use Rattle.request_text.specs.Tenants.{Tenants, for_after, share_number, share_of, slots_of, tenant_after, tenant_named, tenants_with}
+use Rattle.request_text.specs.Tenants.{Tenants, for_after, share_number, share_of, slots_in, tenant_after, tenant_named, tenants_with}
 
 -- ---- what can't be had
 
@@ -43,8 +43,8 @@ any-IfOk (Err e) = tt
 
 -- ---- the lines
 
-slots-some : (word : List ℕ) → IfOk (slots_of word) (λ slots. 1 ≤ slots)
-unfolding slots_of
+slots-some : (word : List ℕ) → IfOk (slots_in word) (λ slots. 1 ≤ slots)
+unfolding slots_in
 slots-some word =
     step-IfOk (share_number word) _ (λ _. Unit {0}) _ (any-IfOk (share_number word)) (λ slots _.
     step-IfOk (demand (nat_le 1 slots) why.BadShare) _ (λ _. nat_le 1 slots ≡ true) _ (demand-IfOk (nat_le 1 slots) why.BadShare) (λ _ some. grind (arith, nat_tests)))
@@ -52,9 +52,9 @@ slots-some word =
 share-has_slots : (instances memories tables warm : List ℕ) → IfOk (share_of instances memories tables warm) HasSlots
 unfolding share_of
 share-has_slots instances memories tables warm =
-    step-IfOk (slots_of instances) _ (λ i. 1 ≤ i) _ (slots-some instances) (λ i some_instances.
-    step-IfOk (slots_of memories) _ (λ m. 1 ≤ m) _ (slots-some memories) (λ m some_memories.
-    step-IfOk (slots_of tables) _ (λ t. 1 ≤ t) _ (slots-some tables) (λ t some_tables.
+    step-IfOk (slots_in instances) _ (λ i. 1 ≤ i) _ (slots-some instances) (λ i some_instances.
+    step-IfOk (slots_in memories) _ (λ m. 1 ≤ m) _ (slots-some memories) (λ m some_memories.
+    step-IfOk (slots_in tables) _ (λ t. 1 ≤ t) _ (slots-some tables) (λ t some_tables.
     step-IfOk (share_number warm) _ (λ _. Unit {0}) _ (any-IfOk (share_number warm)) (λ w _.
     record { instances = some_instances; memories = some_memories; tables = some_tables }))))
 

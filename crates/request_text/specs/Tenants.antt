@@ -29,8 +29,8 @@ abbrev pub share_number : List ℕ → Result ℕ Reason
 share_number word = ok_or (number_up_to 1024 word) BadShare
 
 -- of slots of a kind, one at least
-unfoldable pub slots_of : List ℕ → Result ℕ Reason
-slots_of word = do
+unfoldable pub slots_in : List ℕ → Result ℕ Reason
+slots_in word = do
   slots ← share_number word
   _ ← demand (nat_le 1 slots) BadShare
   Ok slots
@@ -38,9 +38,9 @@ slots_of word = do
 -- what four words want: slots of each kind, and how many of the memories and of the tables may be warm, which may be none
 unfoldable pub share_of : (instance_word memory_word table_word warm_word : List ℕ) → Result Want Reason
 share_of instance_word memory_word table_word warm_word = do
-  instances ← slots_of instance_word
-  memories ← slots_of memory_word
-  tables ← slots_of table_word
+  instances ← slots_in instance_word
+  memories ← slots_in memory_word
+  tables ← slots_in table_word
   warm ← share_number warm_word
   Ok (record { instances = instances; memories = memories; tables = tables; warm = warm })
 

@@ -3,7 +3,7 @@ ghost use Rattle.std.specs.Prelude.{◌≡◌, ◌<◌, ◌≤◌, length, is_no
 ghost use Rattle.std.specs.List.{All};
 ghost use Rattle.pool_limits.specs.Plans.{first_over, HasSlots};
 ghost use Rattle.request_words.specs.Words.{line_words, place_of};
-ghost use Rattle.request_text.specs.Tenants.{for_after, no_tenants, share_number, share_of, slots_of, tenant_after, tenant_named, tenants_with};
+ghost use Rattle.request_text.specs.Tenants.{for_after, no_tenants, share_number, share_of, slots_in, tenant_after, tenant_named, tenants_with};
 ghost use Rattle.request_text.specs.Reading.{Agrees};
 
 use crate::fault::LineFault;
@@ -46,9 +46,9 @@ fn share_number(word: &[u8]) -> Result<u32, Reason>
 }
 
 // So many slots of a kind, one at least.
-#[tactic(auto, unfolding(crate::specs::Tenants::slots_of))]
+#[tactic(auto, unfolding(crate::specs::Tenants::slots_in))]
 fn slots(word: &[u8]) -> Result<u32, Reason>
-    ensures slots { result ≡ slots_of word.now }
+    ensures slots { result ≡ slots_in word.now }
     ensures some { IfOk result (λ slots. 1 ≤ slots) }
 {
     let slots = share_number(word)?;

@@ -8,11 +8,11 @@ use Rattle.pool_worlds.specs.Contents.{Named, table_image}
 use Rattle.pool_limits.specs.declared.numbers.Numbers.{Numbers}
 use Rattle.module_limits.specs.Limits.{load_limits}
 use Rattle.loaded_modules.specs.Within.{IsWithin}
-use Rattle.table_slots.specs.Kept.{IsKept}
+use Rattle.table_slots.specs.Kept.{IsKeptTable}
 
 -- the module's table, written over the first entries
 pub write_kept : (config : Numbers) (m : Named) (count : ℕ) (old new : List (Option ℕ)) → IsWithin (load_limits config) m.tree → count ≡ table_size m.tree → length old ≡ config.elements
-    → new ≡ (fresh_store m.tree).table ++ drop count old → (holds : Option Named) → holds ≡ Some m → IsKept config new count holds
+    → new ≡ (fresh_store m.tree).table ++ drop count old → (holds : Option Named) → holds ≡ Some m → IsKeptTable config new count holds
 write_kept config m count old new within size room written holds owner =
     let table : List (Option ℕ) = (fresh_store m.tree).table in
     let whole : length table ≡ count = length-fresh_table m.tree within.segments ∙ sym size in

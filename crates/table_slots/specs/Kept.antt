@@ -4,7 +4,7 @@ use Rattle.pool_limits.specs.declared.numbers.Numbers.{Numbers}
 use Rattle.pool_worlds.specs.Contents.{Named, table_image}
 
 -- room for the configured elements, of which so many are the table's: those of its own module
-pub record IsKept (config : Numbers) (entries : List (Option ℕ)) (count : ℕ) (holds : Option Named) : Type 0 where
+pub record IsKeptTable (config : Numbers) (entries : List (Option ℕ)) (count : ℕ) (holds : Option Named) : Type 0 where
   pub room : length entries ≡ config.elements
   pub size : count ≤ config.elements
   pub image : take count entries ≡ table_image holds

@@ -27,7 +27,7 @@ impl<N: Naming> Model for TableSlot<N> {
     ghost use Rattle.std.specs.Prelude.{take};
     ghost use Rattle.pool_worlds.specs.Contents.{TableContents};
     ghost use Rattle.pool_worlds.specs.Codes.{coded_table};
-    ghost use Rattle.table_slots.specs.Kept.{IsKept};
+    ghost use Rattle.table_slots.specs.Kept.{IsKeptTable};
 
     ghost Value = { TableContents };
 
@@ -35,7 +35,7 @@ impl<N: Naming> Model for TableSlot<N> {
 
     ghost view = { λ s. record { entries = take s.count s.entries.items; holds = s.holds } };
 
-    ghost invariant = { λ s. IsKept N.config s.entries.items s.count s.holds };
+    ghost invariant = { λ s. IsKeptTable N.config s.entries.items s.count s.holds };
 }
 
 impl<N: Naming> TableSlot<N> {

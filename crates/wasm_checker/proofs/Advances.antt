@@ -18,7 +18,7 @@ use Rattle.wasm_checker.specs.Check.{Stack, and_then, pop_type, when, no_more, a
 use Rattle.wasm_types.specs.Sequences.{ops_of, earlier, code_at, named_in}
 use Rattle.wasm_types.proofs.SequenceLemmas.{code_at-within, code_at-past}
 use Rattle.wasm_checker.specs.Subject.{result_of}
-use Rattle.wasm_checker.specs.Position.{OpenBlock, Position, with_stack, base_of, back, inside, frame_of, frames_of, Shows, opened, outside}
+use Rattle.wasm_checker.specs.Position.{EnclosingBlock, CheckPosition, with_stack, base_of, back, inside, frame_of, frames_of, ShowsPosition, opened, outside}
 use Rattle.wasm_checker.specs.Steps.{Refuses, Stepped}
 use Rattle.wasm_checker.specs.Walk.{follows, goes_on, close, remaining, size, second_weight, weights, weight, ComesTo, Advanced, checking, whole}
 use Rattle.wasm_checker.proofs.Steps.{refuses, then_none, then_some}
@@ -32,15 +32,15 @@ module _ (m : Module) (f : Function) where
   abbrev Turn : Checker → ℕ → Option Stack → Result (Unit {0}) CheckFault → Type 0
   Turn u n o r = MatchResult r (λ _. Advanced m f u n o) (Refuses (o ≡ None))
 
-  close_none : (os : List OpenBlock) → close m f os None ≡ None
+  close_none : (os : List EnclosingBlock) → close m f os None ≡ None
   close_none [] = refl
   close_none (o ∷ os) = close_none os
 
   -- where a step that comes first is refused, so is all
-  refused : {A : Type 0} (os : List OpenBlock) (first : Option A) (go : A → Option Stack) (o : Option Stack) → close m f os (and_then first go) ≡ o → first ≡ None → o ≡ None
+  refused : {A : Type 0} (os : List EnclosingBlock) (first : Option A) (go : A → Option Stack) (o : Option Stack) → close m f os (and_then first go) ≡ o → first ≡ None → o ≡ None
   refused {A = A} os first go o e none = sym e ∙ ap (close m f os) (then_none first go none) ∙ close_none os
 
-  weight_parts : (k : Position) (w : Checker) → Shows k w → weight f w ≡ size (code_at f.body k.sequence k.place) + weights f (frames_of k.blocks)
+  weight_parts : (k : CheckPosition) (w : Checker) → ShowsPosition k w → weight f w ≡ size (code_at f.body k.sequence k.place) + weights f (frames_of k.blocks)
   unfolding weight
   weight_parts k w s =
       ap (λ (q : ℕ). size (code_at f.body q w.place) + weights f w.frames.items) s.sequence
@@ -53,8 +53,8 @@ module _ (m : Module) (f : Function) where
 
   -- behind an instruction, where the walk has come from w
   pub record AtInstruction (w : Checker) (i : Op) (o : Option Stack) : Type 0 where
-    pub position : Position
-    pub shows : Shows position (record w { place = w.place + 1 })
+    pub position : CheckPosition
+    pub shows : ShowsPosition position (record w { place = w.place + 1 })
     pub is : checking m f i position ≡ o
     pub weighs : weight f w ≡ size (code_of (earlier f.body position.sequence) (i ∷ drop position.place (ops_of f.body position.sequence))) + weights f (frames_of position.blocks)
 
@@ -72,11 +72,11 @@ module _ (m : Module) (f : Function) where
       }
 
   -- what follows at a place
-  abbrev after_place : Position → Stack → Option Stack
+  abbrev after_place : CheckPosition → Stack → Option Stack
   after_place k s = check (base_of k.blocks) (inside m f k.blocks) (code_at f.body k.sequence k.place) s
 
   -- an instruction with this rule
-  rule_turn : (u : Checker) (k : Position) (i : Rule) (r : Result (Unit {0}) CheckFault) (n : ℕ) (o : Option Stack)
+  rule_turn : (u : Checker) (k : CheckPosition) (i : Rule) (r : Result (Unit {0}) CheckFault) (n : ℕ) (o : Option Stack)
       → close m f k.blocks (and_then (apply (base_of k.blocks) i k.stack) (after_place k)) ≡ o
       → n ≡ size (code_at f.body k.sequence k.place) + 1 + weights f (frames_of k.blocks)
       → MatchResult r (λ _. Stepped (apply (base_of k.blocks) i k.stack) k u) (Refuses (apply (base_of k.blocks) i k.stack ≡ None)) → Turn u n o r
@@ -101,16 +101,16 @@ module _ (m : Module) (f : Function) where
       → Turn u (weight f w) o r
   call_indirect_turn w u x r o d a = rule_turn u d.position (call_indirect_rule (inside m f d.position.blocks) x) r (weight f w) o d.is (omega (arith, d.weighs)) a
 
-  abbrev opens : Position → Option ValType → Option ValType → Option ℕ → ℕ → Position
+  abbrev opens : CheckPosition → Option ValType → Option ValType → Option ℕ → ℕ → CheckPosition
   opens k l t second q = opened (result_of m f) k l t second q
 
   -- the code of a sequence that is named where the walk stands
-  named : (v : Checker) (k : Position) (q inner : ℕ) → Shows k v → code_at f.body inner 0 ≡ named_in f.body v.sequence q → named_in f.body k.sequence q ≡ code_at f.body inner 0
+  named : (v : Checker) (k : CheckPosition) (q inner : ℕ) → ShowsPosition k v → code_at f.body inner 0 ≡ named_in f.body v.sequence q → named_in f.body k.sequence q ≡ code_at f.body inner 0
   named v k q inner s e = ap (λ (n : ℕ). named_in f.body n q) (sym s.sequence) ∙ sym e
 
   -- an instruction that enters code, before which the stack is s
-  enters : (u : Checker) (k : Position) (s : Stack) (l t : Option ValType) (second : Option ℕ) (q n : ℕ) (code : Code) (go : Stack → Option Stack) (r : Result (Unit {0}) CheckFault) (o : Option Stack)
-      → MatchResult r (λ _. Shows (opens (with_stack k s) l t second q) u) (Refuses ⊥)
+  enters : (u : Checker) (k : CheckPosition) (s : Stack) (l t : Option ValType) (second : Option ℕ) (q n : ℕ) (code : Code) (go : Stack → Option Stack) (r : Result (Unit {0}) CheckFault) (o : Option Stack)
+      → MatchResult r (λ _. ShowsPosition (opens (with_stack k s) l t second q) u) (Refuses ⊥)
       → code ≡ code_at f.body q 0
       → close m f k.blocks (and_then (end_block t (check (base_of k.blocks + length s.operands) (under (result_types l) (inside m f k.blocks)) (code) (enter (inside m f k.blocks) s))) go) ≡ o
       → ((e : Stack) → go e ≡ goes_on m f second (record { label_type = l; end_type = t; second = second; unreachable = s.unreachable; operands = s.operands; sequence = k.sequence; after = k.place }) k.blocks e)
@@ -118,7 +118,7 @@ module _ (m : Module) (f : Function) where
       → Turn u n o r
   enters u k s l t second q n code go (Err x) o h same is goes weighs = refuses x ⊥ (o ≡ None) (λ no. absurd no) h
   enters u k s l t second q n code go (Ok x) o h same is goes weighs =
-      let b : OpenBlock = record { label_type = l; end_type = t; second = second; unreachable = s.unreachable; operands = s.operands; sequence = k.sequence; after = k.place } in
+      let b : EnclosingBlock = record { label_type = l; end_type = t; second = second; unreachable = s.unreachable; operands = s.operands; sequence = k.sequence; after = k.place } in
       let C = inside m f k.blocks in
       let inner : Code → Option Stack = λ x. end_block t (check (base_of k.blocks + length s.operands) (under (result_types l) C) x (enter C s)) in
       let x = weight_parts (opens (with_stack k s) l t second q) u h in
@@ -134,20 +134,20 @@ module _ (m : Module) (f : Function) where
       }
 
   pub block_turn : (w u : Checker) (t : Option ValType) (q inner : ℕ) (r : Result (Unit {0}) CheckFault) (o : Option Stack) → code_at f.body inner 0 ≡ named_in f.body w.sequence q → (d : AtInstruction w (op.Block t q) o)
-      → MatchResult r (λ _. Shows (opens d.position t t None inner) u) (Refuses ⊥) → Turn u (weight f w) o r
+      → MatchResult r (λ _. ShowsPosition (opens d.position t t None inner) u) (Refuses ⊥) → Turn u (weight f w) o r
   block_turn w u t q inner r o e d h =
       let k = d.position in
       enters u k k.stack t t None inner (weight f w) (named_in f.body k.sequence q) (λ e. after_place k (push_types (base_of k.blocks) (result_types t) (leave k.stack e))) r o h
       (named (record w { place = w.place + 1 }) k q inner d.shows e) d.is (λ e. refl) (omega (arith, d.weighs))
 
   pub loop_turn : (w u : Checker) (t : Option ValType) (q inner : ℕ) (r : Result (Unit {0}) CheckFault) (o : Option Stack) → code_at f.body inner 0 ≡ named_in f.body w.sequence q → (d : AtInstruction w (op.Loop t q) o)
-      → MatchResult r (λ _. Shows (opens d.position None t None inner) u) (Refuses ⊥) → Turn u (weight f w) o r
+      → MatchResult r (λ _. ShowsPosition (opens d.position None t None inner) u) (Refuses ⊥) → Turn u (weight f w) o r
   loop_turn w u t q inner r o e d h =
       let k = d.position in
       enters u k k.stack None t None inner (weight f w) (named_in f.body k.sequence q) (λ e. after_place k (push_types (base_of k.blocks) (result_types t) (leave k.stack e))) r o h
       (named (record w { place = w.place + 1 }) k q inner d.shows e) d.is (λ e. refl) (omega (arith, d.weighs))
 
-  abbrev arms : Position → Option ValType → ℕ → ℕ → Stack → Option Stack
+  abbrev arms : CheckPosition → Option ValType → ℕ → ℕ → Stack → Option Stack
   arms k t q p u =
       and_then (end_block t (check (base_of k.blocks + length u.operands) (under (result_types t) (inside m f k.blocks)) (named_in f.body k.sequence q) (enter (inside m f k.blocks) u)))
       (λ v. and_then (end_block t (check (base_of k.blocks + length u.operands) (under (result_types t) (inside m f k.blocks)) (named_in f.body k.sequence p) (enter (inside m f k.blocks) (leave u v))))
@@ -159,7 +159,7 @@ module _ (m : Module) (f : Function) where
 
   pub if_turn : (w x u : Checker) (t : Option ValType) (q p first second : ℕ) (r : Result (Unit {0}) CheckFault) (o : Option Stack) → code_at f.body first 0 ≡ named_in f.body w.sequence q → code_at f.body second 0 ≡ named_in f.body w.sequence p
       → (d : AtInstruction w (op.If t q p) o) → (y : Stepped (pop_type I32 d.position.stack) d.position x)
-      → MatchResult r (λ _. Shows (opens (with_stack d.position y.stack) t t (Some second) first) u) (Refuses ⊥) → Turn u (weight f w) o r
+      → MatchResult r (λ _. ShowsPosition (opens (with_stack d.position y.stack) t t (Some second) first) u) (Refuses ⊥) → Turn u (weight f w) o r
   if_turn w x u t q p first second r o ef es d y h =
       let k = d.position in
       let z = y.stack in
@@ -175,20 +175,20 @@ module _ (m : Module) (f : Function) where
 
   -- at the end of inner code
   pub record AtEnd (w : Checker) (o : Option Stack) : Type 0 where
-    pub position : Position
-    pub inner : OpenBlock
-    pub outer : List OpenBlock
+    pub position : CheckPosition
+    pub inner : EnclosingBlock
+    pub outer : List EnclosingBlock
     pub nested : position.blocks ≡ inner ∷ outer
-    pub shows : Shows position w
+    pub shows : ShowsPosition position w
     pub is : close m f outer (and_then (end_block inner.end_type (Some position.stack)) (goes_on m f inner.second inner outer)) ≡ o
     pub weighs : weight f w ≡ 1 + size (code_at f.body inner.sequence inner.after) + second_weight f inner.second + weights f (frames_of outer)
 
-  at_end_as : (w : Checker) (o : Option Stack) (k : Position) (os : List OpenBlock) → k.blocks ≡ os → Shows k w → remaining m f k ≡ o → code_at f.body k.sequence k.place ≡ End → 0 < length w.frames.items → AtEnd w o
-  at_end_as w o k [] e s g c lt = absurd (omega (arith, ap length s.frames, ap (λ (x : List OpenBlock). length (frames_of x)) e))
+  at_end_as : (w : Checker) (o : Option Stack) (k : CheckPosition) (os : List EnclosingBlock) → k.blocks ≡ os → ShowsPosition k w → remaining m f k ≡ o → code_at f.body k.sequence k.place ≡ End → 0 < length w.frames.items → AtEnd w o
+  at_end_as w o k [] e s g c lt = absurd (omega (arith, ap length s.frames, ap (λ (x : List EnclosingBlock). length (frames_of x)) e))
   at_end_as w o k (b ∷ os) e s g c lt =
       let g1 : close m f (b ∷ os) (check (base_of (b ∷ os)) (inside m f (b ∷ os)) End k.stack) ≡ o =
       ap (λ (x : Code). close m f (b ∷ os) (check (base_of (b ∷ os)) (inside m f (b ∷ os)) x k.stack)) (sym c)
-      ∙ ap (λ (x : List OpenBlock). close m f x (check (base_of x) (inside m f x) (code_at f.body k.sequence k.place) k.stack)) (sym e) ∙ g in
+      ∙ ap (λ (x : List EnclosingBlock). close m f x (check (base_of x) (inside m f x) (code_at f.body k.sequence k.place) k.stack)) (sym e) ∙ g in
       record {
         position = k;
         inner = b;
@@ -196,10 +196,10 @@ module _ (m : Module) (f : Function) where
         nested = e;
         shows = s;
         is = g1;
-        weighs = omega (arith, weight_parts k w s, ap size c, ap (λ (x : List OpenBlock). weights f (frames_of x)) e, weights-append (frames_of os) (frame_of b os ∷ []));
+        weighs = omega (arith, weight_parts k w s, ap size c, ap (λ (x : List EnclosingBlock). weights f (frames_of x)) e, weights-append (frames_of os) (frame_of b os ∷ []));
       }
 
-  ended_at : (k : Position) (w : Checker) → Shows k w → slice_get (ops_of f.body w.sequence) w.place ≡ None → code_at f.body k.sequence k.place ≡ End
+  ended_at : (k : CheckPosition) (w : Checker) → ShowsPosition k w → slice_get (ops_of f.body w.sequence) w.place ≡ None → code_at f.body k.sequence k.place ≡ End
   ended_at k w s h = code_at-past f.body k.sequence k.place (ap (λ (q : ℕ). slice_get (ops_of f.body q) k.place) (sym s.sequence) ∙ ap (λ (p : ℕ). slice_get (ops_of f.body w.sequence) p) (sym s.place) ∙ h)
 
   pub at_end : (w : Checker) (o : Option Stack) → ComesTo m f w o → slice_get (ops_of f.body w.sequence) w.place ≡ None → 0 < length w.frames.items → AtEnd w o
@@ -266,34 +266,34 @@ module _ (m : Module) (f : Function) where
 
       -- the other arm is entered
       second_as : (u : Checker) (l t : Option ValType) (q : ℕ) (r : Result (Unit {0}) CheckFault) → l ≡ d.inner.label_type → t ≡ d.inner.end_type → d.inner.second ≡ Some q
-          → MatchResult r (λ _. Shows (opens (outside d.inner d.outer x.stack) l t None q) u) (Refuses ⊥) → Turn u (weight f w) o r
+          → MatchResult r (λ _. ShowsPosition (opens (outside d.inner d.outer x.stack) l t None q) u) (Refuses ⊥) → Turn u (weight f w) o r
       second_as u l t q r samel same some h =
           let b = d.inner in
-          let k : Position = outside b d.outer x.stack in
-          let S : Option ValType → Option ValType → Type 0 = λ y z. MatchResult r (λ _. Shows (opens k y z None q) u) (Refuses ⊥) in
+          let k : CheckPosition = outside b d.outer x.stack in
+          let S : Option ValType → Option ValType → Type 0 = λ y z. MatchResult r (λ _. ShowsPosition (opens k y z None q) u) (Refuses ⊥) in
           let h' : S b.label_type b.end_type = subst (λ (y : Option ValType). S y b.end_type) samel (subst (λ (z : Option ValType). S l z) same h) in
           enters u k (back b x.stack) b.label_type b.end_type None q (weight f w) (code_at f.body q 0) (follows m f b d.outer) r o h' refl
           (ap (λ (y : Option ℕ). close m f d.outer (goes_on m f y b d.outer x.stack)) (sym some) ∙ onward)
           (λ e. refl) (omega (arith, d.weighs, ap (second_weight f) some))
 
       pub second_turn : (u : Checker) (q : ℕ) (r : Result (Unit {0}) CheckFault) → c.second ≡ Some q
-          → MatchResult r (λ _. Shows (opens (outside d.inner d.outer x.stack) c.label_type c.end_type None q) u) (Refuses ⊥) → Turn u (weight f w) o r
+          → MatchResult r (λ _. ShowsPosition (opens (outside d.inner d.outer x.stack) c.label_type c.end_type None q) u) (Refuses ⊥) → Turn u (weight f w) o r
       second_turn u q r some h = second_as u c.label_type c.end_type q r (ap (λ (x : ControlFrame). x.label_type) framed) (ap (λ (x : ControlFrame). x.end_type) framed) (second_is (Some q) some) h
 
   -- the beginning
-  abbrev pub outermost : Position
+  abbrev pub outermost : CheckPosition
   outermost = record { sequence = length f.body.sequences - 1; place = 0; stack = empty_stack; blocks = [] }
 
-  pub start_comes_to : (w : Checker) → Shows outermost w → ComesTo m f w (whole m f)
+  pub start_comes_to : (w : Checker) → ShowsPosition outermost w → ComesTo m f w (whole m f)
   start_comes_to w s = record { position = outermost; shows = s; is = refl }
 
   -- the end of the body
-  body_ends_as : (w : Checker) (o : Option Stack) (k : Position) (os : List OpenBlock) → k.blocks ≡ os → Shows k w → remaining m f k ≡ o → code_at f.body k.sequence k.place ≡ End → length w.frames.items ≡ 0
+  body_ends_as : (w : Checker) (o : Option Stack) (k : CheckPosition) (os : List EnclosingBlock) → k.blocks ≡ os → ShowsPosition k w → remaining m f k ≡ o → code_at f.body k.sequence k.place ≡ End → length w.frames.items ≡ 0
       → end_block (result_of m f) (Some k.stack) ≡ o
-  body_ends_as w o k (b ∷ os) e s g c z = absurd (omega (arith, z, ap length s.frames, ap (λ (x : List OpenBlock). length (frames_of x)) e, length-append (frames_of os) (frame_of b os ∷ [])))
+  body_ends_as w o k (b ∷ os) e s g c z = absurd (omega (arith, z, ap length s.frames, ap (λ (x : List EnclosingBlock). length (frames_of x)) e, length-append (frames_of os) (frame_of b os ∷ [])))
   body_ends_as w o k [] e s g c z =
       ap (λ (x : Code). end_block (result_of m f) (check 0 (inside m f []) x k.stack)) (sym c)
-      ∙ ap (λ (x : List OpenBlock). close m f x (check (base_of x) (inside m f x) (code_at f.body k.sequence k.place) k.stack)) (sym e) ∙ g
+      ∙ ap (λ (x : List EnclosingBlock). close m f x (check (base_of x) (inside m f x) (code_at f.body k.sequence k.place) k.stack)) (sym e) ∙ g
 
   pub body_ends : (w : Checker) (o : Option Stack) → (l : ComesTo m f w o) → slice_get (ops_of f.body w.sequence) w.place ≡ None → length w.frames.items ≡ 0 → end_block (result_of m f) (Some l.position.stack) ≡ o
   body_ends w o l h z = body_ends_as w o l.position l.position.blocks refl l.shows l.is (ended_at l.position w l.shows h) z

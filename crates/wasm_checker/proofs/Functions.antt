@@ -12,7 +12,7 @@ use Rattle.wasm_checker.specs.declared.fault.CheckFault.{CheckFault}
 use Rattle.wasm_checker.specs.declared.fault.CheckFault.TheVariants.{Invalid, NoMemory}
 use Rattle.wasm_checker.specs.Check.{Stack}
 use Rattle.wasm_types.specs.Sequences.{code_at}
-use Rattle.wasm_checker.specs.Subject.{HaveOneResult, result_of, locals_of}
+use Rattle.wasm_checker.specs.Subject.{HaveOneResult, result_of, all_locals}
 use Rattle.wasm_checker.specs.Position.{inside}
 use Rattle.wasm_checker.specs.Steps.{Refuses}
 use Rattle.wasm_checker.specs.Walk.{whole, Counted}
@@ -40,7 +40,7 @@ module _ (m : Module) (f : Function) (one : HaveOneResult m) where
   body_is = sym (tree_is f.body (length f.body.sequences - 1))
 
   abbrev outer : List ValType → Context
-  outer ts = record { defined = module_tree m; locals = locals_of m f; labels = ts ∷ []; results = ts }
+  outer ts = record { defined = module_tree m; locals = all_locals m f; labels = ts ∷ []; results = ts }
 
   abbrev code : Code
   code = code_at f.body (length f.body.sequences - 1) 0
@@ -77,7 +77,7 @@ module _ (m : Module) (f : Function) (one : HaveOneResult m) where
 
   -- where a stack is found
   pub typed : (n : ℕ × ℕ) → IsSome (slice_get m.types f.type_index) → Counted (whole m f) n
-      → IsTypedFunction (module_tree m) (function_tree f) × (length (locals_of m f) + n.0 + n.1 ≡ need (module_tree m) (function_tree f))
+      → IsTypedFunction (module_tree m) (function_tree f) × (length (all_locals m f) + n.0 + n.1 ≡ need (module_tree m) (function_tree f))
   typed n there c =
       let b = body_need (inside m f []) (result_of m f) code c.stack refl c.is in
       let d : deepest 1 code ≡ deepest 1 (expr_tree f.body) = ap (deepest 1) body_is in (

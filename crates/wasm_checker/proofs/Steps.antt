@@ -7,7 +7,7 @@ use Rattle.wasm_checker.specs.declared.checker.Checker.{Checker}
 use Rattle.wasm_checker.specs.declared.fault.CheckFault.{CheckFault}
 use Rattle.wasm_checker.specs.declared.fault.CheckFault.TheVariants.{Invalid, NoMemory}
 use Rattle.wasm_checker.specs.Check.{HasAny, Stack, and_then, pop_type, pop_types}
-use Rattle.wasm_checker.specs.Position.{Position, Shows, with_stack}
+use Rattle.wasm_checker.specs.Position.{CheckPosition, ShowsPosition, with_stack}
 use Rattle.wasm_checker.specs.Steps.{Refuses, Stepped}
 
 pub refuses : (e : CheckFault) (P Q : Type 0) → (P → Q) → Refuses P e → Refuses Q e
@@ -20,7 +20,7 @@ exits X P Q (Ok x) e is h go = absurd is
 exits X P Q (Err x) e is h go = subst (Refuses Q) (sym is) (refuses e P Q go h)
 
 -- the last step, from the stack that the ones before left
-pub goes_on : (k : Position) (s : Stack) (first whole : Option Stack) (w : Checker) (r : Result (Unit {0}) CheckFault) → whole ≡ first
+pub goes_on : (k : CheckPosition) (s : Stack) (first whole : Option Stack) (w : Checker) (r : Result (Unit {0}) CheckFault) → whole ≡ first
     → MatchResult r (λ _. Stepped first (with_stack k s) w) (Refuses (first ≡ None)) → MatchResult r (λ _. Stepped whole k w) (Refuses (whole ≡ None))
 goes_on k s first whole w (Ok x) e m = record { stack = m.stack; is = e ∙ m.is; shows = m.shows }
 goes_on k s first whole w (Err x) e m = refuses x (first ≡ None) (whole ≡ None) (λ h. e ∙ h) m
@@ -32,9 +32,9 @@ pub then_some : {A : Type 0} (o : Option A) (s : A) (go : A → Option Stack) �
 then_some {A = A} o s go e = ap (λ (x : Option A). and_then x go) e
 
 -- the rest of the operands that are popped
-pub record Rest (types rest : List ValType) (k : Position) (w : Checker) : Type 0 where
+pub record Rest (types rest : List ValType) (k : CheckPosition) (w : Checker) : Type 0 where
   pub stack : Stack
-  pub shows : Shows (with_stack k stack) w
+  pub shows : ShowsPosition (with_stack k stack) w
   pub same : pop_types (reverse types) k.stack ≡ pop_types (reverse rest) stack
 
 last_first : (front : List ValType) (t : ValType) (rest : List ValType) → rest ≡ front ++ t ∷ [] → reverse rest ≡ t ∷ reverse front
@@ -48,7 +48,7 @@ last_off xs d h =
     last_first (take n xs) (get_or xs n d) xs s
 
 -- where the last operand is there, and where it is not
-module _ (types rest : List ValType) (d : ValType) (k : Position) (w : Checker) (le : 1 ≤ length rest) (r : Rest types rest k w) where
+module _ (types rest : List ValType) (d : ValType) (k : CheckPosition) (w : Checker) (le : 1 ≤ length rest) (r : Rest types rest k w) where
   abbrev last : ValType
   last = get_or rest (length rest - 1) d
 
@@ -64,7 +64,7 @@ module _ (types rest : List ValType) (d : ValType) (k : Position) (w : Checker) 
   pub rest_none : pop_type last r.stack ≡ None → pop_types (reverse types) k.stack ≡ None
   rest_none none = popped ∙ then_none (pop_type last r.stack) (pop_types (reverse front)) none
 
-pub rest_over : (types rest : List ValType) (k : Position) (w : Checker) → length rest < 1 → (r : Rest types rest k w) → Stepped (pop_types (reverse types) k.stack) k w
+pub rest_over : (types rest : List ValType) (k : CheckPosition) (w : Checker) → length rest < 1 → (r : Rest types rest k w) → Stepped (pop_types (reverse types) k.stack) k w
 rest_over types [] k w le r = record { stack = r.stack; is = r.same; shows = r.shows }
 rest_over types (t ∷ ts) k w le r = absurd (omega arith)
 
@@ -82,5 +82,5 @@ pops_any ts s any =
     ap (λ (ks : List (Option ValType)). record s { operands = ks }) any.0 ∙ ap (λ (b : Bool). record s { operands = []; unreachable = b }) any.1 in
     ap (pop_types ts) same ∙ pops_bare ts s.peak_operands s.peak_labels ∙ ap (λ (x : Stack). Some x) (sym same)
 
-pub rest_any : (types rest : List ValType) (k : Position) (w : Checker) (r : Rest types rest k w) → HasAny r.stack → Stepped (pop_types (reverse types) k.stack) k w
+pub rest_any : (types rest : List ValType) (k : CheckPosition) (w : Checker) (r : Rest types rest k w) → HasAny r.stack → Stepped (pop_types (reverse types) k.stack) k w
 rest_any types rest k w r any = record { stack = r.stack; is = r.same ∙ pops_any (reverse rest) r.stack any; shows = r.shows }

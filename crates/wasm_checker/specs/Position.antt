@@ -10,7 +10,7 @@ use Rattle.wasm_checker.specs.Check.{Stack}
 use Rattle.wasm_checker.specs.Subject.{context, result_of}
 
 -- an open block, loop or if: what its branches and its end need, the other arm, and the stack and place around it
-pub record OpenBlock : Type 0 where
+pub record EnclosingBlock : Type 0 where
   pub label_type : Option ValType
   pub end_type : Option ValType
   pub second : Option ℕ
@@ -20,34 +20,34 @@ pub record OpenBlock : Type 0 where
   pub after : ℕ
 
 -- a place in a sequence, the stack there, and the open blocks, the innermost first
-pub record Position : Type 0 where
+pub record CheckPosition : Type 0 where
   pub sequence : ℕ
   pub place : ℕ
   pub stack : Stack
-  pub blocks : List OpenBlock
+  pub blocks : List EnclosingBlock
 
-abbrev pub with_stack : Position → Stack → Position
+abbrev pub with_stack : CheckPosition → Stack → CheckPosition
 with_stack k s = record k { stack = s }
 
 -- the innermost label first, the body's own one last
-abbrev pub labels_of : Option ValType → List OpenBlock → List (List ValType)
+abbrev pub labels_of : Option ValType → List EnclosingBlock → List (List ValType)
 labels_of result [] = result_types result ∷ []
 labels_of result (o ∷ os) = result_types o.label_type ∷ labels_of result os
 
-abbrev pub inside : Module → Function → List OpenBlock → Context
+abbrev pub inside : Module → Function → List EnclosingBlock → Context
 inside m f os = context m f (labels_of (result_of m f) os)
 
 -- how many operands lie below the innermost block
-abbrev pub base_of : List OpenBlock → ℕ
+abbrev pub base_of : List EnclosingBlock → ℕ
 base_of [] = 0
 base_of (o ∷ os) = base_of os + length o.operands
 
 -- the stack around a block whose inner code ended so
-abbrev pub back : OpenBlock → Stack → Stack
+abbrev pub back : EnclosingBlock → Stack → Stack
 back o e = record e { unreachable = o.unreachable; operands = o.operands }
 
 -- inner code is entered, in a function with this result
-abbrev pub opened : Option ValType → Position → Option ValType → Option ValType → Option ℕ → ℕ → Position
+abbrev pub opened : Option ValType → CheckPosition → Option ValType → Option ValType → Option ℕ → ℕ → CheckPosition
 opened result k label_type end_type second q = record {
   sequence = q;
   place = 0;
@@ -56,23 +56,23 @@ opened result k label_type end_type second q = record {
 }
 
 -- back around inner code
-abbrev pub outside : OpenBlock → List OpenBlock → Stack → Position
+abbrev pub outside : EnclosingBlock → List EnclosingBlock → Stack → CheckPosition
 outside o os e = record { sequence = o.sequence; place = o.after; stack = back o e; blocks = os }
 
 -- the flat stacks
-abbrev pub beneath : List OpenBlock → List (Option ValType)
+abbrev pub beneath : List EnclosingBlock → List (Option ValType)
 beneath [] = []
 beneath (o ∷ os) = beneath os ++ reverse o.operands
 
-abbrev pub frame_of : OpenBlock → List OpenBlock → ControlFrame
+abbrev pub frame_of : EnclosingBlock → List EnclosingBlock → ControlFrame
 frame_of o os =
     record { label_type = o.label_type; end_type = o.end_type; second = o.second; unreachable = o.unreachable; base = length (beneath os); sequence = o.sequence; after = o.after }
 
-abbrev pub frames_of : List OpenBlock → List ControlFrame
+abbrev pub frames_of : List EnclosingBlock → List ControlFrame
 frames_of [] = []
 frames_of (o ∷ os) = frames_of os ++ frame_of o os ∷ []
 
-pub record Shows (k : Position) (w : Checker) : Type 0 where
+pub record ShowsPosition (k : CheckPosition) (w : Checker) : Type 0 where
   pub sequence : w.sequence ≡ k.sequence
   pub place : w.place ≡ k.place
   pub unreachable : w.unreachable ≡ k.stack.unreachable

@@ -13,8 +13,8 @@ HaveOneResult m = All (λ t. length t.results ≤ 1) m.types
 abbrev pub result_of : Module → Function → Option ValType
 result_of m f = slice_get (results_of (module_tree m) (function_tree f)) 0
 
-abbrev pub locals_of : Module → Function → List ValType
-locals_of m f = params_of (module_tree m) (function_tree f) ++ (function_tree f).locals
+abbrev pub all_locals : Module → Function → List ValType
+all_locals m f = params_of (module_tree m) (function_tree f) ++ (function_tree f).locals
 
 abbrev pub context : Module → Function → List (List ValType) → Context
-context m f labels = record { defined = module_tree m; locals = locals_of m f; labels = labels; results = result_types (result_of m f) }
+context m f labels = record { defined = module_tree m; locals = all_locals m f; labels = labels; results = result_types (result_of m f) }

@@ -11,26 +11,26 @@ use Rattle.wasm_checker.specs.declared.fault.CheckFault.{CheckFault}
 use Rattle.wasm_checker.specs.Check.{Stack, and_then, push_types, end_block, enter, check, check_body}
 use Rattle.wasm_types.specs.Sequences.{ops_of, earlier, code_at}
 use Rattle.wasm_checker.specs.Subject.{result_of}
-use Rattle.wasm_checker.specs.Position.{OpenBlock, Position, Shows, base_of, inside, back}
+use Rattle.wasm_checker.specs.Position.{EnclosingBlock, CheckPosition, ShowsPosition, base_of, inside, back}
 use Rattle.wasm_checker.specs.Steps.{Refuses}
 
 module _ (m : Module) (f : Function) where
   -- what follows an open block
-  abbrev pub follows : OpenBlock → List OpenBlock → Stack → Option Stack
+  abbrev pub follows : EnclosingBlock → List EnclosingBlock → Stack → Option Stack
   follows o os e = check (base_of os) (inside m f os) (code_at f.body o.sequence o.after) (push_types (base_of os) (result_types o.end_type) (back o e))
 
   -- the other arm of an if, if there is one, and what follows
-  abbrev pub goes_on : Option ℕ → OpenBlock → List OpenBlock → Stack → Option Stack
+  abbrev pub goes_on : Option ℕ → EnclosingBlock → List EnclosingBlock → Stack → Option Stack
   goes_on None o os e = follows o os e
   goes_on (Some q) o os e =
       and_then (end_block o.end_type (check (base_of os + length o.operands) (inside m f (o ∷ os)) (code_at f.body q 0) (enter (inside m f os) (back o e)))) (follows o os)
 
   -- what is left once the current code has ended so
-  abbrev pub close : List OpenBlock → Option Stack → Option Stack
+  abbrev pub close : List EnclosingBlock → Option Stack → Option Stack
   close [] r = end_block (result_of m f) r
   close (o ∷ os) r = close os (and_then (end_block o.end_type r) (goes_on o.second o os))
 
-  abbrev pub remaining : Position → Option Stack
+  abbrev pub remaining : CheckPosition → Option Stack
   remaining k = close k.blocks (check (base_of k.blocks) (inside m f k.blocks) (code_at f.body k.sequence k.place) k.stack)
 
 -- how much there is to check
@@ -57,8 +57,8 @@ module _ (f : Function) where
 
 -- from here the walk comes to this
 pub record ComesTo (m : Module) (f : Function) (w : Checker) (o : Option Stack) : Type 0 where
-  pub position : Position
-  pub shows : Shows position w
+  pub position : CheckPosition
+  pub shows : ShowsPosition position w
   pub is : remaining m f position ≡ o
 
 -- what it came to before, with less than n left to check
@@ -71,7 +71,7 @@ abbrev pub Advances : Module → Function → Checker → Result (Unit {0}) Chec
 Advances m f old r new = (o : Option Stack) → ComesTo m f old o → MatchResult r (λ _. Advanced m f new (weight f old) o) (Refuses (o ≡ None))
 
 -- what the instruction at the last place does, and what follows it
-abbrev pub checking : Module → Function → Op → Position → Option Stack
+abbrev pub checking : Module → Function → Op → CheckPosition → Option Stack
 checking m f o k =
     close m f k.blocks (check (base_of k.blocks) (inside m f k.blocks) (code_of (earlier f.body k.sequence) (o ∷ drop k.place (ops_of f.body k.sequence))) k.stack)
 

@@ -5,7 +5,7 @@ ghost use Rattle.std.specs.List.{list_all};
 ghost use Rattle.wasm_spec.specs.Typing as typing;
 ghost use Rattle.wasm_spec.specs.Typing.{result_types, named, Fixed, Diverges, Wrong};
 ghost use Rattle.wasm_types.specs.declared.types.ValType.TheVariants.{I32};
-ghost use Rattle.wasm_checker.specs.Position.{Position, Shows, labels_of};
+ghost use Rattle.wasm_checker.specs.Position.{CheckPosition, ShowsPosition, labels_of};
 ghost use Rattle.wasm_checker.specs.Steps.{Applies};
 
 use crate::checker::Checker;
@@ -50,7 +50,7 @@ impl Checker {
 
     // Whether these labels are there, and need just this.
     fn are_labels(&self, body: Option<ValType>, names: &[u32], t: Option<ValType>) -> bool
-        ensures { (k : Position) → Shows k self.now
+        ensures { (k : CheckPosition) → ShowsPosition k self.now
             → result ≡ list_all (λ x. typing.is_label (result_types t) (slice_get (labels_of body k.blocks) x)) names.now }
     {
         for x in names {
@@ -63,7 +63,7 @@ impl Checker {
 
     // Whether this label is there, and needs just this.
     fn is_label(&self, body: Option<ValType>, l: u32, t: Option<ValType>) -> bool
-        ensures { (k : Position) → Shows k self.now
+        ensures { (k : CheckPosition) → ShowsPosition k self.now
             → result ≡ typing.is_label (result_types t) (slice_get (labels_of body k.blocks) l) }
     {
         match self.label(body, l) {

@@ -5,7 +5,7 @@ ghost use Rattle.wasm_types.specs.declared.types.ValType.{ValType};
 ghost use Rattle.wasm_spec.specs.Typing.{result_types};
 ghost use Rattle.wasm_checker.specs.Check as check;
 ghost use Rattle.wasm_checker.specs.Check.{HasAny};
-ghost use Rattle.wasm_checker.specs.Position.{Position, OpenBlock, Shows, with_stack, base_of, labels_of, opened, outside};
+ghost use Rattle.wasm_checker.specs.Position.{CheckPosition, EnclosingBlock, ShowsPosition, with_stack, base_of, labels_of, opened, outside};
 ghost use Rattle.wasm_checker.specs.Steps.{Refuses, Pops, Steps};
 
 use crate::fault::CheckFault;
@@ -102,7 +102,7 @@ impl Checker {
 
     // Whether the code is not reached and the innermost block has no operand: there are as many of each type as are popped.
     fn has_any(&self) -> bool
-        ensures { (k : Position) → Shows k self.now → IsTrue result → HasAny k.stack }
+        ensures { (k : CheckPosition) → ShowsPosition k self.now → IsTrue result → HasAny k.stack }
     {
         self.unreachable && self.operands.len() == self.base
     }
@@ -155,8 +155,8 @@ impl Checker {
 
     /// Whatever follows is not reached.
     pub(crate) fn set_unreachable(&mut self)
-        ensures { (k : Position) → Shows k self.old
-            → Shows (with_stack k (check.set_unreachable (base_of k.blocks) k.stack)) self.new }
+        ensures { (k : CheckPosition) → ShowsPosition k self.old
+            → ShowsPosition (with_stack k (check.set_unreachable (base_of k.blocks) k.stack)) self.new }
     {
         self.operands.truncate(self.base);
         self.unreachable = true;
@@ -170,8 +170,8 @@ impl Checker {
         second: Option<usize>,
         sequence: usize,
     ) -> Result<(), CheckFault>
-        ensures { (r : Option ValType) (k : Position) → Shows k self.old
-            → MatchResult result (λ _. Shows (opened r k label_type end_type second sequence) self.new) (Refuses ⊥) }
+        ensures { (r : Option ValType) (k : CheckPosition) → ShowsPosition k self.old
+            → MatchResult result (λ _. ShowsPosition (opened r k label_type end_type second sequence) self.new) (Refuses ⊥) }
     {
         self.frames.push(ControlFrame {
             label_type,
@@ -193,7 +193,7 @@ impl Checker {
 
     /// What a branch to a label needs, the labels counted from the innermost, in a function with this result.
     pub(crate) fn label(&self, body: Option<ValType>, l: u32) -> Option<Option<ValType>>
-        ensures { (k : Position) → Shows k self.now → option_map result_types result ≡ slice_get (labels_of body k.blocks) l }
+        ensures { (k : CheckPosition) → ShowsPosition k self.now → option_map result_types result ≡ slice_get (labels_of body k.blocks) l }
     {
         let n = self.frames.len();
         let l = l as usize;
@@ -220,8 +220,8 @@ impl Checker {
 
     /// Goes back around the inner code, which is over.
     pub(crate) fn leave(&mut self)
-        ensures { (k : Position) (o : OpenBlock) (os : List OpenBlock) → Shows k self.old
-            → k.blocks ≡ o ∷ os → k.stack.operands ≡ [] → Shows (outside o os k.stack) self.new }
+        ensures { (k : CheckPosition) (o : EnclosingBlock) (os : List EnclosingBlock) → ShowsPosition k self.old
+            → k.blocks ≡ o ∷ os → k.stack.operands ≡ [] → ShowsPosition (outside o os k.stack) self.new }
     {
         let Some(frame) = self.frames.pop() else {
             return;

@@ -6,7 +6,7 @@ ghost use Rattle.wasm_types.specs.declared.types.ValType.TheVariants.{I32};
 ghost use Rattle.wasm_spec.specs.Typing.{Fixed, named, needs_one, rule};
 ghost use Rattle.wasm_spec.specs.Functions as functions;
 ghost use Rattle.wasm_spec.specs.Typing as typing;
-ghost use Rattle.wasm_checker.specs.Subject.{HaveOneResult, locals_of};
+ghost use Rattle.wasm_checker.specs.Subject.{HaveOneResult, all_locals};
 ghost use Rattle.wasm_checker.specs.Position.{inside};
 ghost use Rattle.wasm_checker.specs.Steps.{Applies};
 
@@ -26,7 +26,7 @@ impl Checker {
         locals: &Locals,
         i: &Instr,
     ) -> Result<(), CheckFault>
-        requires { locals.now ≡ locals_of m.now f.now }
+        requires { locals.now ≡ all_locals m.now f.now }
         ensures { Applies (λ k. rule (inside m.now f.now k.blocks) i.now) self.old result self.new }
     {
         match i {

@@ -3,7 +3,7 @@
 ghost use Rattle.std.specs.Prelude.{◌≡◌, ℕ, ◌+◌, ◌<◌, ◌^◌, List, [], Option, None, Some, slice_get, length};
 ghost use Rattle.wasm_checker.specs.Check.{Stack};
 ghost use Rattle.wasm_types.specs.Sequences.{ops_of};
-ghost use Rattle.wasm_checker.specs.Subject.{HaveOneResult, locals_of};
+ghost use Rattle.wasm_checker.specs.Subject.{HaveOneResult, all_locals};
 ghost use Rattle.wasm_checker.specs.Walk.{ComesTo, Advances, Counts, whole};
 
 use crate::checker::Checker;
@@ -23,7 +23,7 @@ impl Checker {
         op: &Op,
     ) -> Result<(), CheckFault>
         requires types { HaveOneResult m.now }
-        requires locals { locals.now ≡ locals_of m.now f.now }
+        requires locals { locals.now ≡ all_locals m.now f.now }
         requires is { slice_get (ops_of f.now.body self.old.sequence) self.old.place ≡ Some op.now }
         requires fits { self.old.place + 1 < 2 ^ 64 }
         ensures { Advances m.now f.now self.old result self.new }
@@ -100,7 +100,7 @@ pub(crate) fn walk(
     locals: &Locals,
 ) -> Result<(u32, u32), CheckFault>
     requires types { HaveOneResult m.now }
-    requires locals { locals.now ≡ locals_of m.now f.now }
+    requires locals { locals.now ≡ all_locals m.now f.now }
     ensures { Counts (whole m.now f.now) result }
 {
     let mut walk = start(alloc, m, f);

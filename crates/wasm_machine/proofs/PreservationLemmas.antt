@@ -26,7 +26,7 @@ use Rattle.wasm_spec.specs.Execution.{State, Signal, Next, Trapped, value, if_ze
 use Rattle.wasm_spec.specs.Execution as execution
 use Rattle.machine_steps.specs.Configuration.{Configuration, state}
 use Rattle.wasm_machine.specs.TypedConfiguration.{IsTypedStore}
-use Rattle.machine_steps.specs.InstructionKinds.{jumps, takes_width, gives_width, IsOfOne, of_one, IsOfTwo, of_two, IsLoad, IsStoring, offset_of, access_width, loaded_as, stored_as}
+use Rattle.machine_steps.specs.InstructionKinds.{jumps, takes_width, gives_width, IsOfOne, of_one, IsOfTwo, of_two, IsLoad, IsStoring, address_offset, access_width, loaded_as, stored_as}
 use Rattle.wasm_machine.specs.Simulation.{IsPreserved}
 use Rattle.wasm_machine.proofs.BranchIfLemmas.{value_there}
 use Rattle.machine_steps.proofs.KindLemmas.{Single, Setting, Chosen, one_means, two_means, drop_means, select_means, local_get_means, local_set_means, local_tee_means, global_get_means, global_set_means}
@@ -320,9 +320,9 @@ module _ (m : Module) (limits : Terms) (C : Context) (of_module : C.defined ≡ 
       let a = allowed C.defined.memories fits r (map type_of k.operands) middle (subst (λ (z : Rule). Takes z (map type_of k.operands) middle) is takes) in
       let (below, before, after) = a.takes in
       let (t, types) = one_typed k.operands below before in
-      let n = loaded_as i (loaded (access_width i) store.memory (t.n + offset_of i)) in
+      let n = loaded_as i (loaded (access_width i) store.memory (t.n + address_offset i)) in
       subst (λ (e : Signal). IsPreserved m C i (map type_of k.operands) middle e) (sym (load_means (module_tree m) limits i k store h t))
-      (load_as (nat_lt (length store.memory) (t.n + offset_of i + byte_len (access_width i))) i (map type_of k.operands) middle below t.rest (value v n) (state k store)
+      (load_as (nat_lt (length store.memory) (t.n + address_offset i + byte_len (access_width i))) i (map type_of k.operands) middle below t.rest (value v n) (state k store)
       (after ∙ ap (λ (u : ValType). u ∷ below) (sym (value_type v n))) types
       (counted_by (rule C i) (type.I32 ∷ []) (integer_type v ∷ []) below (map type_of k.operands) middle (is ∙ a.is) before after) locals stored)
 
@@ -342,8 +342,8 @@ module _ (m : Module) (limits : Terms) (C : Context) (of_module : C.defined ≡ 
       let (below, before, after) = a.takes in
       let (t, types) = pair_typed w k.operands below before in
       subst (λ (e : Signal). IsPreserved m C i (map type_of k.operands) middle e) (sym (store_means (module_tree m) limits i k store h t))
-      (store_as (nat_lt (length store.memory) (t.base + offset_of i + byte_len (access_width i))) i (map type_of k.operands) middle t.rest
-      (written store.memory (t.base + offset_of i) (to_le_bytes (access_width i) (stored_as i t.n))) (state k store) (types ∙ sym after)
+      (store_as (nat_lt (length store.memory) (t.base + address_offset i + byte_len (access_width i))) i (map type_of k.operands) middle t.rest
+      (written store.memory (t.base + address_offset i) (to_le_bytes (access_width i) (stored_as i t.n))) (state k store) (types ∙ sym after)
       (counted_by (rule C i) (integer_type w ∷ type.I32 ∷ []) [] below (map type_of k.operands) middle (is ∙ a.is) before after) locals stored)
 
   grow_as : (b : Bool) (ts middle below : List ValType) (vs : List Val) (x y : ℕ) (bytes : List ℕ) (s : State) → middle ≡ type.I32 ∷ below → map type_of vs ≡ below → height (rule C instr.MemoryGrow) (length ts) ≡ length middle

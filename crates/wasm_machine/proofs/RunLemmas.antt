@@ -15,7 +15,8 @@ use Rattle.wasm_spec.specs.Execution.{Trapped, OutOfFuel, Ended, ended}
 use Rattle.wasm_spec.specs.Result.{CallResult, result_of}
 use Rattle.linear_memory.specs.declared.memory.Memory.{Memory}
 use Rattle.linear_memory.specs.Bytes.{IsMemory, shown}
-use Rattle.linear_memory.specs.Marks.{KeepsUnmarked, MarksChanges}
+use Rattle.memory_blocks.specs.Blocks.{KeepsUnmarked}
+use Rattle.linear_memory.specs.Marks.{MarksChanges}
 use Rattle.linear_memory.proofs.MarkedBlocks.{changes_more, shown_unmarked}
 use Rattle.wasm_machine.specs.Lent.{MarksWithin}
 use Rattle.machine_steps.specs.declared.machine.Machine.{Machine}

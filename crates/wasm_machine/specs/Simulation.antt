@@ -22,7 +22,7 @@ use Rattle.wasm_machine.specs.declared.running.Step.TheVariants as step
 use Rattle.linear_memory.specs.declared.memory.Memory.{Memory}
 use Rattle.wasm_machine.specs.declared.running.Halt.{Halt}
 use Rattle.wasm_machine.specs.declared.running.Halt.TheVariants as halt
-use Rattle.linear_memory.specs.Marks.{KeepsUnmarked}
+use Rattle.memory_blocks.specs.Blocks.{KeepsUnmarked}
 use Rattle.machine_steps.specs.Configuration.{Configuration, state}
 use Rattle.wasm_machine.specs.Remaining.{function_of, results, resume_at, after_sequence, run_from}
 use Rattle.machine_steps.specs.StackLayout.{Represents, HasRoom}

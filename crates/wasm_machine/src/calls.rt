@@ -24,7 +24,7 @@ use crate::lookup::{has_type, host_of, local_runs, param_count, start_of};
 use crate::running::{Inputs, Step, unless_trapped};
 use call_payload::AnswerBuf;
 use linear_memory::Memory;
-use machine_steps::{Machine, Position, ValueStack, push};
+use machine_steps::{Machine, Position, ValueStack};
 use wasm_types::{LocalRun, Module, RunLimits, ValType};
 use wasm_values::{TrapKind, Val};
 
@@ -96,7 +96,7 @@ fn enter_function(machine: &mut Machine, m: &Module, x: usize, count: usize)
 {
     let locals = machine.values.len() - count;
     push_zeros(&mut machine.values, local_runs(m, x));
-    push(&mut machine.frames, machine.at);
+    machine.frames.push_reserved(machine.at);
     machine.at = Position {
         function: x,
         sequence: start_of(m, x),
@@ -137,8 +137,10 @@ fn call_import(
     requires memory { (most : ℕ) × IsMemory most memory.old }
     requires short { length inputs.now.request.now < 2 ^ 32 }
     ensures steps { (frame : ℕ) (table : List (Option ℕ)) (globals : List AVal) (r : ℕ → Ended) → IsRunnable inputs.now.m.now frame
-        → SimulatesCalling inputs.now.m.now (terms inputs.now.limits inputs.now.request.now) frame machine.old (store_of memory.old table globals answer.old) x r
-        → SimulatesStep result inputs.now.m.now (terms inputs.now.limits inputs.now.request.now) frame machine.new (store_of memory.new table globals answer.new) r }
+        → SimulatesCalling inputs.now.m.now (terms inputs.now.limits inputs.now.request.now) frame machine.old
+        (store_of memory.old table globals answer.old) x r
+        → SimulatesStep result inputs.now.m.now (terms inputs.now.limits inputs.now.request.now) frame machine.new
+        (store_of memory.new table globals answer.new) r }
     ensures room { KeepsRoom machine.old machine.new }
     ensures memory { (most : ℕ) → IsMemory most memory.old → IsMemory most memory.new }
     ensures marks { MarksWithin inputs.now.m.now memory.old memory.new 0 }
@@ -163,8 +165,10 @@ pub(crate) fn call(
     requires memory { (most : ℕ) × IsMemory most memory.old }
     requires short { length inputs.now.request.now < 2 ^ 32 }
     ensures steps { (frame : ℕ) (table : List (Option ℕ)) (globals : List AVal) (r : ℕ → Ended) → IsRunnable inputs.now.m.now frame
-        → SimulatesCalling inputs.now.m.now (terms inputs.now.limits inputs.now.request.now) frame machine.old (store_of memory.old table globals answer.old) x r
-        → SimulatesStep result inputs.now.m.now (terms inputs.now.limits inputs.now.request.now) frame machine.new (store_of memory.new table globals answer.new) r }
+        → SimulatesCalling inputs.now.m.now (terms inputs.now.limits inputs.now.request.now) frame machine.old
+        (store_of memory.old table globals answer.old) x r
+        → SimulatesStep result inputs.now.m.now (terms inputs.now.limits inputs.now.request.now) frame machine.new
+        (store_of memory.new table globals answer.new) r }
     ensures room { KeepsRoom machine.old machine.new }
     ensures memory { (most : ℕ) → IsMemory most memory.old → IsMemory most memory.new }
     ensures marks { MarksWithin inputs.now.m.now memory.old memory.new 0 }
@@ -192,8 +196,10 @@ pub(crate) fn call_indirect(
     requires memory { (most : ℕ) × IsMemory most memory.old }
     requires short { length inputs.now.request.now < 2 ^ 32 }
     ensures steps { (frame : ℕ) (globals : List AVal) (here : ℕ) (r : ℕ → Ended) → IsRunnable inputs.now.m.now frame
-        → HasFetched inputs.now.m.now (terms inputs.now.limits inputs.now.request.now) frame machine.old (store_of memory.old inputs.now.table.now globals answer.old) here (op.CallIndirect x) r
-        → SimulatesStep result inputs.now.m.now (terms inputs.now.limits inputs.now.request.now) frame machine.new (store_of memory.new inputs.now.table.now globals answer.new) (paid r) }
+        → HasFetched inputs.now.m.now (terms inputs.now.limits inputs.now.request.now) frame machine.old
+        (store_of memory.old inputs.now.table.now globals answer.old) here (op.CallIndirect x) r
+        → SimulatesStep result inputs.now.m.now (terms inputs.now.limits inputs.now.request.now) frame machine.new
+        (store_of memory.new inputs.now.table.now globals answer.new) (paid r) }
     ensures room { KeepsRoom machine.old machine.new }
     ensures memory { (most : ℕ) → IsMemory most memory.old → IsMemory most memory.new }
     ensures marks { MarksWithin inputs.now.m.now memory.old memory.new 0 }

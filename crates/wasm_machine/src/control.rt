@@ -82,7 +82,8 @@ pub(crate) fn end_sequence(machine: &mut Machine, m: &Module) -> bool
 pub(crate) fn branch_if(machine: &mut Machine, m: &Module, l: usize) -> bool
     requires { CanExecuteNext m.now (op.Plain (instr.BrIf l)) machine.old }
     ensures steps { (limits : Terms) (frame : ℕ) (store : Store) (here : ℕ) (r : ℕ → Ended)
-        → HasFetched m.now limits frame machine.old store here (op.Plain (instr.BrIf l)) r → SimulatesUnlessOver result m.now limits frame machine.new store (paid r) }
+        → HasFetched m.now limits frame machine.old store here (op.Plain (instr.BrIf l)) r
+        → SimulatesUnlessOver result m.now limits frame machine.new store (paid r) }
     ensures room { KeepsRoom machine.old machine.new }
 {
     let n = machine.pop32();
@@ -93,7 +94,8 @@ pub(crate) fn branch_if(machine: &mut Machine, m: &Module, l: usize) -> bool
 pub(crate) fn branch_by_table(machine: &mut Machine, m: &Module, labels: &[u32], last: u32) -> bool
     requires { CanExecuteNext m.now (op.Plain (instr.BrTable labels.now last)) machine.old }
     ensures steps { (limits : Terms) (frame : ℕ) (store : Store) (here : ℕ) (r : ℕ → Ended)
-        → HasFetched m.now limits frame machine.old store here (op.Plain (instr.BrTable labels.now last)) r → SimulatesUnlessOver result m.now limits frame machine.new store (paid r) }
+        → HasFetched m.now limits frame machine.old store here (op.Plain (instr.BrTable labels.now last)) r
+        → SimulatesUnlessOver result m.now limits frame machine.new store (paid r) }
     ensures room { KeepsRoom machine.old machine.new }
 {
     let n = machine.pop32();
@@ -105,7 +107,8 @@ pub(crate) fn jump(machine: &mut Machine, m: &Module, instr: &Instr) -> bool
     requires kind { IsTrue (jumps instr.now) }
     requires can { CanExecuteNext m.now (op.Plain instr.now) machine.old }
     ensures steps { (limits : Terms) (frame : ℕ) (store : Store) (here : ℕ) (r : ℕ → Ended)
-        → HasFetched m.now limits frame machine.old store here (op.Plain instr.now) r → SimulatesUnlessOver result m.now limits frame machine.new store (paid r) }
+        → HasFetched m.now limits frame machine.old store here (op.Plain instr.now) r
+        → SimulatesUnlessOver result m.now limits frame machine.new store (paid r) }
     ensures room { KeepsRoom machine.old machine.new }
 {
     match instr {

@@ -13,7 +13,8 @@ ghost use Rattle.wasm_spec.specs.Bulk.{HasFewMarks};
 ghost use Rattle.wasm_spec.specs.Instances.{room_for};
 ghost use Rattle.wasm_spec.specs.Result.{CallResult, function_result, result_of, run_function};
 ghost use Rattle.linear_memory.specs.Bytes.{IsMemory};
-ghost use Rattle.linear_memory.specs.Marks.{HasSameRoom, KeepsUnmarked, MarksChanges, count_marks};
+ghost use Rattle.memory_blocks.specs.Blocks.{KeepsUnmarked};
+ghost use Rattle.linear_memory.specs.Marks.{HasSameRoom, MarksChanges, count_marks};
 ghost use Rattle.machine_steps.specs.Lent.{store_of};
 ghost use Rattle.machine_steps.specs.StackLayout.{KeepsRoom};
 ghost use Rattle.wasm_machine.specs.Calls.{FitsFrame, GivesOutside, IsCall, IsOwnCall, IsDone, outside};
@@ -63,7 +64,8 @@ fn host_from_outside(
     requires memory { (most : ℕ) × IsMemory most memory.old }
     requires short { length request.now < 2 ^ 32 }
     ensures ends { (table : List (Option ℕ)) (globals : List AVal)
-        → GivesOutside (host_call request.now function (outside args.now (store_of memory.old table globals answer.old))) result (store_of memory.new table globals answer.new) }
+        → GivesOutside (host_call request.now function (outside args.now (store_of memory.old table globals answer.old))) result
+        (store_of memory.new table globals answer.new) }
     ensures memory { (most : ℕ) → IsMemory most memory.old → IsMemory most memory.new }
     ensures marks { (added : ℕ) × MarksChanges memory.old memory.new added }
 {
@@ -131,22 +133,30 @@ fn go_on(
     machine: &mut Machine,
 ) -> RunEnd
     requires runs { (frame : ℕ) × (r : ℕ → Ended) × IsRunnable inputs.now.m.now frame
-        × Simulates inputs.now.m.now (terms inputs.now.limits inputs.now.request.now) frame machine.old (store_of memory.old inputs.now.table.now globals.old answer.old) r }
+        × Simulates inputs.now.m.now (terms inputs.now.limits inputs.now.request.now) frame machine.old
+        (store_of memory.old inputs.now.table.now globals.old answer.old) r }
     requires memory { IsMemory (room_for inputs.now.m.now.memories inputs.now.limits.pages) memory.old }
     requires short { length inputs.now.request.now < 2 ^ 32 }
     ensures result { (frame : ℕ) (r : ℕ → Ended) → IsRunnable inputs.now.m.now frame
-        → Simulates inputs.now.m.now (terms inputs.now.limits inputs.now.request.now) frame machine.old (store_of memory.old inputs.now.table.now globals.old answer.old) r
-        → result_of (r fuel) ≡ Some (record { outcome = result.outcome; store = store_of memory.new inputs.now.table.now globals.new answer.new; fuel = result.left }) }
+        → Simulates inputs.now.m.now (terms inputs.now.limits inputs.now.request.now) frame machine.old
+        (store_of memory.old inputs.now.table.now globals.old answer.old) r
+        → result_of (r fuel) ≡ Some
+        (record { outcome = result.outcome; store = store_of memory.new inputs.now.table.now globals.new answer.new; fuel = result.left }) }
     ensures ended { HasEnded result.outcome → (frame : ℕ) (r : ℕ → Ended) → IsRunnable inputs.now.m.now frame
-        → Simulates inputs.now.m.now (terms inputs.now.limits inputs.now.request.now) frame machine.old (store_of memory.old inputs.now.table.now globals.old answer.old) r → (more : ℕ)
-        → result_of (r (fuel - result.left + more)) ≡ Some (record { outcome = result.outcome; store = store_of memory.new inputs.now.table.now globals.new answer.new; fuel = more }) }
+        → Simulates inputs.now.m.now (terms inputs.now.limits inputs.now.request.now) frame machine.old
+        (store_of memory.old inputs.now.table.now globals.old answer.old) r → (more : ℕ)
+        → result_of (r (fuel - result.left + more))
+        ≡ Some (record { outcome = result.outcome; store = store_of memory.new inputs.now.table.now globals.new answer.new; fuel = more }) }
     ensures stands { IsOutOfFuel result.outcome → (frame : ℕ) (r : ℕ → Ended) → IsRunnable inputs.now.m.now frame
-        → Simulates inputs.now.m.now (terms inputs.now.limits inputs.now.request.now) frame machine.old (store_of memory.old inputs.now.table.now globals.old answer.old) r
-        → Simulates inputs.now.m.now (terms inputs.now.limits inputs.now.request.now) frame machine.new (store_of memory.new inputs.now.table.now globals.new answer.new) (after fuel r) }
+        → Simulates inputs.now.m.now (terms inputs.now.limits inputs.now.request.now) frame machine.old
+        (store_of memory.old inputs.now.table.now globals.old answer.old) r
+        → Simulates inputs.now.m.now (terms inputs.now.limits inputs.now.request.now) frame machine.new
+        (store_of memory.new inputs.now.table.now globals.new answer.new) (after fuel r) }
     ensures left { result.left ≤ fuel }
     ensures store { IsDone result.outcome → IsTypedStore inputs.now.m.now (store_of memory.new inputs.now.table.now globals.new answer.new) }
     ensures marked { (frame : ℕ) (r : ℕ → Ended) → IsRunnable inputs.now.m.now frame
-        → Simulates inputs.now.m.now (terms inputs.now.limits inputs.now.request.now) frame machine.old (store_of memory.old inputs.now.table.now globals.old answer.old) r
+        → Simulates inputs.now.m.now (terms inputs.now.limits inputs.now.request.now) frame machine.old
+        (store_of memory.old inputs.now.table.now globals.old answer.old) r
         → (turns : ℕ) (x : CallResult) → turns ≤ fuel → result_of (r turns) ≡ Some x
         → KeepsUnmarked memory.old.bytes.items x.store.memory memory.old.marks.items memory.new.marks.items }
     ensures unspent { result.left ≡ fuel → memory.new.marks.items ≡ memory.old.marks.items }

@@ -125,7 +125,11 @@ fn fetch<'m>(machine: &mut Machine, m: &'m Module, ops: &mut &'m [Op]) -> bool
     if machine.at.place < ops.len() {
         return false;
     }
-    end_sequences(machine, m, ops)
+    // A copy is lent, so that the loop of a run can hold its own in registers.
+    let mut current = *ops;
+    let over = end_sequences(machine, m, &mut current);
+    *ops = current;
+    over
 }
 
 // A block, a loop, an `if` or a call, at which the machine stands.
@@ -141,12 +145,15 @@ fn execute_structured(
     requires structured { IsStructured op.now }
     requires fits { machine.old.at.place + 1 < 2 ^ 64 }
     requires runs { (frame : ℕ) × (globals : List AVal) × (r : ℕ → Ended) × IsRunnable inputs.now.m.now frame
-        × Simulates inputs.now.m.now (terms inputs.now.limits inputs.now.request.now) frame machine.old (store_of memory.old inputs.now.table.now globals answer.old) r }
+        × Simulates inputs.now.m.now (terms inputs.now.limits inputs.now.request.now) frame machine.old
+        (store_of memory.old inputs.now.table.now globals answer.old) r }
     requires memory { IsMemory (room_for inputs.now.m.now.memories inputs.now.limits.pages) memory.old }
     requires short { length inputs.now.request.now < 2 ^ 32 }
     ensures steps { (frame : ℕ) (globals : List AVal) (r : ℕ → Ended) → IsRunnable inputs.now.m.now frame
-        → Simulates inputs.now.m.now (terms inputs.now.limits inputs.now.request.now) frame machine.old (store_of memory.old inputs.now.table.now globals answer.old) r
-        → SimulatesStep result inputs.now.m.now (terms inputs.now.limits inputs.now.request.now) frame machine.new (store_of memory.new inputs.now.table.now globals answer.new) (paid r) }
+        → Simulates inputs.now.m.now (terms inputs.now.limits inputs.now.request.now) frame machine.old
+        (store_of memory.old inputs.now.table.now globals answer.old) r
+        → SimulatesStep result inputs.now.m.now (terms inputs.now.limits inputs.now.request.now) frame machine.new
+        (store_of memory.new inputs.now.table.now globals answer.new) (paid r) }
     ensures room { KeepsRoom machine.old machine.new }
     ensures memory { IsMemory (room_for inputs.now.m.now.memories inputs.now.limits.pages) memory.new }
     ensures marks { MarksWithin inputs.now.m.now memory.old memory.new 2 }
@@ -192,12 +199,15 @@ fn execute(
     requires fits { machine.old.at.place + 1 < 2 ^ 64 }
     requires most { most ≡ pages_at_most inputs.now.m.now.memories inputs.now.limits.pages }
     requires runs { (frame : ℕ) × (r : ℕ → Ended) × IsRunnable inputs.now.m.now frame
-        × Simulates inputs.now.m.now (terms inputs.now.limits inputs.now.request.now) frame machine.old (store_of memory.old inputs.now.table.now globals.old answer.old) r }
+        × Simulates inputs.now.m.now (terms inputs.now.limits inputs.now.request.now) frame machine.old
+        (store_of memory.old inputs.now.table.now globals.old answer.old) r }
     requires memory { IsMemory (room_for inputs.now.m.now.memories inputs.now.limits.pages) memory.old }
     requires short { length inputs.now.request.now < 2 ^ 32 }
     ensures steps { (frame : ℕ) (r : ℕ → Ended) → IsRunnable inputs.now.m.now frame
-        → Simulates inputs.now.m.now (terms inputs.now.limits inputs.now.request.now) frame machine.old (store_of memory.old inputs.now.table.now globals.old answer.old) r
-        → SimulatesStep result inputs.now.m.now (terms inputs.now.limits inputs.now.request.now) frame machine.new (store_of memory.new inputs.now.table.now globals.new answer.new) (paid r) }
+        → Simulates inputs.now.m.now (terms inputs.now.limits inputs.now.request.now) frame machine.old
+        (store_of memory.old inputs.now.table.now globals.old answer.old) r
+        → SimulatesStep result inputs.now.m.now (terms inputs.now.limits inputs.now.request.now) frame machine.new
+        (store_of memory.new inputs.now.table.now globals.new answer.new) (paid r) }
     ensures room { KeepsRoom machine.old machine.new }
     ensures memory { IsMemory (room_for inputs.now.m.now.memories inputs.now.limits.pages) memory.new }
     ensures marks { MarksWithin inputs.now.m.now memory.old memory.new 2 }
@@ -227,11 +237,14 @@ fn execute_plain(
 ) -> Step
     requires most { most ≡ pages_at_most inputs.now.m.now.memories inputs.now.limits.pages }
     requires runs { (frame : ℕ) × (answer : List ℕ) × (r : ℕ → Ended) × IsRunnable inputs.now.m.now frame
-        × HasFetched inputs.now.m.now (terms inputs.now.limits inputs.now.request.now) frame machine.old (store_of memory.old inputs.now.table.now globals.old answer) here (op.Plain instr.now) r }
+        × HasFetched inputs.now.m.now (terms inputs.now.limits inputs.now.request.now) frame machine.old
+        (store_of memory.old inputs.now.table.now globals.old answer) here (op.Plain instr.now) r }
     requires memory { IsMemory (room_for inputs.now.m.now.memories inputs.now.limits.pages) memory.old }
     ensures steps { (frame : ℕ) (answer : List ℕ) (r : ℕ → Ended) → IsRunnable inputs.now.m.now frame
-        → HasFetched inputs.now.m.now (terms inputs.now.limits inputs.now.request.now) frame machine.old (store_of memory.old inputs.now.table.now globals.old answer) here (op.Plain instr.now) r
-        → SimulatesStep result inputs.now.m.now (terms inputs.now.limits inputs.now.request.now) frame machine.new (store_of memory.new inputs.now.table.now globals.new answer) (paid r) }
+        → HasFetched inputs.now.m.now (terms inputs.now.limits inputs.now.request.now) frame machine.old
+        (store_of memory.old inputs.now.table.now globals.old answer) here (op.Plain instr.now) r
+        → SimulatesStep result inputs.now.m.now (terms inputs.now.limits inputs.now.request.now) frame machine.new
+        (store_of memory.new inputs.now.table.now globals.new answer) (paid r) }
     ensures room { KeepsRoom machine.old machine.new }
     ensures memory { IsMemory (room_for inputs.now.m.now.memories inputs.now.limits.pages) memory.new }
     ensures marks { MarksWithin inputs.now.m.now memory.old memory.new 2 }
@@ -255,14 +268,18 @@ pub(crate) fn advance(
     fuel: u64,
 ) -> Halt
     requires runs { (frame : ℕ) × (r : ℕ → Ended) × IsRunnable inputs.now.m.now frame
-        × Simulates inputs.now.m.now (terms inputs.now.limits inputs.now.request.now) frame machine.old (store_of memory.old inputs.now.table.now globals.old answer.old) r }
+        × Simulates inputs.now.m.now (terms inputs.now.limits inputs.now.request.now) frame machine.old
+        (store_of memory.old inputs.now.table.now globals.old answer.old) r }
     requires memory { IsMemory (room_for inputs.now.m.now.memories inputs.now.limits.pages) memory.old }
     requires short { length inputs.now.request.now < 2 ^ 32 }
     ensures halts { (frame : ℕ) (r : ℕ → Ended) → IsRunnable inputs.now.m.now frame
-        → Simulates inputs.now.m.now (terms inputs.now.limits inputs.now.request.now) frame machine.old (store_of memory.old inputs.now.table.now globals.old answer.old) r
-        → HaltsAs result inputs.now.m.now (terms inputs.now.limits inputs.now.request.now) frame machine.new (store_of memory.new inputs.now.table.now globals.new answer.new) fuel r }
+        → Simulates inputs.now.m.now (terms inputs.now.limits inputs.now.request.now) frame machine.old
+        (store_of memory.old inputs.now.table.now globals.old answer.old) r
+        → HaltsAs result inputs.now.m.now (terms inputs.now.limits inputs.now.request.now) frame machine.new
+        (store_of memory.new inputs.now.table.now globals.new answer.new) fuel r }
     ensures marked { (frame : ℕ) (r : ℕ → Ended) → IsRunnable inputs.now.m.now frame
-        → Simulates inputs.now.m.now (terms inputs.now.limits inputs.now.request.now) frame machine.old (store_of memory.old inputs.now.table.now globals.old answer.old) r
+        → Simulates inputs.now.m.now (terms inputs.now.limits inputs.now.request.now) frame machine.old
+        (store_of memory.old inputs.now.table.now globals.old answer.old) r
         → AreMarkedBelow (fuel + 1) r memory.old memory.new }
     ensures left { left_of result ≤ fuel }
     ensures unspent { left_of result ≡ fuel → memory.new.marks.items ≡ memory.old.marks.items }

@@ -20,7 +20,7 @@ use Rattle.wasm_types.specs.declared.module.Export.{Export}
 use Rattle.wasm_types.specs.declared.module.ExportDesc.{ExportDesc}
 use Rattle.wasm_types.specs.declared.module.ExportDesc.TheVariants as desc
 use Rattle.wasm_spec.specs.Validity.{Exports}
-use Rattle.wasm_validate.specs.ByName.{name_of, compare, of_numbers, Rise, AreByName, function_of, function_of_desc}
+use Rattle.wasm_validate.specs.ByName.{name_of, compare, of_numbers, Rise, AreByName, function_exported, function_of_desc}
 
 -- names
 equal_names : (xs ys : List ℕ) → compare xs ys ≡ Equal → xs ≡ ys
@@ -155,11 +155,11 @@ module _ (exports : List Export) where
         found_as e (desc.Memory x) here is = tt
         found_as e (desc.Global x) here is = tt
 
-        found_in : (o : Option Export) → slice_get exports number ≡ o → IfSome (option_and_then function_of o) (Exports exports name)
+        found_in : (o : Option Export) → slice_get exports number ≡ o → IfSome (option_and_then function_exported o) (Exports exports name)
         found_in None here = tt
         found_in (Some e) here = found_as e e.desc here refl
 
-        pub found : IfSome (option_and_then function_of (slice_get exports number)) (Exports exports name)
+        pub found : IfSome (option_and_then function_exported (slice_get exports number)) (Exports exports name)
         found = found_in (slice_get exports number) refl
 
         apart_places : (i j : ℕ) → i < j → j < length (names_of numbers) → get_or (names_of numbers) i [] ≡ get_or (names_of numbers) j [] → ⊥
@@ -184,16 +184,16 @@ module _ (exports : List Export) where
               | inr (inr after) ↦ absurd (apart_places at k after (omega (arith, length-map numbers (name_of exports))) (sym xy))
             ]
 
-        pub only_found : (x : ℕ) → Exports exports name x → option_and_then function_of (slice_get exports number) ≡ Some x
+        pub only_found : (x : ℕ) → Exports exports name x → option_and_then function_exported (slice_get exports number) ≡ Some x
         only_found x e =
             let p = place e.place (slice_get_within exports e.place e.export e.there) in
             let k = one_place p.at p.within (ap (λ n. is_eq (compare (name_of exports n) name)) (p.is 0) ∙ named e.place e.export e.there e.named) in
             let n : number ≡ e.place = ap (λ i. get_or numbers i 0) (sym k) ∙ p.is 0 in
-            ap (λ i. option_and_then function_of (slice_get exports i)) n ∙ ap (λ o. option_and_then function_of o) e.there ∙ ap function_of_desc e.function
+            ap (λ i. option_and_then function_exported (slice_get exports i)) n ∙ ap (λ o. option_and_then function_exported o) e.there ∙ ap function_of_desc e.function
 
-        none_exported : option_and_then function_of (slice_get exports number) ≡ None → (x : ℕ) → Exports exports name x → ⊥
+        none_exported : option_and_then function_exported (slice_get exports number) ≡ None → (x : ℕ) → Exports exports name x → ⊥
         none_exported none x e = let s = only_found x e in cc (none, s)
 
-        pub none_clause : (o : Option ℕ) → o ≡ option_and_then function_of (slice_get exports number) → IfNone o ((x : ℕ) → Exports exports name x → ⊥)
+        pub none_clause : (o : Option ℕ) → o ≡ option_and_then function_exported (slice_get exports number) → IfNone o ((x : ℕ) → Exports exports name x → ⊥)
         none_clause None e = none_exported (sym e)
         none_clause (Some y) e = tt

@@ -35,5 +35,5 @@ abbrev pub function_of_desc : ExportDesc → Option ℕ
 function_of_desc (desc.Func x) = Some x
 function_of_desc _ = None
 
-abbrev pub function_of : Export → Option ℕ
-function_of e = function_of_desc e.desc
+abbrev pub function_exported : Export → Option ℕ
+function_exported e = function_of_desc e.desc

@@ -86,7 +86,7 @@ pub(crate) fn exports_by_name(alloc: Global, exports: &[Export]) -> Result<Vec<u
 
 // The function of this export, if it is one.
 fn function_of(exports: &[Export], i: u32) -> Option<u32>
-    ensures { result ≡ option_and_then names.function_of (slice_get exports.now i) }
+    ensures { result ≡ option_and_then names.function_exported (slice_get exports.now i) }
 {
     match exports.get(i as usize)?.desc {
         ExportDesc::Func(x) => Some(x),

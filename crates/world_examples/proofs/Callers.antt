@@ -7,7 +7,8 @@ use Rattle.wasm_types.specs.Tree.{ModuleTree}
 use Rattle.wasm_spec.specs.Execution.{exec}
 use Rattle.pool_core.specs.declared.events.Event.TheVariants.{Stamp}
 use Rattle.pool_core.specs.RefusalRules.{refusal_of}
-use Rattle.pool_worlds.specs.Contents.{Named, Marks}
+use Rattle.memory_blocks.specs.Blocks.{KeepsUnmarked}
+use Rattle.pool_worlds.specs.Contents.{Named}
 use Rattle.pool_worlds.specs.declared.kinds.Kind.TheVariants.{Ticket, Memory, Table}
 use Rattle.pool_worlds.specs.PoolMachine.{InstanceLimits, World, Step, Begin, load_limits, slot_of, terms_of, same_kind, answer, after, MayHappen, IsModule, IsOpening}
 use Rattle.world_examples.proofs.NoCode.{no_code}
@@ -65,11 +66,11 @@ answer_on_less_fuel = refl
 abbrev any_bytes : List ℕ
 any_bytes = 1 ∷ 2 ∷ []
 
-no_mark_is_taken_away : Marks any_bytes any_bytes (true ∷ []) (false ∷ []) → ⊥
-no_mark_is_taken_away marks = true≢false (marks.kept 0 refl)
+no_mark_is_taken_away : KeepsUnmarked any_bytes any_bytes (true ∷ []) (false ∷ []) → ⊥
+no_mark_is_taken_away marks = true≢false (marks.marks 0 refl)
 
-no_change_without_a_mark : Marks (1 ∷ []) (0 ∷ []) [] [] → ⊥
-no_change_without_a_mark marks = let zero_is : 0 ≡ 1 = marks.changed 0 refl in omega (arith, zero_is)
+no_change_without_a_mark : KeepsUnmarked (1 ∷ []) (0 ∷ []) [] [] → ⊥
+no_change_without_a_mark marks = let zero_is : 0 ≡ 1 = marks.bytes 0 refl in omega (arith, zero_is)
 
 -- ---- what is no opening
 

@@ -17,7 +17,7 @@ use Rattle.pool_core.specs.declared.events.Event.TheVariants.{Claim, Out}
 use Rattle.pool_worlds.specs.Contents.{Contents, filled}
 use Rattle.pool_worlds.specs.declared.kinds.Kind.{Kind}
 use Rattle.pool_worlds.specs.declared.kinds.Kind.TheVariants.{Ticket, Memory, Table}
-use Rattle.pool_worlds.specs.PoolMachine.{World, Request, Running, Machine, WorldEvent, Step, Begin, Turn, End as Ends, slots_of, answer, after, after_all, AllMayHappen, CanTurn, MarksEnd, MayHappen}
+use Rattle.pool_worlds.specs.PoolMachine.{World, Request, Running, Machine, WorldEvent, Step, Begin, Turn, End as Ends, caller_contents, answer, after, after_all, AllMayHappen, CanTurn, MarksEnd, MayHappen}
 use Rattle.pool_worlds.specs.FreshMachine.{FreshCall, fresh_answer, fresh_after_all, fresh_store_after, fresh_store_on, nothing_runs}
 use Rattle.pool_worlds.specs.Runs.{AreItsTurns}
 use Rattle.pool_worlds.specs.Worlds.{Shadows, answers, in_slots}
@@ -76,11 +76,11 @@ zeros = replicate 65532 0
 
 read_may_end : MayHappen world (begun_by reads) (Ends 0 (true ∷ []))
 unfolding exec
-read_may_end = (_, refl, no_turn_of_an_import, λ h. record { changed = beyond_four 7 98 0 0 97 98 0 0 zeros; kept = λ i m. refl })
+read_may_end = (_, refl, no_turn_of_an_import, λ h. record { bytes = beyond_four 7 98 0 0 97 98 0 0 zeros; marks = λ i m. refl })
 
 read_needs_its_mark : MarksEnd world (begun_by reads) 0 (running reads 0) (false ∷ []) → ⊥
 unfolding exec
-read_needs_its_mark marks = let seven : 7 ≡ 97 = (marks refl).changed 0 refl in omega (arith, seven)
+read_needs_its_mark marks = let seven : 7 ≡ 97 = (marks refl).bytes 0 refl in omega (arith, seven)
 
 abbrev read_ended : Machine
 read_ended = after world (begun_by reads) (Ends 0 (true ∷ []))
@@ -103,7 +103,7 @@ left marks Ticket = I32 1 ∷ []
 left marks Memory = record { bytes = filled 1 (7 ∷ 98 ∷ 0 ∷ 0 ∷ zeros); pages = 1; marks = marks; holds = Some (world.shelf 0) }
 left marks Table = record { entries = []; holds = None }
 
-left_there : (k : Kind) → slots_of world read_ended 0 k ≡ left (true ∷ []) k
+left_there : (k : Kind) → caller_contents world read_ended 0 k ≡ left (true ∷ []) k
 unfolding exec
 left_there Ticket = refl
 left_there Memory = refl

@@ -1,4 +1,4 @@
--- What preparing, restoring, clearing and a turn make of contents, and what a call is shown of them.
+-- What preparing, restoring, clearing and a turn make of contents, and what a call is shown_store of them.
 use Rattle.std.proofs.Common.{◌≡◌, ℕ, Bool, true, false, List, [], ◌∷◌, ◌++◌, length, refl}
 use Rattle.std.specs.Prelude.{Some, None, replicate, take}
 use Rattle.wasm_types.specs.declared.types.ValType.TheVariants as type
@@ -8,7 +8,7 @@ use Rattle.wasm_types.specs.declared.instr.Instr.TheVariants as instr
 use Rattle.wasm_types.specs.Tree.{End, Plain, GlobalTree, ModuleTree}
 use Rattle.wasm_spec.specs.Store.{Store}
 use Rattle.wasm_spec.proofs.AddModule.{add}
-use Rattle.pool_worlds.specs.Contents.{Named, MemoryContents, TableContents, Contents, owner, filled, memory_image, table_image, prepared, restored, replaced, needs, shown, turned}
+use Rattle.pool_worlds.specs.Contents.{Named, MemoryContents, TableContents, Contents, owner, filled, memory_image, table_image, prepared, restored, replaced, needs, shown_store, turned}
 use Rattle.pool_worlds.specs.declared.kinds.Kind.{Kind}
 use Rattle.pool_worlds.specs.declared.kinds.Kind.TheVariants.{Ticket, Memory, Table}
 use Rattle.world_examples.proofs.NoCode.{no_code}
@@ -95,13 +95,13 @@ slots pages Ticket = I32 7 ∷ I32 8 ∷ I32 9 ∷ []
 slots pages Memory = record { bytes = replicate 65536 3 ++ 5 ∷ []; pages = pages; marks = []; holds = None }
 slots pages Table = record { entries = Some 3 ∷ []; holds = None }
 
-shown_to_its_size : shown with_globals (slots 1) ≡ record { memory = replicate 65536 3; table = Some 3 ∷ []; globals = I32 7 ∷ I32 8 ∷ []; answer = [] }
+shown_to_its_size : shown_store with_globals (slots 1) ≡ record { memory = replicate 65536 3; table = Some 3 ∷ []; globals = I32 7 ∷ I32 8 ∷ []; answer = [] }
 shown_to_its_size = refl
 
-shown_without_pages : shown with_globals (slots 0) ≡ record { memory = []; table = Some 3 ∷ []; globals = I32 7 ∷ I32 8 ∷ []; answer = [] }
+shown_without_pages : shown_store with_globals (slots 0) ≡ record { memory = []; table = Some 3 ∷ []; globals = I32 7 ∷ I32 8 ∷ []; answer = [] }
 shown_without_pages = refl
 
-shown_of_no_memory_and_no_table : shown add (slots 1) ≡ record { memory = []; table = []; globals = []; answer = [] }
+shown_of_no_memory_and_no_table : shown_store add (slots 1) ≡ record { memory = []; table = []; globals = []; answer = [] }
 shown_of_no_memory_and_no_table = refl
 
 -- ---- a turn

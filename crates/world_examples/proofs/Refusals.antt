@@ -69,7 +69,7 @@ no_unmarked_change : MayHappen world read (Turn 0 []) → ⊥
 unfolding exec
 no_unmarked_change (r, calls, can, marks) =
     let m = subst (λ (x : Running). MarksTurn world read 0 x []) (sym (same_call calls)) marks in
-    let seven : 7 ≡ 0 = (m refl).changed 0 refl in omega (arith, seven)
+    let seven : 7 ≡ 0 = (m refl).bytes 0 refl in omega (arith, seven)
 
 -- there is none after the last, and the call ends no sooner
 abbrev ended : Machine
@@ -87,7 +87,7 @@ no_end_before_the_last (r, calls, stuck, marks) = stuck (subst (λ (x : Running)
 no_end_without_its_marks : MayHappen world ended (End 0 []) → ⊥
 unfolding exec
 no_end_without_its_marks (r, calls, stuck, marks) =
-    let m = subst (λ (x : Running). MarksEnd world ended 0 x []) (sym (same_call calls)) marks in true≢false ((m refl).kept 0 refl)
+    let m = subst (λ (x : Running). MarksEnd world ended 0 x []) (sym (same_call calls)) marks in true≢false ((m refl).marks 0 refl)
 
 no_turn_without_fuel : CanTurn world (record { request = record (request_of first 5) { fuel = 4 }; begun = fresh_store keeper; turns = 4 }) → ⊥
 no_turn_without_fuel can = let lt = can.fuel in omega (arith, lt)

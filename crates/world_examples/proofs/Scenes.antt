@@ -12,7 +12,8 @@ use Rattle.pool_core.specs.declared.events.Event.{Event}
 use Rattle.pool_core.specs.declared.events.Event.TheVariants.{Release}
 use Rattle.pool_core.specs.PoolCore.{opening_core}
 use Rattle.pool_core.specs.RefusalRules.{refusal_of, seat_of}
-use Rattle.pool_worlds.specs.Contents.{Named, Contents, memory_image, is_marked, IsCold}
+use Rattle.memory_blocks.specs.Blocks.{is_marked}
+use Rattle.pool_worlds.specs.Contents.{Named, Contents, memory_image, IsCold}
 use Rattle.pool_worlds.specs.declared.kinds.Kind.{Kind}
 use Rattle.pool_worlds.specs.declared.kinds.Kind.TheVariants.{Ticket, Memory, Table}
 use Rattle.pool_worlds.specs.PoolMachine.{World, Request, Running, Machine, WorldEvent, Step, Prepare, Restore, Clear, Begin, Turn, End, Cancel, IsFree, IsModule, IsCallable, after, after_all, AllMayHappen, IsOpening}

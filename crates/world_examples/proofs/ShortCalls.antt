@@ -221,7 +221,7 @@ of_one_byte = record opened {
 
 no_unmarked_change : MarksTurn world of_one_byte 0 with_memory [] → ⊥
 unfolding exec
-no_unmarked_change marks = let zero_is : 0 ≡ 1 = (marks refl).changed 0 refl in omega (arith, zero_is)
+no_unmarked_change marks = let zero_is : 0 ≡ 1 = (marks refl).bytes 0 refl in omega (arith, zero_is)
 
 -- ---- what may not come
 

@@ -11,10 +11,11 @@ use Rattle.wasm_spec.specs.Store.{Store, fresh_store}
 use Rattle.wasm_spec.specs.Result.{CallResult}
 use Rattle.wasm_spec.specs.Execution.{exec}
 use Rattle.pool_core.specs.declared.events.Event.TheVariants.{Claim, Out}
-use Rattle.pool_worlds.specs.Contents.{MemoryContents, Contents, filled, turned, is_marked, Marks}
+use Rattle.memory_blocks.specs.Blocks.{KeepsUnmarked, is_marked}
+use Rattle.pool_worlds.specs.Contents.{MemoryContents, Contents, filled, turned}
 use Rattle.pool_worlds.specs.declared.kinds.Kind.{Kind}
 use Rattle.pool_worlds.specs.declared.kinds.Kind.TheVariants.{Ticket, Memory, Table}
-use Rattle.pool_worlds.specs.PoolMachine.{World, Request, Running, Machine, WorldEvent, Step, Begin, Turn, End as Ends, slots_of, result, store_or, IsFuelEnd, after_all, AllMayHappen, CanTurn, MarksTurn, MayHappen}
+use Rattle.pool_worlds.specs.PoolMachine.{World, Request, Running, Machine, WorldEvent, Step, Begin, Turn, End as Ends, caller_contents, result, store_or, IsFuelEnd, after_all, AllMayHappen, CanTurn, MarksTurn, MayHappen}
 use Rattle.pool_worlds.specs.Runs.{LeavesFrom, HostResumes, AreTurnsTo}
 use Rattle.pool_worlds.specs.Worlds.{Calls, IsPaused, AreTurnsOf, SlicesAreTurns}
 use Rattle.world_examples.proofs.ShortCalls.{opened, world_of}
@@ -75,13 +76,13 @@ at_three = after_all world begun (replicate 3 (Turn 0 unmarked_block))
 abbrev at_four : Machine
 at_four = after_all world at_three (replicate 1 (Turn 0 marked_block))
 
-lies_at_three : (k : Kind) → slots_of world at_three 0 k ≡ slots before unmarked_block k
+lies_at_three : (k : Kind) → caller_contents world at_three 0 k ≡ slots before unmarked_block k
 unfolding exec
 lies_at_three Ticket = refl
 lies_at_three Memory = refl
 lies_at_three Table = refl
 
-lies_at_four : (k : Kind) → slots_of world at_four 0 k ≡ slots written marked_block k
+lies_at_four : (k : Kind) → caller_contents world at_four 0 k ≡ slots written marked_block k
 unfolding exec
 lies_at_four Ticket = refl
 lies_at_four Memory = refl
@@ -106,13 +107,13 @@ none_marked : (i : ℕ) → is_marked unmarked_block i ≡ false
 none_marked i = unmarked (i / 4096)
 
 abbrev MarksOf : List ℕ → List Bool → List Bool → Store → Type 0
-MarksOf old marks new s = Marks (filled 1 old) (filled 1 s.memory) marks new
+MarksOf old marks new s = KeepsUnmarked (filled 1 old) (filled 1 s.memory) marks new
 
 first_is_marked : (turns : ℕ) (x : CallResult) → 3 ≤ turns → turns ≤ 4 → result world (running 3) turns ≡ Some x → MarksOf before unmarked_block marked_block x.store
 unfolding exec
 first_is_marked turns x late le e = elim (three_or_four turns late le) [
-  | inl is ↦ subst (MarksOf before unmarked_block marked_block) (stored (running 3) turns 3 x is e) (record { changed = λ i h. refl; kept = λ i h. none_marked i })
-  | inr is ↦ subst (MarksOf before unmarked_block marked_block) (stored (running 3) turns 4 x is e) (record { changed = beyond_four 7 98 0 0 97 98 0 0 zeros; kept = λ i h. none_marked i })
+  | inl is ↦ subst (MarksOf before unmarked_block marked_block) (stored (running 3) turns 3 x is e) (record { bytes = λ i h. refl; marks = λ i h. none_marked i })
+  | inr is ↦ subst (MarksOf before unmarked_block marked_block) (stored (running 3) turns 4 x is e) (record { bytes = beyond_four 7 98 0 0 97 98 0 0 zeros; marks = λ i h. none_marked i })
 ] where
   three_or_four : (n : ℕ) → 3 ≤ n → n ≤ 4 → (n ≡ 3) ⊎ (n ≡ 4)
   three_or_four n late le = grind arith
@@ -133,7 +134,7 @@ the_fourth = record {
 
 -- which its host marks
 no_fourth_without_its_mark : LeavesFrom 1 reader (result world (running 3)) 3 4 (slots before unmarked_block) (slots written unmarked_block) unmarked_block (waits_with written) → ⊥
-no_fourth_without_its_mark leaves = seven_is_not_a ((leaves.marked refl 4 (waits_with written) (omega arith) (omega arith) leaves.gives).changed 0 refl)
+no_fourth_without_its_mark leaves = seven_is_not_a ((leaves.marked refl 4 (waits_with written) (omega arith) (omega arith) leaves.gives).bytes 0 refl)
 
 -- and which leaves the memory to its module
 abbrev of_nobody : (k : Kind) → Contents k
@@ -148,7 +149,7 @@ no_fourth_for_nobody leaves = let e = ap (λ (x : MemoryContents). x.holds) (lea
 none_at_three : (turns : ℕ) (x : CallResult) → 3 ≤ turns → turns ≤ 3 → result world (running 3) turns ≡ Some x → MarksOf before unmarked_block unmarked_block x.store
 unfolding exec
 none_at_three turns x late le e = let is : turns ≡ 3 = omega arith in
-    subst (MarksOf before unmarked_block unmarked_block) (stored (running 3) turns 3 x is e) (record { changed = λ i h. refl; kept = λ i h. h })
+    subst (MarksOf before unmarked_block unmarked_block) (stored (running 3) turns 3 x is e) (record { bytes = λ i h. refl; marks = λ i h. h })
 
 of_no_turn : LeavesFrom 1 reader (result world (running 3)) 3 3 (slots before unmarked_block) (slots before unmarked_block) unmarked_block (waits_with before)
 unfolding exec
@@ -170,7 +171,7 @@ no_mark_of_no_turn leaves = let e = leaves.still refl refl refl in cc (e)
 marked_at_its_end : (turns : ℕ) (x : CallResult) → 0 ≤ turns → turns ≤ 0 → result world import_running turns ≡ Some x → MarksOf before unmarked_block marked_block x.store
 unfolding exec
 marked_at_its_end turns x late le e = let is : turns ≡ 0 = omega arith in
-    subst (MarksOf before unmarked_block marked_block) (stored import_running turns 0 x is e) (record { changed = beyond_four 7 98 0 0 97 98 0 0 zeros; kept = λ i h. none_marked i })
+    subst (MarksOf before unmarked_block marked_block) (stored import_running turns 0 x is e) (record { bytes = beyond_four 7 98 0 0 97 98 0 0 zeros; marks = λ i h. none_marked i })
 
 of_an_import : LeavesFrom 1 reader (result world import_running) 0 0 (slots before unmarked_block) (slots written marked_block) marked_block (record (ends_with (Some (I32 1))) { fuel = 0 })
 unfolding exec
@@ -189,8 +190,8 @@ of_an_import = record {
 none_later : (marks : List Bool) (turns : ℕ) (x : CallResult) → 4 ≤ turns → turns ≤ 5 → result world (running 4) turns ≡ Some x → MarksOf written marks marks x.store
 unfolding exec
 none_later marks turns x late le e = elim (four_or_five turns late le) [
-  | inl is ↦ subst (MarksOf written marks marks) (stored (running 4) turns 4 x is e) (record { changed = λ i h. refl; kept = λ i h. h })
-  | inr is ↦ subst (MarksOf written marks marks) (stored (running 4) turns 5 x is e) (record { changed = λ i h. refl; kept = λ i h. h })
+  | inl is ↦ subst (MarksOf written marks marks) (stored (running 4) turns 4 x is e) (record { bytes = λ i h. refl; marks = λ i h. h })
+  | inr is ↦ subst (MarksOf written marks marks) (stored (running 4) turns 5 x is e) (record { bytes = λ i h. refl; marks = λ i h. h })
 ] where
   four_or_five : (n : ℕ) → 4 ≤ n → n ≤ 5 → (n ≡ 4) ⊎ (n ≡ 5)
   four_or_five n late le = grind arith
@@ -210,7 +211,7 @@ the_fifth marks = record {
 
 -- ---- which turns a slice is
 
-none_at_all : AreTurnsTo world opened 0 (running 3) 3 (slots_of world opened 0) unmarked_block → ⊥
+none_at_all : AreTurnsTo world opened 0 (running 3) 3 (caller_contents world opened 0) unmarked_block → ⊥
 none_at_all are = by are.count are.reach are.calls where
   by : (n : ℕ) → 3 + n ≡ 3 → (after_all world opened (replicate n (Turn 0 unmarked_block))).calls 0 ≡ Some (running 3) → ⊥
   by zero reach calls = call_is_there (sym calls)
@@ -218,7 +219,7 @@ none_at_all are = by are.count are.reach are.calls where
 
 may_make_its_fourth : AllMayHappen world at_three (replicate 1 (Turn 0 marked_block))
 unfolding exec
-may_make_its_fourth = ((running 3, refl, record { fuel = omega arith; unfinished = refl }, λ h. record { changed = beyond_four 7 98 0 0 97 98 0 0 zeros; kept = λ i m. none_marked i }), tt)
+may_make_its_fourth = ((running 3, refl, record { fuel = omega arith; unfinished = refl }, λ h. record { bytes = beyond_four 7 98 0 0 97 98 0 0 zeros; marks = λ i m. none_marked i }), tt)
 
 one_turn : AreTurnsTo world at_three 0 (running 3) 4 (slots written marked_block) marked_block
 one_turn = record { count = 1; reach = refl; happen = may_make_its_fourth; calls = refl; contents = λ k needed. lies_at_four k }
@@ -226,7 +227,7 @@ one_turn = record { count = 1; reach = refl; happen = may_make_its_fourth; calls
 -- a turn that marks nothing may not come
 fourth_needs_its_mark : MarksTurn world at_three 0 (running 3) unmarked_block → ⊥
 unfolding exec
-fourth_needs_its_mark marks = seven_is_not_a ((marks refl).changed 0 refl)
+fourth_needs_its_mark marks = seven_is_not_a ((marks refl).bytes 0 refl)
 
 no_fourth_unmarked : MayHappen world at_three (Turn 0 unmarked_block) → ⊥
 no_fourth_unmarked (r, calls, can, marks) = fourth_needs_its_mark (subst (λ (x : Running). MarksTurn world at_three 0 x unmarked_block) (sym (same_call calls)) marks)
@@ -241,9 +242,9 @@ no_turn_without_its_mark are = by are.count are.reach are.happen where
 no_turn_that_writes_nothing : AreTurnsTo world at_three 0 (running 3) 4 (slots before marked_block) marked_block → ⊥
 unfolding exec
 no_turn_that_writes_nothing are = by are.count are.reach (are.contents Memory refl) where
-  by : (n : ℕ) → 3 + n ≡ 4 → slots_of world (after_all world at_three (replicate n (Turn 0 marked_block))) 0 Memory ≡ memory_of before marked_block → ⊥
+  by : (n : ℕ) → 3 + n ≡ 4 → caller_contents world (after_all world at_three (replicate n (Turn 0 marked_block))) 0 Memory ≡ memory_of before marked_block → ⊥
   by n reach is = let one : n ≡ 1 = omega (arith, reach) in
-      seven_is_not_a (ap (λ (x : MemoryContents). slice_index x.bytes 0) (ap (λ (c : ℕ). slots_of world (after_all world at_three (replicate c (Turn 0 marked_block))) 0 Memory) (sym one) ∙ is))
+      seven_is_not_a (ap (λ (x : MemoryContents). slice_index x.bytes 0) (ap (λ (c : ℕ). caller_contents world (after_all world at_three (replicate c (Turn 0 marked_block))) 0 Memory) (sym one) ∙ is))
 
 -- ---- a paused call
 
@@ -280,7 +281,7 @@ no_other_answer : AreTurnsOf world at_four 0 (running 4) 5 (slots written marked
 unfolding outcome_told exec
 no_other_answer are = done None (ap outcome_told (are.ends sixth_may_not).1)
 
-no_end_of_what_does_not_run : AreTurnsOf world opened 0 (running 4) 5 (slots_of world opened 0) marked_block (ends_with None) → ⊥
+no_end_of_what_does_not_run : AreTurnsOf world opened 0 (running 4) 5 (caller_contents world opened 0) marked_block (ends_with None) → ⊥
 no_end_of_what_does_not_run are = let its = (are.ends sixth_may_not).0 in by its.count its.happen its.ends where
   by : (n : ℕ) → AllMayHappen world opened (replicate n (Turn 0 marked_block)) → MayHappen world (after_all world opened (replicate n (Turn 0 marked_block))) (Ends 0 marked_block) → ⊥
   by zero happen (r, calls, stuck, marks) = call_is_there (sym calls)
@@ -288,8 +289,8 @@ no_end_of_what_does_not_run are = let its = (are.ends sixth_may_not).0 in by its
 
 -- ---- what the law covers: a slice of no turn, and one to the end of the fuel
 
-from_its_slots : (p : Machine) (turns to : ℕ) (old new : (k : Kind) → Contents k) (marks : List Bool) (r : CallResult) → ((k : Kind) → slots_of world p 0 k ≡ old k)
-    → LeavesFrom 1 reader (result world (running turns)) turns to old new marks r → HostResumes world (running turns) to (slots_of world p 0) new marks r
+from_its_slots : (p : Machine) (turns to : ℕ) (old new : (k : Kind) → Contents k) (marks : List Bool) (r : CallResult) → ((k : Kind) → caller_contents world p 0 k ≡ old k)
+    → LeavesFrom 1 reader (result world (running turns)) turns to old new marks r → HostResumes world (running turns) to (caller_contents world p 0) new marks r
 from_its_slots p turns to old new marks r lies leaves = subst (λ (o : (k : Kind) → Contents k). LeavesFrom 1 reader (result world (running turns)) turns to o new marks r) (λ i k. sym (lies k) i) leaves
 
 a_slice_of_no_turn : SlicesAreTurns → Calls world at_three 0 (running 3) → AreTurnsOf world at_three 0 (running 3) 3 (slots before unmarked_block) unmarked_block (waits_with before)

@@ -10,7 +10,8 @@ use Rattle.pool_core.specs.declared.words.State.TheVariants.{Awaiting, Warm}
 use Rattle.pool_core.specs.declared.words.Target.{Target}
 use Rattle.pool_core.specs.declared.events.Event.TheVariants.{AwaitDown, AwaitUp, Claim, Home, Load, Out, Release, Split, Stamp, WarmDown, WarmUp}
 use Rattle.pool_core.specs.StateWords.{cold_target}
-use Rattle.pool_worlds.specs.Contents.{MemoryContents, memory_image, is_marked, rewritten_from, restored as restored_contents, Marks, Matches}
+use Rattle.memory_blocks.specs.Blocks.{KeepsUnmarked, is_marked}
+use Rattle.pool_worlds.specs.Contents.{MemoryContents, memory_image, rewritten_from, restored as restored_contents, Matches}
 use Rattle.pool_worlds.specs.declared.kinds.Kind.{Kind}
 use Rattle.pool_worlds.specs.declared.kinds.Kind.TheVariants.{Ticket, Memory, Table}
 use Rattle.pool_worlds.specs.PoolMachine.{Machine, WorldEvent, Step, Prepare, Restore, Clear, Begin, Turn, End, HasOut, held_by, after, after_all, AllMayHappen}
@@ -81,8 +82,8 @@ read = after_all world begun reads
 none_marked : (i : ℕ) → is_marked (false ∷ []) i ≡ false
 none_marked i = unmarked (i / 4096)
 
-nothing_changes : {bytes : List ℕ} {marks : List Bool} → Marks bytes bytes marks marks
-nothing_changes = record { changed = λ i h. refl; kept = λ i h. h }
+nothing_changes : {bytes : List ℕ} {marks : List Bool} → KeepsUnmarked bytes bytes marks marks
+nothing_changes = record { bytes = λ i h. refl; marks = λ i h. h }
 
 reads_happen : AllMayHappen world begun reads
 unfolding exec
@@ -118,9 +119,9 @@ written = after_all world read writes
 writes_happen : AllMayHappen world read writes
 unfolding exec
 writes_happen = (
-  (_, refl, record { fuel = omega arith; unfinished = refl }, λ h. record { changed = beyond_four 7 0 0 0 0 0 0 0 zeros; kept = λ i m. refl }),
+  (_, refl, record { fuel = omega arith; unfinished = refl }, λ h. record { bytes = beyond_four 7 0 0 0 0 0 0 0 zeros; marks = λ i m. refl }),
   (
-    (_, refl, record { fuel = omega arith; unfinished = refl }, λ h. record { changed = beyond_four 7 0 0 0 0 0 0 0 zeros; kept = λ i m. refl }),
+    (_, refl, record { fuel = omega arith; unfinished = refl }, λ h. record { bytes = beyond_four 7 0 0 0 0 0 0 0 zeros; marks = λ i m. refl }),
     ((_, refl, (λ can. done _ can.unfinished), λ h. nothing_changes), ((_, refl, (λ can. done _ can.unfinished), λ h. nothing_changes), tt)),
   ),
 )
@@ -328,7 +329,7 @@ ends_again_happen = (
       (
         (_, refl, record { fuel = omega arith; unfinished = refl }, λ h. nothing_changes),
         (
-          (_, refl, record { fuel = omega arith; unfinished = refl }, λ h. record { changed = beyond_four 7 0 0 0 0 0 0 0 zeros; kept = λ i m. none_marked i }),
+          (_, refl, record { fuel = omega arith; unfinished = refl }, λ h. record { bytes = beyond_four 7 0 0 0 0 0 0 0 zeros; marks = λ i m. none_marked i }),
           ((_, refl, (λ can. done _ can.unfinished), λ h. nothing_changes), tt),
         ),
       ),

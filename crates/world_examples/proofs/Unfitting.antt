@@ -4,7 +4,8 @@ use Rattle.std.specs.Prelude.{Option, Some, None, replicate, slice_index}
 use Rattle.wasm_values.specs.declared.outcome.Val.TheVariants.{I32}
 use Rattle.wasm_spec.specs.Store.{minimum_of}
 use Rattle.pool_core.specs.declared.words.State.TheVariants.{Cold, Warm, Awaiting}
-use Rattle.pool_worlds.specs.Contents.{Named, MemoryContents, TableContents, memory_image, table_image, is_marked, Matches}
+use Rattle.memory_blocks.specs.Blocks.{is_marked}
+use Rattle.pool_worlds.specs.Contents.{Named, MemoryContents, TableContents, memory_image, table_image, Matches}
 use Rattle.pool_worlds.specs.declared.kinds.Kind.TheVariants.{Ticket, Memory, Table}
 use Rattle.world_examples.proofs.Scenes.{first, cold, unmarked}
 

@@ -5,7 +5,7 @@ use Rattle.wasm_spec.specs.Execution.{answer_set, terms}
 use Rattle.wasm_spec.specs.Result.{result_from}
 use Rattle.wasm_spec.specs.Store.{Store, fresh_store}
 use Rattle.pool_limits.specs.declared.numbers.Numbers.{Numbers}
-use Rattle.pool_worlds.specs.Contents.{Named, shown}
+use Rattle.pool_worlds.specs.Contents.{Named, shown_store}
 use Rattle.paused_call.specs.declared.call.PausedCall.{PausedCall}
 use Rattle.paused_call.specs.declared.call.Turned.{Turned}
 use Rattle.paused_call.specs.declared.call.Turned.TheVariants as turned
@@ -52,7 +52,7 @@ returns-in-Again g c =
     let said = c.self.inside.answer in
     let begun = fresh_store m.tree in
     let paused = c.self.invariant.paused in
-    let store = answer_set c.resume.new.answer (shown m.tree (instance_contents c.resume.new.self)) in
+    let store = answer_set c.resume.new.answer (shown_store m.tree (instance_contents c.resume.new.self)) in
     let turned = on_tree config x m call said paused c.args.slice store turned.Again
     (subst (HasTurned (whole m.code (terms (run_limits config) []) call x.ticket.value.args begun) call c.args.slice store) c.in-Again.is (c.resume.ensures.turned begun paused)) in
     let more : HasMore config (paused_view x m call said) c.args.slice (paused_view c.resume.new.self m c.resume.new.call c.resume.new.answer) = record {
@@ -80,7 +80,7 @@ returns-in-Done g c =
     let said = c.self.inside.answer in
     let begun = fresh_store m.tree in
     let paused = c.self.invariant.paused in
-    let store = answer_set c.resume.new.answer (shown m.tree (instance_contents c.resume.new.self)) in
+    let store = answer_set c.resume.new.answer (shown_store m.tree (instance_contents c.resume.new.self)) in
     let turned = on_tree config x m call said paused c.args.slice store (turned.Done c.in-Done.outcome)
     (subst (HasTurned (whole m.code (terms (run_limits config) []) call x.ticket.value.args begun) call c.args.slice store) c.in-Done.is (c.resume.ensures.turned begun paused)) in
     let over : IsOver config (paused_view x m call said) c.args.slice c.resume.new.self = record {

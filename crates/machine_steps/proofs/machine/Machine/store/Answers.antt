@@ -6,7 +6,7 @@ use Rattle.wasm_values.specs.declared.outcome.Val.TheVariants as val
 use Rattle.wasm_values.specs.declared.outcome.TrapKind.TheVariants as trap
 use Rattle.wasm_spec.specs.Store.{Store, written}
 use Rattle.wasm_spec.specs.Typing.{number}
-use Rattle.machine_steps.specs.InstructionKinds.{offset_of, access_width, stored_as, takes_width}
+use Rattle.machine_steps.specs.InstructionKinds.{address_offset, access_width, stored_as, takes_width}
 use Rattle.linear_memory.specs.Bytes.{shown}
 use Rattle.machine_steps.specs.Lent.{store_of}
 use Rattle.machine_steps.proofs.OperandLemmas.{is_number}
@@ -44,14 +44,14 @@ returns-then-store_value-clause-does c m limits table globals answer k sh fine =
     let t = store_of_pair m limits i k store c.requires.kind fine in
     let p = c.pop-value.ensures.represents k t.top (val.I32 t.base ∷ t.rest) sh t.are in
     let q = c.pop32-base.ensures.represents (record k { operands = val.I32 t.base ∷ t.rest }) t.base t.rest p.1 refl in
-    let at : c.pop32-base.result + c.args.offset ≡ t.base + offset_of i = ap (λ (b : ℕ). b + c.args.offset) q.0 ∙ ap (λ (o : ℕ). t.base + o) c.requires.offset in
+    let at : c.pop32-base.result + c.args.offset ≡ t.base + address_offset i = ap (λ (b : ℕ). b + c.args.offset) q.0 ∙ ap (λ (o : ℕ). t.base + o) c.requires.offset in
     let bytes = to_le_bytes (access_width i) (stored_as i t.n) in
-    let test : not (nat_lt (length store.memory) (t.base + offset_of i + byte_len (access_width i))) ≡ true =
+    let test : not (nat_lt (length store.memory) (t.base + address_offset i + byte_len (access_width i))) ≡ true =
     ap (λ (a : ℕ). not (nat_lt (length store.memory) (a + byte_len (access_width i)))) (sym at) ∙ sym c.if-store_value.ensures.fits in
-    let is : shown c.store_value.new.memory ≡ written store.memory (t.base + offset_of i) bytes =
+    let is : shown c.store_value.new.memory ≡ written store.memory (t.base + address_offset i) bytes =
     c.if-store_value.ensures.after t.n (subst (λ (x : Val). number (takes_width i) x ≡ Some t.n) (sym p.0) t.is) ∙ ap (λ (a : ℕ). written store.memory a bytes) at in
     after_as m limits i k store after _ None c.pop32-base.new.self (store_means m limits i k store c.requires.kind t)
-    (store_after (nat_lt (length store.memory) (t.base + offset_of i + byte_len (access_width i))) k t.rest c.pop32-base.new.self store after (written store.memory (t.base + offset_of i) bytes) test
+    (store_after (nat_lt (length store.memory) (t.base + address_offset i + byte_len (access_width i))) k t.rest c.pop32-base.new.self store after (written store.memory (t.base + address_offset i) bytes) test
     (ap (λ (l : List ℕ). stored l table globals answer) (sym is)) q.1)
 
 pub returns-else-store_value-clause-does : goal.returns-else-store_value-clause-does
@@ -62,11 +62,11 @@ returns-else-store_value-clause-does c m limits table globals answer k sh fine =
     let t = store_of_pair m limits i k store c.requires.kind fine in
     let p = c.pop-value.ensures.represents k t.top (val.I32 t.base ∷ t.rest) sh t.are in
     let q = c.pop32-base.ensures.represents (record k { operands = val.I32 t.base ∷ t.rest }) t.base t.rest p.1 refl in
-    let at : c.pop32-base.result + c.args.offset ≡ t.base + offset_of i = ap (λ (b : ℕ). b + c.args.offset) q.0 ∙ ap (λ (o : ℕ). t.base + o) c.requires.offset in
+    let at : c.pop32-base.result + c.args.offset ≡ t.base + address_offset i = ap (λ (b : ℕ). b + c.args.offset) q.0 ∙ ap (λ (o : ℕ). t.base + o) c.requires.offset in
     let bytes = to_le_bytes (access_width i) (stored_as i t.n) in
-    let test : not (nat_lt (length store.memory) (t.base + offset_of i + byte_len (access_width i))) ≡ false =
+    let test : not (nat_lt (length store.memory) (t.base + address_offset i + byte_len (access_width i))) ≡ false =
     ap (λ (a : ℕ). not (nat_lt (length store.memory) (a + byte_len (access_width i)))) (sym at) ∙ sym c.if-store_value.ensures.fits in
     let same : shown c.store_value.new.memory ≡ store.memory = c.if-store_value.ensures.after t.n (subst (λ (x : Val). number (takes_width i) x ≡ Some t.n) (sym p.0) t.is) in
     after_as m limits i k store after _ (Some trap.Memory) c.pop32-base.new.self (store_means m limits i k store c.requires.kind t)
-    (store_traps (nat_lt (length store.memory) (t.base + offset_of i + byte_len (access_width i))) k t.rest c.pop32-base.new.self store after (written store.memory (t.base + offset_of i) bytes) test
+    (store_traps (nat_lt (length store.memory) (t.base + address_offset i + byte_len (access_width i))) k t.rest c.pop32-base.new.self store after (written store.memory (t.base + address_offset i) bytes) test
     (ap (λ (l : List ℕ). stored l table globals answer) (sym same)))

@@ -5,7 +5,7 @@ use Rattle.wasm_spec.specs.Execution.{terms}
 use Rattle.wasm_spec.specs.Instances.{room_for}
 use Rattle.wasm_spec.specs.Result.{CallResult}
 use Rattle.wasm_spec.specs.Store.{Store}
-use Rattle.linear_memory.specs.Marks.{KeepsUnmarked}
+use Rattle.memory_blocks.specs.Blocks.{KeepsUnmarked}
 use Rattle.wasm_machine.specs.Lent.{lent_store}
 use Rattle.pool_worlds.specs.Contents as contents
 use Rattle.pool_worlds.specs.declared.kinds.Kind.{Kind}

@@ -1,5 +1,5 @@
 use Rattle.pool_host.proofs.SlotLemmas.{still_have}
-use Rattle.pool_host.proofs.tests.marks_after.Goals as goal
+use Rattle.pool_host.proofs.tests.marked_by.Goals as goal
 
 pub give_slots-requires-clause-have : goal.give_slots-requires-clause-have
 give_slots-requires-clause-have g c =

@@ -1,6 +1,6 @@
 -- Computed examples of blocks and marks.
 use Rattle.std.proofs.Common.{◌≡◌, [], ◌∷◌, true, false, refl}
-use Rattle.linear_memory.specs.Marks.{is_marked}
+use Rattle.memory_blocks.specs.Blocks.{is_marked}
 
 last_of_block : is_marked (true ∷ false ∷ true ∷ []) 4095 ≡ true
 last_of_block = refl

@@ -1,0 +1,4 @@
+//! A memory's blocks, each with a mark, and what stays outside the marked ones.
+#![tactic(auto)]
+
+pub mod laws;
