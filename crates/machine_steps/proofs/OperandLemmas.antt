@@ -63,12 +63,15 @@ at_two w vs go t =
     ∙ given_at (number w t.x) t.a (λ a. given (number w t.y) (λ b. go a b t.rest)) t.first
     ∙ given_at (number w t.y) t.b (λ b. go t.a b t.rest) t.second
 
-pub pop_both : (w : Width) (k : Configuration) (old mid new : Machine) (u v : Val) (t : Two w k.operands) → Pops old u mid → Pops mid v new → Represents k old
-    → (u ≡ t.y) × (v ≡ t.x) × Represents (record k { operands = t.rest }) new
-pop_both w k old mid new u v t p q sh =
+-- the topmost operand, of which nothing is taken off
+abbrev pub Tells : Machine → Val → Type 0
+Tells machine result = (k : Configuration) (x : Val) (vs : List Val) → Represents k machine → k.operands ≡ x ∷ vs → result ≡ x
+
+pub take_both : (w : Width) (k : Configuration) (old mid : Machine) (u v : Val) (t : Two w k.operands) → Pops old u mid → Tells mid v → Represents k old
+    → (u ≡ t.y) × (v ≡ t.x) × Represents (record k { operands = t.x ∷ t.rest }) mid
+take_both w k old mid u v t p q sh =
     let i = p k t.y (t.x ∷ t.rest) sh t.are in
-    let j = q (record k { operands = t.x ∷ t.rest }) t.x t.rest i.1 refl in
-    (i.0, j.0, j.1)
+    (i.0, q (record k { operands = t.x ∷ t.rest }) t.x t.rest i.1 refl, i.1)
 
 pub second_there : (w : Width) (k : Configuration) (old mid : Machine) (u : Val) (t : Two w k.operands) → Pops old u mid → Represents k old → HasOperand mid
 second_there w k old mid u t p sh =

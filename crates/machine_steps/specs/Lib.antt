@@ -1,3 +1,4 @@
+pub mod Cells
 pub mod Values
 pub mod Configuration
 pub mod StackLayout

@@ -17,12 +17,12 @@ ghost use Rattle.machine_steps.specs.Lent.{store_of};
 ghost use Rattle.machine_steps.specs.Accesses.{loaded_at, written_where};
 ghost use Rattle.machine_steps.specs.PlainSteps.{CanExecute, Executes};
 
+use crate::cells::Cell;
 use crate::machine::Machine;
-use crate::operands::{number32, number64};
 use linear_memory::Memory;
 use wasm_numeric::i64_extend_i32_s;
 use wasm_types::{Instr, PackSize, Sign, Width};
-use wasm_values::{TrapKind, Val};
+use wasm_values::TrapKind;
 
 // Signed numbers of 8, 16 and 32 bits in more.
 fn i32_extend8_s(n: u8) -> u32
@@ -74,18 +74,18 @@ fn extended64(size: PackSize, n: u32) -> u64
 }
 
 // A narrow number in a type.
-fn widened(width: Width, size: PackSize, sign: Sign, n: u32) -> Val
+fn widened(width: Width, size: PackSize, sign: Sign, n: u32) -> Cell
     requires { n < 2 ^ pack_bits size }
     ensures { result ≡ value width (extended (pack_bits size) (bit_width width) sign n) }
 {
     match sign {
         Sign::Signed => match width {
-            Width::W32 => Val::I32(extended32(size, n)),
-            Width::W64 => Val::I64(extended64(size, n)),
+            Width::W32 => Cell::of32(extended32(size, n)),
+            Width::W64 => Cell::of64(extended64(size, n)),
         },
         Sign::Unsigned => match width {
-            Width::W32 => Val::I32(n),
-            Width::W64 => Val::I64(n as u64),
+            Width::W32 => Cell::of32(n),
+            Width::W64 => Cell::of64(n as u64),
         },
     }
 }
@@ -104,18 +104,18 @@ fn narrow(memory: &Memory, size: PackSize, at: u64) -> Option<u32>
 }
 
 // The number at an address, if its bytes lie in the memory.
-fn read_number(memory: &Memory, width: Width, at: u64) -> Option<Val>
+fn read_number(memory: &Memory, width: Width, at: u64) -> Option<Cell>
     requires { (most : ℕ) × IsMemory most memory.now }
     ensures { result ≡ loaded_at (int_width width) (value width) (shown memory.now) at }
 {
     match width {
-        Width::W32 => Some(Val::I32(memory.read32(at)?)),
-        Width::W64 => Some(Val::I64(memory.read64(at)?)),
+        Width::W32 => Some(Cell::of32(memory.read32(at)?)),
+        Width::W64 => Some(Cell::of64(memory.read64(at)?)),
     }
 }
 
 // What a load gives, if its bytes lie in the memory.
-fn load_value(memory: &Memory, instr: &Instr, at: u64) -> Option<Val>
+fn load_value(memory: &Memory, instr: &Instr, at: u64) -> Option<Cell>
     requires kind { IsLoad instr.now }
     requires memory { (most : ℕ) × IsMemory most memory.now }
     ensures { result ≡ loaded_at (access_width instr.now) (λ n. value (gives_width instr.now) (loaded_as instr.now n)) (shown memory.now) at }
@@ -129,18 +129,8 @@ fn load_value(memory: &Memory, instr: &Instr, at: u64) -> Option<Val>
     }
 }
 
-// The number of a value of either width.
-fn number_of(v: Val) -> u64
-    ensures { (width : Width) (n : ℕ) → number width v ≡ Some n → result ≡ n }
-{
-    match v {
-        Val::I32(n) => n as u64,
-        Val::I64(n) => n,
-    }
-}
-
 // Writes a number to an address, if its bytes fit the memory. Says whether they do.
-fn write_number(memory: &mut Memory, width: Width, at: u64, v: Val) -> bool
+fn write_number(memory: &mut Memory, width: Width, at: u64, v: Cell) -> bool
     requires number { number width v ≢ None }
     requires memory { (most : ℕ) × IsMemory most memory.old }
     ensures fits { result ≡ not (nat_lt (length (shown memory.old)) (at + byte_len (int_width width))) }
@@ -150,8 +140,8 @@ fn write_number(memory: &mut Memory, width: Width, at: u64, v: Val) -> bool
     ensures marks { MarksChanges memory.old memory.new 2 }
 {
     match width {
-        Width::W32 => memory.write(at, &number32(v).to_le_bytes()),
-        Width::W64 => memory.write(at, &number64(v).to_le_bytes()),
+        Width::W32 => memory.write(at, &v.number32().to_le_bytes()),
+        Width::W64 => memory.write(at, &v.number64().to_le_bytes()),
     }
 }
 
@@ -171,7 +161,7 @@ fn write_narrow(memory: &mut Memory, size: PackSize, at: u64, n: u64) -> bool
 }
 
 // What a store writes, if its bytes fit the memory. Says whether they do.
-fn store_value(memory: &mut Memory, instr: &Instr, at: u64, v: Val) -> bool
+fn store_value(memory: &mut Memory, instr: &Instr, at: u64, v: Cell) -> bool
     requires kind { IsStoring instr.now }
     requires number { number (takes_width instr.now) v ≢ None }
     requires memory { (most : ℕ) × IsMemory most memory.old }
@@ -183,7 +173,7 @@ fn store_value(memory: &mut Memory, instr: &Instr, at: u64, v: Val) -> bool
 {
     match instr {
         Instr::Store(width, _) => write_number(memory, *width, at, v),
-        Instr::StorePacked(_, size, _) => write_narrow(memory, *size, at, number_of(v)),
+        Instr::StorePacked(_, size, _) => write_narrow(memory, *size, at, v.number()),
         _ => unreachable!(),
     }
 }
@@ -199,10 +189,10 @@ impl Machine {
             → Executes m limits instr.now self.old (store_of memory.now table globals answer) result self.new (store_of memory.now table globals answer) }
         ensures room { KeepsRoom self.old self.new }
     {
-        let base = self.pop32();
+        let base = self.last32();
         match load_value(memory, instr, base as u64 + offset as u64) {
             Some(v) => {
-                self.push(v);
+                self.replace(v);
                 None
             }
             None => Some(TrapKind::Memory),
@@ -243,7 +233,7 @@ impl Machine {
             → Executes m limits instr.MemorySize self.old (store_of memory.now table globals answer) None self.new (store_of memory.now table globals answer) }
         ensures room { KeepsRoom self.old self.new }
     {
-        self.push(Val::I32(memory.pages));
+        self.push32(memory.pages);
     }
 
     // Grows the memory by as many pages as the topmost operand says, if there are then at most `most`.
@@ -259,6 +249,6 @@ impl Machine {
     {
         let pages = self.pop32();
         let before = memory.grow(most, pages).unwrap_or(u32::MAX);
-        self.push(Val::I32(before));
+        self.push32(before);
     }
 }

@@ -15,7 +15,7 @@ use crate::machine::Machine;
 use call_payload::{AnswerBuf, read_part};
 use linear_memory::Memory;
 use wasm_types::HostFunction;
-use wasm_values::{TrapKind, Val};
+use wasm_values::TrapKind;
 
 /// Bytes of a request to an address, and how many, if the whole of what is asked for lies in the memory.
 pub fn copy_request(
@@ -65,7 +65,7 @@ impl Machine {
         ensures does { (store : Store) → CallsHost request.now host.Len self.old store None self.new store }
         ensures room { KeepsRoom self.old self.new }
     {
-        self.push(Val::I32(request.len() as u32));
+        self.push32(request.len() as u32);
     }
 
     // Bytes of the request into memory, where the three topmost operands say.
@@ -84,7 +84,7 @@ impl Machine {
         let to = self.pop32();
         match copy_request(memory, request, to, from, count) {
             Some(n) => {
-                self.push(Val::I32(n));
+                self.push32(n);
                 None
             }
             None => Some(TrapKind::Memory),
@@ -104,7 +104,7 @@ impl Machine {
         let from = self.pop32();
         match append_memory(memory, answer, from, count) {
             Some(n) => {
-                self.push(Val::I32(n));
+                self.push32(n);
                 None
             }
             None => Some(TrapKind::Memory),

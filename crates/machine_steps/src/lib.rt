@@ -3,6 +3,7 @@
 
 mod accesses;
 mod bulk;
+mod cells;
 mod host;
 mod locals;
 mod machine;

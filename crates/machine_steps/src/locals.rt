@@ -8,6 +8,7 @@ ghost use Rattle.wasm_spec.specs.Store.{Store};
 ghost use Rattle.machine_steps.specs.StackLayout.{KeepsRoom};
 ghost use Rattle.machine_steps.specs.PlainSteps.{CanExecute, Executes, HasLocal, SetsLocal};
 
+use crate::cells::Cell;
 use crate::machine::Machine;
 use wasm_values::Val;
 
@@ -36,7 +37,7 @@ impl Machine {
 
     // Gives a local this value.
     #[inline(always)]
-    fn put_local(&mut self, x: u32, v: Val)
+    fn put_local(&mut self, x: u32, v: Cell)
         requires { HasLocal self.old x }
         ensures represents { SetsLocal x v self.old self.new }
         ensures room { KeepsRoom self.old self.new }
@@ -63,9 +64,8 @@ impl Machine {
         ensures does { (m : ModuleTree) (limits : Terms) (store : Store) → Executes m limits (instr.LocalTee x) self.old store None self.new store }
         ensures room { KeepsRoom self.old self.new }
     {
-        let v = self.pop();
+        let v = self.last();
         self.put_local(x, v);
-        self.push(v);
     }
 
     // Puts a global's value on the top.
@@ -76,7 +76,7 @@ impl Machine {
             → Executes m limits (instr.GlobalGet x) self.old store None self.new store }
         ensures room { KeepsRoom self.old self.new }
     {
-        self.push(value_at(globals, x as usize));
+        self.push(Cell::of(value_at(globals, x as usize)));
     }
 
     // Gives a global the topmost operand, which is taken off.
@@ -89,6 +89,6 @@ impl Machine {
         ensures globals { length globals.new ≡ length globals.old }
     {
         let v = self.pop();
-        globals[x as usize] = v;
+        globals[x as usize] = v.value();
     }
 }

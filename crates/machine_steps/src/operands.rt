@@ -15,105 +15,84 @@ ghost use Rattle.machine_steps.specs.StackLayout.{KeepsRoom, Represents};
 ghost use Rattle.machine_steps.specs.InstructionKinds.{IsOfOne, IsOfTwo, gives_width, of_one, of_two, takes_width};
 ghost use Rattle.machine_steps.specs.PlainSteps.{CanExecute, Executes, HasNumber, HasOperand, valued};
 
+use crate::cells::Cell;
 use crate::machine::Machine;
 use wasm_numeric::{
     binary32, binary64, compare32, compare64, i32_wrap_i64, i64_extend_i32_s, i64_extend_i32_u,
     unary32, unary64,
 };
 use wasm_types::{BinaryOp, CompareOp, Instr, Sign, UnaryOp, Width};
-use wasm_values::{TrapKind, Val};
-
-// The number of an i32.
-pub(crate) fn number32(v: Val) -> u32
-    requires { number width.W32 v ≢ None }
-    ensures { number width.W32 v ≡ Some result }
-{
-    match v {
-        Val::I32(n) => n,
-        Val::I64(_) => unreachable!(),
-    }
-}
-
-// The number of an i64.
-pub(crate) fn number64(v: Val) -> u64
-    requires { number width.W64 v ≢ None }
-    ensures { number width.W64 v ≡ Some result }
-{
-    match v {
-        Val::I64(n) => n,
-        Val::I32(_) => unreachable!(),
-    }
-}
+use wasm_values::TrapKind;
 
 // Whether a number is 0.
-fn eqz(width: Width, v: Val) -> Val
+fn eqz(width: Width, v: Cell) -> Cell
     requires { number width v ≢ None }
     ensures { (a : ℕ) → number width v ≡ Some a → result ≡ val.I32 (operators.eqz a) }
 {
     match width {
-        Width::W32 => Val::I32(u32::from(number32(v) == 0)),
-        Width::W64 => Val::I32(u32::from(number64(v) == 0)),
+        Width::W32 => Cell::of32(u32::from(v.number32() == 0)),
+        Width::W64 => Cell::of32(u32::from(v.number64() == 0)),
     }
 }
 
 // The value of an operator on one value of its width.
 #[inline(always)]
-fn unary(width: Width, op: UnaryOp, v: Val) -> Val
+fn unary(width: Width, op: UnaryOp, v: Cell) -> Cell
     requires { number width v ≢ None }
     ensures { (a : ℕ) → number width v ≡ Some a → result ≡ value width (operators.unary (operators.bit_width width) op a) }
 {
     match width {
-        Width::W32 => Val::I32(unary32(op, number32(v))),
-        Width::W64 => Val::I64(unary64(op, number64(v))),
+        Width::W32 => Cell::of32(unary32(op, v.number32())),
+        Width::W64 => Cell::of64(unary64(op, v.number64())),
     }
 }
 
 // An i32 as an i64.
-fn extend(sign: Sign, n: u32) -> Val
+fn extend(sign: Sign, n: u32) -> Cell
     ensures { result ≡ val.I64 (extended 32 64 sign n) }
 {
     match sign {
-        Sign::Signed => Val::I64(i64_extend_i32_s(n)),
-        Sign::Unsigned => Val::I64(i64_extend_i32_u(n)),
+        Sign::Signed => Cell::of64(i64_extend_i32_s(n)),
+        Sign::Unsigned => Cell::of64(i64_extend_i32_u(n)),
     }
 }
 
 // The value of a comparison of two values of a width.
 #[inline(always)]
-fn compare(width: Width, op: CompareOp, first: Val, second: Val) -> Val
+fn compare(width: Width, op: CompareOp, first: Cell, second: Cell) -> Cell
     requires first { number width first ≢ None }
     requires second { number width second ≢ None }
     ensures { (a b : ℕ) → number width first ≡ Some a → number width second ≡ Some b
         → result ≡ val.I32 (operators.compare (operators.bit_width width) op a b) }
 {
     match width {
-        Width::W32 => Val::I32(compare32(op, number32(first), number32(second))),
-        Width::W64 => Val::I32(compare64(op, number64(first), number64(second))),
+        Width::W32 => Cell::of32(compare32(op, first.number32(), second.number32())),
+        Width::W64 => Cell::of32(compare64(op, first.number64(), second.number64())),
     }
 }
 
 // The value of an operator on two values of its width.
 #[inline(always)]
-fn binary(width: Width, op: BinaryOp, first: Val, second: Val) -> Result<Val, TrapKind>
+fn binary(width: Width, op: BinaryOp, first: Cell, second: Cell) -> Result<Cell, TrapKind>
     requires first { number width first ≢ None }
     requires second { number width second ≢ None }
     ensures { (a b : ℕ) → number width first ≡ Some a → number width second ≡ Some b
         → result ≡ valued width (operators.binary (operators.bit_width width) op a b) }
 {
     match width {
-        Width::W32 => match binary32(op, number32(first), number32(second)) {
-            Ok(n) => Ok(Val::I32(n)),
+        Width::W32 => match binary32(op, first.number32(), second.number32()) {
+            Ok(n) => Ok(Cell::of32(n)),
             Err(t) => Err(t),
         },
-        Width::W64 => match binary64(op, number64(first), number64(second)) {
-            Ok(n) => Ok(Val::I64(n)),
+        Width::W64 => match binary64(op, first.number64(), second.number64()) {
+            Ok(n) => Ok(Cell::of64(n)),
             Err(t) => Err(t),
         },
     }
 }
 
 // The first where a condition isn't 0, and else the second.
-fn chosen(condition: u32, first: Val, second: Val) -> Val
+fn chosen(condition: u32, first: Cell, second: Cell) -> Cell
     ensures zero { condition ≡ 0 → result ≡ second }
     ensures other { condition ≢ 0 → result ≡ first }
 {
@@ -122,7 +101,7 @@ fn chosen(condition: u32, first: Val, second: Val) -> Val
 
 // What an instruction makes of one operand.
 #[inline(always)]
-fn one(instr: &Instr, v: Val) -> Val
+fn one(instr: &Instr, v: Cell) -> Cell
     requires kind { IsOfOne instr.now }
     requires number { number (takes_width instr.now) v ≢ None }
     ensures { (a : ℕ) → number (takes_width instr.now) v ≡ Some a → result ≡ value (gives_width instr.now) (of_one instr.now a) }
@@ -130,15 +109,15 @@ fn one(instr: &Instr, v: Val) -> Val
     match instr {
         Instr::Eqz(width) => eqz(*width, v),
         Instr::Unary(width, op) => unary(*width, *op, v),
-        Instr::Wrap => Val::I32(i32_wrap_i64(number64(v))),
-        Instr::Extend(sign) => extend(*sign, number32(v)),
+        Instr::Wrap => Cell::of32(i32_wrap_i64(v.number64())),
+        Instr::Extend(sign) => extend(*sign, v.number32()),
         _ => unreachable!(),
     }
 }
 
 // What an instruction makes of two operands.
 #[inline(always)]
-fn two(instr: &Instr, first: Val, second: Val) -> Result<Val, TrapKind>
+fn two(instr: &Instr, first: Cell, second: Cell) -> Result<Cell, TrapKind>
     requires kind { IsOfTwo instr.now }
     requires first { number (takes_width instr.now) first ≢ None }
     requires second { number (takes_width instr.now) second ≢ None }
@@ -155,17 +134,17 @@ fn two(instr: &Instr, first: Val, second: Val) -> Result<Val, TrapKind>
 impl Machine {
     // Puts an operand on the top.
     #[inline(always)]
-    pub(crate) fn push(&mut self, v: Val)
+    pub(crate) fn push(&mut self, v: Cell)
         requires { length self.old.values.items < self.old.values.room }
         ensures represents { (k : Configuration) → Represents k self.old → Represents (record k { operands = v ∷ k.operands }) self.new }
         ensures room { KeepsRoom self.old self.new }
     {
-        self.values.push(v);
+        self.values.push_cell(v);
     }
 
     // Takes the topmost operand off.
     #[inline(always)]
-    pub(crate) fn pop(&mut self) -> Val
+    pub(crate) fn pop(&mut self) -> Cell
         requires { HasOperand self.old }
         ensures represents { (k : Configuration) (x : AVal) (vs : List AVal) → Represents k self.old → k.operands ≡ x ∷ vs
             → (result ≡ x) × Represents (record k { operands = vs }) self.new }
@@ -173,6 +152,45 @@ impl Machine {
         ensures free { length self.new.values.items < self.new.values.room }
     {
         self.values.pop()
+    }
+
+    // Puts an i32 on the top.
+    #[inline(always)]
+    pub(crate) fn push32(&mut self, n: u32)
+        requires { length self.old.values.items < self.old.values.room }
+        ensures represents { (k : Configuration) → Represents k self.old → Represents (record k { operands = val.I32 n ∷ k.operands }) self.new }
+        ensures room { KeepsRoom self.old self.new }
+    {
+        self.push(Cell::of32(n));
+    }
+
+    // The topmost operand.
+    #[inline(always)]
+    pub(crate) fn last(&self) -> Cell
+        requires { HasOperand self.now }
+        ensures { (k : Configuration) (x : AVal) (vs : List AVal) → Represents k self.now → k.operands ≡ x ∷ vs → result ≡ x }
+    {
+        self.values.last()
+    }
+
+    // The topmost operand, which is an i32.
+    #[inline(always)]
+    pub(crate) fn last32(&self) -> u32
+        requires { HasNumber self.now }
+        ensures { (k : Configuration) (n : ℕ) (vs : List AVal) → Represents k self.now → k.operands ≡ val.I32 n ∷ vs → result ≡ n }
+    {
+        self.last().number32()
+    }
+
+    // Puts an operand in the place of the topmost one.
+    #[inline(always)]
+    pub(crate) fn replace(&mut self, v: Cell)
+        requires { HasOperand self.old }
+        ensures represents { (k : Configuration) (x : AVal) (vs : List AVal) → Represents k self.old → k.operands ≡ x ∷ vs
+            → Represents (record k { operands = v ∷ vs }) self.new }
+        ensures room { KeepsRoom self.old self.new }
+    {
+        self.values.replace(v);
     }
 
     /// Takes the topmost operand off, which is an i32.
@@ -184,10 +202,7 @@ impl Machine {
         ensures room { KeepsRoom self.old self.new }
         ensures free { length self.new.values.items < self.new.values.room }
     {
-        match self.pop() {
-            Val::I32(n) => n,
-            Val::I64(_) => unreachable!(),
-        }
+        self.pop().number32()
     }
 
     // An instruction that makes a number of the topmost operand.
@@ -198,8 +213,8 @@ impl Machine {
         ensures does { (m : ModuleTree) (limits : Terms) (store : Store) → Executes m limits instr.now self.old store None self.new store }
         ensures room { KeepsRoom self.old self.new }
     {
-        let v = self.pop();
-        self.push(one(instr, v));
+        let v = self.last();
+        self.replace(one(instr, v));
     }
 
     // An instruction that makes a number of the two topmost operands, or traps. Who names its kind anew saves a look at it behind the pops.
@@ -211,10 +226,10 @@ impl Machine {
         ensures room { KeepsRoom self.old self.new }
     {
         let second = self.pop();
-        let first = self.pop();
+        let first = self.last();
         match two(instr, first, second) {
             Ok(v) => {
-                self.push(v);
+                self.replace(v);
                 None
             }
             Err(t) => Some(t),
@@ -229,7 +244,7 @@ impl Machine {
     {
         let condition = self.pop32();
         let second = self.pop();
-        let first = self.pop();
-        self.push(chosen(condition, first, second));
+        let first = self.last();
+        self.replace(chosen(condition, first, second));
     }
 }

@@ -11,6 +11,7 @@ ghost use Rattle.machine_steps.specs.PlainSteps.{CanExecute, Executes, IsReady, 
 ghost use Rattle.machine_steps.specs.declared.plain.Effect.TheVariants as effect;
 ghost use Rattle.machine_steps.specs.StackLayout.{KeepsRoom};
 
+use crate::cells::Cell;
 use crate::machine::Machine;
 use linear_memory::Memory;
 use wasm_types::Instr;
@@ -63,7 +64,11 @@ impl Machine {
             Instr::Br(_) | Instr::BrIf(_) | Instr::BrTable(..) | Instr::Return => {
                 return Effect::Jumps;
             }
-            Instr::Unreachable => return Effect::Traps(TrapKind::Unreachable),
+            Instr::Unreachable => {
+                // The operands go with the run. (An arm that does nothing would set its answer before the jump to any other.)
+                self.values.clear();
+                return Effect::Traps(TrapKind::Unreachable);
+            }
             Instr::Nop => {}
             Instr::Drop => {
                 self.pop();
@@ -86,7 +91,7 @@ impl Machine {
             Instr::MemoryGrow => self.memory_grow(memory, most),
             Instr::MemoryCopy => return unless_trapped(self.memory_copy(memory)),
             Instr::MemoryFill => return unless_trapped(self.memory_fill(memory)),
-            Instr::Const(v) => self.push(*v),
+            Instr::Const(v) => self.push(Cell::of(*v)),
             Instr::Eqz(_) | Instr::Unary(..) | Instr::Wrap | Instr::Extend(_) => {
                 self.on_one(instr)
             }

@@ -4,6 +4,7 @@ ghost use Rattle.std.specs.List.{copy_within};
 ghost use Rattle.wasm_values.specs.declared.outcome.Val.{Val as AVal};
 ghost use Rattle.wasm_values.specs.declared.outcome.Val.TheVariants as val;
 
+use crate::cells::Cell;
 use std::alloc::{AllocError, Global};
 use std::marker::Model;
 use wasm_values::Val;
@@ -12,14 +13,14 @@ use wasm_values::Val;
 /// is that high.
 #[derive(Drop)]
 pub struct ValueStack {
-    cells: Vec<Val>,
+    cells: Vec<Cell>,
     height: usize,
 }
 
 // Moves n values from one place to another.
 #[cold]
 #[inline(never)]
-fn move_many(cells: &mut Vec<Val>, from: usize, n: usize, to: usize)
+fn move_many(cells: &mut Vec<Cell>, from: usize, n: usize, to: usize)
     requires from { from + n ≤ length cells.old.items }
     requires to { to + n ≤ length cells.old.items }
     ensures items { cells.new.items ≡ copy_within cells.old.items from (from + n) to }
@@ -30,7 +31,7 @@ fn move_many(cells: &mut Vec<Val>, from: usize, n: usize, to: usize)
 
 // The same. A label takes no more than one value, which is moved by itself.
 #[inline(always)]
-fn move_values(cells: &mut Vec<Val>, from: usize, n: usize, to: usize)
+fn move_values(cells: &mut Vec<Cell>, from: usize, n: usize, to: usize)
     requires from { from + n ≤ length cells.old.items }
     requires to { to + n ≤ length cells.old.items }
     ensures items { cells.new.items ≡ copy_within cells.old.items from (from + n) to }
@@ -79,7 +80,7 @@ impl ValueStack {
 
     // The value so many places above another.
     #[inline(always)]
-    pub(crate) fn at(&self, base: usize, x: u32) -> Val
+    pub(crate) fn at(&self, base: usize, x: u32) -> Cell
         requires { base + x < length self.now.items }
         ensures { (d : AVal) → result ≡ get_or self.now.items (base + x) d }
     {
@@ -88,7 +89,7 @@ impl ValueStack {
 
     // Writes a value there.
     #[inline(always)]
-    pub(crate) fn put(&mut self, base: usize, x: u32, v: Val)
+    pub(crate) fn put(&mut self, base: usize, x: u32, v: Cell)
         requires { base + x < length self.old.items }
         ensures items { self.new.items ≡ set self.old.items (base + x) v }
         ensures room { self.new.room ≡ self.old.room }
@@ -99,6 +100,16 @@ impl ValueStack {
     /// Puts a value on the top, in the room that there is.
     #[inline(always)]
     pub fn push(&mut self, v: Val)
+        requires { length self.old.items < self.old.room }
+        ensures items { self.new.items ≡ self.old.items ++ v ∷ [] }
+        ensures room { self.old.room ≤ self.new.room }
+    {
+        self.push_cell(Cell::of(v));
+    }
+
+    // The same of a cell.
+    #[inline(always)]
+    pub(crate) fn push_cell(&mut self, v: Cell)
         requires { length self.old.items < self.old.room }
         ensures items { self.new.items ≡ self.old.items ++ v ∷ [] }
         ensures room { self.old.room ≤ self.new.room }
@@ -114,7 +125,7 @@ impl ValueStack {
 
     // Takes the top off.
     #[inline(always)]
-    pub(crate) fn pop(&mut self) -> Val
+    pub(crate) fn pop(&mut self) -> Cell
         requires { 0 < length self.old.items }
         ensures value { (rest : List AVal) (x : AVal) → self.old.items ≡ rest ++ x ∷ [] → (self.new.items ≡ rest) × (result ≡ x) }
         ensures room { self.new.room ≡ self.old.room }
@@ -124,6 +135,26 @@ impl ValueStack {
         self.cells[self.height]
     }
 
+    // The topmost value.
+    #[inline(always)]
+    pub(crate) fn last(&self) -> Cell
+        requires { 0 < length self.now.items }
+        ensures { (rest : List AVal) (x : AVal) → self.now.items ≡ rest ++ x ∷ [] → result ≡ x }
+    {
+        self.cells[self.height - 1]
+    }
+
+    // Writes a value over the topmost one.
+    #[inline(always)]
+    pub(crate) fn replace(&mut self, v: Cell)
+        requires { 0 < length self.old.items }
+        ensures items { (rest : List AVal) (x : AVal) → self.old.items ≡ rest ++ x ∷ [] → self.new.items ≡ rest ++ v ∷ [] }
+        ensures room { self.new.room ≡ self.old.room }
+    {
+        let top = self.height - 1;
+        self.cells[top] = v;
+    }
+
     /// The topmost value.
     pub fn top(&self) -> Option<Val>
         ensures { result ≡ slice_get (reverse self.now.items) 0 }
@@ -131,7 +162,7 @@ impl ValueStack {
         if self.height == 0 {
             None
         } else {
-            Some(self.cells[self.height - 1])
+            Some(self.cells[self.height - 1].value())
         }
     }
 

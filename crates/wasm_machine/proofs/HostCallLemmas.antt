@@ -37,7 +37,7 @@ use Rattle.machine_steps.proofs.StackLayoutLemmas.{room_kept}
 use Rattle.wasm_machine.specs.Remaining.{resume_at, after_sequence, function_of}
 use Rattle.wasm_machine.specs.TypedConfiguration.{operand_count, IsRunnable, IsTypedAt, IsTypedContext, IsTypedStore, context}
 use Rattle.wasm_machine.specs.declared.running.Step.{Step}
-use Rattle.wasm_machine.specs.Simulation.{SimulatesCall, SimulatesCalling, SimulatesPlain, SimulatesStep, step_unless_trapped}
+use Rattle.wasm_machine.specs.Simulation.{SimulatesCall, SimulatesCalling, SimulatesUnlessTrapped, SimulatesStep, step_unless_trapped}
 use Rattle.wasm_machine.proofs.RemainingLemmas.{after_sequence-Trapped}
 use Rattle.wasm_machine.proofs.RoomLemmas.{free_value}
 
@@ -164,7 +164,7 @@ host_fine m types locals (OutOfFuel s) h n = cc
 
 -- ---- the call
 
-pub stopped : (o : Option TrapKind) (t : Step) (m : Module) (limits : Terms) (frame : ℕ) (machine : Machine) (store : Store) (r : ℕ → Ended) → t ≡ step_unless_trapped o → SimulatesPlain o m limits frame machine store r → SimulatesStep t m limits frame machine store r
+pub stopped : (o : Option TrapKind) (t : Step) (m : Module) (limits : Terms) (frame : ℕ) (machine : Machine) (store : Store) (r : ℕ → Ended) → t ≡ step_unless_trapped o → SimulatesUnlessTrapped o m limits frame machine store r → SimulatesStep t m limits frame machine store r
 stopped None t m limits frame machine store r e s = subst (λ (x : Step). SimulatesStep x m limits frame machine store r) (sym e) s
 stopped (Some u) t m limits frame machine store r e s = subst (λ (x : Step). SimulatesStep x m limits frame machine store r) (sym e) s
 
@@ -172,7 +172,7 @@ module _ (m : Module) (limits : Terms) (frame : ℕ) where
   host_done : (e : Signal) (k : Configuration) (types : List ValType) (o : Option TrapKind) (old new : Machine) (store' : Store) (r : ℕ → Ended) → IsHostPreserved m types k.locals e
       → IsTypedAt m frame k.function k.blocks types k.sequence k.place → IsTypedContext m frame limits.depth k → HasRoom limits.depth frame old → KeepsRoom old new
       → ((g : ℕ) → after_sequence m limits k (and_then e g (resume_at m limits (length k.activations + 1) k.function k.sequence k.place)) ≡ r g)
-      → EndsAs e k o new store' → SimulatesPlain o m limits frame new store' r
+      → EndsAs e k o new store' → SimulatesUnlessTrapped o m limits frame new store' r
   host_done (Next s) k types None old new store' r (are, locals, stored) resumes around room keeps goes (represents, same) = record {
     configuration = with_state k s;
     represents = represents;
@@ -233,7 +233,7 @@ module _ (m : Module) (limits : Terms) (frame : ℕ) where
     host_ready = ready_by h.function refl
 
     -- an import that has been called
-    pub import_done : (new : Machine) (store' : Store) (o : Option TrapKind) → EndsAs (host_call limits.request h.function (state c.configuration store)) c.configuration o new store' → KeepsRoom old new → SimulatesPlain o m limits frame new store' r
+    pub import_done : (new : Machine) (store' : Store) (o : Option TrapKind) → EndsAs (host_call limits.request h.function (state c.configuration store)) c.configuration o new store' → KeepsRoom old new → SimulatesUnlessTrapped o m limits frame new store' r
     import_done new store' o after keeps =
         let k = c.configuration in
         let d = length k.activations + 1 in
@@ -269,7 +269,7 @@ module _ (m : Module) (limits : Terms) (frame : ℕ) (old : Machine) (store : St
     pub found_ready : IsHostReady f old
     found_ready = subst (λ (g : HostFunction). IsHostReady g old) (sym function_is) (host_ready m limits frame old store x r c host_of_call)
 
-    pub found_done : (new : Machine) (store' : Store) (p : Option TrapKind) → CallsHost limits.request f old store p new store' → KeepsRoom old new → SimulatesPlain p m limits frame new store' r
+    pub found_done : (new : Machine) (store' : Store) (p : Option TrapKind) → CallsHost limits.request f old store p new store' → KeepsRoom old new → SimulatesUnlessTrapped p m limits frame new store' r
     found_done new store' p calls keeps =
         import_done m limits frame old store x r c host_of_call new store' p
         (subst (λ (g : HostFunction). CallsHost limits.request g old store p new store') function_is calls c.configuration c.represents

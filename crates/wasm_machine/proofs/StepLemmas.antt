@@ -25,7 +25,7 @@ use Rattle.wasm_machine.specs.TypedConfiguration.{operand_count, IsTypedContext,
 use Rattle.wasm_spec.specs.Bulk.{is_bulk, code_uses_bulk, uses_bulk}
 use Rattle.wasm_spec.proofs.NarrowModules.{neither}
 use Rattle.machine_steps.specs.PlainSteps.{EndsAs, with_state}
-use Rattle.wasm_machine.specs.Simulation.{HasFetched, HasLabelOperands, SimulatesCalling, SimulatesPlain, IsPreserved, SimulatesExit, ToLabel, ByReturn, body_of, paid}
+use Rattle.wasm_machine.specs.Simulation.{HasFetched, HasLabelOperands, SimulatesCalling, SimulatesUnlessTrapped, IsPreserved, SimulatesExit, ToLabel, ByReturn, body_of, paid}
 use Rattle.wasm_machine.proofs.RemainingLemmas.{after_sequence-Trapped}
 use Rattle.machine_steps.proofs.StackLayoutLemmas.{room_kept}
 
@@ -140,7 +140,7 @@ module _ (m : Module) (limits : Terms) (frame : ℕ) where
       → length (local_types m frame k.function) + highest (operand_count k.blocks) C (Plain i rest) (length (map type_of k.operands)) + deepest (length k.blocks + 1) rest ≤ frame → (uses_bulk (module_tree m) ≡ false → code_uses_bulk rest ≡ false)
       → IsTypedContext m frame limits.depth k → HasRoom limits.depth frame old → KeepsRoom old new
       → ((g : ℕ) → after_sequence m limits k (and_then e g (resume_at m limits (length k.activations + 1) k.function k.sequence k.place)) ≡ r g)
-      → EndsAs e k o new store' → SimulatesPlain o m limits frame new store' r
+      → EndsAs e k o new store' → SimulatesUnlessTrapped o m limits frame new store' r
   done_as (Next s) k i middle None old new store store' r good typed fits narrow around room keeps goes (represents, same) =
       let C : Context = context m frame k.function k.blocks in
       let rest : Code = code_at (body_of m k) k.sequence k.place in
@@ -179,7 +179,7 @@ module _ (m : Module) (limits : Terms) (frame : ℕ) where
       → ((k : Configuration) (middle : List ValType) → Takes (rule (context m frame k.function k.blocks) i) (map type_of k.operands) middle → map type_of k.locals ≡ local_types m frame k.function
       → IsPreserved m (context m frame k.function k.blocks) i (map type_of k.operands) middle (plain (module_tree m) limits i (state k store)))
       → ((k : Configuration) → Represents k old → plain (module_tree m) limits i (state k store) ≢ Stuck → EndsAs (plain (module_tree m) limits i (state k store)) k o new store') → KeepsRoom old new
-      → SimulatesPlain o m limits frame new store' (paid r)
+      → SimulatesUnlessTrapped o m limits frame new store' (paid r)
   plain_done old new store store' here i o r b good after keeps =
       let k = b.configuration in
       let (middle, takes, typed) = b.typed.typed in

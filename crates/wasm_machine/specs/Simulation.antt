@@ -264,10 +264,10 @@ IsPreserved m C i ts middle (Returned s) = Unit {0}
 IsPreserved m C i ts middle (OutOfFuel store) = ⊥
 IsPreserved m C i ts middle Stuck = ⊥
 
--- what the machine says after a plain instruction
-abbrev pub SimulatesPlain : Option TrapKind → Module → Terms → ℕ → Machine → Store → (ℕ → Ended) → Type 0
-SimulatesPlain None m limits frame machine store r = Simulates m limits frame machine store r
-SimulatesPlain (Some t) m limits frame machine store r = (fuel : ℕ) → r fuel ≡ ended (Trapped t store) fuel
+-- the run goes on, or traps
+abbrev pub SimulatesUnlessTrapped : Option TrapKind → Module → Terms → ℕ → Machine → Store → (ℕ → Ended) → Type 0
+SimulatesUnlessTrapped None m limits frame machine store r = Simulates m limits frame machine store r
+SimulatesUnlessTrapped (Some t) m limits frame machine store r = (fuel : ℕ) → r fuel ≡ ended (Trapped t store) fuel
 
 abbrev pub step_unless_over : Bool → Step
 step_unless_over true = step.Finishes

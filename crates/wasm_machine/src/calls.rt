@@ -17,11 +17,10 @@ ghost use Rattle.wasm_machine.specs.Remaining.{function_of};
 ghost use Rattle.machine_steps.specs.StackLayout.{HasRoom, KeepsRoom, Represents};
 ghost use Rattle.wasm_machine.specs.TypedConfiguration.{IsRunnable, IsTypedStore};
 ghost use Rattle.wasm_types.specs.declared.instr.Op.TheVariants as op;
-ghost use Rattle.wasm_machine.specs.declared.running.Step.TheVariants as step;
-ghost use Rattle.wasm_machine.specs.Simulation.{HasFetched, CanCall, CanCallNumber, CanCallElement, Simulates, SimulatesCall, SimulatesCalling, SimulatesStep, in_function, paid};
+ghost use Rattle.wasm_machine.specs.Simulation.{HasFetched, CanCall, CanCallNumber, CanCallElement, Simulates, SimulatesCall, SimulatesCalling, SimulatesUnlessTrapped, in_function, paid};
 
 use crate::lookup::{has_type, host_of, local_runs, param_count, start_of};
-use crate::running::{Inputs, Step, unless_trapped};
+use crate::running::Inputs;
 use call_payload::AnswerBuf;
 use linear_memory::Memory;
 use machine_steps::{Machine, Position, ValueStack};
@@ -108,19 +107,18 @@ fn enter_function(machine: &mut Machine, m: &Module, x: usize, count: usize)
 
 // Calls one of the module's own functions, if one more call may be open.
 #[inline(always)]
-fn invoke(machine: &mut Machine, inputs: &Inputs, x: usize) -> Step
+fn invoke(machine: &mut Machine, inputs: &Inputs, x: usize) -> Option<TrapKind>
     requires { (request : List ℕ) × CanCall inputs.now.m.now (terms inputs.now.limits request) machine.old x }
     ensures steps { (request : List ℕ) (frame : ℕ) (store : Store) (r : ℕ → Ended) → IsRunnable inputs.now.m.now frame
         → SimulatesCall inputs.now.m.now (terms inputs.now.limits request) frame machine.old store x r
-        → SimulatesStep result inputs.now.m.now (terms inputs.now.limits request) frame machine.new store r }
+        → SimulatesUnlessTrapped result inputs.now.m.now (terms inputs.now.limits request) frame machine.new store r }
     ensures room { KeepsRoom machine.old machine.new }
-    ensures moves { result ≢ step.Stays }
 {
     if machine.frames.len() + 1 >= inputs.limits.depth as usize {
-        return Step::Traps(TrapKind::Exhausted);
+        return Some(TrapKind::Exhausted);
     }
     enter_function(machine, inputs.m, x, param_count(inputs.m, x));
-    Step::Continues
+    None
 }
 
 // Calls an import, for which the host has what it does in place of a body.
@@ -131,7 +129,7 @@ fn call_import(
     memory: &mut Memory,
     answer: &mut AnswerBuf,
     x: usize,
-) -> Step
+) -> Option<TrapKind>
     requires import { x < length inputs.now.m.now.imports }
     requires can { CanCallNumber inputs.now.m.now (terms inputs.now.limits inputs.now.request.now) machine.old x }
     requires memory { (most : ℕ) × IsMemory most memory.old }
@@ -139,15 +137,14 @@ fn call_import(
     ensures steps { (frame : ℕ) (table : List (Option ℕ)) (globals : List AVal) (r : ℕ → Ended) → IsRunnable inputs.now.m.now frame
         → SimulatesCalling inputs.now.m.now (terms inputs.now.limits inputs.now.request.now) frame machine.old
         (store_of memory.old table globals answer.old) x r
-        → SimulatesStep result inputs.now.m.now (terms inputs.now.limits inputs.now.request.now) frame machine.new
+        → SimulatesUnlessTrapped result inputs.now.m.now (terms inputs.now.limits inputs.now.request.now) frame machine.new
         (store_of memory.new table globals answer.new) r }
     ensures room { KeepsRoom machine.old machine.new }
     ensures memory { (most : ℕ) → IsMemory most memory.old → IsMemory most memory.new }
     ensures marks { MarksWithin inputs.now.m.now memory.old memory.new 0 }
-    ensures moves { result ≢ step.Stays }
 {
     match host_of(inputs.m, x) {
-        Some(function) => unless_trapped(machine.host(function, inputs.request, memory, answer)),
+        Some(function) => machine.host(function, inputs.request, memory, answer),
         None => unreachable!(),
     }
 }
@@ -160,19 +157,18 @@ pub(crate) fn call(
     memory: &mut Memory,
     answer: &mut AnswerBuf,
     x: u32,
-) -> Step
+) -> Option<TrapKind>
     requires can { CanCallNumber inputs.now.m.now (terms inputs.now.limits inputs.now.request.now) machine.old x }
     requires memory { (most : ℕ) × IsMemory most memory.old }
     requires short { length inputs.now.request.now < 2 ^ 32 }
     ensures steps { (frame : ℕ) (table : List (Option ℕ)) (globals : List AVal) (r : ℕ → Ended) → IsRunnable inputs.now.m.now frame
         → SimulatesCalling inputs.now.m.now (terms inputs.now.limits inputs.now.request.now) frame machine.old
         (store_of memory.old table globals answer.old) x r
-        → SimulatesStep result inputs.now.m.now (terms inputs.now.limits inputs.now.request.now) frame machine.new
+        → SimulatesUnlessTrapped result inputs.now.m.now (terms inputs.now.limits inputs.now.request.now) frame machine.new
         (store_of memory.new table globals answer.new) r }
     ensures room { KeepsRoom machine.old machine.new }
     ensures memory { (most : ℕ) → IsMemory most memory.old → IsMemory most memory.new }
     ensures marks { MarksWithin inputs.now.m.now memory.old memory.new 0 }
-    ensures moves { result ≢ step.Stays }
 {
     let x = x as usize;
     let imported = inputs.m.imports.len();
@@ -191,29 +187,28 @@ pub(crate) fn call_indirect(
     memory: &mut Memory,
     answer: &mut AnswerBuf,
     x: u32,
-) -> Step
+) -> Option<TrapKind>
     requires can { CanCallElement inputs.now.m.now (terms inputs.now.limits inputs.now.request.now) inputs.now.table.now machine.old x }
     requires memory { (most : ℕ) × IsMemory most memory.old }
     requires short { length inputs.now.request.now < 2 ^ 32 }
     ensures steps { (frame : ℕ) (globals : List AVal) (here : ℕ) (r : ℕ → Ended) → IsRunnable inputs.now.m.now frame
         → HasFetched inputs.now.m.now (terms inputs.now.limits inputs.now.request.now) frame machine.old
         (store_of memory.old inputs.now.table.now globals answer.old) here (op.CallIndirect x) r
-        → SimulatesStep result inputs.now.m.now (terms inputs.now.limits inputs.now.request.now) frame machine.new
+        → SimulatesUnlessTrapped result inputs.now.m.now (terms inputs.now.limits inputs.now.request.now) frame machine.new
         (store_of memory.new inputs.now.table.now globals answer.new) (paid r) }
     ensures room { KeepsRoom machine.old machine.new }
     ensures memory { (most : ℕ) → IsMemory most memory.old → IsMemory most memory.new }
     ensures marks { MarksWithin inputs.now.m.now memory.old memory.new 0 }
-    ensures moves { result ≢ step.Stays }
 {
     let i = machine.pop32();
     match element_at(inputs.table, i) {
-        None => Step::Traps(TrapKind::Element),
-        Some(None) => Step::Traps(TrapKind::Uninit),
+        None => Some(TrapKind::Element),
+        Some(None) => Some(TrapKind::Uninit),
         Some(Some(y)) => {
             if has_type(inputs.m, y, x as usize) {
                 call(machine, inputs, memory, answer, y)
             } else {
-                Step::Traps(TrapKind::Signature)
+                Some(TrapKind::Signature)
             }
         }
     }

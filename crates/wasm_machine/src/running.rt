@@ -11,7 +11,7 @@ ghost use Rattle.wasm_spec.specs.Instances.{room_for};
 ghost use Rattle.machine_steps.specs.Lent.{store_of};
 ghost use Rattle.wasm_machine.specs.Lent.{MarksWithin};
 ghost use Rattle.wasm_machine.specs.TypedConfiguration.{IsRunnable};
-ghost use Rattle.wasm_machine.specs.Simulation.{AreMarkedBelow, HasFetched, CanContinue, HaltsAs, IsStructured, Simulates, SimulatesStep, SimulatesUnlessOver, chosen_arm, left_of, op_at, paid, sequence_at, step_unless_over, step_unless_trapped};
+ghost use Rattle.wasm_machine.specs.Simulation.{AreMarkedBelow, HasFetched, CanContinue, HaltsAs, IsStructured, Simulates, SimulatesStep, SimulatesUnlessOver, SimulatesUnlessTrapped, chosen_arm, left_of, op_at, paid, sequence_at, step_unless_over, step_unless_trapped};
 
 use crate::calls::{call, call_indirect};
 use crate::control::{end_sequence, jump};
@@ -67,9 +67,11 @@ fn unless_over(over: bool) -> Step
     }
 }
 
-// What a function of the host comes to in place of a call.
-pub(crate) fn unless_trapped(trap: Option<TrapKind>) -> Step
-    ensures { result ≡ step_unless_trapped trap }
+// What a block or a call comes to, of which the run goes on where it stands then.
+#[inline(always)]
+fn unless_trapped(trap: Option<TrapKind>) -> Step
+    ensures is { result ≡ step_unless_trapped trap }
+    ensures moves { result ≢ step.Stays }
 {
     match trap {
         None => Step::Continues,
@@ -89,7 +91,7 @@ fn op_in(ops: &[Op], place: usize) -> &Op
 
 // Ends the current sequence, which is over, and those that are over then, up to the next instruction, and gives the instructions
 // of its sequence. Says whether the run is over.
-#[inline(never)]
+#[inline(always)]
 fn end_sequences<'m>(machine: &mut Machine, m: &'m Module, current: &mut &'m [Op]) -> bool
     requires over { op_at m.now machine.old ≡ None }
     requires can { CanContinue m.now machine.old }
@@ -140,7 +142,7 @@ fn execute_structured(
     memory: &mut Memory,
     answer: &mut AnswerBuf,
     op: &Op,
-) -> Step
+) -> Option<TrapKind>
     requires there { op_at inputs.now.m.now machine.old ≡ Some op.now }
     requires structured { IsStructured op.now }
     requires fits { machine.old.at.place + 1 < 2 ^ 64 }
@@ -152,12 +154,11 @@ fn execute_structured(
     ensures steps { (frame : ℕ) (globals : List AVal) (r : ℕ → Ended) → IsRunnable inputs.now.m.now frame
         → Simulates inputs.now.m.now (terms inputs.now.limits inputs.now.request.now) frame machine.old
         (store_of memory.old inputs.now.table.now globals answer.old) r
-        → SimulatesStep result inputs.now.m.now (terms inputs.now.limits inputs.now.request.now) frame machine.new
+        → SimulatesUnlessTrapped result inputs.now.m.now (terms inputs.now.limits inputs.now.request.now) frame machine.new
         (store_of memory.new inputs.now.table.now globals answer.new) (paid r) }
     ensures room { KeepsRoom machine.old machine.new }
     ensures memory { IsMemory (room_for inputs.now.m.now.memories inputs.now.limits.pages) memory.new }
     ensures marks { MarksWithin inputs.now.m.now memory.old memory.new 2 }
-    ensures moves { result ≢ step.Stays }
 {
     let here = machine.at.place;
     machine.at.place = here + 1;
@@ -165,12 +166,12 @@ fn execute_structured(
         Op::Block(t, q) => {
             let inner = named_by(inputs.m, machine.at, *q);
             machine.enter_block(value_count(*t), here + 1, inner);
-            Step::Continues
+            None
         }
         Op::Loop(_, q) => {
             let inner = named_by(inputs.m, machine.at, *q);
             machine.enter_block(0, here, inner);
-            Step::Continues
+            None
         }
         Op::Call(x) => call(machine, inputs, memory, answer, *x),
         Op::Plain(_) => unreachable!(),
@@ -178,7 +179,7 @@ fn execute_structured(
             let c = machine.pop32();
             let inner = named_by(inputs.m, machine.at, arm_of(c, *first, *second));
             machine.enter_block(value_count(*t), here + 1, inner);
-            Step::Continues
+            None
         }
         Op::CallIndirect(x) => { call_indirect(machine, inputs, memory, answer, *x) }
     }
@@ -220,7 +221,7 @@ fn execute(
             machine.at.place = here + 1;
             execute_plain(machine, inputs, most, memory, globals, instr, here)
         }
-        _ => execute_structured(machine, inputs, memory, answer, op),
+        _ => unless_trapped(execute_structured(machine, inputs, memory, answer, op)),
     }
 }
 

@@ -1,7 +1,7 @@
 use Rattle.wasm_spec.specs.Store.{Store}
 use Rattle.wasm_spec.specs.Execution.{Terms, terms}
 use Rattle.machine_steps.specs.Lent.{store_of}
-use Rattle.wasm_machine.proofs.HostCallLemmas.{found_can, found_ready, found_done, some_function, stopped}
+use Rattle.wasm_machine.proofs.HostCallLemmas.{found_can, found_ready, found_done, some_function}
 use Rattle.wasm_machine.proofs.calls.call_import.Goals as goal
 
 pub host-requires-clause-can : goal.host-requires-clause-can
@@ -28,6 +28,5 @@ returns-clause-steps c frame table globals r run e =
     let t : Terms = terms c.args.inputs.now.limits c.args.inputs.now.request.now in
     let before : Store = store_of c.args.memory.now table globals c.args.answer.now in
     let after : Store = store_of c.host.new.memory table globals c.host.new.answer in
-    stopped c.host.result c.unless_trapped.result m t frame c.host.new.self after r c.unless_trapped.ensures
-    (found_done m t frame c.args.machine.now before c.args.x r run e c.requires.import c.host_of.result c.host_of.ensures c.in-Some.function c.in-Some.is
-    c.host.new.self after c.host.result (c.host.ensures.does table globals) c.host.ensures.room)
+    found_done m t frame c.args.machine.now before c.args.x r run e c.requires.import c.host_of.result c.host_of.ensures c.in-Some.function c.in-Some.is
+    c.host.new.self after c.host.result (c.host.ensures.does table globals) c.host.ensures.room

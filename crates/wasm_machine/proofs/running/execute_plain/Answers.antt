@@ -14,7 +14,7 @@ use Rattle.wasm_types.specs.Sequences.{code_at}
 use Rattle.wasm_spec.specs.Bulk.{is_bulk, code_uses_bulk}
 use Rattle.wasm_spec.proofs.NarrowModules.{neither}
 use Rattle.wasm_machine.proofs.MarkLemmas.{marks_of}
-use Rattle.wasm_machine.specs.Simulation.{HasFetched, SimulatesPlain, body_of, SimulatesUnlessOver, SimulatesStep, paid, step_unless_over}
+use Rattle.wasm_machine.specs.Simulation.{HasFetched, SimulatesUnlessTrapped, body_of, SimulatesUnlessOver, SimulatesStep, paid, step_unless_over}
 use Rattle.wasm_machine.proofs.StepLemmas.{plain_done, plain_stays}
 use Rattle.machine_steps.specs.declared.plain.Effect.{Effect}
 use Rattle.machine_steps.specs.declared.plain.Effect.TheVariants as effect
@@ -86,7 +86,7 @@ returns-in-Stays-clause-steps c frame answer r run b =
     let after = store_of c.plain.new.memory c.args.inputs.now.table.now c.plain.new.globals answer in
     let i = c.args.instr.now in
     let stays = c.plain.ensures.stays (stays_apart c.plain.result c.in-Stays.is) in
-    subst (λ (e : Effect). SimulatesPlain (trap_of e) m limits frame c.plain.new.self after (paid r)) c.in-Stays.is
+    subst (λ (e : Effect). SimulatesUnlessTrapped (trap_of e) m limits frame c.plain.new.self after (paid r)) c.in-Stays.is
     (plain_done m limits frame c.args.machine.now c.plain.new.self store after c.args.here i (trap_of c.plain.result) r b
     (λ k middle takes locals. plain_preserved m limits (context m frame k.function k.blocks) refl i k store middle stays takes locals b.stored)
     (c.plain.ensures.does (module_tree m) limits c.args.inputs.now.table.now answer c.requires.most stays)
@@ -100,7 +100,7 @@ returns-in-Traps-clause-steps c frame answer r run b =
     let after = store_of c.plain.new.memory c.args.inputs.now.table.now c.plain.new.globals answer in
     let i = c.args.instr.now in
     let stays = c.plain.ensures.stays (traps_apart c.plain.result c.in-Traps.t c.in-Traps.is) in
-    subst (λ (e : Effect). SimulatesPlain (trap_of e) m limits frame c.plain.new.self after (paid r)) c.in-Traps.is
+    subst (λ (e : Effect). SimulatesUnlessTrapped (trap_of e) m limits frame c.plain.new.self after (paid r)) c.in-Traps.is
     (plain_done m limits frame c.args.machine.now c.plain.new.self store after c.args.here i (trap_of c.plain.result) r b
     (λ k middle takes locals. plain_preserved m limits (context m frame k.function k.blocks) refl i k store middle stays takes locals b.stored)
     (c.plain.ensures.does (module_tree m) limits c.args.inputs.now.table.now answer c.requires.most stays)

@@ -24,7 +24,7 @@ returns-clause-does c m limits table globals answer most k sh fine =
     let t = grow_of m limits k store fine in
     let p = c.pop32-pages.ensures.represents k t.n t.rest sh (single_number k.operands t) in
     let grown : Grows c.args.most t.n c.args.memory.now c.grow.result c.grow.new.self = subst (λ (n : ℕ). Grows c.args.most n c.args.memory.now c.grow.result c.grow.new.self) p.0 c.grow.ensures.grown in
-    after_as m limits instr.MemoryGrow k store after _ None c.push.new.self (grow_means m limits k store t)
-    (subst (λ (n : ℕ). EndsAs (execution.grow n t.n t.rest (state k store)) k None c.push.new.self after) most
-    (grow_after c.grow.result c.args.most t.n c.unwrap_or-before.result limit k t.rest c.push.new.self c.args.memory.now c.grow.new.self table globals answer is grown c.unwrap_or-before.ensures
-    (c.push.ensures.represents (record k { operands = t.rest }) p.1)))
+    after_as m limits instr.MemoryGrow k store after _ None c.push32.new.self (grow_means m limits k store t)
+    (subst (λ (n : ℕ). EndsAs (execution.grow n t.n t.rest (state k store)) k None c.push32.new.self after) most
+    (grow_after c.grow.result c.args.most t.n c.unwrap_or-before.result limit k t.rest c.push32.new.self c.args.memory.now c.grow.new.self table globals answer is grown c.unwrap_or-before.ensures
+    (c.push32.ensures.represents (record k { operands = t.rest }) p.1)))

@@ -49,10 +49,10 @@ returns-in-Some-clause-does c table globals answer k sh fine =
     c.in-Some.ensures.count ∙ (λ i. if nat_le (r.0 i + p.0 i) (length (shown old)) then Some (length (part request (q.0 i) (p.0 i))) else None) in
     let set : shown c.copy_request.new.memory ≡ (if nat_le (t.a + t.n) (length (shown old)) then bytes else shown old) =
     c.in-Some.ensures.after ∙ (λ i. if nat_le (r.0 i + p.0 i) (length (shown old)) then written (shown old) (r.0 i) (part request (q.0 i) (p.0 i)) else shown old) in
-    subst (λ (signal : Signal). EndsAs signal k None c.push.new.self after) (sym (at_three k.operands go t))
-    (read_ends (lies_within before t.a t.n) (length (part request t.b t.n)) c.in-Some.n bytes k t.rest c.push.new.self before after counted
+    subst (λ (signal : Signal). EndsAs signal k None c.push32.new.self after) (sym (at_three k.operands go t))
+    (read_ends (lies_within before t.a t.n) (length (part request t.b t.n)) c.in-Some.n bytes k t.rest c.push32.new.self before after counted
     (ap (λ (l : List ℕ). memory_set l before) set ∙ memory_where (lies_within before t.a t.n) bytes before)
-    (c.push.ensures.represents (record k { operands = t.rest }) r.1))
+    (c.push32.ensures.represents (record k { operands = t.rest }) r.1))
 
 pub returns-in-None-clause-does : goal.returns-in-None-clause-does
 returns-in-None-clause-does c table globals answer k sh fine =

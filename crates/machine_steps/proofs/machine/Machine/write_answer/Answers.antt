@@ -40,10 +40,10 @@ returns-in-Some-clause-does c request table globals k sh fine =
     c.in-Some.ensures.count ∙ (λ i. if nat_le (q.0 i + p.0 i) (length (shown memory)) then Some (if nat_lt most_answer (length old + p.0 i) then 2 ^ 32 - 1 else length old + p.0 i) else None) in
     let set : c.append_memory.new.answer ≡ (if nat_le (t.a + t.n) (length (shown memory)) then (if nat_lt most_answer (length old + t.n) then old else bytes) else old) =
     c.in-Some.ensures.after ∙ (λ i. if nat_le (q.0 i + p.0 i) (length (shown memory)) then (if nat_lt most_answer (length old + p.0 i) then old else old ++ part (shown memory) (q.0 i) (p.0 i)) else old) in
-    subst (λ (signal : Signal). EndsAs signal k None c.push.new.self after) (sym (at_two k.operands go t))
-    (write_ends (lies_within before t.a t.n) (nat_lt most_answer (length old + t.n)) (length old + t.n) c.in-Some.n bytes k t.rest c.push.new.self before after counted
+    subst (λ (signal : Signal). EndsAs signal k None c.push32.new.self after) (sym (at_two k.operands go t))
+    (write_ends (lies_within before t.a t.n) (nat_lt most_answer (length old + t.n)) (length old + t.n) c.in-Some.n bytes k t.rest c.push32.new.self before after counted
     (ap (λ (l : List ℕ). answer_set l before) set ∙ answer_where (lies_within before t.a t.n) (nat_lt most_answer (length old + t.n)) bytes before)
-    (c.push.ensures.represents (record k { operands = t.rest }) q.1))
+    (c.push32.ensures.represents (record k { operands = t.rest }) q.1))
 
 pub returns-in-None-clause-does : goal.returns-in-None-clause-does
 returns-in-None-clause-does c request table globals k sh fine =
