@@ -1,6 +1,8 @@
 //! All calls of a request file are made.
-ghost use Rattle.std.specs.Prelude.{◌≡◌, ◌≢◌, [], IfOk, None};
+ghost use Rattle.std.specs.Prelude.{◌≡◌, ◌≢◌, ◌<◌, ◌≤◌, [], IfOk, None};
 ghost use Rattle.pool_limits.specs.Plans.{plan_fault};
+ghost use Rattle.pool_limits.specs.Shares.{shared_share};
+ghost use Rattle.slice_workers.specs.Crews.{IsNewSliceCrew};
 ghost use Rattle.host_report.specs.Due.{dues_from};
 ghost use Rattle.host_report.specs.Rounds.{AreBooks, AreClosedBooks, IsReady};
 
@@ -16,6 +18,7 @@ use host_edge::Gate;
 use job_queue::Board;
 use module_store::{Desk, ModuleStore, Naming};
 use request_text::Requests;
+use slice_workers::SliceCrew;
 use std::alloc::Global;
 use std::sync::Wait;
 use std::thread::Threads;
@@ -48,6 +51,20 @@ fn open_crew_for<N: Naming>(
 {
     let calls = dues(alloc, requests.directives())?;
     open_workers(alloc, store, requests.wants(), calls)
+}
+
+// Workers of the configured number, which make this file's calls in slices.
+fn open_slicers_for<N: Naming>(
+    alloc: Global,
+    store: &ModuleStore<N>,
+    requests: &Requests,
+) -> Result<SliceCrew<N>, NoMemory>
+    requires several { N.config.workers ≢ 1 }
+    ensures crew { IfOk result (IsNewSliceCrew N.config (shared_share N.config) (dues_from 1 requests.now.directives) N.config.workers) }
+    ensures some { IfOk result (λ _. (0 < N.config.workers) × (N.config.workers ≤ 16)) }
+{
+    let calls = dues(alloc, requests.directives())?;
+    open_slicers(alloc, store, calls)
 }
 
 // All calls are made round by round: by the lane, and by a crew where there are several workers.
@@ -94,8 +111,7 @@ fn in_slices<N: Naming + Send + Sync, R: Threads + Wait + Sync, G: Gate>(
     requires books { AreBooks N.config requests.now 0 0 0 books }
     ensures { IfOk result (AreClosedBooks N.config requests.now) }
 {
-    let calls = dues(alloc, requests.directives())?;
-    let crew = open_slicers(alloc, store, calls)?;
+    let crew = open_slicers_for(alloc, store, requests)?;
     let mut books = by_slicers(rt, alloc, store, requests, crew, books, slice, gate)?;
     let mut lane = open_lane(alloc, store)?;
     let span = Span::of_all(requests);

@@ -1,14 +1,15 @@
 //! A run, round by round: the calls before the first retire line, those between two, and those after the last.
-ghost use Rattle.std.specs.Prelude.{◌≡◌, ℕ, ◌+◌, ◌≤◌, List, IfOk, Ok, Some, length, slice_get};
+ghost use Rattle.std.specs.Prelude.{◌≡◌, ℕ, ◌+◌, ◌≤◌, List, IfOk, IfSome, Ok, Some, length, slice_get};
 ghost use Rattle.pool_worlds.specs.Contents.{Named};
 ghost use Rattle.request_text.specs.declared.request.Directive.TheVariants.{Retire};
-ghost use Rattle.host_report.specs.Rounds.{HasRetired, IsRun};
+ghost use Rattle.host_report.specs.Due.{dues_from};
+ghost use Rattle.host_report.specs.Entries.{AreKept};
+ghost use Rattle.host_report.specs.Rounds.{AreBooks, AreBooksWithin, HasRetired, IsReady, IsRun, IsSpan};
 
 use crate::books::{Books, Span};
 use crate::calls::{entry_at, make_left};
 use crate::counting::calls_in;
-use crate::modules::enter_round;
-use crate::sharing::by_crew;
+use crate::sharing::{by_crew, enter_alone};
 use call_workers::{Crew, retire_for_each};
 use host_edge::Gate;
 use module_store::{ModuleStore, Naming};
@@ -30,6 +31,30 @@ pub(crate) struct Run<N: Naming> {
     pub calls: u32,
 }
 
+// The modules of a round are entered, and a crew, where there is one, makes its calls meanwhile.
+fn enter_and_call<N: Naming + Send + Sync, R: Threads + Wait + Sync, G: Gate>(
+    rt: &R,
+    alloc: Global,
+    store: &ModuleStore<N>,
+    requests: &Requests,
+    span: Span,
+    crew: &mut Option<Crew<N>>,
+    books: Books<N>,
+    gate: &G,
+) -> Result<Books<N>, NoMemory>
+    requires span { IsSpan requests.now.directives span }
+    requires crew { IfSome crew.old (IsReady (dues_from 1 requests.now.directives)) }
+    requires books { AreBooks N.config requests.now span.from span.calls span.calls books }
+    ensures crew { IfOk result (λ _. IfSome crew.new (IsReady (dues_from 1 requests.now.directives))) }
+    ensures books { IfOk result (AreBooksWithin N.config requests.now span) }
+    ensures kept { IfOk result (λ after. AreKept books.registry.entries.items after.registry.entries.items) }
+{
+    match crew {
+        Some(crew) => by_crew(rt, alloc, store, requests, span, crew, books, gate),
+        None => enter_alone(rt, alloc, store, requests, span, books),
+    }
+}
+
 // One round, up to this directive: its modules are entered, a crew makes its calls meanwhile, and the lane makes those that are left.
 fn make_round<N: Naming + Send + Sync, R: Threads + Wait + Sync, G: Gate>(
     rt: &R,
@@ -46,7 +71,7 @@ fn make_round<N: Naming + Send + Sync, R: Threads + Wait + Sync, G: Gate>(
     ensures done { IfOk result (λ after. after.done ≡ to) }
 {
     let Run {
-        mut books,
+        books,
         mut lane,
         mut crew,
         done,
@@ -58,10 +83,7 @@ fn make_round<N: Naming + Send + Sync, R: Threads + Wait + Sync, G: Gate>(
         calls,
     };
     let count = calls_in(requests, span);
-    match &mut crew {
-        Some(crew) => books = by_crew(rt, alloc, store, requests, span, crew, books, gate)?,
-        None => enter_round(rt, alloc, store, requests, span, &mut books.registry)?,
-    }
+    let mut books = enter_and_call(rt, alloc, store, requests, span, &mut crew, books, gate)?;
     make_left(alloc, store, requests, span, &mut books, &mut lane, gate)?;
     Ok(Run {
         books,

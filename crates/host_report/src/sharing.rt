@@ -78,6 +78,28 @@ fn work_round<N: Naming + Send + Sync, R: Threads + Wait + Sync, G: Gate>(
     Ok((registry, worked))
 }
 
+// The modules of a round are entered, and no call is made.
+pub(crate) fn enter_alone<N: Naming, R: Wait>(
+    rt: &R,
+    alloc: Global,
+    store: &ModuleStore<N>,
+    requests: &Requests,
+    span: Span,
+    books: Books<N>,
+) -> Result<Books<N>, NoMemory>
+    requires span { IsSpan requests.now.directives span }
+    requires books { AreBooks N.config requests.now span.from span.calls span.calls books }
+    ensures books { IfOk result (AreBooksWithin N.config requests.now span) }
+    ensures kept { IfOk result (λ after. AreKept books.registry.entries.items after.registry.entries.items) }
+{
+    let Books {
+        mut registry,
+        board,
+    } = books;
+    enter_round(rt, alloc, store, requests, span, &mut registry)?;
+    Ok(Books { registry, board })
+}
+
 // The modules of a round are entered, and a crew makes its calls meanwhile, if it has any. Those that it was answered Full, or
 // Retired before a retire line of their module, have no line yet.
 pub(crate) fn by_crew<N: Naming + Send + Sync, R: Threads + Wait + Sync, G: Gate>(
@@ -97,14 +119,13 @@ pub(crate) fn by_crew<N: Naming + Send + Sync, R: Threads + Wait + Sync, G: Gate
     ensures books { IfOk result (AreBooksWithin N.config requests.now span) }
     ensures kept { IfOk result (λ after. AreKept books.registry.entries.items after.registry.entries.items) }
 {
+    if calls_in(requests, span) == 0 {
+        return enter_alone(rt, alloc, store, requests, span, books);
+    }
     let Books {
-        mut registry,
+        registry,
         mut board,
     } = books;
-    if calls_in(requests, span) == 0 {
-        enter_round(rt, alloc, store, requests, span, &mut registry)?;
-        return Ok(Books { registry, board });
-    }
     let (registry, worked) = work_round(rt, alloc, store, requests, span, crew, registry, gate)?;
     collect_all(&mut board, &crew.shared.calls, worked);
     Ok(Books { registry, board })

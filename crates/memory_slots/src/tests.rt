@@ -72,6 +72,29 @@ fn filled<N: Naming>(slot: &MemSlot<N>) -> usize {
     slot.memory.bytes.iter().filter(|byte| **byte != 0).count()
 }
 
+// Makes the slot the module's memory, looks at its pages, its byte at 65,534, how many of its bytes are not zero, and its marks, and
+// scribbles on it.
+fn check_prepared<N: Naming, R: Abort>(
+    rt: &R,
+    store: &ModuleStore<N>,
+    slot: &mut MemSlot<N>,
+    module: &ModuleRef<N>,
+    want: (u32, u8, usize),
+) {
+    slot.prepare(store, module);
+    let byte = slot.memory.bytes.get(65_534).copied().unwrap_or(9);
+    assert_eq!(rt; (slot.memory.pages, byte, filled(slot)), want);
+    assert_eq!(rt; slot.dirty(), 0);
+    assert!(rt; scribble(slot));
+    assert_eq!(rt; slot.dirty(), 1);
+}
+
+// A slot that is cleared has no pages, no bytes that are not zero, and no marks.
+fn check_cleared<N: Naming, R: Abort>(rt: &R, slot: &mut MemSlot<N>) {
+    slot.clear();
+    assert_eq!(rt; (slot.memory.pages, filled(slot), slot.dirty()), (0, 0, 0));
+}
+
 fn check_slot<N: Naming, R: Abort + Wait>(rt: &R, alloc: Global, opened: Opened)
     requires { Bears opened N.shelves N.config }
 {
@@ -79,25 +102,11 @@ fn check_slot<N: Naming, R: Abort + Wait>(rt: &R, alloc: Global, opened: Opened)
     let letters = registered(rt, alloc, &store, &mut desk, &LETTERS);
     let zeros = registered(rt, alloc, &store, &mut desk, &ZEROS);
     let mut slot = MemSlot::open(alloc, &store).expect(rt, "opened");
-    let rows = [
-        (&letters, 1, b'a', 2),
-        (&zeros, 2, 0, 0),
-        (&letters, 1, b'a', 2),
-        (&letters, 1, b'a', 2),
-    ];
-    for (module, pages, byte, count) in rows {
-        slot.prepare(&store, module);
-        assert_eq!(rt; slot.memory.pages, pages);
-        assert_eq!(rt; slot.memory.bytes.get(65_534).copied(), Some(byte));
-        assert_eq!(rt; filled(&slot), count);
-        assert_eq!(rt; slot.dirty(), 0);
-        assert!(rt; scribble(&mut slot));
-        assert_eq!(rt; slot.dirty(), 1);
-    }
-    slot.clear();
-    assert_eq!(rt; slot.memory.pages, 0);
-    assert_eq!(rt; filled(&slot), 0);
-    assert_eq!(rt; slot.dirty(), 0);
+    check_prepared(rt, &store, &mut slot, &letters, (1, b'a', 2));
+    check_prepared(rt, &store, &mut slot, &zeros, (2, 0, 0));
+    check_prepared(rt, &store, &mut slot, &letters, (1, b'a', 2));
+    check_prepared(rt, &store, &mut slot, &letters, (1, b'a', 2));
+    check_cleared(rt, &mut slot);
 }
 
 // Fills so many bytes from the first on, as its module might, and says whether they lie within its size.
@@ -108,7 +117,21 @@ fn fill_bytes<N: Naming>(slot: &mut MemSlot<N>, count: u64) -> bool
     slot.memory.fill(0, 7, count)
 }
 
-// Each row is a module, how many bytes of the slot are not zero, how many are filled, and how many blocks these are.
+// Makes the slot the module's memory, in which so many bytes are not zero, and fills so many, which are so many blocks.
+fn check_fill<N: Naming, R: Abort>(
+    rt: &R,
+    store: &ModuleStore<N>,
+    slot: &mut MemSlot<N>,
+    module: &ModuleRef<N>,
+    row: (usize, u64, u32),
+) {
+    let (count, bytes, blocks) = row;
+    slot.prepare(store, module);
+    assert_eq!(rt; (filled(slot), slot.dirty()), (count, 0));
+    assert!(rt; fill_bytes(slot, bytes));
+    assert_eq!(rt; slot.dirty(), blocks);
+}
+
 fn check_filled<N: Naming, R: Abort + Wait>(rt: &R, alloc: Global, opened: Opened)
     requires { Bears opened N.shelves N.config }
 {
@@ -116,22 +139,11 @@ fn check_filled<N: Naming, R: Abort + Wait>(rt: &R, alloc: Global, opened: Opene
     let letters = registered(rt, alloc, &store, &mut desk, &LETTERS);
     let zeros = registered(rt, alloc, &store, &mut desk, &ZEROS);
     let mut slot = MemSlot::open(alloc, &store).expect(rt, "opened");
-    let rows = [
-        (&zeros, 0, 131_072, 32),
-        (&letters, 2, 65_536, 16),
-        (&zeros, 0, 4_097, 2),
-        (&zeros, 0, 131_072, 32),
-    ];
-    for (module, count, bytes, blocks) in rows {
-        slot.prepare(&store, module);
-        assert_eq!(rt; filled(&slot), count);
-        assert_eq!(rt; slot.dirty(), 0);
-        assert!(rt; fill_bytes(&mut slot, bytes));
-        assert_eq!(rt; slot.dirty(), blocks);
-    }
-    slot.clear();
-    assert_eq!(rt; filled(&slot), 0);
-    assert_eq!(rt; slot.dirty(), 0);
+    check_fill(rt, &store, &mut slot, &zeros, (0, 131_072, 32));
+    check_fill(rt, &store, &mut slot, &letters, (2, 65_536, 16));
+    check_fill(rt, &store, &mut slot, &zeros, (0, 4_097, 2));
+    check_fill(rt, &store, &mut slot, &zeros, (0, 131_072, 32));
+    check_cleared(rt, &mut slot);
 }
 
 #[test]
@@ -176,23 +188,39 @@ struct Visits {
     left: (u32, u32, u32),
 }
 
+// Each visit gets its slot.
+fn check_each_visit<N: Naming, R: Abort>(
+    rt: &R,
+    pool: &Words<MemSlot<N>>,
+    mut pass: Pass<MemSlot<N>>,
+    store: &ModuleStore<N>,
+    modules: &[ModuleRef<N>; 3],
+    visits: [Option<(usize, u32)>; 4],
+) -> Pass<MemSlot<N>>
+    requires { IsNewPassOf pool.now pass }
+    ensures own { IsPassOf pool.now result }
+    ensures idle { IsIdle result }
+{
+    for (module, number) in visits.into_iter().flatten() {
+        assert!(rt; module < 3);
+        let got = visit(pool, &mut pass, store, &modules[module]);
+        assert_eq!(rt; got, Some(number));
+    }
+    pass
+}
+
 fn check_visits<N: Naming, R: Abort + Wait>(rt: &R, alloc: Global, opened: Opened, row: &Visits)
     requires { Bears opened N.shelves N.config }
 {
     let (store, mut desk) = opened.named::<N>();
-    let first = registered(rt, alloc, &store, &mut desk, &BUMP);
-    let second = registered(rt, alloc, &store, &mut desk, &BUMP);
-    let third = registered(rt, alloc, &store, &mut desk, &BUMP);
-    let modules = [&first, &second, &third];
+    let modules = [
+        registered(rt, alloc, &store, &mut desk, &BUMP),
+        registered(rt, alloc, &store, &mut desk, &BUMP),
+        registered(rt, alloc, &store, &mut desk, &BUMP),
+    ];
     let (pool, mut passes) = open::<MemSlot<N>>(alloc, &store, 3, row.warm, 1).expect(rt, "opened");
-    let mut pass = passes.pop().unwrap();
-    for visited in row.visits {
-        if let Some((module, number)) = visited {
-            assert!(rt; module < 3);
-            let got = visit(&pool, &mut pass, &store, modules[module]);
-            assert_eq!(rt; got, Some(number));
-        }
-    }
+    let pass = passes.pop().unwrap();
+    let pass = check_each_visit(rt, &pool, pass, &store, &modules, row.visits);
     let (cold, warm, awaiting) = row.left;
     let want = KindCounts {
         cold,

@@ -27,6 +27,3 @@ pub use paused::Paused;
 pub use pausing::{Begun, Turned};
 pub use pool_worlds::Kind;
 pub use retiring::Retire;
-
-#[cfg(test)]
-mod tests;

@@ -2,7 +2,7 @@
 ghost use Rattle.module_store.specs.Names.{Bears};
 ghost use Rattle.pool_host.specs.Hosts.{IsHostPass};
 
-use crate::callers::{one_caller, open, register};
+use crate::callers::{one_caller, one_module, open};
 use call_payload::Payload;
 use host_edge::OpenGate;
 use module_store::{ModuleRef, ModuleStore, Naming, Opened};
@@ -67,18 +67,34 @@ fn echo_on_lane<N: Naming>(
     }
 }
 
+// A row on a lane that has answered `before`.
+fn check_row_on_lane<N: Naming, R: Abort>(
+    rt: &R,
+    alloc: Global,
+    lane: &mut LaneHost<N>,
+    store: &ModuleStore<N>,
+    module: &ModuleRef<N>,
+    row: Echoed,
+) {
+    let (export, request, fuel, end, bytes) = row;
+    let sent = payload(rt, alloc, request);
+    let answer = echo_on_lane(lane, store, module, export, sent.as_ref(), fuel);
+    let want = match end {
+        Some(outcome) => LaneAnswer::Done(outcome),
+        None => LaneAnswer::NoExport,
+    };
+    assert_eq!(rt;
+        (answer, lane.answer()),
+        (want, bytes.as_bytes()),
+        "{export} of {request:?} on {fuel}"
+    );
+}
+
 fn check_echo_on_lane<N: Naming, R: Abort + Wait>(rt: &R, alloc: Global, opened: Opened)
     requires { Bears opened N.shelves N.config }
 {
-    let (store, mut desk) = opened.named::<N>();
-    let module = register(
-        rt,
-        alloc,
-        &store,
-        &mut desk,
-        Profile::Three,
-        ECHO.as_slice(),
-    );
+    let bytes = ECHO.as_slice();
+    let (store, module) = one_module::<N, R>(rt, alloc, opened, Profile::Three, bytes);
     let share = Share {
         instances: 1,
         memories: 1,
@@ -86,21 +102,10 @@ fn check_echo_on_lane<N: Naming, R: Abort + Wait>(rt: &R, alloc: Global, opened:
     };
     let mut lane = LaneHost::open(alloc, &store, share).expect(rt, "opened");
     let before = payload(rt, alloc, Some("before"));
-    for (export, request, fuel, end, bytes) in echoed() {
+    for row in echoed() {
         echo_on_lane(&mut lane, &store, &module, "e", before.as_ref(), 6);
         assert_eq!(rt; lane.answer(), b"before".as_slice());
-        let sent = payload(rt, alloc, request);
-        let answer = echo_on_lane(&mut lane, &store, &module, export, sent.as_ref(), fuel);
-        let want = match end {
-            Some(outcome) => LaneAnswer::Done(outcome),
-            None => LaneAnswer::NoExport,
-        };
-        assert_eq!(rt; answer, want, "{export} of {request:?} on {fuel}");
-        assert_eq!(rt;
-            lane.answer(),
-            bytes.as_bytes(),
-            "{export} of {request:?} on {fuel}"
-        );
+        check_row_on_lane(rt, alloc, &mut lane, &store, &module, row);
     }
 }
 
@@ -144,43 +149,43 @@ fn echo_on_host<N: Naming>(
     }
 }
 
+fn check_row_on_host<N: Naming, R: Abort>(
+    rt: &R,
+    alloc: Global,
+    host: &Host<N>,
+    pass: &mut HostPass<N>,
+    store: &ModuleStore<N>,
+    module: &ModuleRef<N>,
+    row: Echoed,
+)
+    requires { IsHostPass host.now pass.old }
+    ensures { IsHostPass host.now pass.new }
+{
+    let (export, request, fuel, end, bytes) = row;
+    let sent = payload(rt, alloc, request);
+    let answer = echo_on_host(host, pass, store, module, export, sent.as_ref(), fuel);
+    let want = match end {
+        Some(outcome) => Answer::Done(outcome),
+        None => Answer::NoExport,
+    };
+    assert_eq!(rt;
+        (answer, pass.answer()),
+        (want, bytes.as_bytes()),
+        "{export} of {request:?} on {fuel}"
+    );
+}
+
 fn check_echo_on_host<N: Naming, R: Abort + Wait>(rt: &R, alloc: Global, opened: Opened)
     requires { Bears opened N.shelves N.config }
 {
-    let (store, mut desk) = opened.named::<N>();
-    let module = register(
-        rt,
-        alloc,
-        &store,
-        &mut desk,
-        Profile::Three,
-        ECHO.as_slice(),
-    );
+    let bytes = ECHO.as_slice();
+    let (store, module) = one_module::<N, R>(rt, alloc, opened, Profile::Three, bytes);
     let (host, mut pass) = one_caller(rt, alloc, &store);
     let before = payload(rt, alloc, Some("before"));
-    for (export, request, fuel, end, bytes) in echoed() {
+    for row in echoed() {
         echo_on_host(&host, &mut pass, &store, &module, "e", before.as_ref(), 6);
         assert_eq!(rt; pass.answer(), b"before".as_slice());
-        let sent = payload(rt, alloc, request);
-        let answer = echo_on_host(
-            &host,
-            &mut pass,
-            &store,
-            &module,
-            export,
-            sent.as_ref(),
-            fuel,
-        );
-        let want = match end {
-            Some(outcome) => Answer::Done(outcome),
-            None => Answer::NoExport,
-        };
-        assert_eq!(rt; answer, want, "{export} of {request:?} on {fuel}");
-        assert_eq!(rt;
-            pass.answer(),
-            bytes.as_bytes(),
-            "{export} of {request:?} on {fuel}"
-        );
+        check_row_on_host(rt, alloc, &host, &mut pass, &store, &module, row);
     }
 }
 

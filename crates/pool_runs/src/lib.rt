@@ -8,11 +8,11 @@ mod beside;
 #[cfg(test)]
 mod callers;
 #[cfg(test)]
-mod fresh_instances;
-#[cfg(test)]
 mod given_up;
 #[cfg(test)]
 mod handed_on;
+#[cfg(test)]
+mod marked_blocks;
 #[cfg(test)]
 mod retired_beside;
 #[cfg(test)]

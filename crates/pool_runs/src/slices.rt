@@ -3,7 +3,7 @@ ghost use Rattle.module_store.specs.Names.{Bears};
 ghost use Rattle.pool_host.specs.Hosts.{IsHostPass};
 ghost use Rattle.pool_host.specs.Pausing.{IsOfHost};
 
-use crate::callers::{one_caller, one_module, open, register};
+use crate::callers::{one_caller, one_module, open};
 use host_edge::OpenGate;
 use module_store::{ModuleRef, ModuleStore, Naming, Opened};
 use pool_host::{Begun, Host, HostPass, Paused, Turned};
@@ -158,45 +158,27 @@ fn check_rows<N: Naming, R: Abort>(
     pass
 }
 
-fn check_slices<N: Naming, R: Abort + Wait>(rt: &R, alloc: Global, opened: Opened)
+// The rows of the module at this place.
+fn check_slices<N: Naming, R: Abort + Wait>(rt: &R, alloc: Global, opened: Opened, place: usize)
     requires { Bears opened N.shelves N.config }
 {
-    let (store, mut desk) = opened.named::<N>();
-    let counting = register(
-        rt,
-        alloc,
-        &store,
-        &mut desk,
-        Profile::Three,
-        COUNTING.as_slice(),
-    );
-    let started = register(
-        rt,
-        alloc,
-        &store,
-        &mut desk,
-        Profile::Three,
-        STARTED.as_slice(),
-    );
-    let writing = register(
-        rt,
-        alloc,
-        &store,
-        &mut desk,
-        Profile::Three,
-        WRITING.as_slice(),
-    );
-    let (host, pass) = one_caller(rt, alloc, &store);
     let three = [Val::I32(3)];
-    let pass = check_rows(rt, &host, pass, &store, &counting, "c", &three, COUNTED);
-    let pass = check_rows(rt, &host, pass, &store, &started, "g", &[], ANSWERED);
-    check_rows(rt, &host, pass, &store, &writing, "t", &[], WRITTEN);
+    let (bytes, export, args, rows) = match place {
+        0 => (COUNTING.as_slice(), "c", three.as_slice(), COUNTED),
+        1 => (STARTED.as_slice(), "g", [].as_slice(), ANSWERED),
+        _ => (WRITING.as_slice(), "t", [].as_slice(), WRITTEN),
+    };
+    let (store, module) = one_module::<N, R>(rt, alloc, opened, Profile::Three, bytes);
+    let (host, pass) = one_caller(rt, alloc, &store);
+    check_rows(rt, &host, pass, &store, &module, export, args, rows);
 }
 
 #[test]
 fn a_call_in_slices_ends_as_at_once(rt: HostRuntime) -> Result<(), Fail> {
-    let opened = open(rt.alloc(), 1, 1)?;
-    check_slices::<Brand, HostRuntime>(&rt, rt.alloc(), opened);
+    for place in 0..3usize {
+        let opened = open(rt.alloc(), 1, 1)?;
+        check_slices::<Brand, HostRuntime>(&rt, rt.alloc(), opened, place);
+    }
     Ok(())
 }
 

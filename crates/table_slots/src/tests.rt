@@ -56,6 +56,18 @@ fn registered<N: Naming, R: Abort + Wait>(
         .expect(rt, "registered")
 }
 
+// Makes the slot the module's table, whose entries are these.
+fn check_prepared<N: Naming, R: Abort>(
+    rt: &R,
+    store: &ModuleStore<N>,
+    slot: &mut TableSlot<N>,
+    module: &ModuleRef<N>,
+    entries: &[Option<u32>],
+) {
+    slot.prepare(store, module);
+    assert_eq!(rt; slot.entries(), entries);
+}
+
 fn check_slot<N: Naming, R: Abort + Wait>(rt: &R, alloc: Global, opened: Opened)
     requires { Bears opened N.shelves N.config }
 {
@@ -64,18 +76,13 @@ fn check_slot<N: Naming, R: Abort + Wait>(rt: &R, alloc: Global, opened: Opened)
     let one = registered(rt, alloc, &store, &mut desk, &ONE);
     let none = registered(rt, alloc, &store, &mut desk, &NONE);
     let mut slot = TableSlot::open(alloc, &store).expect(rt, "opened");
-    let rows = [
-        (&three, [None, Some(0), None].as_slice()),
-        (&one, [None].as_slice()),
-        (&three, [None, Some(0), None].as_slice()),
-        (&three, [None, Some(0), None].as_slice()),
-        (&none, [].as_slice()),
-    ];
-    for (module, entries) in rows {
-        slot.prepare(&store, module);
-        assert_eq!(rt; slot.entries(), entries);
-    }
-    slot.prepare(&store, &three);
+    let second = [None, Some(0), None];
+    check_prepared(rt, &store, &mut slot, &three, &second);
+    check_prepared(rt, &store, &mut slot, &one, &[None]);
+    check_prepared(rt, &store, &mut slot, &three, &second);
+    check_prepared(rt, &store, &mut slot, &three, &second);
+    check_prepared(rt, &store, &mut slot, &none, &[]);
+    check_prepared(rt, &store, &mut slot, &three, &second);
     slot.clear();
     assert_eq!(rt; slot.entries(), [].as_slice());
 }
@@ -116,25 +123,41 @@ struct Visits {
     left: (u32, u32),
 }
 
+// Each visit gets its slot.
+fn check_each_visit<N: Naming, R: Abort>(
+    rt: &R,
+    pool: &Words<TableSlot<N>>,
+    mut pass: Pass<TableSlot<N>>,
+    store: &ModuleStore<N>,
+    modules: &[ModuleRef<N>; 3],
+    visits: [Option<(usize, u32)>; 4],
+) -> Pass<TableSlot<N>>
+    requires { IsNewPassOf pool.now pass }
+    ensures own { IsPassOf pool.now result }
+    ensures idle { IsIdle result }
+{
+    for (module, number) in visits.into_iter().flatten() {
+        assert!(rt; module < 3);
+        let got = visit(pool, &mut pass, store, &modules[module]);
+        assert_eq!(rt; got, Some(number));
+    }
+    pass
+}
+
 fn check_visits<N: Naming, R: Abort + Wait>(rt: &R, alloc: Global, opened: Opened, row: &Visits)
     requires { Bears opened N.shelves N.config }
 {
     let (store, mut desk) = opened.named::<N>();
-    let first = registered(rt, alloc, &store, &mut desk, &THREE);
-    let second = registered(rt, alloc, &store, &mut desk, &THREE);
-    let third = registered(rt, alloc, &store, &mut desk, &THREE);
-    let modules = [&first, &second, &third];
+    let modules = [
+        registered(rt, alloc, &store, &mut desk, &THREE),
+        registered(rt, alloc, &store, &mut desk, &THREE),
+        registered(rt, alloc, &store, &mut desk, &THREE),
+    ];
     let (pool, mut passes) = open::<TableSlot<N>>(alloc, &store, 3, row.warm, 1).expect(
         rt, "opened",
     );
-    let mut pass = passes.pop().unwrap();
-    for visited in row.visits {
-        if let Some((module, number)) = visited {
-            assert!(rt; module < 3);
-            let got = visit(&pool, &mut pass, &store, modules[module]);
-            assert_eq!(rt; got, Some(number));
-        }
-    }
+    let pass = passes.pop().unwrap();
+    let pass = check_each_visit(rt, &pool, pass, &store, &modules, row.visits);
     let (cold, warm) = row.left;
     let want = KindCounts {
         cold,

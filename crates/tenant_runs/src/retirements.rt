@@ -145,27 +145,34 @@ fn a_retired_module_is_called_no_more_and_its_memory_is_cold(rt: HostRuntime) ->
     Ok(())
 }
 
+// What calls of a module's exports are answered before and behind its retirement, and then a call of another module; and what the
+// module's retirement is answered, and once more.
+fn lane_around_retirement<N: Naming>(
+    lane: &mut LaneHost<N>,
+    store: &ModuleStore<N>,
+    one: &ModuleRef<N>,
+    other: &ModuleRef<N>,
+) -> ([LaneAnswer; 4], [Retire; 2]) {
+    let gate = OpenGate;
+    let before = lane.send(store, one, b"bump", &[], &[], 100, 1, &gate);
+    let first = lane.retire(store, one);
+    let behind = lane.send(store, one, b"bump", &[], &[], 100, 2, &gate);
+    let missing = lane.send(store, one, b"jump", &[], &[], 100, 3, &gate);
+    let of_other = lane.send(store, other, b"bump", &[], &[], 100, 4, &gate);
+    let again = lane.retire(store, one);
+    ([before, behind, missing, of_other], [first, again])
+}
+
 fn check_lane<N: Naming, R: Abort + Wait>(rt: &R, alloc: Global, opened: Opened)
     requires { Bears opened N.shelves N.config }
 {
     let (store, one, other) = twins::<N, R>(rt, alloc, opened);
     let mut lane = LaneHost::open(alloc, &store, SHARE).expect(rt, "opened");
     let done = LaneAnswer::Done(ONE);
-    let gate = OpenGate;
-    assert_eq!(rt;
-        lane.send(&store, &one, b"bump", &[], &[], 100, 1, &gate),
-        done
-    );
-    assert_eq!(rt; lane.retire(&store, &one), FIRST);
-    let answer = lane.send(&store, &one, b"bump", &[], &[], 100, 2, &gate);
-    assert_eq!(rt; answer, LaneAnswer::Retired);
-    let answer = lane.send(&store, &one, b"jump", &[], &[], 100, 3, &gate);
-    assert_eq!(rt; answer, LaneAnswer::NoExport);
-    assert_eq!(rt;
-        lane.send(&store, &other, b"bump", &[], &[], 100, 4, &gate),
-        done
-    );
-    assert_eq!(rt; lane.retire(&store, &one), Retire::Already);
+    let answers = [done, LaneAnswer::Retired, LaneAnswer::NoExport, done];
+    let want = (answers, [FIRST, Retire::Already]);
+    let got = lane_around_retirement(&mut lane, &store, &one, &other);
+    assert_eq!(rt; got, want);
 }
 
 #[test]

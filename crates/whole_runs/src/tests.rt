@@ -254,6 +254,47 @@ fn what_a_tenant_filled_is_never_seen(rt: HostRuntime) -> Result<(), Fail> {
     Ok(())
 }
 
+// A module that loads from an address, behind one that fills all of its memory: at the edges of blocks of 4,096 bytes and of the page.
+const LOADS_BEHIND_FILLS: &str = "profile 2
+module fill 0061736d0100000001060160027f7f00030201000503010001070501016600000a0d010b00200041072001fc0b000b
+module peek 0061736d0100000001060160017f017f030201000503010001070501017000000a0901070020002802000b
+call fill f 4 i32:0 i32:65536
+call peek p 2 i32:0
+call fill f 4 i32:0 i32:65536
+call peek p 2 i32:4092
+call fill f 4 i32:0 i32:65536
+call peek p 2 i32:4096
+call fill f 4 i32:0 i32:65536
+call peek p 2 i32:65532
+";
+
+const ZEROS_BEHIND_FILLS: &str = "module fill ok
+module peek ok
+1 ok
+2 ok i32:0
+3 ok
+4 ok i32:0
+5 ok
+6 ok i32:0
+7 ok
+8 ok i32:0
+";
+
+// A tenant fills its memory, and the next one looks at it.
+#[test]
+fn no_address_shows_what_a_tenant_filled(rt: HostRuntime) -> Result<(), Fail> {
+    for line in SHARED {
+        check(
+            &rt,
+            rt.alloc(),
+            line,
+            LOADS_BEHIND_FILLS,
+            ZEROS_BEHIND_FILLS,
+        )?;
+    }
+    Ok(())
+}
+
 // Numbers of which the low eight bits are taken as signed.
 const EXTENSION: &str = "profile 2
 module ext 0061736d0100000001060160017f017f03020100070501016500000a070105002000c00b

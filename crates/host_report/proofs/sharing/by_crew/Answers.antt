@@ -1,22 +1,11 @@
-use Rattle.std.proofs.Common.{◌≡◌, ◌∙◌, ap, arith, length, refl}
+use Rattle.std.proofs.Common.{◌∙◌, ap, arith, length, refl}
 use Rattle.host_report.specs.Report.{limits_in}
-use Rattle.host_report.specs.Rounds.{calls_to}
 use Rattle.host_report.proofs.BoardLemmas.{lines_collected}
 use Rattle.host_report.proofs.DueLemmas.{length-dues}
 use Rattle.host_report.proofs.EntryLemmas.{many_entries}
 use Rattle.host_report.proofs.PlaceLemmas.{all_calls, fewer_calls, placed_in_part}
-use Rattle.host_report.proofs.PutLemmas.{calls_of_span}
 use Rattle.host_report.proofs.WorkedLemmas.{lines_of_calls, of_calls, to_collect}
 use Rattle.host_report.proofs.sharing.by_crew.Goals as goal
-
-pub returns-then-calls_in-eq0-clause-books : goal.returns-then-calls_in-eq0-clause-books
-returns-then-calls_in-eq0-clause-books g c =
-    let all = c.args.requests.now.directives in
-    let none = c.calls_in.ensures.count in
-    let zero = c.if-calls_in-eq0.true in
-    let same = calls_of_span all c.args.span c.requires.span in
-    let last : calls_to all c.args.span ≡ c.args.span.calls = omega arith in
-    record { entered = c.in_ok-enter_round.ensures.entered; lines = rw last c.requires.books.lines }
 
 pub collect_all-requires-clause-many : goal.collect_all-requires-clause-many
 collect_all-requires-clause-many g c =

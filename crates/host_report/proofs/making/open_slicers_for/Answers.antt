@@ -1,6 +1,6 @@
 use Rattle.std.proofs.Common.{◌∙◌, ap, arith, length}
 use Rattle.host_report.proofs.DueLemmas.{length-dues, numbered_from}
-use Rattle.host_report.proofs.making.in_slices.Goals as goal
+use Rattle.host_report.proofs.making.open_slicers_for.Goals as goal
 
 pub open_slicers-requires-clause-numbered : goal.open_slicers-requires-clause-numbered
 open_slicers-requires-clause-numbered g c = rw (rw c.directives.ensures.all at c.in_ok-calls.ensures) (numbered_from 1 c.args.requests.now.directives)

@@ -1,6 +1,0 @@
-use Rattle.slot_words.specs.Passes.{IsIdle}
-use Rattle.slot_words.specs.Owned.{IsPassOf}
-use Rattle.memory_slots.proofs.tests.check_visits.Given as goal
-
-abbrev pub invariant-loop-visited : goal.invariant-loop-visited
-invariant-loop-visited g l = IsPassOf l.pool l.pass × IsIdle l.pass
