@@ -13,7 +13,7 @@ With no names all wrong lines are tried: the files scripts/wrong_lines/CRATE/NAM
 
 and further pairs of old and new, each for what the earlier ones made. Each is tried in a scratch copy of the repository that
 holds the definitions, the examples that `check:` names and what these cite, and nothing else: the laws and functions of the
-changed crate are not proved first, unless examples need its types, or `check:` names a function. The same copy with no line
+changed crate are not proved first, unless examples need its types, or `check:` names a function; then the crates that it calls stand there too. The same copy with no line
 changed must pass. One check begins with up to eight lines of the same `check:`, each in a copy of all these files under a mark
 of its own, so that none sees another; a line whose copy is not refused there by an example that is named is tried once more,
 alone, and that counts. The status is 1 where a line passes, is refused by what `check:` does not name, or is a BAD LINE: one
@@ -105,7 +105,7 @@ class Part:
     """What a check needs of the repository: files by crate, the crates whose sources it needs, and the functions to be checked."""
 
     def __init__(self, checks):
-        self.crates, self.files, self.whole, self.functions = crates_below(), {}, set(), {}
+        self.crates, self.files, self.whole, self.functions, self.typed = crates_below(), {}, set(), {}, set()
         for crate, what in checks:
             if crate not in self.crates:
                 raise BadLine(f"there is no crate {crate}")
@@ -136,7 +136,7 @@ class Part:
         self.files.setdefault(crate, set())
         for name in self.crates[crate]:
             if name in self.crates:
-                self.take_whole(name) if self.has_types(name) else self.files.setdefault(name, set())
+                self.take_whole(name) if self.has_types(name) or self.is_called(crate, name) else self.files.setdefault(name, set())
         for part in ("src", "specs", "proofs"):
             for file in sorted((TOP / "crates" / crate / part).rglob("*")):
                 if file.is_file():
@@ -144,6 +144,18 @@ class Part:
 
     def has_types(self, crate):
         return any(re.search(r"^\s*(pub )?(struct|enum)\b", it.read_text(encoding="utf-8"), re.M) for it in (TOP / "crates" / crate / "src").rglob("*.rt"))
+
+    def files_of_types(self, crate):
+        """The crate's sources but for its laws."""
+        return [it for it in sorted((TOP / "crates" / crate / "src").glob("*.rt")) if it.stem not in ("lib", "laws")]
+
+    def has_types_alone(self, crate):
+        """Whether the crate's sources but for its laws are types without a function, which can stand in the one crate."""
+        return self.has_types(crate) and not any(re.search(r"\bfn\b", it.read_text(encoding="utf-8")) for it in self.files_of_types(crate))
+
+    def is_called(self, crate, name):
+        """Whether the crate's sources name an item of that other crate."""
+        return any(re.search(rf"^\s*(pub )?use {name}::", it.read_text(encoding="utf-8"), re.M) for it in (TOP / "crates" / crate / "src").rglob("*.rt"))
 
     def add(self, crate, file):
         """The file, and all that it cites."""
@@ -156,6 +168,9 @@ class Part:
             found = module_file(cited, part, names.split(".")[1:])
             if found:
                 self.add(cited, found)
+            elif part == "specs" and names.split(".")[1] == "declared" and self.has_types_alone(cited):
+                self.files.setdefault(cited, set())
+                self.typed.add(cited)
             elif part == "specs" and names.split(".")[1] in ("declared", "contracts"):
                 self.take_whole(cited)
 
@@ -171,7 +186,14 @@ class Part:
 
     def text_of(self, text, mark=()):
         """The text, in which the modules of merged crates have the names that they have there."""
-        return CITED.sub(lambda it: f"Rattle.{ONE}.{it[2]}.{'__'.join([*mark, it[1], it[3][1:]])}" if self.is_merged(it[1]) else it[0], text)
+        return CITED.sub(lambda it: self.name_in_one(it, mark) if self.is_merged(it[1]) else it[0], text)
+
+    def name_in_one(self, cited, mark):
+        """The name that a module of a merged crate has in the one crate. Types have no mark."""
+        crate, part, names = cited.groups()
+        if names.startswith(".declared."):
+            return f"Rattle.{ONE}.specs.declared.{crate}_{names.removeprefix('.declared.')}"
+        return f"Rattle.{ONE}.{part}.{'__'.join([*mark, crate, names[1:]])}"
 
     def write_copy(self, room, file, text, mark):
         """All merged files under a mark, with this text of this file."""
@@ -195,6 +217,16 @@ class Part:
                 place.write_text(self.text_of(file.read_text(encoding="utf-8")), encoding="utf-8")
         for crate in [ONE, *(it for it in own if it not in self.whole)]:
             self.write_frame(room / "crates" / crate)
+        for crate in filter(self.is_merged, sorted(self.typed)):
+            self.write_types(room / "crates" / ONE / "src", crate)
+
+    def write_types(self, folder, crate):
+        """The types of a merged crate, in modules of the one crate."""
+        for file in self.files_of_types(crate):
+            name = f"{crate}_{file.stem}"
+            shutil.copy(file, folder / f"{name}.rt")
+            with open(folder / "lib.rt", "a", encoding="utf-8") as it:
+                it.write(f"\npub mod {name};\n")
 
     def write_frame(self, folder):
         """An empty source, and the lists of the modules that are there."""

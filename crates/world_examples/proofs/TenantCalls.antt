@@ -114,6 +114,14 @@ answer_of_1 : tenant_answers alike at_work ends 1 1 ≡ (request_of 1 1, Some (o
 unfolding exec
 answer_of_1 = refl
 
+-- a call is answered as it stands when it ends, and not as its pools were opened
+abbrev begins_and_ends : List TenantEvent
+begins_and_ends = by 0 (Begin 0 (request_of 0 2)) ∷ by 0 (End 0 []) ∷ []
+
+answer_of_a_call_that_began : tenant_answers alike (λ t. taken) begins_and_ends 0 0 ≡ (request_of 0 2, Some (outcome.Done None, [])) ∷ []
+unfolding exec
+answer_of_a_call_that_began = refl
+
 -- ---- what is not the same
 
 one_is_two : ◌≡◌ {A = ℕ} 1 2 → ⊥
