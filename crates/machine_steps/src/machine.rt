@@ -5,23 +5,25 @@ ghost use Rattle.wasm_types.specs.declared.types.ValType.{ValType};
 use crate::values::ValueStack;
 use std::alloc::{AllocError, Global};
 
-/// Where a function goes on, and where its frame's locals and labels begin.
+/// Where a function goes on, and where its frame's locals and labels begin. (The place stands last: it is written at each
+/// instruction, and the others are copied two by two into a frame and out of it.)
 #[derive(Clone, Copy, Debug, PartialEq, Eq)]
 pub struct Position {
     pub function: usize,
     pub sequence: usize,
-    pub place: usize,
     pub locals: usize,
     pub labels: usize,
+    pub place: usize,
 }
 
-/// An open block, loop or `if`: how many values a branch to it takes, where its operands begin, and where it goes on at
-/// its end and at a branch.
+/// An open block, loop or `if`: the sequence that it stands in, how many values a branch to it takes, where its operands begin,
+/// and where that sequence goes on at its end and at a branch. (No two fields stand here as they stand in a position, so that each
+/// is moved by itself: one move of two would wait for the writes that made them.)
 #[derive(Clone, Copy, Debug, PartialEq, Eq)]
 pub struct Label {
+    pub sequence: usize,
     pub arity: usize,
     pub base: usize,
-    pub sequence: usize,
     pub after: usize,
     pub target: usize,
 }
@@ -53,9 +55,9 @@ impl Machine {
         let at = Position {
             function: 0,
             sequence: 0,
-            place: 0,
             locals: 0,
             labels: 0,
+            place: 0,
         };
         Ok(Machine {
             at,
@@ -74,9 +76,9 @@ impl Machine {
         ensures room { KeepsRoom self.old self.new }
     {
         let label = Label {
+            sequence: self.at.sequence,
             arity,
             base: self.values.len(),
-            sequence: self.at.sequence,
             after: self.at.place,
             target,
         };

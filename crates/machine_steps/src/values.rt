@@ -17,6 +17,31 @@ pub struct ValueStack {
     height: usize,
 }
 
+// The cell at a place.
+#[inline(always)]
+fn cell_at(cells: &Vec<Cell>, place: usize) -> Cell
+    requires { place < length cells.now.items }
+    ensures { (d : AVal) → result ≡ get_or cells.now.items place d }
+{
+    cells[place]
+}
+
+// Writes a value over a cell. There is one at that place, so the question is always answered with yes. It stands between the reads
+// of a value and its writes, so that these are two moves of a word each: one move of both would wait for the two writes that made
+// the value.
+#[inline(always)]
+fn overwrite(cells: &mut Vec<Cell>, place: usize, v: Cell)
+    requires { place < length cells.old.items }
+    ensures items { cells.new.items ≡ set cells.old.items place v }
+    ensures capacity { vec_capacity cells.new ≡ vec_capacity cells.old }
+{
+    if place < cells.len() {
+        cells[place] = v;
+    } else {
+        cells.push_reserved(v);
+    }
+}
+
 // Moves n values from one place to another.
 #[cold]
 #[inline(never)]
@@ -39,7 +64,7 @@ fn move_values(cells: &mut Vec<Cell>, from: usize, n: usize, to: usize)
 {
     match n {
         0 => {}
-        1 => cells[to] = cells[from],
+        1 => overwrite(cells, to, cell_at(cells, from)),
         _ => move_many(cells, from, n, to),
     }
 }
@@ -84,7 +109,7 @@ impl ValueStack {
         requires { base + x < length self.now.items }
         ensures { (d : AVal) → result ≡ get_or self.now.items (base + x) d }
     {
-        self.cells[base + x as usize]
+        cell_at(&self.cells, base + x as usize)
     }
 
     // Writes a value there.
@@ -94,7 +119,7 @@ impl ValueStack {
         ensures items { self.new.items ≡ set self.old.items (base + x) v }
         ensures room { self.new.room ≡ self.old.room }
     {
-        self.cells[base + x as usize] = v;
+        overwrite(&mut self.cells, base + x as usize, v);
     }
 
     /// Puts a value on the top, in the room that there is.

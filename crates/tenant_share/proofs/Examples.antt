@@ -4,7 +4,7 @@ use Rattle.std.specs.Prelude.{Some, None, replicate}
 use Rattle.pool_limits.specs.declared.numbers.Numbers.{Numbers}
 use Rattle.pool_limits.specs.declared.wants.PlanFault.TheVariants.{NoMemory, TooManyTenants}
 use Rattle.pool_limits.specs.declared.wants.Want.{Want}
-use Rattle.tenant_share.specs.Shares.{rest, shares, AddUp, IsPlan, Names}
+use Rattle.tenant_share.specs.Shares.{rest, shares, all_of, AddUp, IsPlan, Names}
 
 abbrev numbers : (instances memories tables warm : ℕ) → Numbers
 numbers instances memories tables warm = record { workers = 2; instances = instances; memories = memories; tables = tables; warm = warm; batch = 4; pages = 32; elements = 1024; depth = 128; frame = 1024 }
@@ -21,6 +21,9 @@ parts_differ = refl
 
 nobody_wants : shares (numbers 10 20 30 40) [] ≡ want 9 19 29 40 ∷ []
 nobody_wants = refl
+
+slots_of_two : all_of (want 1 2 3 4 ∷ want 1 3 5 7 ∷ []) ≡ record { instances = 2; memories = 5; tables = 8 }
+slots_of_two = refl
 
 -- a share that lacks one of a part, and one too many
 abbrev all : List Want

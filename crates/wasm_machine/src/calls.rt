@@ -99,9 +99,9 @@ fn enter_function(machine: &mut Machine, m: &Module, x: usize, count: usize)
     machine.at = Position {
         function: x,
         sequence: start_of(m, x),
-        place: 0,
         locals,
         labels: machine.labels.len(),
+        place: 0,
     };
 }
 
@@ -232,8 +232,8 @@ pub(crate) fn begin(machine: &mut Machine, m: &Module, x: usize, args: &[Val])
     machine.at = Position {
         function: x,
         sequence: start_of(m, x),
-        place: 0,
         locals: 0,
         labels: 0,
+        place: 0,
     };
 }
