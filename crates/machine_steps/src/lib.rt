@@ -4,6 +4,7 @@
 mod accesses;
 mod bulk;
 mod cells;
+mod frames;
 mod host;
 mod locals;
 mod machine;
@@ -11,6 +12,7 @@ mod operands;
 mod plain;
 mod values;
 
+pub use frames::Frame;
 pub use host::{append_memory, copy_request};
 pub use machine::{Label, Machine, Position};
 pub use plain::Effect;

@@ -2,11 +2,11 @@
 ghost use Rattle.std.specs.Prelude.{◌≡◌, ◌<◌, ◌≤◌, IfOk, List, length, vec_len, vec_capacity};
 ghost use Rattle.wasm_types.specs.declared.types.ValType.{ValType};
 
+use crate::frames::Frame;
 use crate::values::ValueStack;
 use std::alloc::{AllocError, Global};
 
-/// Where a function goes on, and where its frame's locals and labels begin. (The place stands last: it is written at each
-/// instruction, and the others are copied two by two into a frame and out of it.)
+/// Where a function goes on, and where its frame's locals and labels begin.
 #[derive(Clone, Copy, Debug, PartialEq, Eq)]
 pub struct Position {
     pub function: usize,
@@ -34,7 +34,7 @@ pub struct Machine {
     pub at: Position,
     pub values: ValueStack,
     pub labels: Vec<Label>,
-    pub frames: Vec<Position>,
+    pub frames: Vec<Frame>,
 }
 
 impl Machine {

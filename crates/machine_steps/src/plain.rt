@@ -37,7 +37,8 @@ fn unless_trapped(trap: Option<TrapKind>) -> Effect
 }
 
 impl Machine {
-    /// A plain instruction, where a memory may have `most` pages. One that may leave its sequence is not done: `Jumps`.
+    /// A plain instruction, where a memory may have `most` pages. One that may leave its sequence is not done: `Jumps`. The operands
+    /// go with a run that comes to `unreachable`: an arm that does nothing would set its answer before the jump to any other.
     #[inline(always)]
     pub fn plain(
         &mut self,
@@ -65,26 +66,21 @@ impl Machine {
                 return Effect::Jumps;
             }
             Instr::Unreachable => {
-                // The operands go with the run. (An arm that does nothing would set its answer before the jump to any other.)
                 self.values.clear();
                 return Effect::Traps(TrapKind::Unreachable);
             }
             Instr::Nop => {}
-            Instr::Drop => {
-                self.pop();
-            }
+            Instr::Drop => _ = self.pop(),
             Instr::Select => self.select(),
             Instr::LocalGet(x) => self.get_local(*x),
             Instr::LocalSet(x) => self.set_local(*x),
             Instr::LocalTee(x) => self.tee_local(*x),
             Instr::GlobalGet(x) => self.get_global(globals, *x),
             Instr::GlobalSet(x) => self.set_global(globals, *x),
-            Instr::Load(_, arg) => return unless_trapped(self.load(memory, instr, arg.offset)),
-            Instr::LoadPacked(_, _, _, arg) => {
+            Instr::Load(_, arg) | Instr::LoadPacked(_, _, _, arg) => {
                 return unless_trapped(self.load(memory, instr, arg.offset));
             }
-            Instr::Store(_, arg) => return unless_trapped(self.store(memory, instr, arg.offset)),
-            Instr::StorePacked(_, _, arg) => {
+            Instr::Store(_, arg) | Instr::StorePacked(_, _, arg) => {
                 return unless_trapped(self.store(memory, instr, arg.offset));
             }
             Instr::MemorySize => self.memory_size(memory),

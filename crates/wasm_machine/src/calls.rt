@@ -23,7 +23,7 @@ use crate::lookup::{has_type, host_of, local_runs, param_count, start_of};
 use crate::running::Inputs;
 use call_payload::AnswerBuf;
 use linear_memory::Memory;
-use machine_steps::{Machine, Position, ValueStack};
+use machine_steps::{Frame, Machine, Position, ValueStack};
 use wasm_types::{LocalRun, Module, RunLimits, ValType};
 use wasm_values::{TrapKind, Val};
 
@@ -95,7 +95,7 @@ fn enter_function(machine: &mut Machine, m: &Module, x: usize, count: usize)
 {
     let locals = machine.values.len() - count;
     push_zeros(&mut machine.values, local_runs(m, x));
-    machine.frames.push_reserved(machine.at);
+    machine.frames.push_reserved(Frame::of(machine.at));
     machine.at = Position {
         function: x,
         sequence: start_of(m, x),

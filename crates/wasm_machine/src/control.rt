@@ -26,8 +26,8 @@ pub(crate) fn return_from_function(machine: &mut Machine, m: &Module) -> bool
     machine.values.keep(count, machine.at.locals);
     machine.labels.truncate(machine.at.labels);
     match machine.frames.pop() {
-        Some(at) => {
-            machine.at = at;
+        Some(frame) => {
+            machine.at = frame.position();
             false
         }
         None => true,

@@ -1,4 +1,4 @@
-use Rattle.std.proofs.Common.{◌-◌, ◌++◌, ℕ, List, map, refl, ap, ◌∙◌, arith}
+use Rattle.std.proofs.Common.{◌-◌, ◌++◌, ℕ, List, [], ◌∷◌, map, refl, ap, ◌∙◌, arith}
 use Rattle.std.specs.List.{flat_map}
 use Rattle.wasm_types.specs.declared.module.LocalRun.{LocalRun}
 use Rattle.wasm_types.specs.Tree.{locals_of}
@@ -18,4 +18,4 @@ returns-clause-represents c k sh le =
     shown_called c.args.m.now k c.args.x n old new base c.len-2.result sh le (omega (arith, c.len.ensures)) (omega (arith, c.len-2.ensures))
     (ap (λ (q : ℕ). record { function = c.args.x; sequence = q; place = 0; locals = base; labels = c.len-2.result }) c.start_of.ensures)
     (c.push_zeros.ensures.items ∙ ap (λ (runs : List LocalRun). old.values.items ++ map zero_of (flat_map locals_of runs)) c.local_runs.ensures)
-    refl c.push_reserved.ensures.items
+    refl (c.push_reserved.ensures.items ∙ ap (λ (caller : Position). old.frames.items ++ caller ∷ []) c.of.ensures)

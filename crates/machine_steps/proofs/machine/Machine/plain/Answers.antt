@@ -74,8 +74,8 @@ pub returns-in-MemoryCopy-clause-does : goal.returns-in-MemoryCopy-clause-does
 returns-in-MemoryCopy-clause-does c m limits table answer most stays =
     let before : Store = store_of c.args.memory.now table c.args.globals.now answer in
     let after : Store = store_of c.memory_copy.new.memory table c.args.globals.now answer in
-    as_instr m limits c.args.instr.now instr.MemoryCopy c.args.self.now c.memory_copy.new.self before after (trap_of c.unless_trapped-in-MemoryCopy.result) c.in-MemoryCopy.is
-    (subst (λ (o : Option TrapKind). Executes m limits instr.MemoryCopy c.args.self.now before o c.memory_copy.new.self after) (said c.memory_copy.result c.unless_trapped-in-MemoryCopy.result c.unless_trapped-in-MemoryCopy.ensures) (c.memory_copy.ensures.does m limits table c.args.globals.now answer))
+    as_instr m limits c.args.instr.now instr.MemoryCopy c.args.self.now c.memory_copy.new.self before after (trap_of c.unless_trapped.result) c.in-MemoryCopy.is
+    (subst (λ (o : Option TrapKind). Executes m limits instr.MemoryCopy c.args.self.now before o c.memory_copy.new.self after) (said c.memory_copy.result c.unless_trapped.result c.unless_trapped.ensures) (c.memory_copy.ensures.does m limits table c.args.globals.now answer))
 
 pub returns-in-MemoryFill-clause-does : goal.returns-in-MemoryFill-clause-does
 returns-in-MemoryFill-clause-does c m limits table answer most stays =
