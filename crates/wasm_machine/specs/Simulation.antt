@@ -9,13 +9,13 @@ use Rattle.wasm_types.specs.declared.instr.Expr.{Expr}
 use Rattle.wasm_types.specs.declared.types.FuncType.{FuncType}
 use Rattle.wasm_types.specs.Tree.{Code, FunctionTree, code_of, function_tree, module_tree}
 use Rattle.wasm_types.specs.declared.module.Module.{Module}
-use Rattle.wasm_spec.specs.Typing.{Context, type_of, rule}
+use Rattle.wasm_spec.specs.Typing.{Context, type_of, rule, result_types}
 use Rattle.wasm_spec.specs.Need.{height}
 use Rattle.wasm_spec.specs.Store.{Store}
 use Rattle.wasm_spec.specs.Result.{CallResult, result_of}
 use Rattle.wasm_spec.specs.Functions.{Callee, callee_at, callee_type}
 use Rattle.wasm_spec.specs.Execution.{Terms, call, State, Signal, Next, Branch, Returned, Trapped, OutOfFuel, Stuck, Ended, ended, exec, invoke, zero_of}
-use Rattle.wasm_types.specs.Sequences.{code_at, earlier, ops_of}
+use Rattle.wasm_types.specs.Sequences.{code_at, earlier, named_in, ops_of}
 use Rattle.machine_steps.specs.declared.machine.Machine.{Machine}
 use Rattle.wasm_machine.specs.declared.running.Step.{Step}
 use Rattle.wasm_machine.specs.declared.running.Step.TheVariants as step
@@ -25,6 +25,7 @@ use Rattle.wasm_machine.specs.declared.running.Halt.TheVariants as halt
 use Rattle.memory_blocks.specs.Blocks.{KeepsUnmarked}
 use Rattle.machine_steps.specs.Configuration.{Configuration, state}
 use Rattle.wasm_machine.specs.Remaining.{function_of, results, resume_at, after_sequence, run_from}
+use Rattle.machine_steps.specs.PlainSteps.{in_block}
 use Rattle.machine_steps.specs.StackLayout.{Represents, HasRoom}
 use Rattle.wasm_machine.specs.TypedConfiguration.{IsTypedCode, IsRunnable, IsTypedAt, IsTypedConfiguration, IsTypedContext, IsTypedStore, context, ends_of}
 
@@ -285,6 +286,11 @@ pub record CanExecuteNext (m : Module) (o : Op) (machine : Machine) : Type 0 whe
   pub here : ℕ
   pub to : ℕ → Ended
   pub before : HasFetched m limits frame machine store here o to
+
+-- it goes on in the sequence that the current one names by this number, in a block of the type t with this place behind it
+abbrev pub OpensNamed : Module → Option ValType → (number after : ℕ) → (old new : Machine) → Type 0
+OpensNamed m t number after old new = (k : Configuration) → Represents k old
+    → (code_at (body_of m k) new.at.sequence 0 ≡ named_in (body_of m k) k.sequence number) × Represents (in_block k (result_types t) (result_types t) after new.at.sequence) new
 
 -- the arm's sequence: the second at 0, and else the first
 abbrev pub chosen_arm : ℕ → (first second : ℕ) → ℕ

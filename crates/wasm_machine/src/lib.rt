@@ -3,6 +3,7 @@
 
 mod calls;
 mod control;
+mod entering;
 mod invocation;
 mod lookup;
 mod running;

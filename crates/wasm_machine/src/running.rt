@@ -11,11 +11,12 @@ ghost use Rattle.wasm_spec.specs.Instances.{room_for};
 ghost use Rattle.machine_steps.specs.Lent.{store_of};
 ghost use Rattle.wasm_machine.specs.Lent.{MarksWithin};
 ghost use Rattle.wasm_machine.specs.TypedConfiguration.{IsRunnable};
-ghost use Rattle.wasm_machine.specs.Simulation.{AreMarkedBelow, HasFetched, CanContinue, HaltsAs, IsStructured, Simulates, SimulatesStep, SimulatesUnlessOver, SimulatesUnlessTrapped, chosen_arm, left_of, op_at, paid, sequence_at, step_unless_over, step_unless_trapped};
+ghost use Rattle.wasm_machine.specs.Simulation.{AreMarkedBelow, HasFetched, CanContinue, HaltsAs, IsStructured, Simulates, SimulatesStep, SimulatesUnlessOver, SimulatesUnlessTrapped, left_of, op_at, paid, sequence_at, step_unless_over, step_unless_trapped};
 
 use crate::calls::{call, call_indirect};
 use crate::control::{end_sequence, jump};
-use crate::lookup::{most_pages, named_by, sequence_of, value_count};
+use crate::entering::{enter_arm, enter_named};
+use crate::lookup::{most_pages, named_by, sequence_of};
 use call_payload::AnswerBuf;
 use linear_memory::Memory;
 use machine_steps::{Effect, Machine};
@@ -46,13 +47,6 @@ pub(crate) enum Halt {
     Done(u64),
     Trapped(TrapKind, u64),
     OutOfFuel,
-}
-
-// The sequence of the arm that a condition chooses.
-fn arm_of(condition: u32, first: usize, second: usize) -> usize
-    ensures { result ≡ chosen_arm condition first second }
-{
-    if condition == 0 { second } else { first }
 }
 
 // Whether a run is over.
@@ -164,8 +158,7 @@ fn execute_structured(
     machine.at.place = here + 1;
     match op {
         Op::Block(t, q) => {
-            let inner = named_by(inputs.m, machine.at, *q);
-            machine.enter_block(value_count(*t), here + 1, inner);
+            enter_named(machine, inputs.m, *t, *q, here + 1);
             None
         }
         Op::Loop(_, q) => {
@@ -176,9 +169,8 @@ fn execute_structured(
         Op::Call(x) => call(machine, inputs, memory, answer, *x),
         Op::Plain(_) => unreachable!(),
         Op::If(t, first, second) => {
-            let c = machine.pop32();
-            let inner = named_by(inputs.m, machine.at, arm_of(c, *first, *second));
-            machine.enter_block(value_count(*t), here + 1, inner);
+            let condition = machine.pop32();
+            enter_arm(machine, inputs.m, *t, condition, *first, *second, here + 1);
             None
         }
         Op::CallIndirect(x) => { call_indirect(machine, inputs, memory, answer, *x) }
