@@ -2,11 +2,14 @@
 """Times built programs on the loops of scripts/loops: time_loops.py [--rounds N] [--divide N] [--count] PROGRAM ..
 
 Each loop is run by each program in turn, round by round, and by `wasm-interp` where wabt is installed, whose `wat2wasm` is wanted
-in any case. Printed are, for each loop, how many instructions of WebAssembly it has, and for each program the least user seconds of
-the rounds, the median, millions of instructions a second by the least, and how many times the first program's least and median are.
-Another guest of the machine can make a single run take twice as long: so many short rounds, by --divide, tell more than few long
-ones. With --count the host's instructions are printed too, by callgrind: those of a turn, as the difference of two sizes (of a call
-for fib). The status is 1 where a program ends with another status than 0 or two of them report another line.
+in any case. Printed are, for each loop, how many instructions of WebAssembly it has, and for each program the least processor seconds
+of the rounds and the median, both without those of the least run of a single turn, millions of instructions a second by the least,
+and how many times the first program's least and median are. The seconds are those of the program and of the system for it together:
+which part is whose the system samples by its clock, too coarsely for a short run. The pools are as small as the loops allow, since
+it is the machine that is timed, and not their opening. Another guest of the machine can make a single run take twice as long: so many
+short rounds, by --divide, tell more than few long ones. With --count the host's instructions are printed too, by callgrind: those of
+a turn, as the difference of two sizes (of a call for fib). The status is 1 where a program ends with another status than 0 or two of
+them report another line.
 """
 import argparse
 import os
@@ -22,6 +25,7 @@ LOOPS = pathlib.Path(__file__).parent / "loops"
 # The turns of each loop, and of fib the number whose sum it is, which is made less by one for each division by 1.618.
 TURNS = {"count": 17_000_000, "mix": 8_000_000, "memory": 6_500_000, "calls": 10_000_000, "blocks": 7_000_000, "fib": 33}
 FUEL = 4294967295
+POOLS = "--instances 1 --memories 1 --tables 1 --pages 1 --elements 0".split()
 # The two sizes by which the host's instructions are counted.
 SIZES = {name: (16, 20) if name == "fib" else (1000, 2000) for name in TURNS}
 
@@ -54,8 +58,12 @@ class Loop:
         pathlib.Path(self.requests).write_text(f"module m {self.code}\ncall m loop {fuel} i32:{self.turns}\n")
 
 
+def run_of(program):
+    return [program, "run", *POOLS]
+
+
 def timed(words, file):
-    """The user seconds of a run, and its last line."""
+    """The processor seconds of a run, and its last line."""
     with open(file, "rb") as given, tempfile.TemporaryFile() as out:
         actions = [(os.POSIX_SPAWN_DUP2, given.fileno(), 0), (os.POSIX_SPAWN_DUP2, out.fileno(), 1)]
         process = os.posix_spawn(words[0], words, os.environ, file_actions=actions)
@@ -64,7 +72,7 @@ def timed(words, file):
         lines = out.read().decode().splitlines()
     if status or not lines:
         sys.exit(f"{' '.join(words)} ended with status {os.waitstatus_to_exitcode(status)}")
-    return used.ru_utime, lines[-1]
+    return used.ru_utime + used.ru_stime, lines[-1]
 
 
 def instructions(loop, program):
@@ -73,7 +81,7 @@ def instructions(loop, program):
     while low < high:
         middle = (low + high) // 2
         loop.write(middle)
-        if timed([program, "run"], loop.requests)[1].endswith("fuel"):
+        if timed(run_of(program), loop.requests)[1].endswith("fuel"):
             low = middle + 1
         else:
             high = middle
@@ -83,7 +91,7 @@ def instructions(loop, program):
 
 def counted(program, loop):
     """The host's instructions of a run."""
-    words = ["valgrind", "--tool=callgrind", "--callgrind-out-file=/dev/null", program, "run"]
+    words = ["valgrind", "--tool=callgrind", "--callgrind-out-file=/dev/null", *run_of(program)]
     with open(loop.requests, "rb") as given:
         said = subprocess.run(words, stdin=given, stdout=subprocess.DEVNULL, stderr=subprocess.PIPE, check=True).stderr.decode()
     return int(re.search(r"Collected : (\d+)", said)[1])
@@ -105,29 +113,44 @@ def host_instructions(program, name, folder):
     return (counted(program, Loop(name, more, folder)) - counted(program, Loop(name, less, folder))) / (units(name, more) - units(name, less))
 
 
-def measure(name, options, folder):
-    loop = Loop(name, turns_of(name, options.divide), folder)
-    programs = {it: ([it, "run"], loop.requests) for it in options.programs}
-    if shutil.which("wasm-interp"):
-        programs["wasm-interp"] = ([shutil.which("wasm-interp"), loop.binary, "--run-all-exports"], os.devnull)
+def runs_of(program, loop):
+    """The words of a run of a loop, and its input."""
+    if os.path.basename(program) == "wasm-interp":
+        return [program, loop.binary, "--run-all-exports"], os.devnull
+    return run_of(program), loop.requests
+
+
+def times_of(programs, loop, rounds):
+    """The seconds of each program's runs of a loop, which they make in turn."""
     seconds, reports = {it: [] for it in programs}, set()
-    for _ in range(options.rounds):
-        for program, (words, file) in programs.items():
-            used, line = timed(words, file)
+    for _ in range(rounds):
+        for program in programs:
+            used, line = timed(*runs_of(program, loop))
             seconds[program].append(used)
-            if program != "wasm-interp":
+            if os.path.basename(program) != "wasm-interp":
                 reports.add(line)
     if len(reports) > 1:
-        sys.exit(f"{name}: the programs report {reports}")
+        sys.exit(f"{loop.name}: the programs report {reports}")
+    return seconds
+
+
+def measure(name, options, folder):
+    loop, programs = Loop(name, turns_of(name, options.divide), folder), [*options.programs]
+    if shutil.which("wasm-interp"):
+        programs.append(shutil.which("wasm-interp"))
+    starts = times_of(programs, Loop(name, 1, folder), options.rounds)
+    seconds = times_of(programs, loop, options.rounds)
     small = SIZES[name][0]
-    total = instructions(Loop(name, small, folder), options.programs[0]) * units(name, loop.turns) / units(name, small)
-    first = seconds[options.programs[0]]
+    total = instructions(Loop(name, small, folder), programs[0]) * units(name, loop.turns) / units(name, small)
     print(f"{name}: {total / 1e6:.1f} million instructions")
+    first = None
     for program, times in seconds.items():
-        least, median = min(times), statistics.median(times)
-        said = f"  {program}: least {least:.3f} s, median {median:.3f} s, {total / least / 1e6:.0f} million a second"
-        said += f", first by this {min(first) / least:.2f} and {statistics.median(first) / median:.2f}"
-        if options.count and program != "wasm-interp":
+        start = min(starts[program])
+        least, median = min(times) - start, statistics.median(times) - start
+        first = first or (least, median)
+        said = f"  {program}: least {least:.4f} s, median {median:.4f} s (without {start:.4f} s of its start), "
+        said += f"{total / least / 1e6:.0f} million a second, first by this {first[0] / least:.2f} and {first[1] / median:.2f}"
+        if options.count and os.path.basename(program) != "wasm-interp":
             said += f", {host_instructions(program, name, folder):.1f} host instructions a turn"
         print(said, flush=True)
 
