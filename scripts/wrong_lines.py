@@ -9,6 +9,7 @@ With no names all wrong lines are tried: the files scripts/wrong_lines/CRATE/NAM
     check: CRATE WHAT.. the files of examples or lemmas in CRATE/proofs (as TypingExamples) or its functions (as laws::shadow)
                         of which one is to refuse it; there may be several such lines
     by: NAME            where there are several refusals, the example that is false where the line stands
+    types: CRATE..      the crates of which the types alone stand there, without their functions
     because: TEXT       what the line says wrongly, in plain words
 
 and further pairs of old and new, each for what the earlier ones made. Each is tried in a scratch copy of the repository that
@@ -32,6 +33,8 @@ CITED = re.compile(r"\bRattle\.(\w+)\.(specs|proofs)((?:\.[^\s.{,;()]+)+)")
 ERROR = re.compile(r"(?:note: )?(?:\./)?((?:specs|proofs|src)/\S+?):(\d+):\d+: error: (.*)")
 MERGED = re.compile(r"\bRattle\.definitions\.(specs|proofs)\.(?:line\d+__)?(\w+?)__")
 MARK = re.compile(r"(?<=/)(line\d+)__")
+USE = re.compile(r"^use [^;]*;\n", re.M)
+TYPE = re.compile(r"^(?:(?:///|#\[).*\n)*pub (?:struct|enum) [^{;]*\{\n(?:.*\n)*?\}\n", re.M)
 # how many lines are tried at once
 BATCH = 8
 NAME_GONE = re.compile(r"is not in scope|has no field|has no `|is no name|was not admitted|was rejected|is not a field|unknown field")
@@ -47,7 +50,7 @@ class BadLine(Exception):
 class WrongLine:
     def __init__(self, path):
         self.name = f"{path.parent.name}/{path.stem}"
-        self.file, self.because, self.by, self.pairs, self.checks, old = None, "", None, [], [], None
+        self.file, self.because, self.by, self.types, self.pairs, self.checks, old = None, "", None, (), [], [], None
         for line in path.read_text(encoding="utf-8").splitlines():
             key, _, text = line.partition(":")
             text = text.removeprefix(" ")
@@ -62,6 +65,8 @@ class WrongLine:
                 self.checks.append((crate, tuple(what)))
             elif key == "by":
                 self.by = text.strip()
+            elif key == "types":
+                self.types = tuple(text.split())
             elif key == "because":
                 self.because = text
             elif line.strip():
@@ -104,8 +109,10 @@ def module_file(crate, part, names):
 class Part:
     """What a check needs of the repository: files by crate, the crates whose sources it needs, and the functions to be checked."""
 
-    def __init__(self, checks):
-        self.crates, self.files, self.whole, self.functions, self.typed = crates_below(), {}, set(), {}, set()
+    def __init__(self, checks, typed=()):
+        self.crates, self.files, self.whole, self.functions = crates_below(), {}, set(), {}
+        # the crates of which types alone are taken, each with the sources that have them
+        self.typed = {crate: set() for crate in typed}
         for crate, what in checks:
             if crate not in self.crates:
                 raise BadLine(f"there is no crate {crate}")
@@ -170,7 +177,10 @@ class Part:
                 self.add(cited, found)
             elif part == "specs" and names.split(".")[1] == "declared" and self.has_types_alone(cited):
                 self.files.setdefault(cited, set())
-                self.typed.add(cited)
+                self.typed[cited] = set(self.files_of_types(cited))
+            elif part == "specs" and names.split(".")[1] == "declared" and cited in self.typed:
+                self.files.setdefault(cited, set())
+                self.typed[cited].add(TOP / "crates" / cited / "src" / f"{names.split('.')[2]}.rt")
             elif part == "specs" and names.split(".")[1] in ("declared", "contracts"):
                 self.take_whole(cited)
 
@@ -220,11 +230,19 @@ class Part:
         for crate in filter(self.is_merged, sorted(self.typed)):
             self.write_types(room / "crates" / ONE / "src", crate)
 
+    def types_in(self, file):
+        """The source's types, and what they use."""
+        text = file.read_text(encoding="utf-8")
+        types = "\n".join(TYPE.findall(text))
+        uses = [it for it in USE.findall(text) if any(re.search(rf"\b{name}\b", types) for name in re.findall(r"(\w+)\s*(?=[,;}])", it))]
+        return "\n".join([text.partition("\n")[0] + "\n" + "".join(uses), types])
+
     def write_types(self, folder, crate):
         """The types of a merged crate, in modules of the one crate."""
-        for file in self.files_of_types(crate):
+        for file in sorted(self.typed[crate]):
             name = f"{crate}_{file.stem}"
-            shutil.copy(file, folder / f"{name}.rt")
+            text = file.read_text(encoding="utf-8") if self.has_types_alone(crate) else self.types_in(file)
+            (folder / f"{name}.rt").write_text(text, encoding="utf-8")
             with open(folder / "lib.rt", "a", encoding="utf-8") as it:
                 it.write(f"\npub mod {name};\n")
 
@@ -306,8 +324,8 @@ def judged(line, status, said):
 class Scratch:
     """A scratch copy of the part of the repository that lines with the same `check:` want, which passes as it stands."""
 
-    def __init__(self, room, checks):
-        self.room, self.part = room, Part(checks)
+    def __init__(self, room, checks, typed):
+        self.room, self.part = room, Part(checks, typed)
         self.part.write(room)
         status, said = self.part.check(room)
         if status:
@@ -394,10 +412,10 @@ def main(names):
         if isinstance(line, BadLine):
             print(f"{file.parent.name}/{file.stem}: BAD LINE: {line}", flush=True)
         else:
-            groups.setdefault(tuple(line.checks), []).append(line)
+            groups.setdefault((tuple(line.checks), line.types), []).append(line)
     with tempfile.TemporaryDirectory(prefix="wrong-lines-") as room:
-        for at, (checks, lines) in enumerate(groups.items()):
-            for line, (is_well, what) in tried_in_turn(Scratch(Path(room) / f"part{at}", checks), lines):
+        for at, ((checks, typed), lines) in enumerate(groups.items()):
+            for line, (is_well, what) in tried_in_turn(Scratch(Path(room) / f"part{at}", checks, typed), lines):
                 well += is_well
                 print(f"{line.name}: {what}", flush=True)
     print(f"{well} of {len(files)} wrong lines are refused by the examples and laws that are to refuse them")

@@ -10,6 +10,3 @@ mod ranks;
 pub use least::{first_in_order, next_in_order};
 pub use orders::Order;
 pub use ranking::order;
-
-#[cfg(test)]
-mod tests;

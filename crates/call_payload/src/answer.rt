@@ -17,7 +17,6 @@ pub struct TooLong {
 }
 
 /// The bytes that a call answers, at most `MOST_ANSWER`. Its memory is reserved when it is opened.
-#[derive(Drop)]
 pub struct AnswerBuf {
     room: Vec<u8>,
     used: usize,
@@ -31,6 +30,12 @@ impl Model for AnswerBuf {
     ghost view = { λ answer. take answer.used answer.room.items };
 
     ghost invariant = { λ answer. (length answer.room.items ≡ 65536) × (answer.used ≤ 65536) };
+}
+
+impl Drop for AnswerBuf {
+    fn drop(self) {
+        let AnswerBuf { room: _, used: _ } = self;
+    }
 }
 
 // Writes bytes over those from a place on.

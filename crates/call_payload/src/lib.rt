@@ -3,8 +3,6 @@
 
 mod answer;
 mod request;
-#[cfg(test)]
-mod tests;
 
 pub use answer::{AnswerBuf, MOST_ANSWER, TooLong};
 pub use request::{MOST_REQUEST, Payload, read_part};

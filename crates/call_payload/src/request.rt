@@ -9,7 +9,6 @@ use wasm_values::{Items, NoMemory};
 pub const MOST_REQUEST: usize = 65536;
 
 /// The bytes that a call is sent, at most `MOST_REQUEST`.
-#[derive(Drop)]
 pub struct Payload {
     bytes: Items<u8>,
 }
@@ -22,6 +21,12 @@ impl Model for Payload {
     ghost view = { λ payload. payload.bytes };
 
     ghost invariant = { λ payload. length payload.bytes ≤ 65536 };
+}
+
+impl Drop for Payload {
+    fn drop(self) {
+        let Payload { bytes: _ } = self;
+    }
 }
 
 impl Payload {

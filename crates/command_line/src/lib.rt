@@ -11,6 +11,3 @@ mod syntax;
 mod words;
 
 pub use words::{Command, WordsFault, read_command};
-
-#[cfg(test)]
-mod tests;

@@ -11,6 +11,3 @@ pub use flushing::flush;
 pub use handing::hand_in;
 pub use settling::settle;
 pub use sweeping::sweep;
-
-#[cfg(test)]
-mod tests;

@@ -6,7 +6,6 @@ use module_store::ModuleRef;
 use request_text::Invocation;
 
 /// A call that is due.
-#[derive(Drop)]
 pub struct Due {
     /// Its number. Calls are numbered from 1.
     pub number: u32,
@@ -15,6 +14,17 @@ pub struct Due {
     /// Whether its module is retired where it stands.
     pub retired: bool,
     pub invocation: Invocation,
+}
+
+impl Drop for Due {
+    fn drop(self) {
+        let Due {
+            number: _,
+            tenant: _,
+            retired: _,
+            invocation: _,
+        } = self;
+    }
 }
 
 /// What a queue hands on with a call's number: its module, or none where that was refused.

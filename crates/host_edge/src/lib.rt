@@ -10,6 +10,3 @@ pub use gate::{Gate, OpenGate};
 pub use memory::{MemSink, MemSource};
 pub use standard::{StdSink, StdSource};
 pub use streams::{Failed, Sink, Source};
-
-#[cfg(test)]
-mod tests;

@@ -8,5 +8,6 @@ mod serving;
 mod status;
 mod streams;
 
+pub use call_workers::work;
 pub use serving::{refuse_words, serve};
 pub use status::Status;

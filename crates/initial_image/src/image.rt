@@ -15,7 +15,6 @@ use wasm_values::{Items, NoMemory, Val};
 
 /// What a new instance of a module holds beside its table, which [`write_table`](crate::write_table) writes. Source: Core
 /// Specification 1.0, section 4.5.4.
-#[derive(Drop)]
 pub struct Image {
     /// The memory's bytes.
     pub memory: SparseBytes,
@@ -23,6 +22,16 @@ pub struct Image {
     pub globals: Items<Val>,
     /// The index of the start function.
     pub start: Option<u32>,
+}
+
+impl Drop for Image {
+    fn drop(self) {
+        let Image {
+            memory: _,
+            globals: _,
+            start: _,
+        } = self;
+    }
 }
 
 /// Why a module has no image.

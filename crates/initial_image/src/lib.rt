@@ -6,8 +6,6 @@
 mod fill;
 mod image;
 mod segments;
-#[cfg(test)]
-mod tests;
 
 pub use fill::write_table;
 pub use image::{Image, ImageFault, build};

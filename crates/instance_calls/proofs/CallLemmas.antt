@@ -1,5 +1,5 @@
 -- What an exported function of a valid module is called as, and what the call gives.
-use Rattle.std.proofs.Common.{◌≡◌, ℕ, List, Some, map, refl, sym, ap, ◌∙◌, subst}
+use Rattle.std.proofs.Common.{◌≡◌, ℕ, ◌+◌, List, Option, Some, map, refl, sym, ap, ◌∙◌, subst}
 use Rattle.std.specs.Prelude.{◌-◌, IsSome, length, option_and_then}
 use Rattle.std.proofs.lemmas.Option.{get_or_from_slice_get, slice_get_within}
 use Rattle.wasm_types.specs.declared.types.FuncType.{FuncType}
@@ -13,18 +13,17 @@ use Rattle.wasm_types.specs.Tree.{ModuleTree, module_tree}
 use Rattle.wasm_types.specs.declared.module.Import.{Import}
 use Rattle.wasm_spec.specs.Functions.{Callee, Imported, Own, callee_at, callee_type, function_type}
 use Rattle.wasm_spec.proofs.FunctionNumbers.{imported_there, own_there}
-use Rattle.wasm_spec.specs.Execution.{terms}
 use Rattle.wasm_spec.specs.Typing.{IsTypedFunction, type_of}
 use Rattle.wasm_spec.specs.Validity.{Exports, IsDefined, IsValid}
-use Rattle.wasm_spec.specs.Store.{Store, fresh_store}
-use Rattle.wasm_spec.specs.Result.{answer_by, result_from}
+use Rattle.wasm_spec.specs.Store.{Store}
+use Rattle.wasm_spec.specs.Result.{CallResult, answer_by}
 use Rattle.wasm_machine.specs.Calls.{IsCall}
 use Rattle.pool_limits.specs.declared.numbers.Numbers.{Numbers}
-use Rattle.pool_worlds.specs.Contents.{Contents, shown_store}
-use Rattle.pool_worlds.specs.declared.kinds.Kind.{Kind}
-use Rattle.instance_calls.specs.CallWords.{EndsWith, LacksTypes, MayCall, kept_by, run_limits}
-use Rattle.instance_calls.specs.Runs.{RanOn}
-use Rattle.instance_calls.proofs.RunLemmas.{gives}
+use Rattle.paused_call.specs.declared.call.PausedCall.{PausedCall}
+use Rattle.paused_call.specs.declared.call.Turned.{Turned}
+use Rattle.paused_call.specs.declared.call.Turned.TheVariants as turned
+use Rattle.paused_call.specs.Standing.{HasTurned}
+use Rattle.instance_calls.specs.CallWords.{EndsAs, EndsWith, HasSliced, LacksTypes, MayCall, comes_of, kept_after, run_limits}
 
 -- a function's type
 pub record HasFunction (m : ModuleTree) (x : ℕ) : Type 0 where
@@ -71,23 +70,39 @@ called v export x args valid may =
     let same : may.type ≡ h.type = cc in
     is_call v x args h (may.fit ∙ ap (λ (t : FuncType). t.params) same)
 
-pub kept_is : (o : Outcome) (s : Store) → kept_by o s.answer ≡ answer_by o s
-kept_is (outcome.Done v) s = refl
-kept_is (outcome.Trap t) s = refl
-kept_is outcome.Fuel s = refl
+kept_is : (o : Outcome) (s : Store) (t : Turned) → t ≡ turned.Done o → kept_after t s.answer ≡ answer_by o s
+kept_is (outcome.Done v) s t is = ap (λ (u : Turned). kept_after u s.answer) is
+kept_is (outcome.Trap k) s t is = ap (λ (u : Turned). kept_after u s.answer) is
+kept_is outcome.Fuel s t is = ap (λ (u : Turned). kept_after u s.answer) is
 
--- what ran on a fresh instance ends as the call does
-pub ended : (config : Numbers) (m : ModuleTree) (export : List ℕ) (x : ℕ) (args : List Val) (request : List ℕ) (fuel : ℕ) (old new : (k : Kind) → Contents k) (left answer : List ℕ) (outcome : Outcome)
-    → MayCall m export x args → shown_store m old ≡ fresh_store m → answer ≡ kept_by outcome left → RanOn config m x args request fuel old new left outcome
-    → EndsWith m (run_limits config) export args request fuel outcome answer
-ended config m export x args request fuel old new left answer outcome may fresh kept ran = record {
+-- a slice answers what is kept of the store that it leaves
+pub sliced : (result : ℕ → Option CallResult) (call : PausedCall) (slice : ℕ) (s : Store) (t : Turned) (bytes : List ℕ) → bytes ≡ kept_after t s.answer
+    → HasTurned result call slice s t → HasSliced result call.fuel (call.turns + slice) t bytes
+sliced result call slice s turned.Again bytes kept h = h
+sliced result call slice s (turned.Done o) bytes kept h = (
+  h.0,
+  record {
+    end = h.1.end;
+    gives = h.1.gives;
+    ends = h.1.ends;
+    answers = kept ∙ (λ i. kept_after (turned.Done (h.1.ends i)) ((sym h.1.leaves i).answer)) ∙ kept_is h.1.end.outcome h.1.end.store (turned.Done h.1.end.outcome) refl;
+  },
+)
+
+-- what goes on keeps all
+pub kept_on : (t : Turned) (bytes : List ℕ) → t ≡ turned.Again → kept_after t bytes ≡ bytes
+kept_on t bytes again = ap (λ (u : Turned). kept_after u bytes) again
+
+-- a call that may be made, and ends so, ends as a call of the export does
+pub ends_with : (config : Numbers) (m : ModuleTree) (export : List ℕ) (x : ℕ) (args : List Val) (request : List ℕ) (fuel : ℕ) (outcome : Outcome) (answer : List ℕ)
+    → MayCall m export x args → EndsAs (comes_of config m request x args) fuel outcome answer → EndsWith m (run_limits config) export args request fuel outcome answer
+ends_with config m export x args request fuel outcome answer may over = record {
   function = x;
   type = may.type;
   exported = may.exported;
   fit = may.fit;
-  result = ran.result;
-  ends = ap (λ (s : Store). result_from m (terms (run_limits config) request) x args s fuel) (sym fresh)
-      ∙ gives config.pages m (terms (run_limits config) request) x args (shown_store m old) fuel old new ran.marks ran.result m.start ran.runs;
-  shows = ran.ends;
-  answers = kept ∙ (λ i. kept_by (ran.ends i) (ran.answer i)) ∙ kept_is ran.result.outcome ran.result.store;
+  result = over.end;
+  ends = over.gives;
+  shows = over.ends;
+  answers = over.answers;
 }

@@ -4,25 +4,22 @@ use Rattle.std.specs.Prelude.{is_some}
 use Rattle.std.proofs.Math.Seq.{take-append_seam}
 use Rattle.std.proofs.lemmas.Bool.{lt-ltb}
 use Rattle.std.proofs.lemmas.List.{length-map, length-take, nil_from_length}
-use Rattle.wasm_types.specs.declared.limits.RunLimits.{RunLimits}
-use Rattle.wasm_values.specs.declared.outcome.Outcome.{Outcome}
 use Rattle.wasm_values.specs.declared.outcome.Val.{Val}
 use Rattle.wasm_types.specs.declared.module.Module.{Module}
 use Rattle.wasm_types.specs.Tree.{ModuleTree, global_tree, module_tree}
 use Rattle.wasm_spec.specs.Store.{Store, fresh_store, memory_size, minimum_of, page_size, table_size}
-use Rattle.wasm_spec.specs.Execution.{answer_set, terms}
+use Rattle.wasm_spec.specs.Execution.{answer_set}
 use Rattle.wasm_spec.specs.Result.{CallResult}
 use Rattle.linear_memory.specs.declared.memory.Memory.{Memory as LinearMemory}
 use Rattle.wasm_machine.specs.Lent.{lent_store, own, others}
 use Rattle.wasm_machine.specs.TypedConfiguration.{IsTypedStore}
 use Rattle.slot_words.specs.declared.leases.Lease.{Lease}
 use Rattle.pool_limits.specs.declared.numbers.Numbers.{Numbers}
-use Rattle.pool_worlds.specs.Contents as contents
 use Rattle.pool_worlds.specs.declared.kinds.Kind.TheVariants as kind
 use Rattle.pool_worlds.specs.Contents.{Contents, MemoryContents, Named, TableContents, needs, shown_store, shown_memory, shown_table, turned}
 use Rattle.pool_worlds.specs.declared.kinds.Kind.{Kind}
-use Rattle.pool_worlds.specs.declared.kinds.Kind.TheVariants.{Memory, Table, Ticket}
-use Rattle.pool_worlds.specs.Runs.{Leaves, LeavesFrom, RunsFunction}
+use Rattle.pool_worlds.specs.declared.kinds.Kind.TheVariants.{Memory, Table, Instance}
+use Rattle.pool_worlds.specs.Runs.{LeavesFrom}
 use Rattle.memory_slots.specs.Lent.{parts, store_in}
 use Rattle.memory_slots.proofs.LentLemmas.{globals_left, globals_there}
 use Rattle.instance_calls.specs.Instances.{HasFreshMemory, IsFreshTable, bare_store}
@@ -65,56 +62,6 @@ module _ (m : Module) (globals : List Val) (memory : MemoryContents) (table : Op
   without_memory answer none =
       same_store _ _ _ _ _ _ _ (ap (λ (b : Bool). shown_memory b memory) none) (table_shown (needs Table (module_tree m)) table had) (own_is m globals)
 
-abbrev pub ended_so : Outcome → Store → ℕ → CallResult
-ended_so outcome store left = record { outcome = outcome; store = store; fuel = left }
-
--- a run from one store to another is one between their equals
-leaves_shown : (pages : ℕ) (m : ModuleTree) (result : Store → ℕ → Option CallResult) (fuel : ℕ) (old new : (k : Kind) → Contents k) (marks : List Bool) (outcome : Outcome) (left : ℕ) (a b c d : Store)
-    → a ≡ b → c ≡ d → Leaves pages m (result a) fuel old new marks (record { outcome = outcome; store = c; fuel = left })
-    → Leaves pages m (result b) fuel old new marks (record { outcome = outcome; store = d; fuel = left })
-leaves_shown pages m result fuel old new marks outcome left a b c d p q leaves =
-    let from : Leaves pages m (result b) fuel old new marks (record { outcome = outcome; store = c; fuel = left }) =
-    subst (λ (s : Store). Leaves pages m (result s) fuel old new marks (record { outcome = outcome; store = c; fuel = left })) p leaves in
-    subst (λ (s : Store). Leaves pages m (result b) fuel old new marks (record { outcome = outcome; store = s; fuel = left })) q from
-
--- A run on the parts of an instance is one on its contents.
-module _ (pages : ℕ) (m : Module) (result : Store → ℕ → Option CallResult) (fuel : ℕ) (memory : Option (Lease MemoryContents)) (table : Option (Lease TableContents))
-    (had_memory : is_some memory ≡ needs Memory (module_tree m)) (had_table : is_some table ≡ needs Table (module_tree m))
-    (entries : List (Option ℕ)) (entries_are : entries ≡ (table_in table).entries) (outcome : Outcome) (left : ℕ) (old new : List Val) (said says : List ℕ) where
-  abbrev At : List (Option ℕ) → (x y : MemoryContents) → (before after : Store) → Type 0
-  At es x y before after = Leaves pages (module_tree m) (result before) fuel (parts x (table_in table).holds es old) (parts y (table_in table).holds es new) y.marks
-      (record { outcome = outcome; store = after; fuel = left })
-
-  abbrev shown_with : MemoryContents → List Val → List ℕ → Store
-  shown_with x globals answer = answer_set answer (shown_store (module_tree m) (parts x (table_in table).holds (table_in table).entries globals))
-
-  pub runs_with_memory : (l : Lease MemoryContents) (y : MemoryContents) → memory ≡ Some l
-      → ((owner : Option Named) → Leaves pages (module_tree m) (result (store_in m l.value entries old said)) fuel (parts l.value owner entries old) (parts y owner entries new) y.marks
-      (record { outcome = outcome; store = store_in m y entries new says; fuel = left }))
-      → At (table_in table).entries (memory_in memory) y (shown_with (memory_in memory) old said) (shown_with y new says)
-  runs_with_memory l y is leaves =
-      let needed : needs Memory (module_tree m) ≡ true = sym had_memory ∙ ap is_some is in
-      let lent : At (table_in table).entries l.value y (store_in m l.value (table_in table).entries old said) (store_in m y (table_in table).entries new says) =
-      subst (λ (es : List (Option ℕ)). At es l.value y (store_in m l.value es old said) (store_in m y es new says)) entries_are (leaves (table_in table).holds) in
-      let there : At (table_in table).entries l.value y (shown_with l.value old said) (shown_with y new says) =
-      leaves_shown pages (module_tree m) result fuel _ _ y.marks outcome left _ _ _ _ (sym (with_memory m old l.value table had_table said needed)) (sym (with_memory m new y table had_table says needed)) lent in
-      subst (λ (o : Option (Lease MemoryContents)). At (table_in table).entries (memory_in o) y (shown_with (memory_in o) old said) (shown_with y new says)) (sym is) there
-
-  pub runs_without_memory : memory ≡ None
-      → ((x : MemoryContents) (owner : Option Named) → Leaves pages (module_tree m) (result (bare_store m entries old said)) fuel (parts x owner entries old) (parts x owner entries new) x.marks
-      (record { outcome = outcome; store = bare_store m entries new says; fuel = left }))
-      → At (table_in table).entries (memory_in memory) (memory_in memory) (shown_with (memory_in memory) old said) (shown_with (memory_in memory) new says)
-  runs_without_memory is leaves =
-      let x = memory_in memory in
-      let unneeded : needs Memory (module_tree m) ≡ false = sym had_memory ∙ ap is_some is in
-      let lent : At (table_in table).entries x x (bare_store m (table_in table).entries old said) (bare_store m (table_in table).entries new says) =
-      subst (λ (es : List (Option ℕ)). At es x x (bare_store m es old said) (bare_store m es new says)) entries_are (leaves x (table_in table).holds) in
-      leaves_shown pages (module_tree m) result fuel _ _ x.marks outcome left _ _ _ _ (sym (without_memory m old x table had_table said unneeded)) (sym (without_memory m new x table had_table says unneeded)) lent
-
-pub runs_under : (pages : ℕ) (m : ModuleTree) (x : ℕ) (args : List Val) (fuel : ℕ) (store : Store) (old new : (k : Kind) → Contents k) (marks : List Bool) (r : CallResult) (a b : RunLimits) (request : List ℕ) → a ≡ b
-    → RunsFunction pages m (terms a request) x args store fuel old new marks r → RunsFunction pages m (terms b request) x args store fuel old new marks r
-runs_under pages m x args fuel store old new marks r a b request same = subst (λ (l : RunLimits). RunsFunction pages m (terms l request) x args store fuel old new marks r) same
-
 -- values that were written back into a list as long
 pub written_back : (n : ℕ) (xs ys : List Val) → length xs ≡ n → xs ≡ take n (xs ++ ys)
 written_back n xs ys long = sym (ap (λ (k : ℕ). take k (xs ++ ys)) (sym long) ∙ take-append_seam xs ys)
@@ -133,21 +80,11 @@ module _ (pages : ℕ) (m : Module) (x : MemoryContents) (owner : Option Named) 
 
   parts_left : (s : Store) → s.table ≡ table → new ≡ s.globals ++ drop (length s.globals) old → (k : Kind) → needs k (module_tree m) ≡ true
       → parts x owner table new k ≡ turned pages s x.marks k (parts x owner table old k)
-  parts_left s entries values Ticket needed = values
+  parts_left s entries values Instance needed = values
   parts_left s entries values kind.Memory needed = absurd (unneeded needed)
   parts_left s entries values Table needed = λ i. record { entries = sym entries i; holds = owner }
 
-  pub leaves_bare : (result : ℕ → Option CallResult) (fuel : ℕ) (outcome : Outcome) (left : ℕ) (said says : List ℕ)
-      → IsTypedStore m (bare_store m table old said) → length new ≡ length old → others m new ≡ others m old
-      → result fuel ≡ Some (record { outcome = outcome; store = bare_store m table new says; fuel = left })
-      → Leaves pages (module_tree m) result fuel (parts x owner table old) (parts x owner table new) x.marks (record { outcome = outcome; store = bare_store m table new says; fuel = left })
-  leaves_bare result fuel outcome left said says typed long rest gives = record {
-    gives = gives;
-    left = parts_left (bare_store m table new says) refl (globals_left (length m.globals) old new (globals_there m (bare_store m table old said) old refl typed) long rest);
-    marked = λ needed. absurd (unneeded needed);
-  }
-
-  -- so is a slice
+  -- what a slice leaves
   pub leaves_bare_from : (result : ℕ → Option CallResult) (from to : ℕ) (r : CallResult) (said says : List ℕ)
       → IsTypedStore m (bare_store m table old said) → length new ≡ length old → others m new ≡ others m old
       → result to ≡ Some r → r.store ≡ bare_store m table new says

@@ -1,5 +1,4 @@
 pub mod ArgumentLemmas
 pub mod CallLemmas
 pub mod InstanceLemmas
-pub mod RunLemmas
 pub mod PausedLemmas

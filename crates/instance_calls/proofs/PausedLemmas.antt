@@ -1,5 +1,5 @@
 -- A call that is paused on parts which are equal.
-use Rattle.std.proofs.Common.{◌≡◌, ◌≢◌, ℕ, ◌-◌, ◌<◌, ◌≤◌, List, [], Bool, true, false, Option, Some, None, ⊎_elim, length, ap, sym, ◌∙◌, subst, arith, length-append}
+use Rattle.std.proofs.Common.{◌≡◌, ◌≢◌, ℕ, ◌+◌, ◌-◌, ◌<◌, ◌≤◌, List, [], Bool, true, false, Option, Some, None, ⊎_elim, length, ap, sym, ◌∙◌, subst, arith, length-append}
 use Rattle.std.specs.Prelude.{is_some}
 use Rattle.std.proofs.lemmas.Bool.{cases_lt}
 use Rattle.std.proofs.lemmas.List.{length-map}
@@ -7,14 +7,15 @@ use Rattle.wasm_types.specs.declared.host.HostFunction.{HostFunction}
 use Rattle.wasm_types.specs.declared.host.HostFunction.TheVariants as host
 use Rattle.wasm_types.specs.declared.limits.RunLimits.{RunLimits}
 use Rattle.wasm_types.specs.declared.module.Module.{Module}
+use Rattle.wasm_values.specs.declared.outcome.Outcome.{Outcome}
 use Rattle.wasm_values.specs.declared.outcome.Val.{Val}
 use Rattle.wasm_types.specs.Tree.{ModuleTree, module_tree}
 use Rattle.wasm_spec.specs.Functions.{host_type}
 use Rattle.wasm_spec.specs.Typing.{params_of, params_or_none, type_of}
 use Rattle.wasm_spec.specs.Execution.{Terms, answer_set, terms}
 use Rattle.wasm_spec.specs.Instances.{room_for}
-use Rattle.wasm_spec.specs.Result.{CallResult}
-use Rattle.wasm_spec.specs.Store.{Store}
+use Rattle.wasm_spec.specs.Result.{CallResult, result_from}
+use Rattle.wasm_spec.specs.Store.{Store, fresh_store}
 use Rattle.wasm_machine.specs.Calls.{IsCall}
 use Rattle.wasm_machine.specs.Room.{StacksView}
 use Rattle.wasm_machine.specs.TypedConfiguration.{IsRunnable}
@@ -28,12 +29,13 @@ use Rattle.pool_worlds.specs.Runs.{LeavesFrom}
 use Rattle.memory_slots.specs.Lent.{IsReady, parts, store_in}
 use Rattle.paused_call.specs.declared.call.PausedCall.{PausedCall}
 use Rattle.paused_call.specs.declared.call.Turned.{Turned}
+use Rattle.paused_call.specs.declared.call.Turned.TheVariants as turned
 use Rattle.paused_call.specs.Standing.{HasTurned, Stands, upto, whole}
 use Rattle.instance_calls.specs.declared.instance.Instance.{Instance}
-use Rattle.instance_calls.specs.CallWords.{run_limits}
+use Rattle.instance_calls.specs.CallWords.{EndsAs, HasSliced, comes_of, run_limits}
 use Rattle.instance_calls.specs.Instances.{bare_store, instance_contents}
 use Rattle.instance_calls.specs.Parts.{memory_in, table_in}
-use Rattle.instance_calls.specs.Paused.{IsPausedOn, ResumedOn}
+use Rattle.instance_calls.specs.Paused.{IsPausedOn, WentOn}
 use Rattle.instance_calls.proofs.InstanceLemmas.{with_memory, without_memory}
 
 module _ (m : Module) (limits : Terms) (begun : Store) (call : PausedCall) where
@@ -82,14 +84,18 @@ args_within m frame x args room run call le three = ⊎_elim imported own (cases
 -- ---- a call that is paused on an instance, and on what is lent of it
 
 -- it is paused there, and a slice is lent the module's code, the limits of its runs, and the table's entries
-pub record IsLent {N : Type 0} (config : Numbers) (m : Named) (request : List ℕ) (begun : Store) (call : PausedCall) (said : List ℕ) (x : Instance N) (valid : Module) (limits : RunLimits) (entries : List (Option ℕ)) : Type 0 where
-  pub paused : IsPausedOn config m request begun call said x
+pub record IsLent {N : Type 0} (config : Numbers) (m : Named) (request : List ℕ) (call : PausedCall) (said : List ℕ) (x : Instance N) (valid : Module) (limits : RunLimits) (entries : List (Option ℕ)) : Type 0 where
+  pub paused : IsPausedOn config m request call said x
   pub code : valid ≡ m.code
   pub limits_are : limits ≡ run_limits config
   pub entries_are : entries ≡ (table_in x.table).entries
 
-module _ {N : Type 0} {config : Numbers} {m : Named} {request : List ℕ} {begun : Store} {call : PausedCall} {said : List ℕ} {x : Instance N} {valid : Module} {limits : RunLimits} {entries : List (Option ℕ)}
-    (h : IsLent config m request begun call said x valid limits entries) where
+module _ {N : Type 0} {config : Numbers} {m : Named} {request : List ℕ} {call : PausedCall} {said : List ℕ} {x : Instance N} {valid : Module} {limits : RunLimits} {entries : List (Option ℕ)}
+    (h : IsLent config m request call said x valid limits entries) where
+  -- it began on a fresh instance
+  abbrev begun : Store
+  begun = fresh_store m.tree
+
   tree_is : module_tree valid ≡ m.tree
   tree_is = ap module_tree h.code ∙ h.paused.code
 
@@ -126,35 +132,38 @@ module _ {N : Type 0} {config : Numbers} {m : Named} {request : List ℕ} {begun
   -- what a slice on what is lent comes to, it comes to for the call
   pub turned_there : (slice : ℕ) (t : Turned) (s : Store) (says : List ℕ) (y : (k : Kind) → Contents k) → s ≡ answer_set says (shown_store (module_tree valid) y)
       → HasTurned (whole valid (terms limits request) call x.ticket.value.args begun) call slice s t
-      → HasTurned (whole m.code (terms (run_limits config) request) call x.ticket.value.args begun) call slice (answer_set says (shown_store m.tree y)) t
-  turned_there slice t s says y shows turned =
-      subst (λ (tree : ModuleTree). HasTurned (whole m.code (terms (run_limits config) request) call x.ticket.value.args begun) call slice (answer_set says (shown_store tree y)) t) tree_is
+      → HasTurned (comes_of config m.tree request call.function x.ticket.value.args) call slice (answer_set says (shown_store m.tree y)) t
+  turned_there slice t s says y shows was =
+      subst (λ (tree : ModuleTree). HasTurned (result_from tree (terms (run_limits config) request) call.function x.ticket.value.args begun) call slice (answer_set says (shown_store m.tree y)) t) h.paused.code
+      (subst (λ (tree : ModuleTree). HasTurned (whole m.code (terms (run_limits config) request) call x.ticket.value.args begun) call slice (answer_set says (shown_store tree y)) t) tree_is
       (subst (λ (l : RunLimits). HasTurned (whole m.code (terms l request) call x.ticket.value.args begun) call slice (answer_set says (shown_store (module_tree valid) y)) t) h.limits_are
       (subst (λ (k : Module). HasTurned (whole k (terms limits request) call x.ticket.value.args begun) call slice (answer_set says (shown_store (module_tree valid) y)) t) h.code
-      (subst (λ (u : Store). HasTurned (whole valid (terms limits request) call x.ticket.value.args begun) call slice u t) shows turned)))
+      (subst (λ (u : Store). HasTurned (whole valid (terms limits request) call x.ticket.value.args begun) call slice u t) shows was))))
 
   -- a slice on what is lent is one on the instance
-  pub resumed_there : (slice : ℕ) (y : MemoryContents) (globals : List Val) (marks : List Bool) (r : CallResult)
+  pub went_there : (slice : ℕ) (y : MemoryContents) (globals : List Val) (marks : List Bool) (r : CallResult)
       → LeavesFrom config.pages (module_tree valid) (whole valid (terms limits request) call x.ticket.value.args begun) call.turns (upto call slice)
       (parts (memory_in x.memory) (table_in x.table).holds entries x.ticket.value.globals) (parts y (table_in x.table).holds entries globals) marks r
-      → ResumedOn config m request begun x.ticket.value.args call slice (instance_contents x) (parts y (table_in x.table).holds (table_in x.table).entries globals)
-  resumed_there slice y globals marks r leaves = record {
+      → WentOn config.pages m.tree (comes_of config m.tree request call.function x.ticket.value.args) call.turns (upto call slice) (instance_contents x) (parts y (table_in x.table).holds (table_in x.table).entries globals)
+  went_there slice y globals marks r leaves = record {
     marks = marks;
-    result = r;
-    leaves = subst (λ (es : List (Option ℕ)). LeavesFrom config.pages m.tree (whole m.code (terms (run_limits config) request) call x.ticket.value.args begun) call.turns (upto call slice)
+    at = r;
+    leaves = subst (λ (tree : ModuleTree). LeavesFrom config.pages m.tree (result_from tree (terms (run_limits config) request) call.function x.ticket.value.args begun) call.turns (upto call slice)
+        (instance_contents x) (parts y (table_in x.table).holds (table_in x.table).entries globals) marks r) h.paused.code
+        (subst (λ (es : List (Option ℕ)). LeavesFrom config.pages m.tree (whole m.code (terms (run_limits config) request) call x.ticket.value.args begun) call.turns (upto call slice)
         (parts (memory_in x.memory) (table_in x.table).holds es x.ticket.value.globals) (parts y (table_in x.table).holds es globals) marks r) h.entries_are
         (subst (λ (l : RunLimits). LeavesFrom config.pages m.tree (whole m.code (terms l request) call x.ticket.value.args begun) call.turns (upto call slice)
         (parts (memory_in x.memory) (table_in x.table).holds entries x.ticket.value.globals) (parts y (table_in x.table).holds entries globals) marks r) h.limits_are
         (subst (λ (k : Module). LeavesFrom config.pages m.tree (whole k (terms limits request) call x.ticket.value.args begun) call.turns (upto call slice)
         (parts (memory_in x.memory) (table_in x.table).holds entries x.ticket.value.globals) (parts y (table_in x.table).holds entries globals) marks r) h.code
         (subst (λ (t : ModuleTree). LeavesFrom config.pages t (whole valid (terms limits request) call x.ticket.value.args begun) call.turns (upto call slice)
-        (parts (memory_in x.memory) (table_in x.table).holds entries x.ticket.value.globals) (parts y (table_in x.table).holds entries globals) marks r) tree_is leaves)));
+        (parts (memory_in x.memory) (table_in x.table).holds entries x.ticket.value.globals) (parts y (table_in x.table).holds entries globals) marks r) tree_is leaves))));
   }
 
   -- the call that comes of it is paused on the instance that comes of it
   pub paused_there : (next : PausedCall) (says : List ℕ) (y : Instance N) → y.table ≡ x.table → is_some y.memory ≡ is_some x.memory
       → (m.code.memories ≢ [] → IsReady (room_for m.code.memories config.pages) (memory_in y.memory))
-      → Stands valid (terms limits request) begun y.ticket.value.args next y.ticket.value.stacks (answer_set says (shown_store (module_tree valid) (instance_contents y))) → IsPausedOn config m request begun next says y
+      → Stands valid (terms limits request) begun y.ticket.value.args next y.ticket.value.stacks (answer_set says (shown_store (module_tree valid) (instance_contents y))) → IsPausedOn config m request next says y
   paused_there next says y table memory ready stands = record {
     code = h.paused.code;
     parts = record { memory = memory ∙ h.paused.parts.memory; table = ap is_some table ∙ h.paused.parts.table };
@@ -176,3 +185,29 @@ module _ {N : Type 0} {config : Numbers} {m : Named} {request : List ℕ} {begun
   shown_bare globals says is =
       let unneeded : needs Memory (module_tree valid) ≡ false = sym had_memory ∙ ap is_some is in
       ap (λ (es : List (Option ℕ)). bare_store valid es globals says) h.entries_are ∙ sym (without_memory valid globals (memory_in x.memory) x.table had_table says unneeded)
+
+-- ---- a call that was given all its fuel at once
+
+module _ (config : Numbers) (m : ModuleTree) (request : List ℕ) (x : ℕ) (args : List Val) (fuel : ℕ) (call : PausedCall) (given : List Val)
+    (function_is : call.function ≡ x) (args_are : given ≡ args) (fuel_is : call.fuel ≡ fuel) (turns_are : call.turns ≡ 0) where
+  abbrev result : ℕ → List Val → ℕ → Option CallResult
+  result f values = comes_of config m request f values
+
+  pub went_whole : (old mid new : (k : Kind) → Contents k) → ((k : Kind) → mid k ≡ old k)
+      → WentOn config.pages m (result call.function given) call.turns (upto call fuel) mid new → WentOn config.pages m (result x args) 0 fuel old new
+  went_whole old mid new same went =
+      let to : upto call fuel ≡ fuel = omega (arith, fuel_is, turns_are) in
+      subst (λ (o : (k : Kind) → Contents k). WentOn config.pages m (result x args) 0 fuel o new) (λ i k. same k i)
+      (subst (λ (n : ℕ). WentOn config.pages m (result x args) 0 n mid new) to
+      (subst (λ (n : ℕ). WentOn config.pages m (result x args) n (upto call fuel) mid new) turns_are
+      (subst (λ (l : List Val). WentOn config.pages m (result x l) call.turns (upto call fuel) mid new) args_are
+      (subst (λ (f : ℕ). WentOn config.pages m (result f given) call.turns (upto call fuel) mid new) function_is went))))
+
+  pub never_again : (bytes : List ℕ) → HasSliced (result call.function given) call.fuel (call.turns + fuel) turned.Again bytes → ⊥
+  never_again bytes waits = let more = waits.more in absurd (omega (arith, more, fuel_is, turns_are))
+
+  pub ends_whole : (outcome : Outcome) (bytes : List ℕ) → HasSliced (result call.function given) call.fuel (call.turns + fuel) (turned.Done outcome) bytes → EndsAs (result x args) fuel outcome bytes
+  ends_whole outcome bytes h =
+      subst (λ (n : ℕ). EndsAs (result x args) n outcome bytes) fuel_is
+      (subst (λ (l : List Val). EndsAs (result x l) call.fuel outcome bytes) args_are
+      (subst (λ (f : ℕ). EndsAs (result f given) call.fuel outcome bytes) function_is h.1))

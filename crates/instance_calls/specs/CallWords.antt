@@ -1,5 +1,5 @@
 -- Which calls of a module may be made, and how they end.
-use Rattle.std.specs.Prelude.{◌≡◌, ◌≢◌, ℕ, List, [], map, Some}
+use Rattle.std.specs.Prelude.{◌≡◌, ◌≢◌, ℕ, List, [], map, Option, Some}
 use Rattle.wasm_types.specs.declared.types.FuncType.{FuncType}
 use Rattle.wasm_values.specs.declared.outcome.Outcome.{Outcome}
 use Rattle.wasm_values.specs.declared.outcome.Outcome.TheVariants as outcome
@@ -12,6 +12,9 @@ use Rattle.wasm_spec.specs.Typing.{type_of}
 use Rattle.wasm_spec.specs.Validity.{Exports}
 use Rattle.wasm_spec.specs.Result.{CallResult, answer_of, call_result}
 use Rattle.pool_limits.specs.declared.numbers.Numbers.{Numbers}
+use Rattle.paused_call.specs.declared.call.Turned.{Turned}
+use Rattle.paused_call.specs.declared.call.Turned.TheVariants as turned
+use Rattle.paused_call.specs.Standing.{Waits}
 use Rattle.instance_calls.specs.declared.finding.Refusal.{Refusal}
 use Rattle.instance_calls.specs.declared.finding.Refusal.TheVariants.{NoExport, BadArgs}
 
@@ -58,7 +61,24 @@ IsRefusal m export args BadArgs = LacksTypes m export args
 abbrev pub run_limits : Numbers → RunLimits
 run_limits n = record { pages = n.pages; depth = n.depth }
 
--- what is kept of the bytes that were appended: an answer where the call is done
-abbrev pub kept_by : Outcome → List ℕ → List ℕ
-kept_by (outcome.Done v) bytes = bytes
-kept_by _ bytes = []
+-- what a call comes to on each fuel: what it gives a fresh instance
+abbrev pub comes_of : Numbers → ModuleTree → (request : List ℕ) → (function : ℕ) → (args : List Val) → ℕ → Option CallResult
+comes_of config m request function args = call_result m (terms (run_limits config) request) function args
+
+-- on all its fuel it ends so, and answers these bytes
+pub record EndsAs (result : ℕ → Option CallResult) (fuel : ℕ) (outcome : Outcome) (bytes : List ℕ) : Type 0 where
+  pub end : CallResult
+  pub gives : result fuel ≡ Some end
+  pub ends : outcome ≡ end.outcome
+  pub answers : bytes ≡ answer_of end
+
+-- a slice up to so many turns: Again exactly where the call waits there, and else how it ends on all its fuel
+abbrev pub HasSliced : (ℕ → Option CallResult) → (fuel turns : ℕ) → Turned → (answer : List ℕ) → Type 0
+HasSliced result fuel turns turned.Again answer = Waits result fuel turns
+HasSliced result fuel turns (turned.Done outcome) answer = ¬ (Waits result fuel turns) × EndsAs result fuel outcome answer
+
+-- what is kept of the bytes that were appended: all while the call goes on, and its answer where it is done
+abbrev pub kept_after : Turned → List ℕ → List ℕ
+kept_after turned.Again bytes = bytes
+kept_after (turned.Done (outcome.Done v)) bytes = bytes
+kept_after (turned.Done _) bytes = []

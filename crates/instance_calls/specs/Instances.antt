@@ -1,14 +1,12 @@
 -- What a call of a module runs on.
-use Rattle.std.specs.Prelude.{◌≡◌, ◌≢◌, ◌<◌, ℕ, List, [], Option, is_some, length, take}
+use Rattle.std.specs.Prelude.{◌≡◌, ◌≢◌, ℕ, List, [], Option, is_some, length, take}
 use Rattle.wasm_values.specs.declared.outcome.Val.{Val}
 use Rattle.wasm_types.specs.declared.module.Module.{Module}
-use Rattle.wasm_types.specs.Tree.{ModuleTree, module_tree}
+use Rattle.wasm_types.specs.Tree.{ModuleTree}
 use Rattle.wasm_spec.specs.Execution.{answer_set}
 use Rattle.wasm_spec.specs.Instances.{room_for}
 use Rattle.wasm_spec.specs.Store.{Store, fresh_store}
-use Rattle.wasm_machine.specs.Calls.{FitsFrame}
 use Rattle.wasm_machine.specs.Lent.{own}
-use Rattle.wasm_machine.specs.TypedConfiguration.{IsTypedStore}
 use Rattle.slot_words.specs.declared.leases.Lease.{Lease}
 use Rattle.pool_limits.specs.declared.numbers.Numbers.{Numbers}
 use Rattle.pool_worlds.specs.Contents.{Contents, MemoryContents, TableContents, needs, shown_store, shown_memory, shown_table}
@@ -32,13 +30,6 @@ pub record HasFreshMemory (config : Numbers) (m : ModuleTree) (memory : Option (
 pub record IsFreshTable (m : ModuleTree) (table : Option (Lease TableContents)) : Type 0 where
   pub had : is_some table ≡ needs Table m
   pub shown : shown_table (needs Table m) (table_in table) ≡ (fresh_store m).table
-
--- a function of the module may run on these contents, under the limits of the configuration
-pub record MayRun (config : Numbers) (m : Module) (x : (k : Kind) → Contents k) : Type 0 where
-  pub depth : 0 < config.depth
-  pub memory : m.memories ≢ [] → IsReady (room_for m.memories config.pages) (x Memory)
-  pub store : IsTypedStore m (shown_store (module_tree m) x)
-  pub frame : FitsFrame m config.frame
 
 module _ {N : Type 0} where
   -- the contents of an instance's slots

@@ -5,4 +5,3 @@ pub mod Paused
 pub mod PausedViews
 pub mod PausedInstances
 pub mod Resumed
-pub mod Runs

@@ -1,18 +1,16 @@
 -- What a slice makes of a call that is paused on an instance.
-use Rattle.std.specs.Prelude.{◌≡◌, ℕ, ◌+◌, List, [], Option, Some}
-use Rattle.wasm_values.specs.declared.outcome.Outcome.{Outcome}
+use Rattle.std.specs.Prelude.{◌≡◌, ℕ, ◌+◌, List, []}
 use Rattle.wasm_values.specs.declared.outcome.Val.{Val}
 use Rattle.pool_limits.specs.declared.numbers.Numbers.{Numbers}
 use Rattle.pool_worlds.specs.Contents.{Named}
-use Rattle.wasm_spec.specs.Result.{CallResult, answer_of}
-use Rattle.wasm_spec.specs.Store.{fresh_store}
-use Rattle.paused_call.specs.Standing.{Waits}
+use Rattle.paused_call.specs.Standing.{Waits, upto}
 use Rattle.instance_calls.specs.declared.instance.Instance.{Instance}
 use Rattle.instance_calls.specs.declared.paused_instance.Resumed.{Resumed}
 use Rattle.instance_calls.specs.declared.paused_instance.Resumed.TheVariants.{Again, Done}
+use Rattle.instance_calls.specs.CallWords.{EndsAs}
 use Rattle.instance_calls.specs.Instances.{instance_contents}
 use Rattle.instance_calls.specs.Parts.{BelongsTo, memory_slot, table_slot, ticket_slot}
-use Rattle.instance_calls.specs.Paused.{ResumedOn}
+use Rattle.instance_calls.specs.Paused.{WentOn}
 use Rattle.instance_calls.specs.PausedInstances.{comes_to}
 use Rattle.instance_calls.specs.PausedViews.{PausedView, contents_in}
 
@@ -47,14 +45,7 @@ pub record GoesOnPaused (slice : ℕ) (v w : PausedView) : Type 0 where
 pub record HasMore (config : Numbers) (v : PausedView) (slice : ℕ) (w : PausedView) : Type 0 where
   pub waits : Waits (comes_to config v) v.call.fuel (v.call.turns + slice)
   pub goes_on : GoesOnPaused slice v w
-  pub went : ResumedOn config v.named [] (fresh_store v.named.tree) v.args v.call slice (contents_in v) (contents_in w)
-
--- on all its fuel it ends so, and answers these bytes
-pub record EndsAs (result : ℕ → Option CallResult) (fuel : ℕ) (outcome : Outcome) (bytes : List ℕ) : Type 0 where
-  pub end : CallResult
-  pub gives : result fuel ≡ Some end
-  pub ends : outcome ≡ end.outcome
-  pub answers : bytes ≡ answer_of end
+  pub went : WentOn config.pages v.named.tree (comes_to config v) v.call.turns (upto v.call slice) (contents_in v) (contents_in w)
 
 -- the contents of its slots belong to its module
 pub record SlotsBelong (v : PausedView) : Type 0 where
@@ -73,7 +64,7 @@ module _ {N : Type 0} where
     pub over : ¬ (Waits (comes_to config v) v.call.fuel (v.call.turns + slice))
     pub slots : HasSlotsOf x v
     pub belongs : SlotsBelong v
-    pub went : ResumedOn config v.named [] (fresh_store v.named.tree) v.args v.call slice (contents_in v) (instance_contents x)
+    pub went : WentOn config.pages v.named.tree (comes_to config v) v.call.turns (upto v.call slice) (contents_in v) (instance_contents x)
 
   abbrev pub HasResumed : Numbers → PausedView → ℕ → Resumed N → Type 0
   HasResumed config v slice (Again w) = HasMore config v slice w

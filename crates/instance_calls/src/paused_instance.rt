@@ -7,7 +7,7 @@ ghost use Rattle.instance_calls.specs.Parts.{BelongsTo, memory_slot, table_slot}
 ghost use Rattle.instance_calls.specs.PausedViews.{contents_in};
 ghost use Rattle.instance_calls.specs.Resumed.{HasResumed, HasSlotsOf, IsBegun, SlotsBelong};
 
-use crate::instance::{Instance, keep_if_done};
+use crate::instance::Instance;
 use call_payload::AnswerBuf;
 use module_store::{ModuleRef, ModuleStore, Naming};
 use paused_call::{PausedCall, Turned};
@@ -94,10 +94,7 @@ impl<N: Naming> PausedInstance<N> {
                 call,
                 answer,
             }),
-            Turned::Done(outcome) => {
-                keep_if_done(outcome, &mut answer);
-                Resumed::Done(outcome, instance, answer)
-            }
+            Turned::Done(outcome) => Resumed::Done(outcome, instance, answer),
         }
     }
 

@@ -1,14 +1,14 @@
-//! Runs of a function on the parts of an instance.
+//! A call on the parts of an instance.
 ghost use Rattle.std.specs.Prelude.{◌≡◌, ℕ, ◌+◌, ◌<◌, ◌≤◌, List, [], Option, length};
 ghost use Rattle.wasm_types.specs.Tree.{module_tree};
 ghost use Rattle.wasm_spec.specs.Instances.{room_for};
 ghost use Rattle.wasm_spec.specs.Execution.{terms};
-ghost use Rattle.wasm_spec.specs.Result.{CallResult, function_result};
+ghost use Rattle.wasm_spec.specs.Result.{CallResult};
 ghost use Rattle.wasm_spec.specs.Store.{Store};
-ghost use Rattle.wasm_machine.specs.Calls.{FitsFrame, IsCall, IsDone};
+ghost use Rattle.wasm_machine.specs.Calls.{FitsFrame, IsCall};
 ghost use Rattle.wasm_machine.specs.TypedConfiguration.{IsTypedStore};
 ghost use Rattle.pool_worlds.specs.Contents.{MemoryContents, Named};
-ghost use Rattle.pool_worlds.specs.Runs.{Leaves, LeavesFrom};
+ghost use Rattle.pool_worlds.specs.Runs.{LeavesFrom};
 ghost use Rattle.paused_call.specs.Standing.{HasTurned, Stands, upto, whole};
 ghost use Rattle.memory_slots.specs.Lent.{IsReady, parts, store_in};
 ghost use Rattle.instance_calls.specs.CallWords.{run_limits};
@@ -23,7 +23,6 @@ use module_store::{ModuleStore, Naming};
 use paused_call::{PausedCall, Turned};
 use slot_words::Lease;
 use table_slots::TableSlot;
-use wasm_machine::{RunEnd, run};
 use wasm_types::RunLimits;
 use wasm_validate::Valid;
 use wasm_values::Val;
@@ -48,90 +47,6 @@ pub(crate) fn entries_of<N: Naming>(table: &Option<Lease<TableSlot<N>>>) -> &[Op
         Some(table) => table.value.entries(),
         None => &[],
     }
-}
-
-// Runs a function of a module that has a memory.
-pub(crate) fn run_with_memory<N: Naming>(
-    ticket: &mut Ticket<N>,
-    memory: &mut MemSlot<N>,
-    table: &[Option<u32>],
-    valid: &Valid,
-    function: u32,
-    args: &[Val],
-    fuel: u64,
-    limits: RunLimits,
-    request: &[u8],
-    answer: &mut AnswerBuf,
-) -> RunEnd
-    requires limits { limits ≡ run_limits N.config }
-    requires depth { 0 < limits.depth }
-    requires call { IsCall valid.now function args.now }
-    requires ready { IsReady (room_for valid.now.memories N.config.pages) memory.old }
-    requires store { IsTypedStore valid.now (store_in valid.now memory.old table.now ticket.old.globals answer.old) }
-    requires frame { FitsFrame valid.now N.config.frame }
-    requires request { length request.now ≤ 65536 }
-    ensures leaves { (owner : Option Named) → Leaves N.config.pages (module_tree valid.now)
-        (function_result (module_tree valid.now) (terms limits request.now) function args.now
-        (store_in valid.now memory.old table.now ticket.old.globals answer.old)) fuel
-        (parts memory.old owner table.now ticket.old.globals) (parts memory.new owner table.now ticket.new.globals) memory.new.marks
-        (record { outcome = result.outcome; store = store_in valid.now memory.new table.now ticket.new.globals answer.new; fuel = result.left }) }
-    ensures holds { memory.new.holds ≡ memory.old.holds }
-    ensures ready { IsReady (room_for valid.now.memories N.config.pages) memory.new }
-    ensures store { IsDone result.outcome → IsTypedStore valid.now (store_in valid.now memory.new table.now ticket.new.globals answer.new) }
-{
-    memory.run(
-        valid,
-        function,
-        args,
-        fuel,
-        limits,
-        table,
-        &mut ticket.globals,
-        &mut ticket.stacks,
-        request,
-        answer,
-    )
-}
-
-// Runs a function of a module that has no memory.
-pub(crate) fn run_without_memory<N: Naming>(
-    ticket: &mut Ticket<N>,
-    table: &[Option<u32>],
-    valid: &Valid,
-    function: u32,
-    args: &[Val],
-    fuel: u64,
-    limits: RunLimits,
-    request: &[u8],
-    answer: &mut AnswerBuf,
-) -> RunEnd
-    requires limits { limits ≡ run_limits N.config }
-    requires depth { 0 < limits.depth }
-    requires call { IsCall valid.now function args.now }
-    requires none { valid.now.memories ≡ [] }
-    requires store { IsTypedStore valid.now (bare_store valid.now table.now ticket.old.globals answer.old) }
-    requires frame { FitsFrame valid.now N.config.frame }
-    requires request { length request.now ≤ 65536 }
-    ensures leaves { (x : MemoryContents) (owner : Option Named) → Leaves N.config.pages (module_tree valid.now)
-        (function_result (module_tree valid.now) (terms limits request.now) function args.now
-        (bare_store valid.now table.now ticket.old.globals answer.old)) fuel
-        (parts x owner table.now ticket.old.globals) (parts x owner table.now ticket.new.globals) x.marks
-        (record { outcome = result.outcome; store = bare_store valid.now table.now ticket.new.globals answer.new; fuel = result.left }) }
-    ensures store { IsDone result.outcome → IsTypedStore valid.now (bare_store valid.now table.now ticket.new.globals answer.new) }
-{
-    run(
-        valid,
-        function,
-        args,
-        fuel,
-        limits,
-        &mut ticket.memory,
-        table,
-        &mut ticket.globals,
-        &mut ticket.stacks,
-        request,
-        answer,
-    )
 }
 
 // Makes turns of a paused call of a module that has a memory.

@@ -3,8 +3,6 @@
 
 pub mod laws;
 mod pool;
-#[cfg(test)]
-mod tests;
 mod ticket;
 
 pub use pool::take;

@@ -1,12 +1,11 @@
 //! Tickets are taken out of their pool.
 ghost use Rattle.std.specs.Prelude.{◌≡◌, ◌<◌, false, take, length, IfOk, OnErr};
-ghost use Rattle.slot_words.specs.Leases.{lease_number, lease_word};
+ghost use Rattle.slot_words.specs.Leases.{lease_number};
 ghost use Rattle.slot_words.specs.Owned.{IsPassOf, passes_of, slots_of};
 ghost use Rattle.slot_words.specs.Passes.{Holds, IsIdle, IsSamePass, share_of};
 ghost use Rattle.slot_pools.specs.Takes.{TakesAny, MeetsFullAny};
 ghost use Rattle.wasm_spec.specs.Store.{fresh_store};
 ghost use Rattle.pool_worlds.specs.declared.kinds.Kind.TheVariants as kind;
-ghost use Rattle.pool_worlds.specs.Handed.{IsHandedOut};
 
 use crate::ticket::Ticket;
 use module_store::{ModuleRef, ModuleStore, Naming};
@@ -34,7 +33,6 @@ pub fn take<N: Naming>(
     ensures number { IfOk result (λ l. lease_number l < slots_of pool.now) }
     ensures holds { IfOk result (λ l. Holds pass.new (lease_number l) false false false) }
     ensures globals { IfOk result (λ l. take (length «module».now.tree.globals) l.value.globals ≡ (fresh_store «module».now.tree).globals) }
-    ensures handed { IfOk result (λ l. IsHandedOut N.config.pages kind.Ticket «module».now (lease_word l) l.value.globals) }
     ensures trail { IfOk result (TakesAny pool.now pass.old pass.new) }
 
     // it won nothing

@@ -4,7 +4,7 @@ ghost use Rattle.wasm_values.specs.declared.outcome.Val.TheVariants.{I32};
 ghost use Rattle.wasm_spec.specs.Store.{fresh_store};
 ghost use Rattle.pool_worlds.specs.declared.kinds.Kind.TheVariants as kind;
 ghost use Rattle.pool_worlds.specs.Contents.{prepared, Matches};
-ghost use Rattle.pool_worlds.specs.Handed.{own_tag, fits-own_tag};
+ghost use Rattle.pool_worlds.specs.OwnTags.{own_tag, fits-own_tag};
 
 use module_limits::MOST_GLOBALS;
 use module_store::{ModuleRef, ModuleStore, Naming};
@@ -18,7 +18,6 @@ use wasm_values::{NoMemory, Val};
 /// The leave for one instance: globals, of which a call's module has the first, stacks for the configured depth of the
 /// configured frames, a place for the arguments of a call that is paused, and a memory without bytes for modules that have none.
 /// Contracts see its globals, those arguments and its stacks.
-#[derive(Drop)]
 pub struct Ticket<N: Naming> {
     /// As many values as a module may have globals.
     pub globals: Vec<Val>,
@@ -39,6 +38,18 @@ impl<N: Naming> Model for Ticket<N> {
     ghost view = { λ t. record { globals = t.globals.items; args = t.args.items; stacks = t.stacks } };
 
     ghost invariant = { λ t. IsTicket N.config t.globals.items (vec_capacity t.args) t.stacks t.memory };
+}
+
+impl<N: Naming> Drop for Ticket<N> {
+    fn drop(self) {
+        let Ticket {
+            globals: _,
+            args: _,
+            stacks: _,
+            memory: _,
+            of: _,
+        } = self;
+    }
 }
 
 // As many values as a module may have globals.
@@ -102,7 +113,7 @@ impl<N: Naming> Ticket<N> {
 
     /// Writes the first values of the module's globals. Takes no memory.
     pub fn prepare(&mut self, store: &ModuleStore<N>, module: &ModuleRef<N>)
-        ensures prepared { self.new.globals ≡ prepared N.config.pages «module».now kind.Ticket self.old.globals }
+        ensures prepared { self.new.globals ≡ prepared N.config.pages «module».now kind.Instance self.old.globals }
         ensures globals { take (length «module».now.tree.globals) self.new.globals ≡ (fresh_store «module».now.tree).globals }
     {
         // A module of the store has no more globals than are there.
@@ -115,9 +126,9 @@ impl<N: Naming> Ticket<N> {
 impl<N: Naming> Pooled for Ticket<N> {
     type Images = ModuleStore<N>;
 
-    ghost own_tag = { λ x. own_tag kind.Ticket x.globals };
+    ghost own_tag = { λ x. own_tag kind.Instance x.globals };
 
-    ghost fits = { λ s tag x. Matches N.config.pages kind.Ticket s tag x.globals };
+    ghost fits = { λ s tag x. Matches N.config.pages kind.Instance s tag x.globals };
 
     // It is cold whatever it holds, since a call writes all that it reads.
     fn clear(&mut self) {}
@@ -133,7 +144,7 @@ impl<N: Naming> Pooled for Ticket<N> {
         0
     }
 
-    ghost fits_own_tag = { λ s tag x. fits-own_tag N.config.pages kind.Ticket s tag x.globals };
+    ghost fits_own_tag = { λ s tag x. fits-own_tag N.config.pages kind.Instance s tag x.globals };
 }
 
 impl<N: Naming> OpenSlot for Ticket<N> {

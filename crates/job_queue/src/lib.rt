@@ -15,8 +15,3 @@ pub use admits::Admits;
 pub use board::{Board, Stray};
 pub use jobs::{JobPass, Jobs};
 pub use run_queue::{RunAccount, RunPass, RunQueue, RunTerms};
-
-#[cfg(test)]
-mod run_tests;
-#[cfg(test)]
-mod tests;

@@ -6,7 +6,5 @@
 mod cursor;
 mod items;
 pub mod laws;
-#[cfg(test)]
-mod tests;
 
 pub use cursor::{Cursor, Malformed};

@@ -15,11 +15,20 @@ pub const BLOCK_SIZE: u64 = 4096;
 
 /// A memory: bytes to its largest size, of which those past its size are zero, its size in pages, and for each block of
 /// bytes whether it was written to.
-#[derive(Drop)]
 pub struct Memory {
     pub bytes: Vec<u8>,
     pub pages: u32,
     pub marks: Vec<bool>,
+}
+
+impl Drop for Memory {
+    fn drop(self) {
+        let Memory {
+            bytes: _,
+            pages: _,
+            marks: _,
+        } = self;
+    }
 }
 
 // Writes bytes over those from a place on.

@@ -29,12 +29,22 @@ pub struct Label {
 }
 
 /// A run's position and stacks. Each frame's values are its locals, and then its operands.
-#[derive(Drop)]
 pub struct Machine {
     pub at: Position,
     pub values: ValueStack,
     pub labels: Vec<Label>,
     pub frames: Vec<Frame>,
+}
+
+impl Drop for Machine {
+    fn drop(self) {
+        let Machine {
+            at: _,
+            values: _,
+            labels: _,
+            frames: _,
+        } = self;
+    }
 }
 
 impl Machine {

@@ -11,10 +11,18 @@ use wasm_values::Val;
 
 /// A stack of values in room that is had once. A cell above the top has what was left there, and is written again when the stack
 /// is that high.
-#[derive(Drop)]
 pub struct ValueStack {
     cells: Vec<Cell>,
     height: usize,
+}
+
+impl Drop for ValueStack {
+    fn drop(self) {
+        let ValueStack {
+            cells: _,
+            height: _,
+        } = self;
+    }
 }
 
 // The cell at a place.

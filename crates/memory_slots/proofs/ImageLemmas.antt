@@ -12,7 +12,7 @@ use Rattle.loaded_modules.specs.Within.{IsWithin}
 use Rattle.sparse_bytes.specs.SparseBytes.{HasCell, byte_at}
 use Rattle.initial_image.specs.declared.image.Image.{Image}
 use Rattle.initial_image.specs.Image.{IsImageOf}
-use Rattle.memory_slots.specs.Images.{HasImage, KeepsImage, IsZeroOutside}
+use Rattle.counted_blocks.specs.Images.{HasImage, KeepsImage, IsZeroOutside}
 use Rattle.memory_slots.specs.Written.{HasDataIn}
 
 module _ (limits : LoadLimits) (m : ModuleTree) (image : Image) (within : IsWithin limits m) (is : IsImageOf m image) where

@@ -8,7 +8,7 @@ use Rattle.wasm_spec.specs.Instances.{room_for}
 use Rattle.wasm_spec.proofs.ResultLaws.{length-fresh_memory}
 use Rattle.linear_memory.specs.declared.memory.Memory.{Memory}
 use Rattle.pool_worlds.specs.declared.kinds.Kind.TheVariants as kind
-use Rattle.pool_worlds.specs.Contents.{Named, MemoryContents, belongs_to, filled, memory_image, rewritten_from, prepared, restored, HasImageOutside, IsClean, IsFreshMemory}
+use Rattle.pool_worlds.specs.Contents.{Named, MemoryContents, belongs_to, memory_image, rewritten_from, prepared, restored, HasImageOutside, IsFreshMemory}
 use Rattle.pool_worlds.proofs.Parts.{rewritten-is, filled-past}
 use Rattle.pool_worlds.proofs.Images.{clean_is}
 use Rattle.pool_limits.specs.declared.numbers.Numbers.{Numbers}

@@ -13,14 +13,14 @@ use Rattle.wasm_types.specs.declared.types.Limits.{Limits}
 use Rattle.wasm_spec.proofs.StoreSizes.{whole_pages}
 use Rattle.linear_memory.specs.declared.memory.Memory.{Memory}
 use Rattle.linear_memory.specs.Bytes.{IsMemory, shown, size_of}
-use Rattle.memory_blocks.specs.Blocks.{KeepsUnmarked, is_marked}
+use Rattle.memory_blocks.specs.Blocks.{KeepsUnmarked}
 use Rattle.linear_memory.specs.Marks.{HasSameRoom}
 use Rattle.wasm_machine.specs.Lent.{own}
 use Rattle.wasm_machine.specs.TypedConfiguration.{IsTypedStore}
 use Rattle.pool_worlds.specs.declared.kinds.Kind.TheVariants as kind
-use Rattle.pool_worlds.specs.Contents.{Named, MemoryContents, Contents, filled, memory_image, needs, turned}
+use Rattle.pool_worlds.specs.Contents.{Named, MemoryContents, filled, needs, turned}
 use Rattle.pool_worlds.specs.declared.kinds.Kind.{Kind}
-use Rattle.pool_worlds.specs.declared.kinds.Kind.TheVariants.{Ticket, Table}
+use Rattle.pool_worlds.specs.declared.kinds.Kind.TheVariants.{Instance, Table}
 use Rattle.pool_worlds.specs.Worlds.{IsZeroPast}
 use Rattle.pool_worlds.proofs.Images.{filled-at}
 use Rattle.pool_limits.specs.declared.numbers.Numbers.{Numbers}
@@ -122,7 +122,7 @@ globals_there m s globals is typed =
 pub parts_left : (pages : ℕ) (m : ModuleTree) (s : Store) (x y : MemoryContents) (owner : Option Named) (table : List (Option ℕ)) (globals new : List Val)
     → y ≡ turned pages s y.marks kind.Memory x → s.table ≡ table → new ≡ s.globals ++ drop (length s.globals) globals
     → (k : Kind) → needs k m ≡ true → parts y owner table new k ≡ turned pages s y.marks k (parts x owner table globals k)
-parts_left pages m s x y owner table globals new memory entries values Ticket needed = values
+parts_left pages m s x y owner table globals new memory entries values Instance needed = values
 parts_left pages m s x y owner table globals new memory entries values kind.Memory needed = memory
 parts_left pages m s x y owner table globals new memory entries values Table needed = λ i. record { entries = sym entries i; holds = owner }
 

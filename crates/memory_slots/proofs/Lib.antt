@@ -1,4 +1,3 @@
 pub mod ImageLemmas
 pub mod KeptLemmas
 pub mod LentLemmas
-pub mod MarkLemmas

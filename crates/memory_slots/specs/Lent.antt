@@ -13,7 +13,7 @@ use Rattle.paused_call.specs.declared.call.PausedCall.{PausedCall}
 use Rattle.paused_call.specs.Standing.{CanResume, Stands}
 use Rattle.pool_worlds.specs.Contents.{Named, MemoryContents, Contents}
 use Rattle.pool_worlds.specs.declared.kinds.Kind.{Kind}
-use Rattle.pool_worlds.specs.declared.kinds.Kind.TheVariants.{Ticket, Memory, Table}
+use Rattle.pool_worlds.specs.declared.kinds.Kind.TheVariants.{Instance, Memory, Table}
 use Rattle.pool_worlds.specs.Worlds.{IsZeroPast}
 
 -- it has at most so many pages, and zeros past its size
@@ -60,6 +60,6 @@ CanResumeOn m limits args call stacks l = CanResume m limits args call stacks (s
 
 -- these, as the contents of a call's slots, where the table belongs to this module
 abbrev pub parts : MemoryContents → Option Named → List (Option ℕ) → List Val → (k : Kind) → Contents k
-parts x owner table globals Ticket = globals
+parts x owner table globals Instance = globals
 parts x owner table globals Memory = x
 parts x owner table globals Table = record { entries = table; holds = owner }

@@ -1,4 +1,3 @@
-pub mod Images
 pub mod Kept
 pub mod Lent
 pub mod Written

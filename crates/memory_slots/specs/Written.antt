@@ -2,7 +2,7 @@
 use Rattle.std.specs.Prelude.{◌≡◌, ℕ, ◌+◌, ◌/◌, ◌≤◌, Bool, true, false, Option, Some, None, length, slice_index_or}
 use Rattle.initial_image.specs.Image.{IsNeeded}
 use Rattle.pool_worlds.specs.Contents.{Named, MemoryContents}
-use Rattle.memory_slots.specs.Images.{count_in}
+use Rattle.counted_blocks.specs.Images.{count_in}
 
 -- a data segment of the module has bytes in one of the 64 cells of this block; without a module none has
 abbrev pub HasDataIn : Option Named → ℕ → Type 0

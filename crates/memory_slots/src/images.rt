@@ -7,8 +7,7 @@ ghost use Rattle.pool_worlds.specs.Contents.{Named, IsFreshMemory};
 ghost use Rattle.memory_slots.specs.Kept.{IsKeptMemory, IsWrittenTo, contents_of};
 ghost use Rattle.memory_slots.specs.Written.{WritesAtMost};
 
-use crate::blocks::{restore_marked, write_all};
-use crate::steps::Steps;
+use counted_blocks::{Steps, restore_marked, write_all};
 use linear_memory::Memory;
 use module_store::{ModuleRef, ModuleStore, Naming};
 use std::sync::ledger::Ledger;

@@ -2,16 +2,12 @@
 //! them.
 #![tactic(auto)]
 
-mod blocks;
 mod images;
 mod pool;
 mod slot;
-mod steps;
-#[cfg(test)]
-mod tests;
 
+pub use counted_blocks::Steps;
 pub use linear_memory::Memory;
 pub use pool::{give, take};
 pub use slot::MemSlot;
 pub use slot_pools::Full;
-pub use steps::Steps;

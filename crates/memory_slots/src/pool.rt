@@ -1,7 +1,6 @@
 //! Memories are taken out of their pool and given back.
 ghost use Rattle.std.specs.Prelude.{◌≡◌, ◌<◌, true, false, is_some, IfOk, OnErr};
-ghost use Rattle.pool_core.specs.declared.words.State.TheVariants.{Awaiting};
-ghost use Rattle.slot_words.specs.Leases.{lease_number, lease_word};
+ghost use Rattle.slot_words.specs.Leases.{lease_number};
 ghost use Rattle.slot_words.specs.Owned.{IsPassOf, passes_of, slots_of};
 ghost use Rattle.slot_words.specs.Passes.{Holds, IsIdle, IsSamePass, share_of};
 ghost use Rattle.decommit_batch.specs.HandIn.{HandsIn};
@@ -9,8 +8,8 @@ ghost use Rattle.slot_pools.specs.Takes.{TakesBatched, MeetsFullBatched};
 ghost use Rattle.wasm_spec.specs.Instances.{room_for};
 ghost use Rattle.wasm_spec.specs.Store.{fresh_store};
 ghost use Rattle.pool_worlds.specs.declared.kinds.Kind.TheVariants as kind;
-ghost use Rattle.pool_worlds.specs.Contents.{shown_memory, IsFreshMemory, Matches};
-ghost use Rattle.pool_worlds.specs.Handed.{own_tag, IsHandedOut};
+ghost use Rattle.pool_worlds.specs.Contents.{shown_memory, IsFreshMemory};
+ghost use Rattle.pool_worlds.specs.OwnTags.{own_tag};
 ghost use Rattle.memory_slots.specs.Lent.{IsReady};
 
 use crate::slot::MemSlot;
@@ -42,7 +41,6 @@ pub fn take<N: Naming>(
     ensures fresh { IfOk result (λ l. IsFreshMemory N.config.pages l.value «module».now) }
     ensures shown { IfOk result (λ l. shown_memory true l.value ≡ (fresh_store «module».now.tree).memory) }
     ensures ready { IfOk result (λ l. IsReady (room_for «module».now.tree.memories N.config.pages) l.value) }
-    ensures handed { IfOk result (λ l. IsHandedOut N.config.pages kind.Memory «module».now (lease_word l) l.value) }
     ensures trail { IfOk result (TakesBatched pool.now «module».now.tag pass.old pass.new) }
 
     // it won nothing
@@ -68,7 +66,6 @@ pub fn give<N: Naming>(
     requires belongs { is_some lease.value.holds ≡ true }
     ensures same { IsSamePass pass.old pass.new }
     ensures idle { IsIdle pass.new }
-    ensures took { Matches N.config.pages kind.Memory Awaiting (own_tag kind.Memory lease.value) lease.value }
     ensures trail { HandsIn pool.now (own_tag kind.Memory lease.value) N.config.batch lease pass.old pass.new }
 {
     lease.value.is_used();

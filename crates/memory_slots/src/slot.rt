@@ -1,5 +1,5 @@
 //! Memories in slots, and the modules that they belong to.
-ghost use Rattle.std.specs.Prelude.{◌≡◌, ◌+◌, ◌-◌, ◌*◌, ◌<◌, ◌≤◌, true, false, Some, None, Option, is_some, length, map, IfOk, IfSome};
+ghost use Rattle.std.specs.Prelude.{◌≡◌, ℕ, ◌+◌, ◌-◌, ◌*◌, ◌<◌, ◌≤◌, true, false, Some, None, Option, is_some, length, map, IfOk, IfSome};
 ghost use Rattle.pool_core.specs.declared.words.State.TheVariants.{Awaiting};
 ghost use Rattle.wasm_types.specs.Tree.{module_tree};
 ghost use Rattle.wasm_spec.specs.Instances.{room_for};
@@ -7,22 +7,22 @@ ghost use Rattle.wasm_spec.specs.Store.{Store, fresh_store};
 ghost use Rattle.wasm_spec.specs.Execution.{terms};
 ghost use Rattle.wasm_spec.specs.Result.{CallResult};
 ghost use Rattle.wasm_spec.specs.Bulk.{HasFewMarks};
+ghost use Rattle.memory_blocks.specs.Blocks.{KeepsUnmarked};
 ghost use Rattle.wasm_machine.specs.Calls.{IsCall, FitsFrame, IsDone};
 ghost use Rattle.wasm_machine.specs.Lent.{others};
 ghost use Rattle.wasm_machine.specs.TypedConfiguration.{IsTypedStore};
 ghost use Rattle.pool_worlds.specs.Contents as contents;
 ghost use Rattle.pool_worlds.specs.declared.kinds.Kind.TheVariants as kind;
-ghost use Rattle.pool_worlds.specs.Contents.{Named, belongs_to, prepared, restored, shown_memory, IsCold, IsFreshMemory, Matches};
-ghost use Rattle.pool_worlds.specs.Runs.{Leaves, LeavesFrom};
+ghost use Rattle.pool_worlds.specs.Contents.{Named, belongs_to, filled, prepared, restored, shown_memory, IsCold, IsFreshMemory, Matches};
+ghost use Rattle.pool_worlds.specs.Runs.{LeavesFrom};
 ghost use Rattle.paused_call.specs.Standing.{HasTurned, upto, whole};
-ghost use Rattle.pool_worlds.specs.Handed.{own_tag, fits-own_tag};
+ghost use Rattle.pool_worlds.specs.OwnTags.{own_tag, fits-own_tag};
 ghost use Rattle.memory_slots.specs.Lent.{CanResumeOn, IsReady, StandsOn, dirty_blocks, end_on, lent, parts, result_on, store_in};
 ghost use Rattle.memory_slots.specs.Written.{WritesAtMost};
 
-use crate::blocks::write_all;
 use crate::images::{restore_memory, write_memory};
-use crate::steps::Steps;
 use call_payload::AnswerBuf;
+use counted_blocks::{Steps, write_all};
 use linear_memory::Memory;
 use module_store::{ModuleRef, ModuleStore, Naming};
 use paused_call::{PausedCall, Turned};
@@ -38,7 +38,6 @@ use wasm_values::{NoMemory, Val};
 
 /// A memory that lies in a slot, with bytes for the configured pages. Each byte outside its marked blocks is that of its own
 /// module's image, so it lends no `&mut` of its memory. Contracts see its contents.
-#[derive(Drop)]
 pub struct MemSlot<N: Naming> {
     pub(crate) memory: Memory,
     holds: Option<ModuleRef<N>>,
@@ -58,6 +57,16 @@ impl<N: Naming> Model for MemSlot<N> {
     ghost view = { λ s. contents_of s.memory s.holds };
 
     ghost invariant = { λ s. IsWrittenTo N.config s.written.items (contents_of s.memory s.holds) };
+}
+
+impl<N: Naming> Drop for MemSlot<N> {
+    fn drop(self) {
+        let MemSlot {
+            memory: _,
+            holds: _,
+            written: _,
+        } = self;
+    }
 }
 
 impl<N: Naming> MemSlot<N> {
@@ -239,10 +248,9 @@ impl<N: Naming> MemSlot<N> {
         requires frame { FitsFrame valid.now stacks.old.room.frame }
         ensures result { result_on valid.now (terms limits request.now) function args.now (lent self.old table.now globals.old answer.old) fuel
             ≡ Some (end_on valid.now (lent self.new table.now globals.new answer.new) result) }
-        ensures leaves { (owner : Option Named) → Leaves N.config.pages (module_tree valid.now)
-            (result_on valid.now (terms limits request.now) function args.now (lent self.old table.now globals.old answer.old)) fuel
-            (parts self.old owner table.now globals.old) (parts self.new owner table.now globals.new) self.new.marks
-            (end_on valid.now (lent self.new table.now globals.new answer.new) result) }
+        ensures marked { (turns : ℕ) (r : CallResult) → turns ≤ fuel
+            → result_on valid.now (terms limits request.now) function args.now (lent self.old table.now globals.old answer.old) turns ≡ Some r
+            → KeepsUnmarked self.old.bytes (filled N.config.pages r.store.memory) self.old.marks self.new.marks }
         ensures left { result.left ≤ fuel }
         ensures ready { IsReady (room_for valid.now.memories limits.pages) self.new }
         ensures store { IsDone result.outcome → IsTypedStore valid.now (store_in valid.now self.new table.now globals.new answer.new) }

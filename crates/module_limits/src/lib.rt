@@ -3,8 +3,6 @@
 
 mod limits;
 mod over;
-#[cfg(test)]
-mod tests;
 
 pub use limits::check_limits;
 pub use over::{MOST_GLOBALS, Measure, Over};

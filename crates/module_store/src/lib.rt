@@ -7,8 +7,6 @@ mod loading;
 mod naming;
 mod reference;
 mod store;
-#[cfg(test)]
-mod tests;
 
 pub use desk::{Desk, MOST_MODULES};
 pub use fault::LoadFault;

@@ -9,15 +9,23 @@ use std::marker::{Model, PhantomData};
 use wasm_validate::Valid;
 
 // A module as it lies in the store.
-#[derive(Drop)]
 pub(crate) struct Loaded {
     pub tag: u32,
     pub valid: Valid,
     pub image: Image,
 }
 
+impl Drop for Loaded {
+    fn drop(self) {
+        let Loaded {
+            tag: _,
+            valid: _,
+            image: _,
+        } = self;
+    }
+}
+
 /// A module of the store. Contracts see its number, its tag, its tree and the code by which it is run.
-#[derive(Drop)]
 pub struct ModuleRef<N: Naming> {
     pub(crate) tag: u32,
     pub(crate) seen: Pushed<Box<Loaded>>,
@@ -39,6 +47,16 @@ impl<N: Naming> Model for ModuleRef<N> {
     ghost view = { λ r. record { number = r.seen.index; tag = r.tag; tree = module_tree r.seen.value.value.valid; code = r.seen.value.value.valid } };
 
     ghost invariant = { λ r. Shows N.shelves r.seen × IsKeptModule N.config r.tag r.seen.value.value };
+}
+
+impl<N: Naming> Drop for ModuleRef<N> {
+    fn drop(self) {
+        let ModuleRef {
+            tag: _,
+            seen: _,
+            of: _,
+        } = self;
+    }
 }
 
 impl<N: Naming> ModuleRef<N> {

@@ -30,7 +30,6 @@ pub struct Opened {
 }
 
 /// Modules that threads share. Contracts see its configuration's numbers, which are those of its name.
-#[derive(Drop)]
 pub struct ModuleStore<N: Naming> {
     modules: Vec<Box<Loaded>>,
     config: PoolConfig,
@@ -46,6 +45,16 @@ impl<N: Naming> Model for ModuleStore<N> {
     ghost view = { λ s. s.config };
 
     ghost invariant = { λ s. (s.modules ≡ N.shelves) × (s.config ≡ N.config) };
+}
+
+impl<N: Naming> Drop for ModuleStore<N> {
+    fn drop(self) {
+        let ModuleStore {
+            modules: _,
+            config: _,
+            of: _,
+        } = self;
+    }
 }
 
 impl Opened {

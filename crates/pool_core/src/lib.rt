@@ -19,6 +19,3 @@ pub use refusals::Unlawful;
 pub use replays::{ReplayFault, replay};
 pub use seats::{Seat, Stage};
 pub use words::{State, StateWord, Target, pack, unpack};
-
-#[cfg(test)]
-mod tests;

@@ -7,4 +7,5 @@ pub mod PausedLemmas
 pub mod PreferringLemmas
 pub mod RetirementLemmas
 pub mod SlotLemmas
+pub mod StartLemmas
 pub mod VisitLemmas

@@ -7,10 +7,10 @@ use Rattle.slot_pools.specs.Preferring.{PrefersOwn}
 use Rattle.pool_host.specs.Preferring.{IsServedOwn}
 use Rattle.pool_host.specs.Visits.{Adds, IsServed, Served, Visit}
 
-module _ (IsTake : ℕ → ℕ → List Operation → Type 0) (IsGive : ℕ → List Operation → Type 0) (IsFullTake : List Operation → Type 0) (tag : ℕ)
-    (prefers : (n read : ℕ) (done : List Operation) → IsTake n read done → PrefersOwn tag n done)
+module _ (IsTake : ℕ → ℕ → List Operation → Type 0) (IsGive : ℕ → List Operation → Type 0) (IsFullTake : List Operation → Type 0) (slots tag : ℕ)
+    (prefers : (n read : ℕ) (done : List Operation) → IsTake n read done → PrefersOwn slots tag n done)
     (ends : (n read : ℕ) (done : List Operation) → IsTake n read done → EndsWithClaim n read done) where
-  pub served_own : (v : Visit) (t u : List Operation) → Grew (Adds IsTake IsGive IsFullTake v) t u → v ≡ Served → Grew (IsServedOwn tag IsGive) t u
+  pub served_own : (v : Visit) (t u : List Operation) → Grew (Adds IsTake IsGive IsFullTake v) t u → v ≡ Served → Grew (IsServedOwn slots tag IsGive) t u
   served_own v t u grew is =
       let P : Visit → Type 0 = λ w. Adds IsTake IsGive IsFullTake w grew.done in
       let adds : (number : ℕ) × (read : ℕ) × IsServed IsTake IsGive number read grew.done = subst P is grew.is in

@@ -7,8 +7,6 @@ use Rattle.instance_calls.specs.CallWords.{EndsWith, LacksExport, LacksTypes, Ma
 use Rattle.pool_worlds.specs.declared.kinds.Kind.{Kind}
 use Rattle.pool_host.specs.declared.answers.Answer.{Answer}
 use Rattle.pool_host.specs.declared.answers.Answer.TheVariants as answer
-use Rattle.pool_host.specs.declared.finding.Refused.{Refused}
-use Rattle.pool_host.specs.declared.finding.Refused.TheVariants as refused
 use Rattle.pool_host.specs.declared.host.Asked.{Asked}
 use Rattle.pool_host.specs.declared.lane.LaneAnswer.{LaneAnswer}
 use Rattle.pool_host.specs.declared.lane.LaneAnswer.TheVariants.{Done, NoExport, BadArgs, Retired}
@@ -31,12 +29,6 @@ IsHostAnswer m limits export args request fuel (answer.Full kind) bytes = (funct
 -- the same of one that asked this
 abbrev pub IsAnswerTo : Asked → ModuleTree → RunLimits → Answer → (bytes : List ℕ) → Type 0
 IsAnswerTo asked m limits answer bytes = IsHostAnswer m limits asked.export.now asked.args.now asked.request.now asked.fuel answer bytes
-
--- why a call takes no slots
-abbrev pub IsRefused : ModuleTree → (export : List ℕ) → (args : List Val) → Refused → Type 0
-IsRefused m export args refused.NoExport = LacksExport m export
-IsRefused m export args refused.BadArgs = LacksTypes m export args
-IsRefused m export args refused.Retired = (function : ℕ) × MayCall m export function args
 
 -- the module was retired
 abbrev pub is_retired : LaneAnswer → Bool

@@ -1,5 +1,5 @@
 -- A host and its passes.
-use Rattle.std.specs.Prelude.{◌≡◌, ℕ, ◌≤◌}
+use Rattle.std.specs.Prelude.{◌≡◌, ℕ, ◌≤◌, []}
 use Rattle.pool_core.specs.declared.limits.TheConstants.{MOST_SLOTS}
 use Rattle.pool_limits.specs.declared.share.Share.{Share}
 use Rattle.slot_words.specs.Owned.{IsNewPassOf, IsPassOf, limit_of, passes_of, slots_of}
@@ -72,3 +72,4 @@ module _ {N : Type 0} {G : Ghosts N} where
   pub record IsNewHostPass (host : Host N) (pass : HostPass N G) : Type 0 where
     pub pools : AreNewPassesOf host pass.passes
     pub tags : retired.IsNewTagPass host.retired.tags pass.retired
+    pub no_answer : pass.answer ≡ []

@@ -8,7 +8,7 @@ use Rattle.slot_words.specs.Passes.{Pass, trail}
 use Rattle.slot_pools.specs.Takes.{IsAffineTake, IsAnyTake, IsBatchedTake, IsFullAffineTake, IsFullAnyTake, IsFullBatchedTake}
 use Rattle.pool_worlds.specs.Contents.{Named, needs}
 use Rattle.pool_worlds.specs.declared.kinds.Kind.{Kind}
-use Rattle.pool_worlds.specs.declared.kinds.Kind.TheVariants.{Memory, Table, Ticket}
+use Rattle.pool_worlds.specs.declared.kinds.Kind.TheVariants.{Memory, Table, Instance}
 use Rattle.instance_calls.specs.Parts.{Slot}
 use Rattle.pool_host.specs.Leases.{Took}
 use Rattle.pool_host.specs.Visits.{IsTurnedAway}
@@ -16,13 +16,13 @@ use Rattle.pool_host.specs.Visits.{IsTurnedAway}
 module _ {V I : Type 0} where
   -- a take that won this slot, where this was read
   abbrev pub IsTakeOf : Kind → Words V I → Named → (number read : ℕ) → List Operation → Type 0
-  IsTakeOf Ticket pool m = IsAnyTake (slots_of pool)
+  IsTakeOf Instance pool m = IsAnyTake (slots_of pool)
   IsTakeOf Memory pool m = IsBatchedTake (limit_of pool) (slots_of pool) m.tag
   IsTakeOf Table pool m = IsAffineTake (limit_of pool) (slots_of pool) m.tag
 
   -- one that won nothing
   abbrev pub IsFullTakeOf : Kind → Words V I → Named → List Operation → Type 0
-  IsFullTakeOf Ticket pool m = IsFullAnyTake (slots_of pool)
+  IsFullTakeOf Instance pool m = IsFullAnyTake (slots_of pool)
   IsFullTakeOf Memory pool m = IsFullBatchedTake (limit_of pool) (slots_of pool) m.tag
   IsFullTakeOf Table pool m = IsFullAffineTake (limit_of pool) (slots_of pool) m.tag
 

@@ -10,6 +10,7 @@ pub mod Pausing
 pub mod Preferring
 pub mod Retirements
 pub mod Retiring
+pub mod Starting
 pub mod Taking
 pub mod Trails
 pub mod Visits

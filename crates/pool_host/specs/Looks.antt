@@ -8,8 +8,8 @@ use Rattle.retired_tags.specs.Passes.{IsSameTagPass, StandsForAll, TagPass, step
 use Rattle.retired_tags.specs.Steps.{HasSet, Knows}
 use Rattle.pool_host.specs.declared.answers.Answer.{Answer}
 use Rattle.pool_host.specs.declared.answers.Answer.TheVariants as answer
-use Rattle.pool_host.specs.declared.finding.Refused.{Refused}
-use Rattle.pool_host.specs.declared.finding.Refused.TheVariants as refused
+use Rattle.pool_host.specs.declared.starting.Refused.{Refused}
+use Rattle.pool_host.specs.declared.starting.Refused.TheVariants as refused
 use Rattle.pool_host.specs.declared.pausing.Begun.{Begun}
 use Rattle.pool_host.specs.declared.pausing.Begun.TheVariants as begun
 
@@ -34,11 +34,12 @@ abbrev pub refused_look : Refused → Option Bool
 refused_look refused.NoExport = None
 refused_look refused.BadArgs = None
 refused_look refused.Retired = Some true
+refused_look (refused.Full kind) = Some false
 
--- and of one whose function is looked for
-abbrev pub found_look : Result ℕ Refused → Option Bool
-found_look (Ok function) = Some false
-found_look (Err why) = refused_look why
+-- and of one that starts
+abbrev pub started_look : {A : Type 0} → Result A Refused → Option Bool
+started_look (Ok started) = Some false
+started_look (Err why) = refused_look why
 
 -- a look at this tag is one step, and none is no step
 abbrev pub look_steps : ℕ → Option Bool → List TagStep

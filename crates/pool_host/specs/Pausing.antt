@@ -10,15 +10,13 @@ use Rattle.module_store.specs.declared.naming.Naming.{Ghosts}
 use Rattle.pool_limits.specs.declared.numbers.Numbers.{Numbers}
 use Rattle.pool_worlds.specs.Contents.{Named}
 use Rattle.pool_worlds.specs.declared.kinds.Kind.{Kind}
-use Rattle.pool_worlds.specs.declared.kinds.Kind.TheVariants.{Memory, Table, Ticket}
+use Rattle.pool_worlds.specs.declared.kinds.Kind.TheVariants.{Memory, Table, Instance}
 use Rattle.paused_call.specs.Standing.{Waits}
-use Rattle.instance_calls.specs.CallWords.{LacksExport, LacksTypes, MayCall}
+use Rattle.instance_calls.specs.CallWords.{EndsAs, LacksExport, LacksTypes, MayCall}
 use Rattle.instance_calls.specs.PausedInstances.{comes_to}
 use Rattle.instance_calls.specs.PausedViews.{PausedView}
-use Rattle.instance_calls.specs.Resumed.{EndsAs, HasMore, IsBegun}
+use Rattle.instance_calls.specs.Resumed.{HasMore, IsBegun}
 use Rattle.pool_host.specs.declared.answers.Answer.TheVariants as answer
-use Rattle.pool_host.specs.declared.finding.Refused.{Refused}
-use Rattle.pool_host.specs.declared.finding.Refused.TheVariants as refused
 use Rattle.pool_host.specs.declared.host.Host.{Host}
 use Rattle.pool_host.specs.declared.passes.HostPass.{HostPass}
 use Rattle.pool_host.specs.declared.passes.Passes.{Passes}
@@ -36,7 +34,7 @@ use Rattle.pool_host.specs.Trails.{AddsTrails, HasCause, IsMemoryGive, IsTableGi
 module _ {N : Type 0} where
   -- the trails grew by the takes of a call's slots
   pub record TookThose (config : Numbers) (host : Host N) (m : Named) (before after : Passes N) (v : PausedView) : Type 0 where
-    pub ticket : TookSlot Ticket host.tickets m before.ticket after.ticket (Some v.ticket)
+    pub ticket : TookSlot Instance host.tickets m before.ticket after.ticket (Some v.ticket)
     pub memory : TookSlot Memory host.memories m before.memory after.memory v.memory
     pub table : TookSlot Table host.tables m before.table after.table v.table
 
@@ -105,12 +103,6 @@ module _ {N : Type 0} {G : Ghosts N} where
   begun_tags (begun.BadArgs pass) = pass.retired
   begun_tags (begun.Retired pass) = pass.retired
   begun_tags (begun.Full pass kind) = pass.retired
-
-  -- how a call began that was refused so
-  abbrev pub refused_begun : Refused → HostPass N G → Begun N G
-  refused_begun refused.NoExport pass = begun.NoExport pass
-  refused_begun refused.BadArgs pass = begun.BadArgs pass
-  refused_begun refused.Retired pass = begun.Retired pass
 
   -- it goes on with the same passes, which did nothing
   pub record IsPausedAgain (config : Numbers) (host : Host N) (before : Paused N G) (slice : ℕ) (paused : Paused N G) : Type 0 where

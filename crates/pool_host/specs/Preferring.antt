@@ -10,7 +10,7 @@ use Rattle.slot_pools.specs.Preferring.{PrefersOwn}
 use Rattle.pool_limits.specs.declared.numbers.Numbers.{Numbers}
 use Rattle.pool_worlds.specs.Contents.{Named, needs}
 use Rattle.pool_worlds.specs.declared.kinds.Kind.{Kind}
-use Rattle.pool_worlds.specs.declared.kinds.Kind.TheVariants.{Memory, Table, Ticket}
+use Rattle.pool_worlds.specs.declared.kinds.Kind.TheVariants.{Memory, Table, Instance}
 use Rattle.pool_host.specs.declared.answers.Answer.{Answer}
 use Rattle.pool_host.specs.declared.host.Host.{Host}
 use Rattle.pool_host.specs.declared.passes.Passes.{Passes}
@@ -19,19 +19,19 @@ use Rattle.pool_host.specs.Visits.{Served}
 
 -- A take won a slot that it had seen free and warm for the module of this tag, or else lost the claim of each such slot. Its last claim
 -- is of the slot that it won, and what follows is the give of that slot.
-abbrev pub IsServedOwn : (tag : ℕ) → (IsGive : ℕ → List Operation → Type 0) → List Operation → Type 0
-IsServedOwn tag IsGive done = (number : ℕ) × (read : ℕ) × Then (λ take. PrefersOwn tag number take × EndsWithClaim number read take) (IsGive number) done
+abbrev pub IsServedOwn : (slots tag : ℕ) → (IsGive : ℕ → List Operation → Type 0) → List Operation → Type 0
+IsServedOwn slots tag IsGive done = (number : ℕ) × (read : ℕ) × Then (λ take. PrefersOwn slots tag number take × EndsWithClaim number read take) (IsGive number) done
 
 module _ {N : Type 0} (config : Numbers) (host : Host N) (m : Named) (before after : Passes N) where
   -- where a call that was answered so was served with a memory, it was served so; likewise with a table
   pub record IsServedOwnFirst (answer : Answer) : Type 0 where
-    pub memory : visit_if (needs Memory m.tree) answer Memory ≡ Served → Grew (IsServedOwn m.tag (IsMemoryGive config host m)) (trail before.memory) (trail after.memory)
-    pub table : visit_if (needs Table m.tree) answer Table ≡ Served → Grew (IsServedOwn m.tag (IsTableGive config host m)) (trail before.table) (trail after.table)
+    pub memory : visit_if (needs Memory m.tree) answer Memory ≡ Served → Grew (IsServedOwn (slots_of host.memories) m.tag (IsMemoryGive config host m)) (trail before.memory) (trail after.memory)
+    pub table : visit_if (needs Table m.tree) answer Table ≡ Served → Grew (IsServedOwn (slots_of host.tables) m.tag (IsTableGive config host m)) (trail before.table) (trail after.table)
 
 module _ {N : Type 0} (host : Host N) (m : Named) (before after : Passes N) where
   -- each slot of the kind was claimed and found held: a memory after the flush mark, a table after the look, a ticket after the scan
   abbrev pub FoundAllHeld : Kind → Type 0
-  FoundAllHeld Ticket = Grew (FullAfterScan (slots_of host.tickets)) (trail before.ticket) (trail after.ticket)
+  FoundAllHeld Instance = Grew (FullAfterScan (slots_of host.tickets)) (trail before.ticket) (trail after.ticket)
   FoundAllHeld Memory = Grew (FullAfterMark (slots_of host.memories)) (trail before.memory) (trail after.memory)
   FoundAllHeld Table = Grew (FullAfterLook (limit_of host.tables) (slots_of host.tables) m.tag) (trail before.table) (trail after.table)
 

@@ -1,14 +1,12 @@
 -- The slots of an instance, between their takes and their gives.
-use Rattle.std.specs.Prelude.{Some, IfSome}
-use Rattle.slot_words.specs.Leases.{lease_word}
+use Rattle.std.specs.Prelude.{Some}
 use Rattle.slot_words.specs.Owned.{slots_of}
 use Rattle.slot_words.specs.Parts.{Grew}
 use Rattle.slot_words.specs.Passes.{trail}
 use Rattle.pool_limits.specs.declared.numbers.Numbers.{Numbers}
-use Rattle.pool_core.specs.declared.words.State.TheVariants.{Awaiting, Warm}
-use Rattle.pool_worlds.specs.Contents.{Matches, Named}
-use Rattle.pool_worlds.specs.declared.kinds.Kind.TheVariants.{Memory, Table, Ticket}
-use Rattle.pool_worlds.specs.Handed.{own_tag, IsHandedOut}
+use Rattle.pool_worlds.specs.Contents.{Named}
+use Rattle.pool_worlds.specs.declared.kinds.Kind.TheVariants as kind
+use Rattle.pool_worlds.specs.declared.kinds.Kind.TheVariants.{Memory, Table}
 use Rattle.instance_calls.specs.declared.instance.Instance.{Instance}
 use Rattle.instance_calls.specs.Parts.{BelongsTo, memory_slot, table_slot, ticket_slot}
 use Rattle.pool_host.specs.declared.host.Host.{Host}
@@ -26,15 +24,9 @@ module _ {N : Type 0} where
     pub memory_belongs : BelongsTo m (memory_slot x.memory)
     pub table_belongs : BelongsTo m (table_slot x.table)
 
-  -- what its slots hold is what their takes handed out
-  pub record IsHandedInstance (config : Numbers) (m : Named) (x : Instance N) : Type 0 where
-    pub ticket : IsHandedOut config.pages Ticket m (lease_word x.ticket) x.ticket.value.globals
-    pub memory : IfSome x.memory (λ l. IsHandedOut config.pages Memory m (lease_word l) l.value)
-    pub table : IfSome x.table (λ l. IsHandedOut config.pages Table m (lease_word l) l.value)
-
   -- the trails grew by the takes of its slots
   pub record TookSlots (config : Numbers) (host : Host N) (m : Named) (before after : Passes N) (x : Instance N) : Type 0 where
-    pub ticket : TookSlot Ticket host.tickets m before.ticket after.ticket (Some (ticket_slot x.ticket))
+    pub ticket : TookSlot kind.Instance host.tickets m before.ticket after.ticket (Some (ticket_slot x.ticket))
     pub memory : TookSlot Memory host.memories m before.memory after.memory (memory_slot x.memory)
     pub table : TookSlot Table host.tables m before.table after.table (table_slot x.table)
 
@@ -43,8 +35,3 @@ module _ {N : Type 0} where
     pub ticket : Grew (Gave (IsTicketGive config host m) (Some (ticket_slot x.ticket))) (trail before.ticket) (trail after.ticket)
     pub memory : Grew (Gave (IsMemoryGive config host m) (memory_slot x.memory)) (trail before.memory) (trail after.memory)
     pub table : Grew (Gave (IsTableGive config host m) (table_slot x.table)) (trail before.table) (trail after.table)
-
-  -- what its slots hold fits the words that their gives write
-  pub record FitsWords (config : Numbers) (x : Instance N) : Type 0 where
-    pub memory : IfSome x.memory (λ l. Matches config.pages Memory Awaiting (own_tag Memory l.value) l.value)
-    pub table : IfSome x.table (λ l. Matches config.pages Table Warm (own_tag Table l.value) l.value)

@@ -9,7 +9,7 @@ use Rattle.slot_pools.specs.Gives.{IsColdGive, IsWarmGive}
 use Rattle.pool_limits.specs.declared.numbers.Numbers.{Numbers}
 use Rattle.pool_worlds.specs.Contents.{Named, needs}
 use Rattle.pool_worlds.specs.declared.kinds.Kind.{Kind}
-use Rattle.pool_worlds.specs.declared.kinds.Kind.TheVariants.{Memory, Table, Ticket}
+use Rattle.pool_worlds.specs.declared.kinds.Kind.TheVariants.{Memory, Table, Instance}
 use Rattle.pool_host.specs.declared.answers.Answer.{Answer}
 use Rattle.pool_host.specs.declared.answers.Answer.TheVariants.{Done, Full}
 use Rattle.pool_host.specs.declared.host.Host.{Host}
@@ -21,8 +21,8 @@ use Rattle.pool_host.specs.Visits.{Adds, None, Served, TurnedAway, Visit}
 -- this order, up to the first that is full.
 abbrev pub visit : Answer → Kind → Visit
 visit (Done outcome) k = Served
-visit (Full Ticket) Ticket = TurnedAway
-visit (Full Memory) Ticket = Served
+visit (Full Instance) Instance = TurnedAway
+visit (Full Memory) Instance = Served
 visit (Full Memory) Memory = TurnedAway
 visit (Full Table) Table = TurnedAway
 visit (Full Table) k = Served
@@ -34,13 +34,13 @@ visit_if needed answer k = if needed then visit answer k else None
 module _ {N : Type 0} (config : Numbers) (host : Host N) (m : Named) where
   -- the takes and gives of a call of the module
   abbrev pub IsTicketTake : ℕ → ℕ → List Operation → Type 0
-  IsTicketTake = IsTakeOf Ticket host.tickets m
+  IsTicketTake = IsTakeOf Instance host.tickets m
 
   abbrev pub IsTicketGive : ℕ → List Operation → Type 0
   IsTicketGive = IsColdGive
 
   abbrev pub IsFullTicketTake : List Operation → Type 0
-  IsFullTicketTake = IsFullTakeOf Ticket host.tickets m
+  IsFullTicketTake = IsFullTakeOf Instance host.tickets m
 
   abbrev pub IsMemoryTake : ℕ → ℕ → List Operation → Type 0
   IsMemoryTake = IsTakeOf Memory host.memories m
@@ -62,12 +62,12 @@ module _ {N : Type 0} (config : Numbers) (host : Host N) (m : Named) where
 
   -- a call that was answered so adds this to the trail of each pass, and nothing else
   pub record AddsTrails (answer : Answer) (before after : Passes N) : Type 0 where
-    pub ticket : Grew (Adds IsTicketTake IsTicketGive IsFullTicketTake (visit answer Ticket)) (trail before.ticket) (trail after.ticket)
+    pub ticket : Grew (Adds IsTicketTake IsTicketGive IsFullTicketTake (visit answer Instance)) (trail before.ticket) (trail after.ticket)
     pub memory : Grew (Adds IsMemoryTake IsMemoryGive IsFullMemoryTake (visit_if (needs Memory m.tree) answer Memory)) (trail before.memory) (trail after.memory)
     pub table : Grew (Adds IsTableTake IsTableGive IsFullTableTake (visit_if (needs Table m.tree) answer Table)) (trail before.table) (trail after.table)
 
   -- the cause of an answer that this kind is full
   abbrev pub HasCause : (before after : Passes N) → Kind → Type 0
-  HasCause before after Ticket = IsTurnedAwayFrom Ticket host.tickets m before.ticket after.ticket
+  HasCause before after Instance = IsTurnedAwayFrom Instance host.tickets m before.ticket after.ticket
   HasCause before after Memory = IsTurnedAwayFrom Memory host.memories m before.memory after.memory
   HasCause before after Table = IsTurnedAwayFrom Table host.tables m before.table after.table

@@ -2,7 +2,7 @@
 ghost use Rattle.std.specs.Prelude.{◌≡◌, ◌+◌, ◌≤◌, ◌++◌, length};
 ghost use Rattle.std.specs.List.{All};
 ghost use Rattle.slot_words.specs.Passes.{share_of, trails};
-ghost use Rattle.pool_host.specs.Closing.{ArePoolCounts, HaveJoined, HaveShares, memory_trails, table_trails, ticket_trails};
+ghost use Rattle.pool_host.specs.Closing.{HaveJoined, HaveShares, memory_trails, table_trails, ticket_trails};
 ghost use Rattle.pool_host.specs.Hosts.{AreIdle, ArePassesOf, IsHostPass};
 
 use crate::host::Host;
@@ -18,37 +18,8 @@ pub struct PoolCounts {
     pub table: KindCounts,
 }
 
-impl<N: Naming> Host<N> {
-    /// Ends all passes and counts the slots as they stand. With all passes in the list, none is held.
-    pub fn close(self, passes: Vec<HostPass<N>>) -> PoolCounts
-        requires some { 1 ≤ length passes.items }
-        requires own { All (IsHostPass self) passes.items }
-        ensures { ArePoolCounts self passes.items result }
-    {
-        let Passes {
-            ticket,
-            memory,
-            table,
-        } = join_all(&self, passes);
-        let Host {
-            tickets,
-            memories,
-            tables,
-            ..
-        } = self;
-        let instance = tickets.close(ticket);
-        let memory = memories.close(memory);
-        let table = tables.close(table);
-        PoolCounts {
-            instance,
-            memory,
-            table,
-        }
-    }
-}
-
 // Joins the passes into the last one.
-fn join_all<N: Naming>(host: &Host<N>, mut passes: Vec<HostPass<N>>) -> Passes<N>
+pub(crate) fn join_all<N: Naming>(host: &Host<N>, mut passes: Vec<HostPass<N>>) -> Passes<N>
     requires some { 1 ≤ length passes.items }
     requires own { All (IsHostPass host.now) passes.items }
     ensures own { ArePassesOf host.now result }

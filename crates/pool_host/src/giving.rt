@@ -1,13 +1,10 @@
 //! Slots are given back in the reverse order of their takes: the table, then the memory, then the ticket.
-ghost use Rattle.std.specs.Prelude.{◌≡◌, ◌<◌, false, IfSome};
-ghost use Rattle.pool_core.specs.declared.words.State.TheVariants.{Awaiting, Warm};
+ghost use Rattle.std.specs.Prelude.{◌≡◌, ◌<◌, false};
 ghost use Rattle.slot_words.specs.Leases.{lease_number};
 ghost use Rattle.slot_words.specs.Owned.{slots_of};
 ghost use Rattle.slot_words.specs.Parts.{Grew};
 ghost use Rattle.slot_words.specs.Passes.{Holds, IsIdle, trail};
-ghost use Rattle.pool_worlds.specs.Contents.{Matches, Named};
-ghost use Rattle.pool_worlds.specs.declared.kinds.Kind.TheVariants.{Memory, Table};
-ghost use Rattle.pool_worlds.specs.Handed.{own_tag};
+ghost use Rattle.pool_worlds.specs.Contents.{Named};
 ghost use Rattle.instance_calls.specs.Parts.{BelongsTo, memory_slot, table_slot};
 ghost use Rattle.pool_host.specs.Hosts.{ArePassesOf, AreSamePasses};
 ghost use Rattle.pool_host.specs.Leases.{Gave, HoldsSlot};
@@ -35,7 +32,6 @@ pub(crate) fn give_table<N: Naming>(
     ensures same { AreSamePasses passes.old passes.new }
     ensures others { passes.new ≡ record passes.old { table = passes.new.table } }
     ensures idle { IsIdle passes.new.table }
-    ensures took { IfSome table (λ l. Matches N.config.pages Table Warm (own_tag Table l.value) l.value) }
     ensures gave { (m : Named) → BelongsTo m (table_slot table)
         → Grew (Gave (IsTableGive N.config host.now m) (table_slot table)) (trail passes.old.table) (trail passes.new.table) }
 {
@@ -58,7 +54,6 @@ pub(crate) fn give_memory<N: Naming>(
     ensures same { AreSamePasses passes.old passes.new }
     ensures others { passes.new ≡ record passes.old { memory = passes.new.memory } }
     ensures idle { IsIdle passes.new.memory }
-    ensures took { IfSome memory (λ l. Matches N.config.pages Memory Awaiting (own_tag Memory l.value) l.value) }
     ensures gave { (m : Named) → BelongsTo m (memory_slot memory)
         → Grew (Gave (IsMemoryGive N.config host.now m) (memory_slot memory)) (trail passes.old.memory) (trail passes.new.memory) }
 {

@@ -3,17 +3,19 @@ ghost use Rattle.std.specs.Prelude.{[], ◌≡◌, ◌≤◌, IfOk, length};
 ghost use Rattle.std.specs.List.{All};
 ghost use Rattle.instance_calls.specs.CallWords.{run_limits};
 ghost use Rattle.pool_host.specs.CallWords.{IfFull, IsAnswerTo, IsHostAnswer};
+ghost use Rattle.pool_host.specs.Closing.{ArePoolCounts};
 ghost use Rattle.pool_host.specs.Hosts.{AreIdle, ArePassesOf, AreSamePasses, HandedOut, HasShare, IsHostPass, IsNewHostPass, IsSameHostPass, IsShare};
 ghost use Rattle.pool_host.specs.Looks.{look_of, Looked};
 ghost use Rattle.pool_host.specs.Trails.{AddsTrails, HasCause};
 ghost use Rattle.retired_tags.specs.Passes.{IsTagPass};
 
 use crate::answers::Answer;
+use crate::closing::{PoolCounts, join_all};
 use crate::dealing::{deal, open_kind};
-use crate::finding::{Refused, find};
 use crate::passes::{HostPass, Passes};
 use crate::retired::Retired;
-use crate::slots::{give_slots, take_slots};
+use crate::slots::give_slots;
+use crate::starting::start;
 use call_payload::AnswerBuf;
 use host_edge::Gate;
 use instance_slots::Ticket;
@@ -31,12 +33,22 @@ pub const MOST_PASSES: u32 = 32;
 
 /// Pools of tickets, memories and tables, on which callers make calls at the same time, each with a pass of its own. A module that
 /// is retired on a host is called on it no more.
-#[derive(Drop)]
 pub struct Host<N: Naming> {
     pub(crate) tickets: Words<Ticket<N>>,
     pub(crate) memories: Words<MemSlot<N>>,
     pub(crate) tables: Words<TableSlot<N>>,
     pub(crate) retired: Retired,
+}
+
+impl<N: Naming> Drop for Host<N> {
+    fn drop(self) {
+        let Host {
+            tickets: _,
+            memories: _,
+            tables: _,
+            retired: _,
+        } = self;
+    }
 }
 
 // What is asked of a module: an export with its arguments, a request that it may read, and the fuel.
@@ -132,23 +144,17 @@ impl<N: Naming> Host<N> {
         ensures full { IfFull result (HasCause N.config self.now «module».now passes.old passes.new) }
         ensures looked { Looked self.now.retired.tags «module».now.tag retired.old retired.new (look_of result) }
     {
-        let found = find(
-            &self.retired,
+        match start(
+            self,
+            passes,
             retired,
             store,
             module,
             asked.export,
             asked.args,
             said,
-        );
-        let function = match found {
-            Ok(function) => function,
-            Err(Refused::NoExport) => return Answer::NoExport,
-            Err(Refused::BadArgs) => return Answer::BadArgs,
-            Err(Refused::Retired) => return Answer::Retired,
-        };
-        match take_slots(self, passes, store, module) {
-            Ok(mut instance) => {
+        ) {
+            Ok((mut instance, function)) => {
                 gate.entered(number);
                 let outcome = instance.run(
                     store,
@@ -162,7 +168,7 @@ impl<N: Naming> Host<N> {
                 give_slots(self, passes, store, instance);
                 Answer::Done(outcome)
             }
-            Err(kind) => Answer::Full(kind),
+            Err(refused) => refused.answer(),
         }
     }
 
@@ -220,5 +226,59 @@ impl<N: Naming> Host<N> {
         );
         gate.answered(number);
         answer
+    }
+
+    /// Calls as [`Host::send`] does, with a request of no bytes.
+    pub fn call<G: Gate>(
+        &self,
+        pass: &mut HostPass<N>,
+        store: &ModuleStore<N>,
+        module: &ModuleRef<N>,
+        export: &[u8],
+        args: &[Val],
+        fuel: u64,
+        number: u64,
+        gate: &G,
+    ) -> Answer
+        requires pass { IsHostPass self.now pass.old }
+        ensures own { IsHostPass self.now pass.new }
+        ensures same { IsSameHostPass pass.old pass.new }
+        ensures answer { IsHostAnswer «module».now.tree (run_limits N.config) export.now args.now [] fuel result pass.new.answer }
+
+        // to each pass of the kinds that it asked: one take and its give, or a take that won nothing
+        ensures trails { AddsTrails N.config self.now «module».now result pass.old.passes pass.new.passes }
+        ensures full { IfFull result (HasCause N.config self.now «module».now pass.old.passes pass.new.passes) }
+
+        // one look at the retired tags, after the checks and before any slot: retired is exactly what it read
+        ensures looked { Looked self.now.retired.tags «module».now.tag pass.old.retired pass.new.retired (look_of result) }
+    {
+        self.send(pass, store, module, export, args, &[], fuel, number, gate)
+    }
+
+    /// Ends all passes and counts the slots as they stand. With all passes in the list, none is held.
+    pub fn close(self, passes: Vec<HostPass<N>>) -> PoolCounts
+        requires some { 1 ≤ length passes.items }
+        requires own { All (IsHostPass self) passes.items }
+        ensures { ArePoolCounts self passes.items result }
+    {
+        let Passes {
+            ticket,
+            memory,
+            table,
+        } = join_all(&self, passes);
+        let Host {
+            tickets,
+            memories,
+            tables,
+            retired: _,
+        } = self;
+        let instance = tickets.close(ticket);
+        let memory = memories.close(memory);
+        let table = tables.close(table);
+        PoolCounts {
+            instance,
+            memory,
+            table,
+        }
     }
 }

@@ -1,10 +1,8 @@
 //! Slots of a kind that a module may not need are taken.
-ghost use Rattle.std.specs.Prelude.{IfOk, IfSome, OnErr};
-ghost use Rattle.slot_words.specs.Leases.{lease_word};
+ghost use Rattle.std.specs.Prelude.{IfOk, OnErr};
 ghost use Rattle.slot_words.specs.Owned.{IsPassOf, slots_of};
 ghost use Rattle.slot_words.specs.Passes.{IsIdle, IsSamePass};
 ghost use Rattle.pool_worlds.specs.declared.kinds.Kind.TheVariants.{Memory, Table};
-ghost use Rattle.pool_worlds.specs.Handed.{IsHandedOut};
 ghost use Rattle.instance_calls.specs.Instances.{HasFreshMemory, IsFreshTable};
 ghost use Rattle.instance_calls.specs.Parts.{BelongsTo, memory_slot, table_slot};
 ghost use Rattle.pool_host.specs.Kinds.{IsTurnedAwayFrom, TookSlot};
@@ -30,7 +28,6 @@ pub(crate) fn take_memory<N: Naming>(
     ensures has { IfOk result (λ o. HoldsSlot (slots_of pool.now) pass.new (memory_slot o)) }
     ensures belongs { IfOk result (λ o. BelongsTo «module».now (memory_slot o)) }
     ensures fresh { IfOk result (HasFreshMemory N.config «module».now.tree) }
-    ensures handed { IfOk result (λ o. IfSome o (λ l. IsHandedOut N.config.pages Memory «module».now (lease_word l) l.value)) }
     ensures took { IfOk result (λ o. TookSlot Memory pool.now «module».now pass.old pass.new (memory_slot o)) }
     ensures idle { OnErr result (IsIdle pass.new) }
     ensures full { OnErr result (IsTurnedAwayFrom Memory pool.now «module».now pass.old pass.new) }
@@ -55,7 +52,6 @@ pub(crate) fn take_table<N: Naming>(
     ensures has { IfOk result (λ o. HoldsSlot (slots_of pool.now) pass.new (table_slot o)) }
     ensures belongs { IfOk result (λ o. BelongsTo «module».now (table_slot o)) }
     ensures fresh { IfOk result (IsFreshTable «module».now.tree) }
-    ensures handed { IfOk result (λ o. IfSome o (λ l. IsHandedOut N.config.pages Table «module».now (lease_word l) l.value)) }
     ensures took { IfOk result (λ o. TookSlot Table pool.now «module».now pass.old pass.new (table_slot o)) }
     ensures idle { OnErr result (IsIdle pass.new) }
     ensures full { OnErr result (IsTurnedAwayFrom Table pool.now «module».now pass.old pass.new) }

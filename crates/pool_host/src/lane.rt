@@ -100,6 +100,28 @@ impl<N: Naming> LaneHost<N> {
         }
     }
 
+    /// Calls as [`LaneHost::send`] does, with a request of no bytes.
+    pub fn call<G: Gate>(
+        &mut self,
+        store: &ModuleStore<N>,
+        module: &ModuleRef<N>,
+        export: &[u8],
+        args: &[Val],
+        fuel: u64,
+        number: u64,
+        gate: &G,
+    ) -> LaneAnswer
+        ensures same { (self.new.host ≡ self.old.host) × IsSameHostPass self.old.pass self.new.pass }
+        ensures answer { IsAnswer «module».now.tree (run_limits N.config) export.now args.now [] fuel result self.new.pass.answer }
+        ensures trails { AddsTrails N.config self.old.host «module».now (host_answer result) self.old.pass.passes self.new.pass.passes }
+
+        // one look at the retired tags, after the checks and before any slot: retired is exactly what this lane retired
+        ensures looked { Looked self.old.host.retired.tags «module».now.tag self.old.pass.retired self.new.pass.retired (look_of (host_answer result)) }
+        ensures own_steps { IsDecidedBy «module».now.tag (steps self.old.pass.retired) (look_of (host_answer result)) }
+    {
+        self.send(store, module, export, args, &[], fuel, number, gate)
+    }
+
     /// Retires a module on this lane: no later call of it is made. The first time, each memory and table that is still the module's is
     /// made cold. It takes no memory.
     pub fn retire(&mut self, store: &ModuleStore<N>, module: &ModuleRef<N>) -> Retire

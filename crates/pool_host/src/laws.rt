@@ -6,24 +6,25 @@ ghost use Rattle.wasm_types.specs.Tree.{ModuleTree};
 ghost use Rattle.wasm_types.specs.declared.limits.RunLimits.{RunLimits};
 ghost use Rattle.wasm_spec.specs.Validity.{IsValid};
 ghost use Rattle.pool_worlds.specs.Contents.{Matches, Named};
-ghost use Rattle.pool_worlds.specs.declared.kinds.Kind.TheVariants.{Memory, Table, Ticket};
+ghost use Rattle.pool_worlds.specs.declared.kinds.Kind.TheVariants.{Instance, Memory, Table};
 ghost use Rattle.pool_core.specs.declared.words.State.{State};
 ghost use Rattle.pool_limits.specs.declared.numbers.Numbers.{Numbers};
 ghost use Rattle.slot_pools.specs.Causes.{LostToAnother};
 ghost use Rattle.instance_slots.specs.Tickets.{TicketView};
-ghost use Rattle.instance_calls.specs.CallWords.{EndsWith, MayCall, run_limits};
+ghost use Rattle.instance_calls.specs.CallWords.{EndsAs, EndsWith, MayCall, run_limits};
 ghost use Rattle.instance_calls.specs.PausedInstances.{comes_to};
 ghost use Rattle.instance_calls.specs.PausedViews.{PausedView};
-ghost use Rattle.instance_calls.specs.Resumed.{EndsAs, IsCallOf};
+ghost use Rattle.instance_calls.specs.Resumed.{IsCallOf};
 ghost use Rattle.pool_host.specs.CallWords.{is_retired, IsAnswer};
 ghost use Rattle.pool_host.specs.Preferring.{CallsPreferOwn, FullHasCause};
 ghost use Rattle.pool_host.specs.Retirements.{NeverBegunAgain, NeverCalledAgain};
 ghost use Rattle.pool_host.specs.declared.lane.LaneAnswer.{LaneAnswer};
 ghost use Rattle.retired_tags.specs.Rule.{SetByOne, SetForGood};
 
-use instance_slots::Ticket as AnyTicket;
+use instance_slots::Ticket;
 use memory_slots::MemSlot;
 use module_store::Naming;
+pub use pool_worlds::laws::{shadow, two_worlds};
 use retired_tags::laws as tags;
 use slot_pools::laws as pools;
 use table_slots::TableSlot;
@@ -63,11 +64,11 @@ pub fn full_has_its_cause<N: Naming>()
 
 /// Where a call lost the claim of a slot, another pass held that slot.
 pub fn lost_claims_are_lost_to_another<N: Naming>()
-    ensures tickets { LostToAnother (λ (s : State) (tag : ℕ) (x : TicketView). Matches N.config.pages Ticket s tag x.globals) }
+    ensures tickets { LostToAnother (λ (s : State) (tag : ℕ) (x : TicketView). Matches N.config.pages Instance s tag x.globals) }
     ensures memories { LostToAnother (λ s tag x. Matches N.config.pages Memory s tag x) }
     ensures tables { LostToAnother (λ s tag x. Matches N.config.pages Table s tag x) }
 {
-    pools::lost_claims_are_lost_to_another::<AnyTicket<N>>();
+    pools::lost_claims_are_lost_to_another::<Ticket<N>>();
     pools::lost_claims_are_lost_to_another::<MemSlot<N>>();
     pools::lost_claims_are_lost_to_another::<TableSlot<N>>();
 }

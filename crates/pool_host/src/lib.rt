@@ -4,7 +4,6 @@
 mod answers;
 mod closing;
 mod dealing;
-mod finding;
 mod giving;
 mod host;
 mod kinds;
@@ -17,6 +16,7 @@ mod pausing;
 mod retired;
 mod retiring;
 mod slots;
+mod starting;
 
 pub use answers::Answer;
 pub use closing::PoolCounts;

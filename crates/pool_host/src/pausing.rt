@@ -1,16 +1,13 @@
 //! Calls go on in slices, from thread to thread.
-ghost use Rattle.std.specs.Prelude.{◌≡◌, [], IfErr, IfOk};
-ghost use Rattle.instance_calls.specs.CallWords.{MayCall};
-ghost use Rattle.pool_host.specs.CallWords.{IsRefused};
 ghost use Rattle.pool_host.specs.Hosts.{IsHostPass};
-ghost use Rattle.pool_host.specs.Looks.{begun_look, found_look, refused_look, Looked};
-ghost use Rattle.pool_host.specs.Pausing.{begun_tags, refused_begun, HasBegun, HasTurnedTo, IsGivenUp, IsOfHost};
+ghost use Rattle.pool_host.specs.Looks.{begun_look, Looked};
+ghost use Rattle.pool_host.specs.Pausing.{begun_tags, HasBegun, HasTurnedTo, IsGivenUp, IsOfHost};
 
-use crate::finding::{Refused, find};
 use crate::host::Host;
 use crate::passes::HostPass;
 use crate::paused::Paused;
-use crate::slots::{give_slots, take_slots};
+use crate::slots::give_slots;
+use crate::starting::start;
 use host_edge::Gate;
 use instance_calls::{PausedInstance, Resumed};
 use module_store::{ModuleRef, ModuleStore, Naming};
@@ -41,57 +38,14 @@ pub enum Turned<N: Naming> {
     Done(Outcome, HostPass<N>),
 }
 
-impl Refused {
-    // How a call that is refused so began.
-    fn begun<N: Naming>(self, pass: HostPass<N>) -> Begun<N>
-        ensures begun { result ≡ refused_begun self pass }
-        ensures tags { begun_tags result ≡ pass.retired }
-        ensures look { begun_look result ≡ refused_look self }
-    {
-        match self {
-            Refused::NoExport => Begun::NoExport(pass),
-            Refused::BadArgs => Begun::BadArgs(pass),
-            Refused::Retired => Begun::Retired(pass),
-        }
-    }
-}
-
 impl<N: Naming> Host<N> {
-    // The function that a call with this pass is of, where it may be made and its module is not retired. What the last call answered goes.
-    fn find_with(
-        &self,
-        pass: &mut HostPass<N>,
-        store: &ModuleStore<N>,
-        module: &ModuleRef<N>,
-        export: &[u8],
-        args: &[Val],
-    ) -> Result<u32, Refused>
-        requires own { IsHostPass self.now pass.old }
-        ensures own { IsHostPass self.now pass.new }
-        ensures passes { pass.new.passes ≡ pass.old.passes }
-        ensures found { IfOk result (λ function. MayCall «module».now.tree export.now function args.now) }
-        ensures refused { IfErr result (IsRefused «module».now.tree export.now args.now) }
-        ensures looked { Looked self.now.retired.tags «module».now.tag pass.old.retired pass.new.retired (found_look result) }
-        ensures none { pass.new.answer ≡ [] }
-    {
-        find(
-            &self.retired,
-            &mut pass.retired,
-            store,
-            module,
-            export,
-            args,
-            &mut pass.answer,
-        )
-    }
-
     /// Begins a call as [`Host::send`] does, with its pass and an empty request: the slots are taken, and no instruction has run. It
     /// takes no memory.
     ///
     /// The gate is told of the call by its number: when all is taken, and after a refusal.
     pub fn begin<G: Gate>(
         &self,
-        mut pass: HostPass<N>,
+        pass: HostPass<N>,
         store: &ModuleStore<N>,
         module: &ModuleRef<N>,
         export: &[u8],
@@ -106,20 +60,22 @@ impl<N: Naming> Host<N> {
         // one look at the retired tags, after the checks and before any slot: retired is exactly what it read
         ensures looked { Looked self.now.retired.tags «module».now.tag pass.retired (begun_tags result) (begun_look result) }
     {
-        let function = match self.find_with(&mut pass, store, module, export, args) {
-            Ok(function) => function,
-            Err(refused) => {
-                gate.answered(number);
-                return refused.begun(pass);
-            }
-        };
         let HostPass {
             mut passes,
-            retired,
-            answer,
+            mut retired,
+            mut answer,
         } = pass;
-        match take_slots(self, &mut passes, store, module) {
-            Ok(instance) => {
+        match start(
+            self,
+            &mut passes,
+            &mut retired,
+            store,
+            module,
+            export,
+            args,
+            &mut answer,
+        ) {
+            Ok((instance, function)) => {
                 let running = PausedInstance::begin(
                     instance, store, module, function, args, fuel, answer,
                 );
@@ -131,14 +87,13 @@ impl<N: Naming> Host<N> {
                     number,
                 })
             }
-            Err(kind) => {
+            Err(refused) => {
                 gate.answered(number);
-                let pass = HostPass {
+                refused.begun(HostPass {
                     passes,
                     retired,
                     answer,
-                };
-                Begun::Full(pass, kind)
+                })
             }
         }
     }

@@ -2,7 +2,7 @@
 ghost use Rattle.std.specs.Prelude.{IfErr, IfOk, OnErr};
 ghost use Rattle.instance_calls.specs.Instances.{IsFreshInstance};
 ghost use Rattle.pool_host.specs.Hosts.{AreIdle, ArePassesOf, AreSamePasses};
-ghost use Rattle.pool_host.specs.Taking.{FitsWords, GaveSlots, HaveSlots, IsHandedInstance, TookSlots};
+ghost use Rattle.pool_host.specs.Taking.{GaveSlots, HaveSlots, TookSlots};
 ghost use Rattle.pool_host.specs.Trails.{AddsTrails, HasCause};
 ghost use Rattle.pool_worlds.specs.Contents.{Named};
 
@@ -28,14 +28,13 @@ pub(crate) fn take_slots<N: Naming>(
     ensures same { AreSamePasses passes.old passes.new }
     ensures have { IfOk result (HaveSlots host.now «module».now passes.new) }
     ensures fresh { IfOk result (IsFreshInstance N.config «module».now.tree) }
-    ensures handed { IfOk result (IsHandedInstance N.config «module».now) }
     ensures took { IfOk result (TookSlots N.config host.now «module».now passes.old passes.new) }
     ensures idle { OnErr result (AreIdle passes.new) }
     ensures trails { IfErr result (λ kind. AddsTrails N.config host.now «module».now (Answer.Full kind) passes.old passes.new) }
     ensures full { IfErr result (HasCause N.config host.now «module».now passes.old passes.new) }
 {
     let Ok(ticket) = instance_slots::take(&host.tickets, &mut passes.ticket, store, module) else {
-        return Err(Kind::Ticket);
+        return Err(Kind::Instance);
     };
     let Ok(memory) = take_memory(&host.memories, &mut passes.memory, store, module) else {
         give_ticket(host, passes, ticket);
@@ -64,7 +63,6 @@ pub(crate) fn give_slots<N: Naming>(
     requires have { (m : Named) × HaveSlots host.now m passes.old instance }
     ensures same { AreSamePasses passes.old passes.new }
     ensures idle { AreIdle passes.new }
-    ensures took { FitsWords N.config instance }
     ensures gave { (m : Named) → HaveSlots host.now m passes.old instance → GaveSlots N.config host.now m passes.old passes.new instance }
 {
     let Instance {

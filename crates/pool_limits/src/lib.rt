@@ -6,8 +6,6 @@ pub mod laws;
 mod numbers;
 mod plans;
 mod share;
-#[cfg(test)]
-mod tests;
 mod wants;
 
 pub use config::PoolConfig;

@@ -3,9 +3,9 @@ ghost use Rattle.std.specs.Prelude.{◌<◌};
 ghost use Rattle.module_store.specs.Names.{Bears};
 ghost use Rattle.pool_host.specs.Hosts.{IsHostPass};
 
-use crate::callers::{BUMP, ONE, bump, close_two, one_module, open, register, two_callers};
-use host_edge::Gate;
-use module_store::{ModuleRef, ModuleStore, Naming, Opened};
+use crate::callers::{BUMP, ONE, bump, close_two, open, register, two_callers};
+use host_edge::{Gate, OpenGate};
+use module_store::{Desk, ModuleRef, ModuleStore, Naming, Opened};
 use pool_host::{Answer, Host, HostPass, Kind};
 use std::alloc::Global;
 use std::marker::Brand;
@@ -25,16 +25,19 @@ static ADD: [u8; 41] =
 struct HoldingGate {
     entered: AtomicBool,
     answered: AtomicBool,
+    // call 2 was answered while call 1 was held
+    seen: AtomicBool,
 }
 
 const MOST_TURNS: u64 = 2_000_000_000;
 
-fn wait_for(flag: &AtomicBool) {
+fn wait_for(flag: &AtomicBool) -> bool {
     for _ in 0..MOST_TURNS {
         if flag.load(Ordering::SeqCst) {
-            return;
+            return true;
         }
     }
+    false
 }
 
 impl HoldingGate {
@@ -42,6 +45,7 @@ impl HoldingGate {
         HoldingGate {
             entered: AtomicBool::new(false),
             answered: AtomicBool::new(false),
+            seen: AtomicBool::new(false),
         }
     }
 }
@@ -50,7 +54,7 @@ impl Gate for HoldingGate {
     fn entered(&self, call: u64) {
         if call == 1 {
             self.entered.store(true, Ordering::SeqCst);
-            wait_for(&self.answered);
+            self.seen.store(wait_for(&self.answered), Ordering::SeqCst);
         }
     }
 
@@ -61,51 +65,77 @@ impl Gate for HoldingGate {
     }
 }
 
-// Makes call 1 and call 2, on two threads where they can be had.
-fn both<N: Naming + Send + Sync, R: Threads>(
+// Call 2: of `bump`, or where there is a desk an addition of a module that is registered now.
+fn second<N: Naming, R: Abort + Wait>(
     rt: &R,
+    alloc: Global,
+    host: &Host<N>,
+    mut pass: HostPass<N>,
+    store: &ModuleStore<N>,
+    module: &ModuleRef<N>,
+    desk: Option<Desk<N>>,
+    gate: &HoldingGate,
+) -> (Answer, HostPass<N>)
+    requires { IsHostPass host.now pass }
+    ensures { IsHostPass host.now result.1 }
+{
+    wait_for(&gate.entered);
+    let Some(mut desk) = desk else {
+        return bump(host, pass, store, module, 2, gate);
+    };
+    let module = register(rt, alloc, store, &mut desk, Profile::One, ADD.as_slice());
+    let args = [Val::I32(2), Val::I32(3)];
+    let answer = host.call(&mut pass, store, &module, b"add", &args, 100, 2, gate);
+    (answer, pass)
+}
+
+// Makes call 1 and call 2, on two threads.
+fn both<N: Naming + Send + Sync, R: Abort + Threads + Wait + Sync>(
+    rt: &R,
+    alloc: Global,
     host: &Host<N>,
     one: HostPass<N>,
     two: HostPass<N>,
     store: &ModuleStore<N>,
     module: &ModuleRef<N>,
-    gate: &HoldingGate,
+    desk: Option<Desk<N>>,
 ) -> ((Answer, HostPass<N>), (Answer, HostPass<N>))
     requires { IsHostPass host.now one × IsHostPass host.now two }
     ensures { IsHostPass host.now result.0.1 × IsHostPass host.now result.1.1 }
 {
-    thread::join(
+    let gate = HoldingGate::new();
+    let answers = thread::join(
         rt,
         || -> (Answer, HostPass<N>)
             requires { IsHostPass host.now one }
             ensures { IsHostPass host.entry.now result.1 }
-        { bump(host, one, store, module, 1, gate) },
+        { bump(host, one, store, module, 1, &gate) },
         || -> (Answer, HostPass<N>)
             requires { IsHostPass host.now two }
             ensures { IsHostPass host.entry.now result.1 }
-        {
-            wait_for(&gate.entered);
-            bump(host, two, store, module, 2, gate)
-        },
-    )
+        { second(rt, alloc, host, two, store, module, desk, &gate) },
+    );
+    assert!(rt; gate.seen.load(Ordering::SeqCst));
+    answers
 }
 
-// What call 1 and call 2 are answered, where the one is held until the other was answered, and what the second is answered then;
-// and how many slots of each kind are held in the end.
-fn held<N: Naming + Send + Sync, R: Abort + Threads + Wait>(
+// What call 1 and call 2 are answered, and call 2 of `bump` when call 1 is over; and how many slots of each kind are held in the end.
+fn held<N: Naming + Send + Sync, R: Abort + Threads + Wait + Sync>(
     rt: &R,
     alloc: Global,
     opened: Opened,
     memories: u32,
+    adds: bool,
 ) -> ([Answer; 3], [u32; 3])
     requires bears { Bears opened N.shelves N.config }
     requires memories { 0 < memories × memories < 5 }
 {
-    let (store, module) = one_module::<N, R>(rt, alloc, opened, Profile::One, BUMP.as_slice());
+    let (store, mut desk) = opened.named::<N>();
+    let module = register(rt, alloc, &store, &mut desk, Profile::One, BUMP.as_slice());
     let (host, one, two) = two_callers(rt, alloc, &store, memories);
-    let gate = HoldingGate::new();
-    let ((first, one), (second, two)) = both(rt, &host, one, two, &store, &module, &gate);
-    let (again, two) = bump(&host, two, &store, &module, 2, &gate);
+    let desk = if adds { Some(desk) } else { None };
+    let ((first, one), (second, two)) = both(rt, alloc, &host, one, two, &store, &module, desk);
+    let (again, two) = bump(&host, two, &store, &module, 2, &OpenGate);
     let counts = close_two(rt, alloc, host, one, two);
     (
         [first, second, again],
@@ -113,70 +143,24 @@ fn held<N: Naming + Send + Sync, R: Abort + Threads + Wait>(
     )
 }
 
-#[test]
-fn a_call_is_full_while_another_has_the_memory(rt: HostRuntime) -> Result<(), Fail> {
-    let alloc = rt.alloc();
-    let opened = open(alloc, 2, 4)?;
-    let one_memory = held::<Brand, HostRuntime>(&rt, alloc, opened, 1);
-    let full = Answer::Full(Kind::Memory);
-    let done = Answer::Done(ONE);
-    assert_eq!(rt; one_memory, ([done, full, done], [0, 0, 0]));
-    let opened = open(alloc, 2, 4)?;
-    let two_memories = held::<Brand, HostRuntime>(&rt, alloc, opened, 2);
-    assert_eq!(rt; two_memories, ([done, done, done], [0, 0, 0]));
-    Ok(())
-}
+const DONE: Answer = Answer::Done(ONE);
 
-// Adds 2 and 3 with a pass of the host, as call 2.
-fn add<N: Naming, G: Gate>(
-    host: &Host<N>,
-    mut pass: HostPass<N>,
-    store: &ModuleStore<N>,
-    module: &ModuleRef<N>,
-    gate: &G,
-) -> Answer
-    requires { IsHostPass host.now pass }
-{
-    let args = [Val::I32(2), Val::I32(3)];
-    host.send(&mut pass, store, module, b"add", &args, &[], 100, 2, gate)
-}
+const FIVE: Answer = Answer::Done(Outcome::Done(Some(Val::I32(5))));
 
-// What a call of `bump` is answered that is held until another module was registered and called, and what that one is
-// answered.
-fn registered_beside<N: Naming + Send + Sync, R: Abort + Threads + Wait + Sync>(
-    rt: &R,
-    alloc: Global,
-    opened: Opened,
-) -> (Answer, Answer)
-    requires { Bears opened N.shelves N.config }
-{
-    let (store, mut desk) = opened.named::<N>();
-    let module = register(rt, alloc, &store, &mut desk, Profile::One, BUMP.as_slice());
-    let (host, one, two) = two_callers(rt, alloc, &store, 2);
-    let gate = HoldingGate::new();
-    let (held, other) = thread::join(
-        rt,
-        || -> Answer
-            requires { IsHostPass host one }
-        { bump(&host, one, &store, &module, 1, &gate).0 },
-        || -> Answer
-            requires { IsHostPass host two }
-        {
-            wait_for(&gate.entered);
-            let module = register(rt, alloc, &store, &mut desk, Profile::One, ADD.as_slice());
-            add(&host, two, &store, &module, &gate)
-        },
-    );
-    assert!(rt; gate.answered.load(Ordering::SeqCst));
-    (held, other)
-}
+// Of one memory, which call 1 has; of two; and of two, where call 2 is of a module that is registered beside call 1.
+const ROWS: [(u32, bool, Answer); 3] = [
+    (1, false, Answer::Full(Kind::Memory)),
+    (2, false, DONE),
+    (2, true, FIVE),
+];
 
 #[test]
-fn a_module_is_registered_and_called_beside_a_held_call(rt: HostRuntime) -> Result<(), Fail> {
+fn a_call_is_made_or_finds_no_memory_beside_a_held_call(rt: HostRuntime) -> Result<(), Fail> {
     let alloc = rt.alloc();
-    let opened = open(alloc, 2, 4)?;
-    let answers = registered_beside::<Brand, HostRuntime>(&rt, alloc, opened);
-    let five = Answer::Done(Outcome::Done(Some(Val::I32(5))));
-    assert_eq!(rt; answers, (Answer::Done(ONE), five));
+    for (memories, adds, second) in ROWS {
+        let opened = open(alloc, 2, 4)?;
+        let ends = held::<Brand, HostRuntime>(&rt, alloc, opened, memories, adds);
+        assert_eq!(rt; ends, ([DONE, second, DONE], [0, 0, 0]));
+    }
     Ok(())
 }

@@ -1,6 +1,5 @@
 //! The stores, hosts and callers of the tests. Each store has its name from the test that opens it.
 ghost use Rattle.std.specs.Prelude.{◌<◌};
-ghost use Rattle.module_store.specs.Names.{Bears};
 ghost use Rattle.pool_host.specs.Hosts.{IsHostPass};
 
 use host_edge::Gate;
@@ -67,7 +66,7 @@ pub(crate) fn one_caller<N: Naming, R: Abort>(
     (host, pass)
 }
 
-// Opens a host of these slots, and gives its first two passes.
+// Opens a host of two tickets and so many memories, and gives its two passes.
 pub(crate) fn two_callers<N: Naming, R: Abort>(
     rt: &R,
     alloc: Global,
@@ -86,21 +85,6 @@ pub(crate) fn two_callers<N: Naming, R: Abort>(
     let first = passes.pop().unwrap();
     let second = passes.pop().unwrap();
     (host, first, second)
-}
-
-// A store, and a module of these bytes in it.
-pub(crate) fn one_module<N: Naming, R: Abort + Wait>(
-    rt: &R,
-    alloc: Global,
-    opened: Opened,
-    profile: Profile,
-    bytes: &[u8],
-) -> (ModuleStore<N>, ModuleRef<N>)
-    requires { Bears opened N.shelves N.config }
-{
-    let (store, mut desk) = opened.named::<N>();
-    let module = register(rt, alloc, &store, &mut desk, profile, bytes);
-    (store, module)
 }
 
 // The slots of a host that is closed with its one pass.
@@ -145,16 +129,6 @@ pub(crate) fn bump<N: Naming, G: Gate>(
     requires { IsHostPass host.now pass }
     ensures { IsHostPass host.now result.1 }
 {
-    let answer = host.send(
-        &mut pass,
-        store,
-        module,
-        b"bump",
-        &[],
-        &[],
-        100,
-        number,
-        gate,
-    );
+    let answer = host.call(&mut pass, store, module, b"bump", &[], 100, number, gate);
     (answer, pass)
 }

@@ -1,12 +1,12 @@
 //! How many blocks of its memory a call marks.
 ghost use Rattle.std.specs.Prelude.{◌≡◌, ◌<◌, true, Some, length, take};
-ghost use Rattle.std.specs.List.{All};
 ghost use Rattle.wasm_spec.specs.Store.{fresh_store};
 ghost use Rattle.slot_words.specs.Owned.{IsNewPassOf};
 ghost use Rattle.module_store.specs.Names.{Bears};
 ghost use Rattle.pool_worlds.specs.Contents.{needs};
 ghost use Rattle.pool_worlds.specs.declared.kinds.Kind.TheVariants.{Memory};
-ghost use Rattle.instance_calls.specs.Instances.{HasFreshMemory, IsFreshInstance};
+ghost use Rattle.instance_calls.specs.Instances.{HasFreshMemory};
+ghost use Rattle.instance_calls.specs.Parts.{memory_slot};
 
 use crate::callers::{BUMP, ONE, open, register};
 use call_payload::AnswerBuf;
@@ -35,68 +35,75 @@ static GROW: [u8; 45] =
 static FILL: [u8; 47] =
     *b"\0asm\x01\0\0\0\x01\x06\x01\x60\x02\x7f\x7f\0\x03\x02\x01\0\x05\x03\x01\0\x01\x07\x05\x01\x01f\0\0\x0a\x0d\x01\x0b\0\x20\0\x41\x07\x20\x01\xfc\x0b\0\x0b";
 
-// The memory with which an instance of the module begins, if it has one.
-fn take_memory<N: Naming, R: Abort>(
+// A pool of one memory, which may be warm, and its one pass.
+fn pool_of_one<N: Naming, R: Abort>(
     rt: &R,
-    pool: &Words<MemSlot<N>>,
-    mut pass: Pass<MemSlot<N>>,
+    alloc: Global,
     store: &ModuleStore<N>,
-    module: &ModuleRef<N>,
-) -> Lease<MemSlot<N>>
-    requires { IsNewPassOf pool.now pass }
-    ensures { needs Memory «module».now.tree ≡ true → HasFreshMemory N.config «module».now.tree (Some result) }
+) -> (Words<MemSlot<N>>, Pass<MemSlot<N>>)
+    ensures { IsNewPassOf result.0 result.1 }
 {
-    match memory_slots::take(pool, &mut pass, store, module) {
-        Ok(lease) => lease,
-        Err(_) => panic!(rt; "a new pool is full"),
-    }
+    let (pool, mut passes) = slot_pools::open::<MemSlot<N>>(alloc, store, 1, 1, 1).expect(
+        rt, "opened",
+    );
+    let pass = passes.pop().unwrap();
+    (pool, pass)
 }
 
-// The ticket with which it begins.
+// The ticket with which an instance of the module begins.
 fn take_ticket<N: Naming, R: Abort>(
-    rt: &R,
-    pool: &Words<Ticket<N>>,
-    mut pass: Pass<Ticket<N>>,
-    store: &ModuleStore<N>,
-    module: &ModuleRef<N>,
-) -> Lease<Ticket<N>>
-    requires { IsNewPassOf pool.now pass }
-    ensures { take (length «module».now.tree.globals) result.value.globals ≡ (fresh_store «module».now.tree).globals }
-{
-    match instance_slots::take(pool, &mut pass, store, module) {
-        Ok(lease) => lease,
-        Err(_) => panic!(rt; "a new pool is full"),
-    }
-}
-
-// A fresh instance of the module, which has a memory and no table, in slots of pools of its own.
-fn instance_of<N: Naming, R: Abort>(
     rt: &R,
     alloc: Global,
     store: &ModuleStore<N>,
     module: &ModuleRef<N>,
-) -> Instance<N>
-    ensures { IsFreshInstance N.config «module».now.tree result }
+) -> Lease<Ticket<N>>
+    ensures { take (length «module».now.tree.globals) result.value.globals ≡ (fresh_store «module».now.tree).globals }
 {
-    assert!(rt; needs_memory(store, module) && !needs_table(store, module));
-    let (memories, mut passes) = slot_pools::open::<MemSlot<N>>(alloc, store, 1, 0, 1).expect(
-        rt, "opened",
-    );
-    let pass = passes.pop().unwrap();
-    let memory = take_memory(rt, &memories, pass, store, module);
     let (tickets, mut passes) = slot_pools::open::<Ticket<N>>(alloc, store, 1, 0, 1).expect(
         rt, "opened",
     );
-    let pass = passes.pop().unwrap();
-    let ticket = take_ticket(rt, &tickets, pass, store, module);
-    Instance {
-        ticket,
-        memory: Some(memory),
-        table: None,
+    let mut pass = passes.pop().unwrap();
+    match instance_slots::take(&tickets, &mut pass, store, module) {
+        Ok(lease) => lease,
+        Err(_) => panic!(rt; "a new pool is full"),
     }
 }
 
-// How a call ends, and how many blocks of its memory it marks.
+// Makes a call of the module, which has no table, on its fresh memory. Tells how it ends, and gives the memory back.
+fn call_on<N: Naming, R: Abort>(
+    rt: &R,
+    alloc: Global,
+    store: &ModuleStore<N>,
+    module: &ModuleRef<N>,
+    memory: Lease<MemSlot<N>>,
+    export: &[u8],
+    args: &[Val],
+    fuel: u64,
+) -> (Outcome, Lease<MemSlot<N>>)
+    requires { needs Memory «module».now.tree ≡ true → HasFreshMemory N.config «module».now.tree (Some memory) }
+    ensures { memory_slot (Some result.1) ≡ memory_slot (Some memory) }
+{
+    assert!(rt; needs_memory(store, module) && !needs_table(store, module));
+    let mut instance = Instance {
+        ticket: take_ticket(rt, alloc, store, module),
+        memory: Some(memory),
+        table: None,
+    };
+    let mut answer = AnswerBuf::open(alloc).expect(rt, "opened");
+    let function = find_function(store, module, export, args).expect(rt, "found");
+    let outcome = instance.run(store, module, function, args, fuel, &[], &mut answer);
+    let Instance {
+        ticket: _,
+        memory,
+        table: _,
+    } = instance;
+    match memory {
+        Some(memory) => (outcome, memory),
+        None => panic!(rt; "the instance has no memory"),
+    }
+}
+
+// How a call ends, how many blocks of its memory it marks, and how many are marked when that is claimed after its give.
 fn marked_by<N: Naming, R: Abort>(
     rt: &R,
     alloc: Global,
@@ -105,14 +112,18 @@ fn marked_by<N: Naming, R: Abort>(
     export: &[u8],
     args: &[Val],
     fuel: u64,
-) -> (Outcome, u32) {
-    let mut instance = instance_of(rt, alloc, store, module);
-    let mut answer = AnswerBuf::open(alloc).expect(rt, "opened");
-    let function = find_function(store, module, export, args).expect(rt, "found");
-    let outcome = instance.run(store, module, function, args, fuel, &[], &mut answer);
-    match &instance.memory {
-        Some(memory) => (outcome, memory.value.dirty()),
-        None => panic!(rt; "the instance has no memory"),
+) -> (Outcome, u32, u32) {
+    let (pool, mut pass) = pool_of_one(rt, alloc, store);
+    let Ok(memory) = memory_slots::take(&pool, &mut pass, store, module) else {
+        panic!(rt; "a new pool is full");
+    };
+    let (outcome, memory) = call_on(rt, alloc, store, module, memory, export, args, fuel);
+    let number = memory.number();
+    let marked = memory.value.dirty();
+    memory_slots::give(&pool, &mut pass, memory, store);
+    match pool.claim(&mut pass, number) {
+        Ok(memory) => (outcome, marked, memory.value.dirty()),
+        Err(_) => panic!(rt; "the memory is held"),
     }
 }
 
@@ -131,7 +142,31 @@ const ROWS: [Row; 7] = [
     (4, "f", 2, 4096, 4, NONE, 1),
 ];
 
-fn check_marks<N: Naming, R: Abort + Wait>(rt: &R, alloc: Global, opened: Opened)
+// The place of the first row that isn't so, or how many rows there are. A flush of one memory writes it over as it is given back, and one
+// that waits for two leaves its marks.
+fn first_wrong<N: Naming, R: Abort>(
+    rt: &R,
+    alloc: Global,
+    store: &ModuleStore<N>,
+    modules: &[ModuleRef<N>; 5],
+) -> usize {
+    let batch = store.config().numbers().batch;
+    for (place, row) in ROWS.iter().enumerate() {
+        let (module, export, count, first, fuel, outcome, blocks) = *row;
+        let module = &modules[module % 5];
+        let args = [Val::I32(first), Val::I32(7)];
+        let args = &args[..count.min(2)];
+        let marked = marked_by(rt, alloc, store, module, export.as_bytes(), args, fuel);
+        let left = if batch == 1 { 0 } else { blocks };
+        if marked != (outcome, blocks, left) {
+            return place;
+        }
+    }
+    ROWS.len()
+}
+
+// The same on a store with the modules of the rows.
+fn first_wrong_of<N: Naming, R: Abort + Wait>(rt: &R, alloc: Global, opened: Opened) -> usize
     requires { Bears opened N.shelves N.config }
 {
     let (store, mut desk) = opened.named::<N>();
@@ -142,18 +177,15 @@ fn check_marks<N: Naming, R: Abort + Wait>(rt: &R, alloc: Global, opened: Opened
         register(rt, alloc, &store, &mut desk, Profile::One, GROW.as_slice()),
         register(rt, alloc, &store, &mut desk, Profile::Two, FILL.as_slice()),
     ];
-    for (module, export, count, first, fuel, outcome, blocks) in ROWS {
-        let args = [Val::I32(first), Val::I32(7)];
-        let module = &modules[module % 5];
-        let args = &args[..count.min(2)];
-        let name = export.as_bytes();
-        let marked = marked_by(rt, alloc, &store, module, name, args, fuel);
-        assert_eq!(rt; marked, (outcome, blocks), "at {export}");
-    }
+    first_wrong(rt, alloc, &store, &modules)
 }
 
 #[test]
-fn a_call_marks_the_blocks_that_it_writes(rt: HostRuntime) -> Result<(), Fail> {
-    check_marks::<Brand, HostRuntime>(&rt, rt.alloc(), open(rt.alloc(), 2, 1)?);
+fn a_call_marks_the_blocks_that_it_writes_until_a_flush(rt: HostRuntime) -> Result<(), Fail> {
+    for batch in [1, 2] {
+        let opened = open(rt.alloc(), 2, batch)?;
+        let place = first_wrong_of::<Brand, HostRuntime>(&rt, rt.alloc(), opened);
+        assert_eq!(rt; place, ROWS.len(), "a batch of {batch}");
+    }
     Ok(())
 }

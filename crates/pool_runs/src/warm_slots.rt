@@ -2,7 +2,7 @@
 ghost use Rattle.module_store.specs.Names.{Bears};
 ghost use Rattle.pool_host.specs.Hosts.{IsHostPass};
 
-use crate::callers::{BUMP, ONE, bump, close_one, one_caller, open, register};
+use crate::callers::{BUMP, ONE, close_one, one_caller, open, register};
 use host_edge::OpenGate;
 use module_store::{Naming, Opened};
 use pool_host::Answer;
@@ -41,9 +41,8 @@ fn memories_after<N: Naming, R: Abort + Wait>(
     let (host, mut pass) = one_caller(rt, alloc, &store);
     for call in calls {
         let module = &modules[call % 3];
-        let (answer, back) = bump(&host, pass, &store, module, 1, &OpenGate);
+        let answer = host.call(&mut pass, &store, module, b"bump", &[], 100, 1, &OpenGate);
         assert_eq!(rt; answer, Answer::Done(ONE));
-        pass = back;
     }
     close_one(rt, alloc, host, pass).memory
 }

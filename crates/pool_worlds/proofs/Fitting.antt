@@ -19,7 +19,7 @@ use Rattle.pool_core.proofs.LawfulOpening.{opens_cold}
 use Rattle.pool_core.proofs.LawfulSteps.{no_rule_broken}
 use Rattle.pool_worlds.specs.Contents.{Named, Contents, owner, memory_image, table_image, prepared, restored_for, restored, replaced, needs, turned, IsClean, IsCold, HasImageOutside, Matches}
 use Rattle.pool_worlds.specs.declared.kinds.Kind.{Kind}
-use Rattle.pool_worlds.specs.declared.kinds.Kind.TheVariants.{Ticket, Memory, Table}
+use Rattle.pool_worlds.specs.declared.kinds.Kind.TheVariants.{Instance, Memory, Table}
 use Rattle.pool_worlds.specs.PoolMachine.{World, Running, Machine, WorldEvent, Step, Prepare, Restore, Clear, Begin, Turn, End, Cancel, held_by, slot_of, same_kind, is_slot_of_seat, is_slot_of_call, with_contents, with_core, store_after, last_store, after_turn, after_end, after, after_all, HasOut, IsModule, MayHappen, AllMayHappen, IsOpening}
 use Rattle.pool_worlds.specs.FreshMachine.{FreshMachine, fresh_after, nothing_runs}
 use Rattle.pool_worlds.specs.Fitting.{held_contents, ReleaseFits, AllReleasesFit, FitsWhileFree, FreeSlotsFit, ClearedFitsCold, RestoredFitsWarm, UsedFitsAwaiting, TablesFitWarm}
@@ -144,12 +144,12 @@ own-slot : (p : Machine) (k : Kind) (s : ℕ) (change : (k : Kind) → Contents 
 own-slot p k s change = let n : ℕ = held_by p k s in let x : Contents k = p.contents k n in
     ap (λ (b : Bool). cond (b && n == n) (change k x) x) (same k) ∙ ap (λ (b : Bool). cond b (change k x) x) (eq-eqb n n refl) where
       same : (k : Kind) → same_kind k k ≡ true
-      same Ticket = refl
+      same Instance = refl
       same Memory = refl
       same Table = refl
 
 replaced-is : (k : Kind) (x y : Contents k) → replaced k x k y ≡ x
-replaced-is Ticket x y = refl
+replaced-is Instance x y = refl
 replaced-is Memory x y = refl
 replaced-is Table x y = refl
 
@@ -163,7 +163,7 @@ cleared-fits w q k s tag x reached may =
     subst (IsCold w.limits.pages k) (sym (own-slot q k s (replaced k x) ∙ replaced-is k x (held_contents q k s))) may.2
 
 restored-warm : (w : World) (m : Named) (k : Kind) (x : Contents k) → IsKept w k x → owner k x ≡ Some m → Matches w.limits.pages k Warm m.tag (restored w.limits.pages k x)
-restored-warm w m Ticket x kept own = absurd (cc)
+restored-warm w m Instance x kept own = absurd (cc)
 restored-warm w m Memory x kept own = let is : IsModule w m = subst (IsOwned w) own kept.owned in
     subst (λ (o : Option Named). Matches w.limits.pages Memory Warm m.tag (restored_for w.limits.pages o Memory x)) (sym own)
     (m, record { holds = refl; size = refl; bytes = prepared-bytes w m x is kept; clean = no-marks x.marks }, refl)
@@ -176,7 +176,7 @@ restored-fits w q k s m reached may own = let g = good-at w q reached in
     subst (Matches w.limits.pages k Warm m.tag) (sym (own-slot q k s (restored w.limits.pages))) (restored-warm w m k (held_contents q k s) (g.1.kept k (held_by q k s)) own)
 
 kept-awaiting : (w : World) (m : Named) (k : Kind) (x : Contents k) → IsKept w k x → owner k x ≡ Some m → Matches w.limits.pages k Awaiting m.tag x
-kept-awaiting w m Ticket x kept own = absurd (cc)
+kept-awaiting w m Instance x kept own = absurd (cc)
 kept-awaiting w m Memory x kept own =
     (m, record { holds = own; outside = subst (λ (o : Option Named). HasImageOutside (memory_image w.limits.pages o) x.bytes x.marks) own kept.outside }, refl)
 kept-awaiting w m Table x kept own = (m, (own, kept.1 ∙ ap table_image own), refl)

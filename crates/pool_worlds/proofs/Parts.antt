@@ -15,7 +15,7 @@ use Rattle.wasm_spec.proofs.ResultLaws.{length-fresh_memory, length-fresh_table,
 use Rattle.memory_blocks.specs.Blocks.{KeepsUnmarked}
 use Rattle.pool_worlds.specs.Contents.{Named, MemoryContents, TableContents, Contents, owner, belongs_to, filled, memory_image, table_image, rewritten_from, prepared, restored_for, restored, replaced, needs, shown_memory, shown_table, shown_store, turned, IsCold, HasImageOutside}
 use Rattle.pool_worlds.specs.declared.kinds.Kind.{Kind}
-use Rattle.pool_worlds.specs.declared.kinds.Kind.TheVariants.{Ticket, Memory, Table}
+use Rattle.pool_worlds.specs.declared.kinds.Kind.TheVariants.{Instance, Memory, Table}
 use Rattle.pool_worlds.specs.PoolMachine.{World, IsModule, load_limits}
 use Rattle.pool_worlds.specs.Worlds.{IsZeroPast, in_slots}
 use Rattle.pool_worlds.proofs.Bytes.{filled-is}
@@ -48,7 +48,7 @@ pub record IsKeptMemory (w : World) (x : MemoryContents) : Type 0 where
   pub owned : IsOwned w x.holds
 
 abbrev pub IsKept : World → (k : Kind) → Contents k → Type 0
-IsKept w Ticket x = Unit {0}
+IsKept w Instance x = Unit {0}
 IsKept w Memory x = IsKeptMemory w x
 IsKept w Table x = IsOwned w x.holds × (x.entries ≡ table_image x.holds)
 
@@ -78,7 +78,7 @@ prepared-entries w m x is kept =
     ] in split (belongs_to m x.holds) refl
 
 pub prepared-kept : (w : World) (m : Named) → IsModule w m → (k : Kind) (x : Contents k) → IsKept w k x → IsKept w k (prepared w.limits.pages m k x)
-prepared-kept w m is Ticket x kept = tt
+prepared-kept w m is Instance x kept = tt
 prepared-kept w m is Memory x kept = record {
   room = ap length (prepared-bytes w m x is kept) ∙ length-image w m is;
   size = (fits w m is).size;
@@ -92,12 +92,12 @@ restored_for-kept w None owned k x kept = kept
 restored_for-kept w (Some m) owned k x kept = prepared-kept w m owned k x kept
 
 pub restored-kept : (w : World) (k : Kind) (x : Contents k) → IsKept w k x → IsKept w k (restored w.limits.pages k x)
-restored-kept w Ticket x kept = tt
+restored-kept w Instance x kept = tt
 restored-kept w Memory x kept = restored_for-kept w x.holds kept.owned Memory x kept
 restored-kept w Table x kept = restored_for-kept w x.holds kept.0 Table x kept
 
 pub cold-kept : (w : World) (k : Kind) (x : Contents k) → IsCold w.limits.pages k x → IsKept w k x
-cold-kept w Ticket x cold = tt
+cold-kept w Instance x cold = tt
 cold-kept w Memory x cold = record {
   room = ap length cold.bytes ∙ length-filled w.limits.pages [] (omega arith);
   size = let none = cold.size in omega arith;
@@ -107,13 +107,13 @@ cold-kept w Memory x cold = record {
 cold-kept w Table x cold = (subst (IsOwned w) (sym cold.0) tt, cold.1 ∙ ap table_image (sym cold.0))
 
 pub replaced-kept : (w : World) (k : Kind) (x : Contents k) → IsCold w.limits.pages k x → (j : Kind) (y : Contents j) → IsKept w j y → IsKept w j (replaced k x j y)
-replaced-kept w Ticket x cold Ticket y kept = tt
-replaced-kept w Ticket x cold Memory y kept = kept
-replaced-kept w Ticket x cold Table y kept = kept
-replaced-kept w Memory x cold Ticket y kept = tt
+replaced-kept w Instance x cold Instance y kept = tt
+replaced-kept w Instance x cold Memory y kept = kept
+replaced-kept w Instance x cold Table y kept = kept
+replaced-kept w Memory x cold Instance y kept = tt
 replaced-kept w Memory x cold Memory y kept = cold-kept w Memory x cold
 replaced-kept w Memory x cold Table y kept = kept
-replaced-kept w Table x cold Ticket y kept = tt
+replaced-kept w Table x cold Instance y kept = tt
 replaced-kept w Table x cold Memory y kept = kept
 replaced-kept w Table x cold Table y kept = cold-kept w Table x cold
 
@@ -130,7 +130,7 @@ shown-same m x y h =
       | true ↦ λ q. ap (shown_table true) (h Table q)
       | false ↦ λ q. refl
     ] in
-    let memory = memories (needs Memory m) refl in let table = tables (needs Table m) refl in let globals = h Ticket refl in
+    let memory = memories (needs Memory m) refl in let table = tables (needs Table m) refl in let globals = h Instance refl in
     λ i. record { memory = memory i; table = table i; globals = take (length m.globals) (globals i); answer = [] }
 
 none-needed : {A : Type 0} (xs : List A) → ltb 0 (length xs) ≡ false → xs ≡ []
@@ -160,7 +160,7 @@ shows-store w m s marks x misfit is =
       | false ↦ λ q. sym (is.table_is ∙ fresh-table m misfit q)
     ] in
     let memory = memories (needs Memory m) refl in let table = tables (needs Table m) refl in
-    let globals = take_at s.globals (drop (length s.globals) (x Ticket)) (length m.globals) is.globals_are in
+    let globals = take_at s.globals (drop (length s.globals) (x Instance)) (length m.globals) is.globals_are in
     λ i. record { memory = memory i; table = table i; globals = globals i; answer = [] } where
       whole_size : (n size : ℕ) → n ≡ size * page_size → n / page_size * page_size ≡ n
       whole_size n size e = ap (λ (k : ℕ). k / page_size * page_size) e ∙ ap (λ (k : ℕ). k * page_size) (whole_pages size) ∙ sym e
@@ -180,7 +180,7 @@ shows-fresh w m x is kept =
       | false ↦ λ q. sym (fresh-table m.tree f.misfit q)
     ] in
     let memory = memories (needs Memory m.tree) refl in let table = tables (needs Table m.tree) refl in
-    let globals = take_at fresh.globals (drop (length fresh.globals) (x Ticket)) (length m.tree.globals) (length-map m.tree.globals _) in
+    let globals = take_at fresh.globals (drop (length fresh.globals) (x Instance)) (length m.tree.globals) (length-map m.tree.globals _) in
     λ i. record { memory = memory i; table = table i; globals = globals i; answer = [] }
 
 pub prepared-past : (w : World) (m : Named) (x : MemoryContents) → IsModule w m → IsKeptMemory w x → IsZeroPast (prepared w.limits.pages m Memory x)
@@ -205,7 +205,7 @@ pub turned-kept : (w : World) (m : Named) (s : Store) (marks : List Bool) (x : (
     → (needs Memory m.tree ≡ true → KeepsUnmarked (x Memory).bytes (turned w.limits.pages s marks Memory (x Memory)).bytes (x Memory).marks marks)
     → (needs Table m.tree ≡ true → (x Table).holds ≡ Some m)
     → (k : Kind) → needs k m.tree ≡ true → IsKept w k (x k) → IsKept w k (turned w.limits.pages s marks k (x k))
-turned-kept w m s marks x is marked owner Ticket needed kept = tt
+turned-kept w m s marks x is marked owner Instance needed kept = tt
 turned-kept w m s marks x is marked owner Memory needed kept = record {
   room = length-filled w.limits.pages s.memory (room-le m.tree.memories w.limits.pages (length s.memory) is.size is.whole is.within);
   size = size-le m.tree.memories w.limits.pages (length s.memory) is.size is.whole is.within;
@@ -228,9 +228,9 @@ size-shown w m x s need kept shows =
 -- contents that show a store are those after a turn that left it and marked nothing
 pub turned-still : (w : World) (m : ModuleTree) (s : Store) (marks : List Bool) (x : (k : Kind) → Contents k) → shown_store m x ≡ in_slots s → ((k : Kind) → IsKept w k (x k)) → length s.globals ≡ length m.globals
     → (needs Memory m ≡ true → IsZeroPast (x Memory)) → (needs Memory m ≡ true → marks ≡ (x Memory).marks) → (k : Kind) → needs k m ≡ true → turned w.limits.pages s marks k (x k) ≡ x k
-turned-still w m s marks x shows kept globals past still Ticket need =
-    let is : take (length m.globals) (x Ticket) ≡ s.globals = ap (λ (t : Store). t.globals) shows in
-    ap (λ (n : ℕ). s.globals ++ drop n (x Ticket)) globals ∙ ap (λ (g : List Val). g ++ drop (length m.globals) (x Ticket)) (sym is) ∙ take-append-drop (length m.globals) (x Ticket)
+turned-still w m s marks x shows kept globals past still Instance need =
+    let is : take (length m.globals) (x Instance) ≡ s.globals = ap (λ (t : Store). t.globals) shows in
+    ap (λ (n : ℕ). s.globals ++ drop n (x Instance)) globals ∙ ap (λ (g : List Val). g ++ drop (length m.globals) (x Instance)) (sym is) ∙ take-append-drop (length m.globals) (x Instance)
 turned-still w m s marks x shows kept globals past still Memory need =
     let y : MemoryContents = x Memory in let k = kept Memory in
     let is : take (y.pages * page_size) y.bytes ≡ s.memory = ap (λ (b : Bool). shown_memory b y) (sym need) ∙ ap (λ (t : Store). t.memory) shows in
@@ -245,7 +245,7 @@ turned-still w m s marks x shows kept globals past still Table need =
 
 -- of two turns the second says what is left
 pub turned-twice : (pages : ℕ) (s t : Store) (between marks : List Bool) (k : Kind) (x : Contents k) → length s.globals ≡ length t.globals → turned pages t marks k (turned pages s between k x) ≡ turned pages t marks k x
-turned-twice pages s t between marks Ticket x e = ap (λ (rest : List Val). t.globals ++ rest) (drop_at s.globals (drop (length s.globals) x) (length t.globals) e ∙ ap (λ (n : ℕ). drop n x) e)
+turned-twice pages s t between marks Instance x e = ap (λ (rest : List Val). t.globals ++ rest) (drop_at s.globals (drop (length s.globals) x) (length t.globals) e ∙ ap (λ (n : ℕ). drop n x) e)
 turned-twice pages s t between marks Memory x e = refl
 turned-twice pages s t between marks Table x e = refl
 
@@ -256,7 +256,7 @@ clean-clean [] = refl
 clean-clean (b ∷ bs) = ap (λ (l : List Bool). false ∷ l) (clean-clean bs)
 
 pub prepared-twice : (w : World) (m : Named) → IsModule w m → (k : Kind) (x : Contents k) → IsKept w k x → prepared w.limits.pages m k (prepared w.limits.pages m k x) ≡ prepared w.limits.pages m k x
-prepared-twice w m is Ticket x kept = let globals : List Val = (fresh_store m.tree).globals in
+prepared-twice w m is Instance x kept = let globals : List Val = (fresh_store m.tree).globals in
     ap (λ (rest : List Val). globals ++ rest) (drop_at globals (drop (length globals) x) (length globals) refl)
 prepared-twice w m is Memory x kept = let once : MemoryContents = prepared w.limits.pages m Memory x in
     let bytes = prepared-bytes w m once is (prepared-kept w m is Memory x kept) ∙ sym (prepared-bytes w m x is kept) in

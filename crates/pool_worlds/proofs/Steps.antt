@@ -17,7 +17,7 @@ use Rattle.pool_core.proofs.Holders.{one_holder}
 use Rattle.pool_core.proofs.LawfulSteps.{lawful_after}
 use Rattle.pool_worlds.specs.Contents.{Named, Contents, prepared, restored, replaced, needs, shown_store, turned}
 use Rattle.pool_worlds.specs.declared.kinds.Kind.{Kind}
-use Rattle.pool_worlds.specs.declared.kinds.Kind.TheVariants.{Ticket, Memory, Table}
+use Rattle.pool_worlds.specs.declared.kinds.Kind.TheVariants.{Instance, Memory, Table}
 use Rattle.pool_worlds.specs.PoolMachine.{World, Request, Running, Machine, WorldEvent, Step, Prepare, Restore, Clear, Begin, Turn, End, Cancel, held_by, slot_of, caller_contents, same_kind, is_slot_of_seat, is_slot_of_call, with_contents, with_core, with_call, store_or, store_after, begun, after_turn, after, IsFree, HasOut, IsModule, MarksTurn, MarksEnd, MayHappen, terms_of, last_store, after_end}
 use Rattle.pool_worlds.specs.FreshMachine.{FreshCall, FreshMachine, fresh_store_on, fresh_store_after, fresh_turn, with_fresh_call, fresh_after}
 use Rattle.pool_worlds.specs.Worlds.{IsZeroPast, in_slots}
@@ -106,14 +106,14 @@ call-set w p i call j a b g = call-stays w p (with_call p i call) j a b (λ r c 
 -- ---- the core's events
 
 pub same_kind-is : (k j : Kind) → same_kind k j ≡ true → k ≡ j
-same_kind-is Ticket Ticket h = refl
+same_kind-is Instance Instance h = refl
 same_kind-is Memory Memory h = refl
 same_kind-is Table Table h = refl
-same_kind-is Ticket Memory h = absurd (true≢false (sym h))
-same_kind-is Ticket Table h = absurd (true≢false (sym h))
-same_kind-is Memory Ticket h = absurd (true≢false (sym h))
+same_kind-is Instance Memory h = absurd (true≢false (sym h))
+same_kind-is Instance Table h = absurd (true≢false (sym h))
+same_kind-is Memory Instance h = absurd (true≢false (sym h))
 same_kind-is Memory Table h = absurd (true≢false (sym h))
-same_kind-is Table Ticket h = absurd (true≢false (sym h))
+same_kind-is Table Instance h = absurd (true≢false (sym h))
 same_kind-is Table Memory h = absurd (true≢false (sym h))
 
 no_call : (a : Option Running) (r : Running) → a ≡ Some r → a ≡ None → ⊥

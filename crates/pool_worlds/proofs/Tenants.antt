@@ -18,7 +18,7 @@ use Rattle.pool_worlds.specs.declared.kinds.Kind.TheVariants.{Memory}
 use Rattle.pool_worlds.specs.PoolMachine.{World, InstanceLimits, Request, Running, Machine, WorldEvent, Step, Prepare, Restore, Clear, Begin, Turn, End, Cancel, caller_contents, slot_of, same_kind, after, after_all, after_turn, after_end, MayHappen, AllMayHappen, IsOpening}
 use Rattle.pool_worlds.specs.FreshMachine.{FreshCall, FreshMachine, fresh_after, fresh_answer, fresh_store_after, nothing_runs}
 use Rattle.pool_worlds.specs.Worlds.{answered, answered_by, answers, in_slots}
-use Rattle.pool_worlds.specs.Tenants.{TenantEvent, Tenants, Pools, pools_after, pools_after_all, AllMayCome, own_events, claim_read, tenant_reads, tenant_answers, IsSameCall, AreSameCalls, LookSame, OwnEventsDecide, free_warm, OpenWithin, WarmSlotsStayWithin}
+use Rattle.pool_worlds.specs.Tenants.{TenantEvent, Tenants, Pools, pools_after, pools_after_all, AllMayCome, own_events, claim_read, tenant_reads, tenant_answers, IsSameCall, AreSameCalls, LookSame, OwnEventsDecide, free_warm, WarmSlotsStayWithin}
 use Rattle.pool_worlds.proofs.Parts.{size-shown}
 use Rattle.pool_worlds.proofs.Steps.{Good, GoodCall, IsSound, after-good, same_kind-is}
 use Rattle.pool_worlds.proofs.Shadows.{all-good, answer-is, opening-good}

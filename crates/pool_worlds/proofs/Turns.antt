@@ -1,28 +1,22 @@
 -- What a host does for a call is turns of it.
-use Rattle.wasm_spec.specs.Execution.{Terms}
-use Rattle.std.proofs.Common.{◌≡◌, ℕ, zero, suc, ◌+◌, ◌-◌, ◌<◌, ◌≤◌, Bool, true, false, cond, List, [], length, refl, sym, ap, ◌∙◌, subst, arith, true≢false, ◌⊎◌, inl, inr, eq-eqb}
+use Rattle.std.proofs.Common.{◌≡◌, ℕ, zero, suc, ◌+◌, ◌-◌, ◌<◌, ◌≤◌, Bool, true, false, cond, List, length, refl, sym, ap, ◌∙◌, subst, arith, true≢false, ◌⊎◌, inl, inr, eq-eqb}
 use Rattle.std.specs.Prelude.{Option, Some, None, is_some, replicate, slice_index}
 use Rattle.std.proofs.lemmas.Bool.{cases_lt}
 use Rattle.wasm_values.specs.declared.outcome.Outcome.{Outcome}
 use Rattle.wasm_values.specs.declared.outcome.Outcome.TheVariants as outcome
-use Rattle.wasm_types.specs.Tree.{ModuleTree}
-use Rattle.wasm_spec.specs.Store.{Store, fresh_store}
-use Rattle.wasm_spec.specs.Result.{CallResult, answer_of, function_result, if_done_by, if_done, after_start}
+use Rattle.wasm_spec.specs.Store.{Store}
+use Rattle.wasm_spec.specs.Result.{CallResult, answer_of}
 use Rattle.wasm_spec.specs.MoreFuel.{is_fuel, is_fuel_end, with_more}
-use Rattle.wasm_spec.specs.Instances.{IsInstance}
-use Rattle.wasm_spec.proofs.ResultLaws.{function-spends, function-keeps, instance-kept, fresh-instance}
-use Rattle.wasm_spec.proofs.MoreFuel.{result-more, function-more, with_more-end}
-use Rattle.wasm_values.specs.declared.outcome.Val.{Val}
+use Rattle.wasm_spec.proofs.MoreFuel.{result-more, with_more-end}
 use Rattle.memory_blocks.specs.Blocks.{KeepsUnmarked, is_marked}
-use Rattle.memory_blocks.proofs.KeepingLemmas.{unmarked_more}
 use Rattle.pool_worlds.specs.Contents.{MemoryContents, Contents, needs, filled, turned}
 use Rattle.pool_worlds.specs.declared.kinds.Kind.{Kind}
 use Rattle.pool_worlds.specs.declared.kinds.Kind.TheVariants.{Memory}
 use Rattle.pool_worlds.specs.PoolMachine.{World, Request, Running, Machine, Turn, End, caller_contents, result, answer, store_or, store_after, last_store, after_end, told, IsFuelEnd, CanTurn, after_turn, after, after_all, AllMayHappen, MayHappen, terms_of}
 use Rattle.pool_worlds.specs.FreshMachine.{FreshCall, FreshMachine}
-use Rattle.pool_worlds.specs.Runs.{Leaves, RunsFunction, GoesOn, StartsAndGoesOn, HostRunsBy, AreItsTurns}
-use Rattle.pool_worlds.specs.Worlds.{Calls, RunsAreTurns, PreparingTwiceIsOnce}
-use Rattle.pool_worlds.proofs.Parts.{fits, turned-twice, prepared-twice}
+use Rattle.pool_worlds.specs.Runs.{AreItsTurns}
+use Rattle.pool_worlds.specs.Worlds.{Calls, PreparingTwiceIsOnce}
+use Rattle.pool_worlds.proofs.Parts.{turned-twice, prepared-twice}
 use Rattle.pool_worlds.proofs.Steps.{IsSound, Good, found, own-slots, next-is, instance-at}
 use Rattle.pool_worlds.proofs.Shadows.{good-at}
 
@@ -326,110 +320,6 @@ module _ (w : World) (p : Machine) (i : ℕ) (c : Running) (to : ℕ) (new : (k 
   -- it is so many turns, of those that it has, and its end
   pub ends-are : (l : Lasts w c to) → c.turns ≤ l.count → AreItsTurns w p i c new marks
   ends-are l le = ends-by l (l.count - c.turns) (omega arith)
-
--- ---- the start function's run and the export's
-
-module _ (pages : ℕ) (m : ModuleTree) (limits : Terms) (x : ℕ) (arguments : List Val) (store : Store) (fuel : ℕ) (old new : (k : Kind) → Contents k) (marks : List Bool) (r : CallResult)
-    (wide : (s : Store) (g : ℕ) (y : ℕ) (args : List Val) (r : CallResult) → IsInstance m pages (fresh_store m).table s → function_result m limits y args s g ≡ Some r → IsInstance m pages (fresh_store m).table r.store)
-    (begins : IsInstance m pages (fresh_store m).table store) where
-  abbrev next : Store → ℕ → Option CallResult
-  next = function_result m limits x arguments
-
-  abbrev whole : ℕ → ℕ → Option CallResult
-  whole y j = if_done (function_result m limits y [] store j) next
-
-  -- while the start function runs, the whole comes to what it does
-  runs-on : (o : Option CallResult) → is_fuel_end o ≡ true → if_done o next ≡ o
-  runs-on None h = refl
-  runs-on (Some f) h = by f.outcome f h refl where
-    by : (o : Outcome) (f : CallResult) → is_fuel o ≡ true → o ≡ f.outcome → if_done_by o f next ≡ Some f
-    by outcome.Fuel f h is = refl
-    by (outcome.Done v) f h is = absurd (true≢false (sym h))
-    by (outcome.Trap t) f h is = absurd (true≢false (sym h))
-
-  module _ (y : ℕ) (run : StartsAndGoesOn pages m limits y x arguments store fuel old new marks r) where
-    abbrev first : CallResult
-    first = run.first
-
-    first-instance : IsInstance m pages (fresh_store m).table first.store
-    first-instance = wide store fuel y [] first begins run.starts.gives
-
-    mid-is : needs Memory m ≡ true → run.mid Memory ≡ turned pages first.store run.mid_marks Memory (old Memory)
-    mid-is need = run.starts.left Memory need
-
-    -- the start function that has ended by the turn j ended there as it ends on all the fuel
-    ended-as : (j : ℕ) → j ≤ fuel → is_fuel_end (function_result m limits y [] store j) ≡ false → (b : CallResult) × (function_result m limits y [] store j ≡ Some b) × (b.outcome ≡ first.outcome) × (b.store ≡ first.store) × (b.fuel ≤ first.fuel)
-    ended-as j le e = by (fuel - j) (function_result m limits y [] store j) refl (sym (function-more (fuel - j) m limits y [] store j e) ∙ ap (function_result m limits y [] store) (let sum : j + (fuel - j) ≡ fuel = omega arith in sum) ∙ run.starts.gives) where
-      by : (d : ℕ) (o : Option CallResult) → o ≡ function_result m limits y [] store j → with_more d o ≡ Some first
-          → (b : CallResult) × (function_result m limits y [] store j ≡ Some b) × (b.outcome ≡ first.outcome) × (b.store ≡ first.store) × (b.fuel ≤ first.fuel)
-      by d None is e = absurd (cc)
-      by d (Some b) is e = (b, sym is, ap (λ (q : Option CallResult). outcome_or b.outcome q) e, ap (store_or b.store) e, let sum : b.fuel + d ≡ first.fuel = ap (fuel_or 0) e in omega arith)
-
-    -- the marks of the whole are those of the start function and maybe more
-    after-first : (kept : needs Memory m ≡ true → (i : ℕ) → is_marked marks i ≡ false → is_marked run.mid_marks i ≡ false) → needs Memory m ≡ true → (j : ℕ) (z : CallResult) → j ≤ fuel → function_result m limits y [] store j ≡ Some z
-        → KeepsUnmarked (old Memory).bytes (filled pages z.store.memory) (old Memory).marks marks
-    after-first kept need j z le e = let one = run.starts.marked need j z le e in record { bytes = λ i h. one.bytes i (kept need i h); marks = λ i h. one.marks i (kept need i h) }
-
-    whole-done : (v : Option Val) → outcome.Done v ≡ first.outcome → RunsFunction pages m limits x arguments first.store first.fuel run.mid new marks r → Leaves pages m (whole y) fuel old new marks r
-    whole-done v is second =
-        let last : IsInstance m pages (fresh_store m).table r.store = wide first.store first.fuel x arguments r first-instance second.gives in
-        let one = function-spends m limits y [] store fuel first run.starts.gives in
-        let two = function-spends m limits x arguments first.store first.fuel r second.gives in
-        let kept : needs Memory m ≡ true → (i : ℕ) → is_marked marks i ≡ false → is_marked run.mid_marks i ≡ false = λ need i h.
-        ap (λ (c : MemoryContents). is_marked c.marks i) (sym (mid-is need)) ∙ (second.marked need first.fuel r (omega arith) second.gives).marks i h in record {
-          gives = ap (λ (o : Option CallResult). if_done o next) run.starts.gives ∙ ap (λ (o : Outcome). if_done_by o first next) (sym is) ∙ second.gives;
-          left = λ k need. second.left k need ∙ ap (turned pages r.store marks k) (run.starts.left k need)
-              ∙ turned-twice pages first.store r.store run.mid_marks marks k (old k) (first-instance.globals_are ∙ sym last.globals_are);
-          marked = λ need j z le e.
-              let split : (b : Bool) → is_fuel_end (function_result m limits y [] store j) ≡ b → KeepsUnmarked (old Memory).bytes (filled pages z.store.memory) (old Memory).marks marks = elim [
-                | true ↦ λ h. after-first kept need j z le (sym (runs-on (function_result m limits y [] store j) h) ∙ e)
-                | false ↦ λ h. let b = ended-as j le h in
-                    let there : next first.store (b.0).fuel ≡ Some z = ap (λ (s : Store). next s (b.0).fuel) (sym b.3) ∙ ap (λ (o : Outcome). if_done_by o b.0 next) (is ∙ sym b.2) ∙ ap (λ (o : Option CallResult). if_done o next) (sym b.1) ∙ e in
-                    unmarked_more (old Memory).bytes (run.mid Memory).bytes (filled pages z.store.memory) (old Memory).marks (run.mid Memory).marks marks
-                    (subst (λ (c : MemoryContents). KeepsUnmarked (old Memory).bytes c.bytes (old Memory).marks c.marks) (sym (mid-is need)) (run.starts.marked need fuel first (omega arith) run.starts.gives))
-                    (second.marked need (b.0).fuel z b.4 there)
-              ] in split (is_fuel_end (function_result m limits y [] store j)) refl;
-        }
-
-    whole-stopped : ((f : CallResult) → f.outcome ≡ first.outcome → if_done_by f.outcome f next ≡ Some f) → (r ≡ first) × (marks ≡ run.mid_marks) × ((k : Kind) → needs k m ≡ true → new k ≡ run.mid k) → Leaves pages m (whole y) fuel old new marks r
-    whole-stopped stops same =
-        let kept : needs Memory m ≡ true → (i : ℕ) → is_marked marks i ≡ false → is_marked run.mid_marks i ≡ false = λ need i h. ap (λ (l : List Bool). is_marked l i) (sym same.1) ∙ h in record {
-          gives = ap (λ (o : Option CallResult). if_done o next) run.starts.gives ∙ stops first refl ∙ ap (λ (a : CallResult). Some a) (sym same.0);
-          left = λ k need. same.2 k need ∙ run.starts.left k need ∙ (λ i. turned pages ((sym same.0) i).store ((sym same.1) i) k (old k));
-          marked = λ need j z le e.
-              let split : (b : Bool) → is_fuel_end (function_result m limits y [] store j) ≡ b → KeepsUnmarked (old Memory).bytes (filled pages z.store.memory) (old Memory).marks marks = elim [
-                | true ↦ λ h. after-first kept need j z le (sym (runs-on (function_result m limits y [] store j) h) ∙ e)
-                | false ↦ λ h. let b = ended-as j le h in
-                    let there : ◌≡◌ {A = Option CallResult} (Some b.0) (Some z) = sym (stops b.0 b.2) ∙ ap (λ (o : Option CallResult). if_done o next) (sym b.1) ∙ e in
-                    let store_is : first.store ≡ z.store = sym b.3 ∙ ap (store_or (b.0).store) there in
-                    subst (λ (s : Store). KeepsUnmarked (old Memory).bytes (filled pages s.memory) (old Memory).marks marks) store_is (after-first kept need fuel first (omega arith) run.starts.gives)
-              ] in split (is_fuel_end (function_result m limits y [] store j)) refl;
-        }
-
-    whole-by : (o : Outcome) → o ≡ first.outcome → GoesOn pages m limits x arguments o first run.mid new run.mid_marks marks r → Leaves pages m (whole y) fuel old new marks r
-    whole-by (outcome.Done v) is second = whole-done v is second
-    whole-by (outcome.Trap t) is same = whole-stopped (λ f e. ap (λ (o : Outcome). if_done_by o f next) (e ∙ sym is)) same
-    whole-by outcome.Fuel is same = whole-stopped (λ f e. ap (λ (o : Outcome). if_done_by o f next) (e ∙ sym is)) same
-
-  whole-is : (start : Option ℕ) → HostRunsBy pages m limits start x arguments store fuel old new marks r → Leaves pages m (after_start m limits start (function_result m limits x arguments) store) fuel old new marks r
-  whole-is None run = run
-  whole-is (Some y) run = whole-by y run run.first.outcome refl run.goes_on
-
-pub runs-are-turns : RunsAreTurns
-runs-are-turns w p i c new marks r calls none runs = let b = begun-at w p i c calls in let s = b.sound in
-    let q : Request = c.request in let m : ModuleTree = q.named.tree in let f = fits w q.named s.is_module in
-    let limits : Terms = terms_of w.limits q.sent in
-    let wide : (s : Store) (g : ℕ) (y : ℕ) (args : List Val) (r : CallResult) → IsInstance m w.limits.pages (fresh_store m).table s → function_result m limits y args s g ≡ Some r → IsInstance m w.limits.pages (fresh_store m).table r.store =
-    λ s g y args r is e. function-keeps m limits (IsInstance m w.limits.pages (fresh_store m).table) (instance-kept m limits (fresh_store m).table) y args s g r is e in
-    let begins : IsInstance m w.limits.pages (fresh_store m).table c.begun = subst (IsInstance m w.limits.pages (fresh_store m).table) (sym s.begun_is) (fresh-instance m f.misfit w.limits.pages f.size) in
-    let run = whole-is w.limits.pages m limits q.function q.arguments c.begun q.fuel (caller_contents w p i) new marks r wide begins m.start runs in
-    let over : CanTurn w (at_turn c q.fuel) → ⊥ = λ can. let lt = can.fuel in absurd (omega arith) in
-    let each : needs Memory m ≡ true → (t : ℕ) (x : CallResult) → c.turns ≤ t → t ≤ q.fuel → result w c t ≡ Some x → KeepsUnmarked (caller_contents w p i Memory).bytes (filled w.limits.pages x.store.memory) (caller_contents w p i Memory).marks marks =
-    λ need t x late le e. run.marked need t x le e in
-    let all : q.fuel ≤ q.fuel = omega arith in (
-      ends-are w p i c q.fuel new marks r b calls.calls all over run.gives run.left each (lasts w c q.fuel) (omega (arith, none)),
-      ends-with w p i c q.fuel new marks r b calls.calls all over run.gives run.left each,
-    )
 
 pub preparing-twice : PreparingTwiceIsOnce
 preparing-twice w p m k n e is = prepared-twice w m is k (p.contents k n) ((good-at w p e).1.kept k n)

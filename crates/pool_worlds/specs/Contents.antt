@@ -6,7 +6,7 @@ use Rattle.wasm_types.specs.Tree.{ModuleTree}
 use Rattle.wasm_spec.specs.Store.{Store, fresh_store, minimum_of, page_size}
 use Rattle.memory_blocks.specs.Blocks.{is_marked}
 use Rattle.pool_worlds.specs.declared.kinds.Kind.{Kind}
-use Rattle.pool_worlds.specs.declared.kinds.Kind.TheVariants.{Ticket, Memory, Table}
+use Rattle.pool_worlds.specs.declared.kinds.Kind.TheVariants.{Instance, Memory, Table}
 use Rattle.pool_core.specs.declared.words.State.{State}
 use Rattle.pool_core.specs.declared.words.State.TheVariants.{Cold, Warm, Awaiting}
 
@@ -30,13 +30,13 @@ pub record TableContents : Type 0 where
 
 -- an instance's ticket has its globals; beside it an instance has a memory and a table, or one of them, or neither
 abbrev pub Contents : Kind → Type 0
-Contents Ticket = List Val
+Contents Instance = List Val
 Contents Memory = MemoryContents
 Contents Table = TableContents
 
 -- the module that contents belong to; a ticket belongs to none
 abbrev pub owner : (k : Kind) → Contents k → Option Named
-owner Ticket x = None
+owner Instance x = None
 owner Memory x = x.holds
 owner Table x = x.holds
 
@@ -69,7 +69,7 @@ rewritten_from i marks image (b ∷ bs) =
 
 -- Where the contents belong to this module already, the marked blocks alone are written, and else all. Of a ticket the module's globals are written.
 abbrev pub prepared : ℕ → Named → (k : Kind) → Contents k → Contents k
-prepared pages m Ticket x = (fresh_store m.tree).globals ++ drop (length (fresh_store m.tree).globals) x
+prepared pages m Instance x = (fresh_store m.tree).globals ++ drop (length (fresh_store m.tree).globals) x
 prepared pages m Memory x = record {
   bytes = if belongs_to m x.holds then rewritten_from 0 x.marks (memory_image pages (Some m)) x.bytes else memory_image pages (Some m);
   pages = minimum_of m.tree.memories;
@@ -88,7 +88,7 @@ restored pages k x = restored_for pages (owner k x) k x
 
 -- these contents in place of those of their kind
 abbrev pub replaced : (k : Kind) → Contents k → (j : Kind) → Contents j → Contents j
-replaced Ticket x Ticket y = x
+replaced Instance x Instance y = x
 replaced Memory x Memory y = x
 replaced Table x Table y = x
 replaced k x j y = y
@@ -97,7 +97,7 @@ replaced k x j y = y
 
 -- the kinds of which a call of the module needs a slot
 abbrev pub needs : Kind → ModuleTree → Bool
-needs Ticket m = true
+needs Instance m = true
 needs Memory m = nat_lt 0 (length m.memories)
 needs Table m = nat_lt 0 (length m.tables)
 
@@ -115,13 +115,13 @@ abbrev pub shown_store : ModuleTree → ((k : Kind) → Contents k) → Store
 shown_store m x = record {
   memory = shown_memory (needs Memory m) (x Memory);
   table = shown_table (needs Table m) (x Table);
-  globals = take (length m.globals) (x Ticket);
+  globals = take (length m.globals) (x Instance);
   answer = [];
 }
 
 -- the contents after a turn that left this store and these marks
 abbrev pub turned : ℕ → Store → List Bool → (k : Kind) → Contents k → Contents k
-turned pages store marks Ticket x = store.globals ++ drop (length store.globals) x
+turned pages store marks Instance x = store.globals ++ drop (length store.globals) x
 turned pages store marks Memory x = record x { bytes = filled pages store.memory; pages = length store.memory / page_size; marks = marks }
 turned pages store marks Table x = record x { entries = store.table }
 
@@ -139,7 +139,7 @@ pub record IsColdMemory (pages : ℕ) (x : MemoryContents) : Type 0 where
 
 -- A ticket is cold whatever its globals are: each call writes all of its own.
 abbrev pub IsCold : ℕ → (k : Kind) → Contents k → Type 0
-IsCold pages Ticket x = Unit {0}
+IsCold pages Instance x = Unit {0}
 IsCold pages Memory x = IsColdMemory pages x
 IsCold pages Table x = (x.holds ≡ None) × (x.entries ≡ [])
 
@@ -164,8 +164,8 @@ IsTableOf x m = (x.holds ≡ Some m) × (x.entries ≡ table_image (Some m))
 -- when contents may lie in a slot whose word says this
 abbrev pub Matches : ℕ → (k : Kind) → State → (tag : ℕ) → Contents k → Type 0
 Matches pages k Cold tag x = IsCold pages k x
-Matches pages Ticket Warm tag x = ⊥
-Matches pages Ticket Awaiting tag x = ⊥
+Matches pages Instance Warm tag x = ⊥
+Matches pages Instance Awaiting tag x = ⊥
 Matches pages Memory Warm tag x = (m : Named) × IsFreshMemory pages x m × (m.tag ≡ tag)
 Matches pages Memory Awaiting tag x = (m : Named) × IsUsedMemory pages x m × (m.tag ≡ tag)
 Matches pages Table Warm tag x = (m : Named) × IsTableOf x m × (m.tag ≡ tag)

@@ -1,5 +1,5 @@
 pub mod Contents
-pub mod Handed
+pub mod OwnTags
 pub mod Codes
 pub mod PoolMachine
 pub mod FreshMachine

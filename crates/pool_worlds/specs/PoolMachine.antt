@@ -22,7 +22,7 @@ use Rattle.pool_core.specs.RefusalRules.{refusal_of, seat_of}
 use Rattle.memory_blocks.specs.Blocks.{KeepsUnmarked}
 use Rattle.pool_worlds.specs.Contents.{Named, MemoryContents, Contents, owner, prepared, restored, replaced, needs, shown_store, turned, IsCold}
 use Rattle.pool_worlds.specs.declared.kinds.Kind.{Kind}
-use Rattle.pool_worlds.specs.declared.kinds.Kind.TheVariants.{Ticket, Memory, Table}
+use Rattle.pool_worlds.specs.declared.kinds.Kind.TheVariants.{Instance, Memory, Table}
 
 pub record InstanceLimits : Type 0 where
   pub pages : ℕ
@@ -93,7 +93,7 @@ abbrev pub caller_contents : World → Machine → ℕ → (k : Kind) → Conten
 caller_contents w p i k = p.contents k (slot_of w p i k)
 
 abbrev pub same_kind : Kind → Kind → Bool
-same_kind Ticket Ticket = true
+same_kind Instance Instance = true
 same_kind Memory Memory = true
 same_kind Table Table = true
 same_kind k j = false

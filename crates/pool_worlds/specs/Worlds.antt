@@ -7,7 +7,7 @@ use Rattle.pool_worlds.specs.Contents.{Named, MemoryContents, Contents, prepared
 use Rattle.pool_worlds.specs.declared.kinds.Kind.{Kind}
 use Rattle.pool_worlds.specs.declared.kinds.Kind.TheVariants.{Memory}
 use Rattle.pool_worlds.specs.PoolMachine.{World, Request, Running, Machine, WorldEvent, caller_contents, answer, after_all, AllMayHappen, IsOpening, IsModule, End, after, result, IsFuelEnd, CanTurn}
-use Rattle.pool_worlds.specs.Runs.{HostRuns, AreItsTurns, HostResumes, AreTurnsTo}
+use Rattle.pool_worlds.specs.Runs.{AreItsTurns, HostResumes, AreTurnsTo}
 use Rattle.pool_worlds.specs.FreshMachine.{FreshCall, FreshMachine, fresh_answer, fresh_after_all, nothing_runs}
 
 -- the bytes past the size are zero
@@ -92,11 +92,6 @@ AnswersAgree = (w v : World) (p q : Machine) (es ds : List WorldEvent) (i j n m 
     → IsOpening w p → AllMayHappen w p es → IsOpening v q → AllMayHappen v q ds
     → slice_get (answers w p es i) n ≡ Some a → slice_get (answers v q ds j) m ≡ Some b → IsSameRequest a.0 b.0 → a.1 ≡ b.1
 
--- What a host does for a call that has just begun is turns of it, as many as it can make; and it answers as the call does.
-abbrev pub RunsAreTurns : Type 0
-RunsAreTurns = (w : World) (p : Machine) (i : ℕ) (c : Running) (new : (k : Kind) → Contents k) (marks : List Bool) (r : CallResult) → Calls w p i c → c.turns ≡ 0
-    → HostRuns w c (caller_contents w p i) new marks r → AreItsTurns w p i c new marks × (answer w c ≡ Some (r.outcome, answer_of r))
-
 -- a call that has made no turn, or waits for its next
 abbrev pub IsPaused : World → Running → Type 0
 IsPaused w c = (c.turns ≡ 0) ⊎ IsFuelEnd (result w c c.turns)
@@ -106,7 +101,7 @@ pub record AreTurnsOf (w : World) (p : Machine) (i : ℕ) (c : Running) (to : �
   pub goes_on : CanTurn w (record c { turns = to }) → AreTurnsTo w p i c to new marks
   pub ends : ¬ (CanTurn w (record c { turns = to })) → AreItsTurns w p i c new marks × (answer w c ≡ Some (r.outcome, answer_of r))
 
--- What a host does for a slice of a paused call is turns of it.
+-- What a host does for a slice of a call is turns of it. A whole call is a slice from none to all its fuel.
 abbrev pub SlicesAreTurns : Type 0
 SlicesAreTurns = (w : World) (p : Machine) (i : ℕ) (c : Running) (to : ℕ) (new : (k : Kind) → Contents k) (marks : List Bool) (r : CallResult) → Calls w p i c → IsPaused w c
     → c.turns ≤ to → to ≤ c.request.fuel → HostResumes w c to (caller_contents w p i) new marks r → AreTurnsOf w p i c to new marks r

@@ -4,7 +4,7 @@
 #[derive(Clone, Copy, Debug, PartialEq, Eq)]
 pub enum Kind {
     /// What every instance has: its globals, and the stacks of its run.
-    Ticket,
+    Instance,
     Memory,
     Table,
 }

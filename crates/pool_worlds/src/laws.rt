@@ -1,5 +1,5 @@
 //! What holds of every pool in use. Each function does nothing: its contract is the law.
-ghost use Rattle.pool_worlds.specs.Worlds.{AlwaysShadow, TwoWorldsAgree, AnswersAgree, RunsAreTurns, SlicesAreTurns, PreparingTwiceIsOnce};
+ghost use Rattle.pool_worlds.specs.Worlds.{AlwaysShadow, TwoWorldsAgree, AnswersAgree, SlicesAreTurns, PreparingTwiceIsOnce};
 ghost use Rattle.pool_worlds.specs.Histories.{StepsAreHistories};
 ghost use Rattle.pool_worlds.specs.Tenants.{OwnEventsDecide, WarmSlotsStayWithin};
 ghost use Rattle.pool_worlds.specs.Fitting.{FreeSlotsFit, ClearedFitsCold, RestoredFitsWarm, UsedFitsAwaiting, TablesFitWarm};
@@ -15,12 +15,7 @@ pub fn two_worlds()
     ensures answers { AnswersAgree }
 {}
 
-/// A run of the machine on all of a call's fuel, as its contract says it, is turns of the call, after which it ends.
-pub fn runs_are_turns()
-    ensures { RunsAreTurns }
-{}
-
-/// A slice of a paused call, as the contract of what makes it says it, is turns of the call: as many as the slice has, where the call goes on, or those up to its end, and its end.
+/// A slice of a paused call, as the contract of what makes it says it, is turns of the call: as many as the slice has, where the call goes on, or those up to its end, and its end. A call that is made at once is a slice of all its fuel.
 pub fn slices_are_turns()
     ensures { SlicesAreTurns }
 {}

@@ -7,13 +7,23 @@ use std::alloc::Global;
 use wasm_values::{Items, NoMemory, Val};
 
 /// A call of an export, on this fuel, in instructions, with these arguments.
-#[derive(Drop)]
 pub struct Invocation {
     pub export: Items<u8>,
     pub fuel: u32,
     /// The bytes that a `send` line sends. A `call` line sends none, and its answer shows none.
     pub request: Option<Payload>,
     pub args: Items<Val>,
+}
+
+impl Drop for Invocation {
+    fn drop(self) {
+        let Invocation {
+            export: _,
+            fuel: _,
+            request: _,
+            args: _,
+        } = self;
+    }
 }
 
 // A copy of a request, if there is one.

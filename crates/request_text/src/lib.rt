@@ -17,6 +17,9 @@ mod tenants;
 pub use invocation::Invocation;
 pub use parser::parse;
 pub use refusal::write_text_fault;
+pub use report_text::{
+    CallLine, ModuleLine, write_call, write_module, write_retire, write_summary,
+};
 pub use request::{
     Directive, MOST_BYTES, MOST_CALLS, MOST_MODULES, MOST_NAME_BYTES, ParseFault, Reason, Requests,
 };

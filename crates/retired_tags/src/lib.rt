@@ -17,6 +17,3 @@ pub use rule::Ruled;
 pub use setup::Setup;
 pub use tags::RetiredTags;
 pub use views::{TagPass, TagStep, TagView};
-
-#[cfg(test)]
-mod tests;

@@ -63,24 +63,26 @@ module _ (tag : ℕ) (seen order : List ℕ) (listed : OwnAreListed tag seen ord
 abbrev pub Orders : Type 0
 Orders = (seen : List ℕ) (tag : ℕ) (full : Bool) (order : List ℕ) → IsOrder seen tag full order → OwnAreListed tag seen order × OwnOrAllBefore tag seen order
 
-pub batched_prefers : Orders → (limit slots tag n read : ℕ) (done : List Operation) → IsBatchedTake limit slots tag n read done → PrefersOwn tag n done
+pub batched_prefers : Orders → (limit slots tag n read : ℕ) (done : List Operation) → IsBatchedTake limit slots tag n read done → PrefersOwn slots tag n done
 batched_prefers orders limit slots tag n read done take =
     let look : IsLook limit slots tag take.0 take.1.first = take.1.is_first in let win = take.1.is_second in
     let says = orders look.seen tag (leb limit look.warm) take.0 look.order_is in record {
       warm = look.warm;
       seen = look.seen;
+      all_seen = look.all_seen;
       after = take.1.second;
       done_is = take.1.done_is ∙ ap (λ os. os ++ take.1.second) look.done_is;
       own = rw win.done_is (more_prefers tag look.seen take.0 says.0 says.1 n win.first win.second
           (⊎_elim (won_prefers tag look.seen take.0 says.0 says.1 n read win.first) (swept_prefers tag look.seen take.0 says.0 says.1 n _ win.first) win.is_first));
     }
 
-pub affine_prefers : Orders → (limit slots tag n read : ℕ) (done : List Operation) → IsAffineTake limit slots tag n read done → PrefersOwn tag n done
+pub affine_prefers : Orders → (limit slots tag n read : ℕ) (done : List Operation) → IsAffineTake limit slots tag n read done → PrefersOwn slots tag n done
 affine_prefers orders limit slots tag n read done take =
     let look : IsLook limit slots tag take.0 take.1.first = take.1.is_first in let win = take.1.is_second in
     let says = orders look.seen tag (leb limit look.warm) take.0 look.order_is in record {
       warm = look.warm;
       seen = look.seen;
+      all_seen = look.all_seen;
       after = take.1.second;
       done_is = take.1.done_is ∙ ap (λ os. os ++ take.1.second) look.done_is;
       own = rw win.done_is (more_prefers tag look.seen take.0 says.0 says.1 n win.first win.second

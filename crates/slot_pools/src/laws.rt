@@ -44,8 +44,8 @@ pub fn own_warm_slots_come_first()
 
 /// A take hands out a slot that its scan saw free and warm for its module, unless the claim of each such slot was lost.
 pub fn takes_prefer_their_own()
-    ensures batched { (limit slots tag n read : ℕ) (done : List Operation) → IsBatchedTake limit slots tag n read done → PrefersOwn tag n done }
-    ensures affine { (limit slots tag n read : ℕ) (done : List Operation) → IsAffineTake limit slots tag n read done → PrefersOwn tag n done }
+    ensures batched { (limit slots tag n read : ℕ) (done : List Operation) → IsBatchedTake limit slots tag n read done → PrefersOwn slots tag n done }
+    ensures affine { (limit slots tag n read : ℕ) (done : List Operation) → IsAffineTake limit slots tag n read done → PrefersOwn slots tag n done }
 {
     own_come_first();
 }

@@ -19,6 +19,3 @@ pub use decommit_batch::sweep;
 pub use giving::{give_cold, give_warm};
 pub use opening::{OpenSlot, open};
 pub use taking::{take_affine, take_any, take_batched};
-
-#[cfg(test)]
-mod tests;

@@ -29,6 +29,3 @@ pub use rule::Ruled;
 pub use seen::Seen;
 pub use views::{Bounds, Operation, Pass, PassView, SeatTrail};
 pub use words::Words;
-
-#[cfg(test)]
-mod tests;

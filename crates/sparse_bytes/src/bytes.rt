@@ -10,9 +10,14 @@ use wasm_values::NoMemory;
 pub const CELL_SIZE: usize = 64;
 
 /// Bytes from 0 on without end, all zero but in the cells that were written to.
-#[derive(Drop)]
 pub struct SparseBytes {
     cells: BTreeMap<usize, [u8; CELL_SIZE]>,
+}
+
+impl Drop for SparseBytes {
+    fn drop(self) {
+        let SparseBytes { cells: _ } = self;
+    }
 }
 
 // Writes a cell from a place on, as far as the part reaches.

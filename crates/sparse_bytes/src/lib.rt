@@ -2,7 +2,5 @@
 #![tactic(auto)]
 
 mod bytes;
-#[cfg(test)]
-mod tests;
 
 pub use bytes::{CELL_SIZE, SparseBytes};

@@ -3,8 +3,6 @@
 
 mod pool;
 mod slot;
-#[cfg(test)]
-mod tests;
 
 pub use pool::{give, take};
 pub use slot::TableSlot;

@@ -1,14 +1,13 @@
 //! Tables are taken out of their pool and given back.
 ghost use Rattle.std.specs.Prelude.{◌≡◌, ◌<◌, true, false, is_some, IfOk, OnErr};
-ghost use Rattle.pool_core.specs.declared.words.State.TheVariants.{Warm};
-ghost use Rattle.slot_words.specs.Leases.{lease_number, lease_word};
+ghost use Rattle.slot_words.specs.Leases.{lease_number};
 ghost use Rattle.slot_words.specs.Owned.{IsPassOf, passes_of, slots_of};
 ghost use Rattle.slot_words.specs.Passes.{Holds, IsIdle, IsSamePass, share_of};
 ghost use Rattle.slot_pools.specs.Gives.{GivesWarm};
 ghost use Rattle.slot_pools.specs.Takes.{TakesAffine, MeetsFullAffine};
-ghost use Rattle.pool_worlds.specs.Contents.{IsTableOf, Matches};
+ghost use Rattle.pool_worlds.specs.Contents.{IsTableOf};
 ghost use Rattle.pool_worlds.specs.declared.kinds.Kind.TheVariants.{Table};
-ghost use Rattle.pool_worlds.specs.Handed.{own_tag, IsHandedOut};
+ghost use Rattle.pool_worlds.specs.OwnTags.{own_tag};
 
 use crate::slot::TableSlot;
 use module_store::{ModuleRef, ModuleStore, Naming};
@@ -36,7 +35,6 @@ pub fn take<N: Naming>(
     ensures number { IfOk result (λ l. lease_number l < slots_of pool.now) }
     ensures holds { IfOk result (λ l. Holds pass.new (lease_number l) false false false) }
     ensures table { IfOk result (λ l. IsTableOf l.value «module».now) }
-    ensures handed { IfOk result (λ l. IsHandedOut N.config.pages Table «module».now (lease_word l) l.value) }
     ensures trail { IfOk result (TakesAffine pool.now «module».now.tag pass.old pass.new) }
 
     // it won nothing
@@ -61,7 +59,6 @@ pub fn give<N: Naming>(
     requires belongs { is_some lease.value.holds ≡ true }
     ensures same { IsSamePass pass.old pass.new }
     ensures idle { IsIdle pass.new }
-    ensures took { Matches N.config.pages Table Warm (own_tag Table lease.value) lease.value }
     ensures trail { GivesWarm pool.now (own_tag Table lease.value) lease pass.old pass.new }
 {
     lease.value.is_its_modules();

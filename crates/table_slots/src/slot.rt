@@ -3,7 +3,7 @@ ghost use Rattle.std.specs.Prelude.{◌≡◌, true, is_some, IfOk};
 ghost use Rattle.pool_core.specs.declared.words.State.TheVariants.{Warm};
 ghost use Rattle.pool_worlds.specs.Contents.{prepared, restored, IsCold, IsTableOf, Matches};
 ghost use Rattle.pool_worlds.specs.declared.kinds.Kind.TheVariants.{Table};
-ghost use Rattle.pool_worlds.specs.Handed.{own_tag, fits-own_tag};
+ghost use Rattle.pool_worlds.specs.OwnTags.{own_tag, fits-own_tag};
 
 use initial_image::write_table;
 use module_store::{ModuleRef, ModuleStore, Naming};
@@ -15,7 +15,6 @@ use wasm_values::NoMemory;
 
 /// A table that lies in a slot, with room for the configured elements. No run writes to a table, so its entries are those of
 /// its own module. Contracts see its contents.
-#[derive(Drop)]
 pub struct TableSlot<N: Naming> {
     entries: Vec<Option<u32>>,
     // How many of the entries are the table's.
@@ -36,6 +35,16 @@ impl<N: Naming> Model for TableSlot<N> {
     ghost view = { λ s. record { entries = take s.count s.entries.items; holds = s.holds } };
 
     ghost invariant = { λ s. IsKeptTable N.config s.entries.items s.count s.holds };
+}
+
+impl<N: Naming> Drop for TableSlot<N> {
+    fn drop(self) {
+        let TableSlot {
+            entries: _,
+            count: _,
+            holds: _,
+        } = self;
+    }
 }
 
 impl<N: Naming> TableSlot<N> {

@@ -32,16 +32,18 @@ impl<N: Naming> ShareHost<N> {
         pass: &mut TenantPass<N>,
         store: &ModuleStore<N>,
         module: &ModuleRef<N>,
-        asked: &Asked<'_>,
+        export: &[u8],
+        args: &[Val],
+        request: &[u8],
+        fuel: u64,
         number: u64,
         gate: &G,
     ) -> Answer
         requires pass { IsTenantPass self.now pass.old }
-        requires request { length asked.now.request.now ≤ 65536 }
+        requires request { length request.now ≤ 65536 }
         ensures own { IsTenantPass self.now pass.new }
         ensures same { IsSameTenantPass pass.old pass.new }
-        ensures answer { IsHostAnswer «module».now.tree (run_limits N.config) asked.now.export.now asked.now.args.now asked.now.request.now asked.now.fuel
-            result pass.new.pass.answer }
+        ensures answer { IsHostAnswer «module».now.tree (run_limits N.config) export.now args.now request.now fuel result pass.new.pass.answer }
 
         // all of it on the tenant's own host: where a kind is full, other passes of the tenant held its slots; a module is retired there
         ensures trails { (host : Host N) → IsHostOf self.now pass.old.tenant host
@@ -56,13 +58,41 @@ impl<N: Naming> ShareHost<N> {
             &mut pass.pass,
             store,
             module,
-            asked.export,
-            asked.args,
-            asked.request,
-            asked.fuel,
+            export,
+            args,
+            request,
+            fuel,
             number,
             gate,
         )
+    }
+
+    /// Calls as [`ShareHost::send`] does, with a request of no bytes.
+    pub fn call<G: Gate>(
+        &self,
+        pass: &mut TenantPass<N>,
+        store: &ModuleStore<N>,
+        module: &ModuleRef<N>,
+        export: &[u8],
+        args: &[Val],
+        fuel: u64,
+        number: u64,
+        gate: &G,
+    ) -> Answer
+        requires pass { IsTenantPass self.now pass.old }
+        ensures own { IsTenantPass self.now pass.new }
+        ensures same { IsSameTenantPass pass.old pass.new }
+        ensures answer { IsHostAnswer «module».now.tree (run_limits N.config) export.now args.now [] fuel result pass.new.pass.answer }
+
+        // all of it on the tenant's own host, as for `send`
+        ensures trails { (host : Host N) → IsHostOf self.now pass.old.tenant host
+            → AddsTrails N.config host «module».now result pass.old.pass.passes pass.new.pass.passes }
+        ensures full { (host : Host N) → IsHostOf self.now pass.old.tenant host
+            → IfFull result (HasCause N.config host «module».now pass.old.pass.passes pass.new.pass.passes) }
+        ensures looked { (host : Host N) → IsHostOf self.now pass.old.tenant host
+            → Looked host.retired.tags «module».now.tag pass.old.pass.retired pass.new.pass.retired (look_of result) }
+    {
+        self.send(pass, store, module, export, args, &[], fuel, number, gate)
     }
 
     /// Calls as `send` does for a caller, with its pass of this tenant: on slots of this tenant alone.
@@ -93,6 +123,14 @@ impl<N: Naming> ShareHost<N> {
         ensures bytes { (t : ℕ) → t ≢ tenant → answer_of caller.new t ≡ answer_of caller.old t }
     {
         let pass = &mut caller.passes[tenant as usize];
-        self.send(pass, store, module, asked, number, gate)
+        let Asked {
+            export,
+            args,
+            request,
+            fuel,
+        } = *asked;
+        self.send(
+            pass, store, module, export, args, request, fuel, number, gate,
+        )
     }
 }

@@ -12,4 +12,5 @@ mod share_host;
 pub use calling::Asked;
 pub use passes::{Caller, TenantPass};
 pub use plan::Plan;
+pub use pool_limits::{PlanFault, Want};
 pub use share_host::ShareHost;

@@ -6,10 +6,15 @@ use module_store::Naming;
 use pool_host::HostPass;
 
 /// The leave to make calls on one tenant's host, one at a time.
-#[derive(Drop)]
 pub struct TenantPass<N: Naming> {
     pub(crate) pass: HostPass<N>,
     pub(crate) tenant: usize,
+}
+
+impl<N: Naming> Drop for TenantPass<N> {
+    fn drop(self) {
+        let TenantPass { pass: _, tenant: _ } = self;
+    }
 }
 
 impl<N: Naming> TenantPass<N> {
@@ -22,9 +27,14 @@ impl<N: Naming> TenantPass<N> {
 }
 
 /// A caller's passes: one of each tenant, by the tenants' numbers.
-#[derive(Drop)]
 pub struct Caller<N: Naming> {
     pub(crate) passes: Vec<TenantPass<N>>,
+}
+
+impl<N: Naming> Drop for Caller<N> {
+    fn drop(self) {
+        let Caller { passes: _ } = self;
+    }
 }
 
 impl<N: Naming> Caller<N> {

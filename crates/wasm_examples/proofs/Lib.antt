@@ -16,7 +16,6 @@ pub mod LoadingExamples
 pub mod NeedExamples
 pub mod ValidityExamples
 pub mod WorkedModules
-pub mod OpcodeExamples
 pub mod StuckExamples
 pub mod ReturnExamples
 pub mod FuelExamples

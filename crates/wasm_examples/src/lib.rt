@@ -1,17 +1,5 @@
 //! Computed examples of the definitions of WebAssembly 1.0 and of profiles 2 and 3: a definition with a wrong digit or in a wrong order
-//! makes one fail; and modules that are validated as other sources say.
+//! makes one fail.
 //!
 //! Source: WebAssembly Core Specification 1.0; for what profile 2 adds, version 2.0. Nothing stands on this crate.
 #![tactic(auto)]
-
-#[cfg(test)]
-mod decoded_code;
-#[cfg(test)]
-mod decoded_modules;
-pub mod laws;
-#[cfg(test)]
-mod rows;
-#[cfg(test)]
-mod stacks;
-#[cfg(test)]
-mod tests;

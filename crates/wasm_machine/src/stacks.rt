@@ -7,7 +7,6 @@ use std::marker::Model;
 use wasm_values::NoMemory;
 
 /// Room for the frames of a run: so many of them, each of so many entries.
-#[derive(Drop)]
 pub struct Stacks {
     pub(crate) machine: Machine,
     depth: u32,
@@ -23,6 +22,16 @@ impl Model for Stacks {
     ghost view = { λ s. record { room = record { depth = s.depth; frame = s.frame }; machine = s.machine } };
 
     ghost invariant = { λ s. HasRoom s.depth s.frame s.machine };
+}
+
+impl Drop for Stacks {
+    fn drop(self) {
+        let Stacks {
+            machine: _,
+            depth: _,
+            frame: _,
+        } = self;
+    }
 }
 
 impl Stacks {

@@ -26,6 +26,3 @@ pub use i64_operators::{
     i64_popcnt, i64_rem_s, i64_rem_u, i64_rotl, i64_rotr, i64_shl, i64_shr_s, i64_shr_u, i64_sub,
     i64_xor,
 };
-
-#[cfg(test)]
-mod tests;

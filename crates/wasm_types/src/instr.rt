@@ -128,7 +128,12 @@ pub enum Op {
 }
 
 /// Code as numbered sequences, each of which names only earlier ones. The last one is the outermost.
-#[derive(Drop)]
 pub struct Expr {
     pub sequences: Items<Items<Op>>,
+}
+
+impl Drop for Expr {
+    fn drop(self) {
+        let Expr { sequences: _ } = self;
+    }
 }

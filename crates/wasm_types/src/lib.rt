@@ -19,3 +19,4 @@ pub use module::{
 };
 pub use sequences::{named, op_at};
 pub use types::{FuncType, GlobalType, Limits, ValType, same_function_types, same_types};
+pub use wasm_values::{NoMemory, Outcome, TrapKind, Val};

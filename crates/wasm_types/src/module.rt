@@ -12,18 +12,35 @@ pub struct LocalRun {
 }
 
 /// A function: the index of its type, its declared locals, its body. Source: section 2.5.3.
-#[derive(Drop)]
 pub struct Function {
     pub type_index: u32,
     pub locals: Items<LocalRun>,
     pub body: Expr,
 }
 
+impl Drop for Function {
+    fn drop(self) {
+        let Function {
+            type_index: _,
+            locals: _,
+            body: _,
+        } = self;
+    }
+}
+
 /// A global and its initialiser. Source: section 2.5.6.
-#[derive(Drop)]
 pub struct Global {
     pub global_type: GlobalType,
     pub init: Expr,
+}
+
+impl Drop for Global {
+    fn drop(self) {
+        let Global {
+            global_type: _,
+            init: _,
+        } = self;
+    }
 }
 
 /// What an import or an export is. Source: sections 2.5.10 and 2.5.11.
@@ -36,10 +53,15 @@ pub enum ExportDesc {
 }
 
 /// An export: its name, as UTF-8 bytes, and what it is. Source: section 2.5.10.
-#[derive(Drop)]
 pub struct Export {
     pub name: Items<u8>,
     pub desc: ExportDesc,
+}
+
+impl Drop for Export {
+    fn drop(self) {
+        let Export { name: _, desc: _ } = self;
+    }
 }
 
 /// What is imported. Source: section 2.5.11.
@@ -52,27 +74,54 @@ pub enum ImportDesc {
 }
 
 /// An import: the two parts of its name, as UTF-8 bytes, and what it is. Source: section 2.5.11.
-#[derive(Drop)]
 pub struct Import {
     pub module_name: Items<u8>,
     pub item_name: Items<u8>,
     pub desc: ImportDesc,
 }
 
+impl Drop for Import {
+    fn drop(self) {
+        let Import {
+            module_name: _,
+            item_name: _,
+            desc: _,
+        } = self;
+    }
+}
+
 /// An element segment: function indices to write into a table from an offset on. Source: section 2.5.7.
-#[derive(Drop)]
 pub struct ElementSegment {
     pub table: u32,
     pub offset: Expr,
     pub functions: Items<u32>,
 }
 
+impl Drop for ElementSegment {
+    fn drop(self) {
+        let ElementSegment {
+            table: _,
+            offset: _,
+            functions: _,
+        } = self;
+    }
+}
+
 /// A data segment: bytes to write into a memory from an offset on. Source: section 2.5.8.
-#[derive(Drop)]
 pub struct DataSegment {
     pub memory: u32,
     pub offset: Expr,
     pub bytes: Items<u8>,
+}
+
+impl Drop for DataSegment {
+    fn drop(self) {
+        let DataSegment {
+            memory: _,
+            offset: _,
+            bytes: _,
+        } = self;
+    }
 }
 
 /// A module. Custom sections are not kept. Source: section 2.5.

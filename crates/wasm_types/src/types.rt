@@ -16,10 +16,18 @@ pub enum ValType {
 
 /// The type of a function. The binary format allows several results; a valid module has at most one.
 /// Source: section 2.3.3.
-#[derive(Drop)]
 pub struct FuncType {
     pub params: Items<ValType>,
     pub results: Items<ValType>,
+}
+
+impl Drop for FuncType {
+    fn drop(self) {
+        let FuncType {
+            params: _,
+            results: _,
+        } = self;
+    }
 }
 
 /// The size range of a memory, in pages of 65,536 bytes, or of a table, in elements. Source: section 2.3.4.

@@ -59,7 +59,6 @@ impl From<CheckFault> for ValidFault {
 
 /// A valid module, the numbers of its exports by name, and what each of its functions' frames needs. Contracts see it as the
 /// module.
-#[derive(Drop)]
 pub struct Valid {
     module: Module,
     by_name: Vec<u32>,
@@ -75,6 +74,16 @@ impl Model for Valid {
     ghost view = { λ v. v.module };
 
     ghost invariant = { λ v. IsValidated v.module v.by_name.items v.needs.items };
+}
+
+impl Drop for Valid {
+    fn drop(self) {
+        let Valid {
+            module: _,
+            by_name: _,
+            needs: _,
+        } = self;
+    }
 }
 
 // Whether this host runs modules of this kind in a profile.

@@ -5,7 +5,6 @@ ghost use Rattle.std.specs.Prelude.{◌≡◌, ◌↔◌, ◌<◌, ◌^◌, [], 
 use std::marker::Model;
 
 /// A vector of fixed length, which contracts see as the list of its items.
-#[derive(Drop)]
 pub struct Items<T> {
     items: Vec<T>,
 }
@@ -16,6 +15,12 @@ impl<T> Model for Items<T> {
     ghost Value = { List T };
 
     ghost view = { λ list. list.items.items };
+}
+
+impl<T: Drop> Drop for Items<T> {
+    fn drop(self) {
+        let Items { items: _ } = self;
+    }
 }
 
 impl<T> Items<T> {
@@ -30,7 +35,8 @@ impl<T> Items<T> {
     pub fn into_vec(self) -> Vec<T>
         ensures { result.items ≡ self }
     {
-        self.items
+        let Items { items } = self;
+        items
     }
 
     pub fn as_slice(&self) -> &[T]

@@ -11,7 +11,7 @@ use Rattle.pool_core.specs.declared.events.Event.TheVariants.{Claim, Out}
 use Rattle.pool_core.specs.PoolCore.{opening_core}
 use Rattle.pool_worlds.specs.Contents.{Named, needs}
 use Rattle.pool_worlds.specs.declared.kinds.Kind.{Kind}
-use Rattle.pool_worlds.specs.declared.kinds.Kind.TheVariants.{Ticket, Memory, Table}
+use Rattle.pool_worlds.specs.declared.kinds.Kind.TheVariants.{Instance, Memory, Table}
 use Rattle.pool_worlds.specs.PoolMachine.{World, Request, Machine, WorldEvent, Step, Begin, Turn, End, IsModule, IsCallable, HasOut, after_all, AllMayHappen, answer, IsOpening}
 use Rattle.world_examples.proofs.NoCode.{no_code}
 use Rattle.world_examples.proofs.Scenes.{cold, cold_is, done}
@@ -39,7 +39,7 @@ abbrev request : Request
 request = record { named = named; function = 0; arguments = I32 2 ∷ I32 3 ∷ []; sent = []; fuel = 100 }
 
 abbrev events : List WorldEvent
-events = Step Ticket (Claim 0 0) ∷ Step Ticket (Out 0 0) ∷ Begin 0 request ∷ Turn 0 [] ∷ Turn 0 [] ∷ Turn 0 [] ∷ End 0 [] ∷ []
+events = Step Instance (Claim 0 0) ∷ Step Instance (Out 0 0) ∷ Begin 0 request ∷ Turn 0 [] ∷ Turn 0 [] ∷ Turn 0 [] ∷ End 0 [] ∷ []
 
 is_module : IsModule world named
 is_module = record { on_shelf = refl; profile = One; bytes = add_bytes; loads = add_loads }
@@ -54,10 +54,10 @@ callable = record {
 }
 
 abbrev ready : Machine
-ready = after_all world opened_alone (Step Ticket (Claim 0 0) ∷ Step Ticket (Out 0 0) ∷ [])
+ready = after_all world opened_alone (Step Instance (Claim 0 0) ∷ Step Instance (Out 0 0) ∷ [])
 
 its_slots : (k : Kind) → needs k add ≡ true → HasOut ready k 0
-its_slots Ticket h = record { number = 0; holds = refl; out = refl }
+its_slots Instance h = record { number = 0; holds = refl; out = refl }
 its_slots Memory h = absurd (true≢false (sym h))
 its_slots Table h = absurd (true≢false (sym h))
 

@@ -9,7 +9,7 @@ use Rattle.pool_core.specs.declared.events.Event.TheVariants.{Stamp}
 use Rattle.pool_core.specs.RefusalRules.{refusal_of}
 use Rattle.memory_blocks.specs.Blocks.{KeepsUnmarked}
 use Rattle.pool_worlds.specs.Contents.{Named}
-use Rattle.pool_worlds.specs.declared.kinds.Kind.TheVariants.{Ticket, Memory, Table}
+use Rattle.pool_worlds.specs.declared.kinds.Kind.TheVariants.{Instance, Memory, Table}
 use Rattle.pool_worlds.specs.PoolMachine.{InstanceLimits, World, Step, Begin, load_limits, slot_of, terms_of, same_kind, answer, after, MayHappen, IsModule, IsOpening}
 use Rattle.world_examples.proofs.NoCode.{no_code}
 use Rattle.world_examples.proofs.FreshCalls.{set_module}
@@ -21,25 +21,25 @@ use Rattle.world_examples.proofs.Scenes.{call_is_there}
 abbrev pub beside : World
 beside = record world { seats = λ k i. i + 1; apart = λ k i j e. omega (arith, e) }
 
-slot_of_its_seat : slot_of beside taken 0 Ticket ≡ 1
+slot_of_its_seat : slot_of beside taken 0 Instance ≡ 1
 slot_of_its_seat = refl
 
 no_call_by_a_seat_of_nobody : MayHappen beside taken (Begin 1 (request_of 0 2)) → ⊥
-no_call_by_a_seat_of_nobody may = let e = (may.1 Ticket refl).holds in cc
+no_call_by_a_seat_of_nobody may = let e = (may.1 Instance refl).holds in cc
 
-its_pool_allows_the_step : refusal_of (taken.core Ticket) (Stamp 1) ≡ 0
+its_pool_allows_the_step : refusal_of (taken.core Instance) (Stamp 1) ≡ 0
 its_pool_allows_the_step = refl
 
-no_step_of_its_seat_while_it_runs : MayHappen beside (after beside taken (Begin 0 (request_of 0 2))) (Step Ticket (Stamp 1)) → ⊥
+no_step_of_its_seat_while_it_runs : MayHappen beside (after beside taken (Begin 0 (request_of 0 2))) (Step Instance (Stamp 1)) → ⊥
 no_step_of_its_seat_while_it_runs may = call_is_there (may.1 0 refl)
 
-its_slot_is_prepared : (after beside taken (Begin 0 (request_of 0 2))).contents Ticket 1 ≡ I32 1 ∷ []
+its_slot_is_prepared : (after beside taken (Begin 0 (request_of 0 2))).contents Instance 1 ≡ I32 1 ∷ []
 its_slot_is_prepared = refl
 
-and_not_the_other : (after beside taken (Begin 0 (request_of 0 2))).contents Ticket 0 ≡ I32 7 ∷ []
+and_not_the_other : (after beside taken (Begin 0 (request_of 0 2))).contents Instance 0 ≡ I32 7 ∷ []
 and_not_the_other = refl
 
-kinds : same_kind Ticket Ticket ∷ same_kind Memory Memory ∷ same_kind Table Table ∷ same_kind Ticket Memory ∷ same_kind Memory Table ∷ same_kind Table Ticket ∷ [] ≡ true ∷ true ∷ true ∷ false ∷ false ∷ false ∷ []
+kinds : same_kind Instance Instance ∷ same_kind Memory Memory ∷ same_kind Table Table ∷ same_kind Instance Memory ∷ same_kind Memory Table ∷ same_kind Table Instance ∷ [] ≡ true ∷ true ∷ true ∷ false ∷ false ∷ false ∷ []
 kinds = refl
 
 -- ---- limits, and the answer of a call that has only begun

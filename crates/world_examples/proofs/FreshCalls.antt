@@ -10,7 +10,7 @@ use Rattle.wasm_spec.specs.Execution.{exec}
 use Rattle.wasm_spec.proofs.AddModule.{add, add_function}
 use Rattle.pool_core.specs.declared.events.Event.TheVariants.{Load}
 use Rattle.pool_worlds.specs.Contents.{Named}
-use Rattle.pool_worlds.specs.declared.kinds.Kind.TheVariants.{Ticket, Memory}
+use Rattle.pool_worlds.specs.declared.kinds.Kind.TheVariants.{Instance, Memory}
 use Rattle.pool_worlds.specs.PoolMachine.{InstanceLimits, Request, WorldEvent, Step, Prepare, Restore, Begin, Turn, End, Cancel}
 use Rattle.pool_worlds.specs.FreshMachine.{FreshCall, fresh_answer, fresh_after_all, nothing_runs}
 use Rattle.world_examples.proofs.NoCode.{no_code}
@@ -61,7 +61,7 @@ others_turns : after_events (Begin 3 request ∷ Turn 2 [] ∷ Begin 1 request �
 unfolding exec
 others_turns = refl
 
-slots_are_of_no_account : after_events (Begin 3 request ∷ Step Ticket (Load 3 0) ∷ Prepare Memory 3 named ∷ Restore Memory 3 ∷ []) 3 ≡ call_with 1 0
+slots_are_of_no_account : after_events (Begin 3 request ∷ Step Instance (Load 3 0) ∷ Prepare Memory 3 named ∷ Restore Memory 3 ∷ []) 3 ≡ call_with 1 0
 slots_are_of_no_account = refl
 
 ended : after_events (Begin 3 request ∷ Turn 3 [] ∷ End 3 [] ∷ []) 3 ≡ None

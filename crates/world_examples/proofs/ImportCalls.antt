@@ -16,7 +16,7 @@ use Rattle.wasm_spec.specs.Execution.{exec}
 use Rattle.pool_core.specs.declared.events.Event.TheVariants.{Claim, Out}
 use Rattle.pool_worlds.specs.Contents.{Contents, filled}
 use Rattle.pool_worlds.specs.declared.kinds.Kind.{Kind}
-use Rattle.pool_worlds.specs.declared.kinds.Kind.TheVariants.{Ticket, Memory, Table}
+use Rattle.pool_worlds.specs.declared.kinds.Kind.TheVariants.{Instance, Memory, Table}
 use Rattle.pool_worlds.specs.PoolMachine.{World, Request, Running, Machine, WorldEvent, Step, Begin, Turn, End as Ends, caller_contents, answer, after, after_all, AllMayHappen, CanTurn, MarksEnd, MayHappen}
 use Rattle.pool_worlds.specs.FreshMachine.{FreshCall, fresh_answer, fresh_after_all, fresh_store_after, fresh_store_on, nothing_runs}
 use Rattle.pool_worlds.specs.Runs.{AreItsTurns}
@@ -57,7 +57,7 @@ abbrev writes_itself : Request
 writes_itself = request_of 2 [] [] 4
 
 abbrev begun_by : Request → Machine
-begun_by q = after_all world opened (Step Ticket (Claim 0 0) ∷ Step Ticket (Out 0 0) ∷ Step Memory (Claim 0 0) ∷ Step Memory (Out 0 0) ∷ Begin 0 q ∷ [])
+begun_by q = after_all world opened (Step Instance (Claim 0 0) ∷ Step Instance (Out 0 0) ∷ Step Memory (Claim 0 0) ∷ Step Memory (Out 0 0) ∷ Begin 0 q ∷ [])
 
 abbrev running : Request → ℕ → Running
 running q turns = record { request = q; begun = fresh_store hosted; turns = turns }
@@ -99,13 +99,13 @@ it_ended : read_ended.calls 0 ≡ None
 it_ended = refl
 
 abbrev left : List Bool → (k : Kind) → Contents k
-left marks Ticket = I32 1 ∷ []
+left marks Instance = I32 1 ∷ []
 left marks Memory = record { bytes = filled 1 (7 ∷ 98 ∷ 0 ∷ 0 ∷ zeros); pages = 1; marks = marks; holds = Some (world.shelf 0) }
 left marks Table = record { entries = []; holds = None }
 
 left_there : (k : Kind) → caller_contents world read_ended 0 k ≡ left (true ∷ []) k
 unfolding exec
-left_there Ticket = refl
+left_there Instance = refl
 left_there Memory = refl
 left_there Table = refl
 

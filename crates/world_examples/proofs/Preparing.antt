@@ -10,7 +10,7 @@ use Rattle.wasm_spec.specs.Store.{Store}
 use Rattle.wasm_spec.proofs.AddModule.{add}
 use Rattle.pool_worlds.specs.Contents.{Named, MemoryContents, TableContents, Contents, owner, filled, memory_image, table_image, prepared, restored, replaced, needs, shown_store, turned}
 use Rattle.pool_worlds.specs.declared.kinds.Kind.{Kind}
-use Rattle.pool_worlds.specs.declared.kinds.Kind.TheVariants.{Ticket, Memory, Table}
+use Rattle.pool_worlds.specs.declared.kinds.Kind.TheVariants.{Instance, Memory, Table}
 use Rattle.world_examples.proofs.NoCode.{no_code}
 use Rattle.world_examples.proofs.Keeper.{keeper}
 
@@ -61,7 +61,7 @@ anothers_table_is_written : prepared 1 (numbered 4 6) Table (record { entries = 
 anothers_table_is_written = refl
 
 -- of a ticket the module's own globals are written
-globals_are_written : prepared 1 (numbered 4 6) Ticket (I32 7 ∷ I32 8 ∷ I32 9 ∷ []) ≡ I32 1 ∷ I64 2 ∷ I32 9 ∷ []
+globals_are_written : prepared 1 (numbered 4 6) Instance (I32 7 ∷ I32 8 ∷ I32 9 ∷ []) ≡ I32 1 ∷ I64 2 ∷ I32 9 ∷ []
 globals_are_written = refl
 
 -- ---- restoring and clearing
@@ -72,7 +72,7 @@ restored_for_its_own = refl
 nobodys_is_not_restored : restored 1 Memory (record (left_by (numbered 4 6) (true ∷ [])) { holds = None }) ≡ record { bytes = 9 ∷ 8 ∷ []; pages = 3; marks = true ∷ []; holds = None }
 nobodys_is_not_restored = refl
 
-a_ticket_is_not_restored : restored 1 Ticket (I32 7 ∷ []) ≡ I32 7 ∷ []
+a_ticket_is_not_restored : restored 1 Instance (I32 7 ∷ []) ≡ I32 7 ∷ []
 a_ticket_is_not_restored = refl
 
 abbrev no_table : TableContents
@@ -81,17 +81,17 @@ no_table = record { entries = []; holds = None }
 a_table_in_its_place : replaced Table no_table Table (record { entries = None ∷ []; holds = None }) ≡ no_table
 a_table_in_its_place = refl
 
-and_no_ticket : replaced Table no_table Ticket (I32 7 ∷ []) ≡ I32 7 ∷ []
+and_no_ticket : replaced Table no_table Instance (I32 7 ∷ []) ≡ I32 7 ∷ []
 and_no_ticket = refl
 
 -- ---- what a call has
 
-its_kinds : needs Ticket add ∷ needs Memory add ∷ needs Table add ∷ needs Memory keeper ∷ needs Table keeper ∷ [] ≡ true ∷ false ∷ false ∷ true ∷ true ∷ []
+its_kinds : needs Instance add ∷ needs Memory add ∷ needs Table add ∷ needs Memory keeper ∷ needs Table keeper ∷ [] ≡ true ∷ false ∷ false ∷ true ∷ true ∷ []
 its_kinds = refl
 
 -- slots of which the memory goes on past its one page, and the ticket past two globals
 abbrev slots : ℕ → (k : Kind) → Contents k
-slots pages Ticket = I32 7 ∷ I32 8 ∷ I32 9 ∷ []
+slots pages Instance = I32 7 ∷ I32 8 ∷ I32 9 ∷ []
 slots pages Memory = record { bytes = replicate 65536 3 ++ 5 ∷ []; pages = pages; marks = []; holds = None }
 slots pages Table = record { entries = Some 3 ∷ []; holds = None }
 
@@ -115,10 +115,10 @@ turned_memory = refl
 turned_table : turned 3 left (true ∷ []) Table (record { entries = []; holds = Some (numbered 4 6) }) ≡ record { entries = None ∷ []; holds = Some (numbered 4 6) }
 turned_table = refl
 
-turned_ticket : turned 3 left (true ∷ []) Ticket (I32 7 ∷ I32 8 ∷ []) ≡ I32 4 ∷ I32 8 ∷ []
+turned_ticket : turned 3 left (true ∷ []) Instance (I32 7 ∷ I32 8 ∷ []) ≡ I32 4 ∷ I32 8 ∷ []
 turned_ticket = refl
 
 -- ---- owners
 
-owners : owner Ticket (I32 7 ∷ []) ∷ owner Memory (left_by (numbered 4 6) []) ∷ owner Table (record no_table { holds = Some (numbered 5 6) }) ∷ [] ≡ None ∷ Some (numbered 4 6) ∷ Some (numbered 5 6) ∷ []
+owners : owner Instance (I32 7 ∷ []) ∷ owner Memory (left_by (numbered 4 6) []) ∷ owner Table (record no_table { holds = Some (numbered 5 6) }) ∷ [] ≡ None ∷ Some (numbered 4 6) ∷ Some (numbered 5 6) ∷ []
 owners = refl

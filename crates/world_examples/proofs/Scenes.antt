@@ -15,7 +15,7 @@ use Rattle.pool_core.specs.RefusalRules.{refusal_of, seat_of}
 use Rattle.memory_blocks.specs.Blocks.{is_marked}
 use Rattle.pool_worlds.specs.Contents.{Named, Contents, memory_image, IsCold}
 use Rattle.pool_worlds.specs.declared.kinds.Kind.{Kind}
-use Rattle.pool_worlds.specs.declared.kinds.Kind.TheVariants.{Ticket, Memory, Table}
+use Rattle.pool_worlds.specs.declared.kinds.Kind.TheVariants.{Instance, Memory, Table}
 use Rattle.pool_worlds.specs.PoolMachine.{World, Request, Running, Machine, WorldEvent, Step, Prepare, Restore, Clear, Begin, Turn, End, Cancel, IsFree, IsModule, IsCallable, after, after_all, AllMayHappen, IsOpening}
 use Rattle.pool_worlds.specs.Fitting.{ReleaseFits, AllReleasesFit}
 use Rattle.world_examples.proofs.NoCode.{no_code}
@@ -54,12 +54,12 @@ callable n fuel = record {
 -- ---- the opening: two slots of each kind, of which one may be warm, and two passes
 
 abbrev pub cold : (k : Kind) → Contents k
-cold Ticket = I32 7 ∷ []
+cold Instance = I32 7 ∷ []
 cold Memory = record { bytes = memory_image 1 None; pages = 0; marks = []; holds = None }
 cold Table = record { entries = []; holds = None }
 
 pub cold_is : (k : Kind) → IsCold 1 k (cold k)
-cold_is Ticket = tt
+cold_is Instance = tt
 cold_is Memory = record { holds = refl; size = refl; bytes = refl; clean = λ i. refl }
 cold_is Table = (refl, refl)
 

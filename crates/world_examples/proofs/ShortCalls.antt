@@ -13,7 +13,7 @@ use Rattle.pool_core.specs.PoolCore.{opening_core}
 use Rattle.pool_core.specs.RefusalRules.{refusal_of}
 use Rattle.pool_worlds.specs.Contents.{Named, TableContents, Contents, memory_image}
 use Rattle.pool_worlds.specs.declared.kinds.Kind.{Kind}
-use Rattle.pool_worlds.specs.declared.kinds.Kind.TheVariants.{Ticket, Memory, Table}
+use Rattle.pool_worlds.specs.declared.kinds.Kind.TheVariants.{Instance, Memory, Table}
 use Rattle.pool_worlds.specs.PoolMachine.{World, Request, Running, Machine, WorldEvent, Step, Prepare, Restore, Clear, Begin, Turn, End, Cancel, after, after_all, IsCallable, CanTurn, MarksTurn, MayHappen}
 use Rattle.pool_worlds.specs.Fitting.{ReleaseFits}
 use Rattle.pool_worlds.specs.Histories.{steps_of}
@@ -36,7 +36,7 @@ abbrev pub no_table : TableContents
 no_table = record { entries = []; holds = None }
 
 abbrev cold : (k : Kind) → Contents k
-cold Ticket = I32 7 ∷ []
+cold Instance = I32 7 ∷ []
 cold Memory = record { bytes = memory_image 1 None; pages = 0; marks = []; holds = None }
 cold Table = no_table
 
@@ -45,7 +45,7 @@ opened = record { core = λ k. opening_core 2 0 2; contents = λ k n. cold k; ca
 
 -- caller i has the ticket i out
 abbrev takes : List WorldEvent
-takes = Step Ticket (Split 0 1) ∷ Step Ticket (Claim 0 0) ∷ Step Ticket (Out 0 0) ∷ Step Ticket (Claim 1 1) ∷ Step Ticket (Out 1 1) ∷ []
+takes = Step Instance (Split 0 1) ∷ Step Instance (Claim 0 0) ∷ Step Instance (Out 0 0) ∷ Step Instance (Claim 1 1) ∷ Step Instance (Out 1 1) ∷ []
 
 abbrev pub taken : Machine
 taken = after_all world opened takes
@@ -61,7 +61,7 @@ running n fuel turns = record { request = request_of n fuel; begun = record { me
 
 -- ---- what each event changes
 
-begins_with_the_fresh_globals : begun.contents Ticket 0 ≡ I32 1 ∷ []
+begins_with_the_fresh_globals : begun.contents Instance 0 ≡ I32 1 ∷ []
 begins_with_the_fresh_globals = refl
 
 the_call_of_the_first : begun.calls 0 ≡ Some (running 0 2 0)
@@ -79,21 +79,21 @@ turned_twice = after_all world begun (Turn 0 [] ∷ Turn 0 [] ∷ [])
 two_turns_of_the_first : turned_twice.calls 0 ≡ Some (running 0 2 2)
 two_turns_of_the_first = refl
 
-two_turns_set_its_global : turned_twice.contents Ticket 0 ≡ I32 5 ∷ []
+two_turns_set_its_global : turned_twice.contents Instance 0 ≡ I32 5 ∷ []
 unfolding exec
 two_turns_set_its_global = refl
 
-and_not_the_others : turned_twice.contents Ticket 1 ≡ I32 1 ∷ []
+and_not_the_others : turned_twice.contents Instance 1 ≡ I32 1 ∷ []
 and_not_the_others = refl
 
-one_turn_does_not : (after world begun (Turn 0 [])).contents Ticket 0 ≡ I32 1 ∷ []
+one_turn_does_not : (after world begun (Turn 0 [])).contents Instance 0 ≡ I32 1 ∷ []
 unfolding exec
 one_turn_does_not = refl
 
 an_end : (after world turned_twice (End 0 [])).calls 0 ≡ None
 an_end = refl
 
-and_keeps_its_global : (after world turned_twice (End 0 [])).contents Ticket 0 ≡ I32 5 ∷ []
+and_keeps_its_global : (after world turned_twice (End 0 [])).contents Instance 0 ≡ I32 5 ∷ []
 unfolding exec
 and_keeps_its_global = refl
 
@@ -104,7 +104,7 @@ the_others_call_goes_on = refl
 given_up : (after world turned_twice (Cancel 0)).calls 0 ≡ None
 given_up = refl
 
-its_global_stays : (after world turned_twice (Cancel 0)).contents Ticket 0 ≡ I32 5 ∷ []
+its_global_stays : (after world turned_twice (Cancel 0)).contents Instance 0 ≡ I32 5 ∷ []
 unfolding exec
 its_global_stays = refl
 
@@ -112,7 +112,7 @@ its_global_stays = refl
 abbrev pub used : Machine
 used = record opened {
   contents = elim [
-    | Ticket ↦ λ n. I32 7 ∷ []
+    | Instance ↦ λ n. I32 7 ∷ []
     | Memory ↦ λ n. record { bytes = 9 ∷ []; pages = 3; marks = true ∷ []; holds = Some (numbered 0) }
     | Table ↦ λ n. record { entries = Some 3 ∷ []; holds = Some (numbered 1) }
   ];
@@ -171,9 +171,9 @@ other_bytes_are_another_request s = let e = s.sent in cc (e)
 
 -- the steps of a kind, also those that only read, and none of the others
 abbrev mixed : List WorldEvent
-mixed = Step Ticket (Load 0 0) ∷ Step Memory (Stamp 1) ∷ Prepare Ticket 0 (numbered 0) ∷ Step Ticket (Claim 0 0) ∷ Begin 0 (request_of 0 2) ∷ Turn 0 [] ∷ End 0 [] ∷ Step Ticket (WarmLoad 0) ∷ []
+mixed = Step Instance (Load 0 0) ∷ Step Memory (Stamp 1) ∷ Prepare Instance 0 (numbered 0) ∷ Step Instance (Claim 0 0) ∷ Begin 0 (request_of 0 2) ∷ Turn 0 [] ∷ End 0 [] ∷ Step Instance (WarmLoad 0) ∷ []
 
-history_of_tickets : steps_of Ticket mixed ≡ Load 0 0 ∷ Claim 0 0 ∷ WarmLoad 0 ∷ []
+history_of_tickets : steps_of Instance mixed ≡ Load 0 0 ∷ Claim 0 0 ∷ WarmLoad 0 ∷ []
 history_of_tickets = refl
 
 history_of_memories : steps_of Memory mixed ≡ Stamp 1 ∷ []
@@ -213,7 +213,7 @@ with_memory = record (running 0 2 0) { request = record (request_of 0 2) { named
 abbrev of_one_byte : Machine
 of_one_byte = record opened {
   contents = elim [
-    | Ticket ↦ λ n. I32 7 ∷ []
+    | Instance ↦ λ n. I32 7 ∷ []
     | Memory ↦ λ n. record { bytes = 1 ∷ []; pages = 0; marks = []; holds = None }
     | Table ↦ λ n. no_table
   ];
@@ -226,13 +226,13 @@ no_unmarked_change marks = let zero_is : 0 ≡ 1 = (marks refl).bytes 0 refl in 
 -- ---- what may not come
 
 -- while a call runs its caller's seats do nothing else, though the pool would allow the step
-its_pool_allows_the_step : refusal_of (begun.core Ticket) (Stamp 0) ≡ 0
+its_pool_allows_the_step : refusal_of (begun.core Instance) (Stamp 0) ≡ 0
 its_pool_allows_the_step = refl
 
-no_step_while_it_runs : MayHappen world begun (Step Ticket (Stamp 0)) → ⊥
+no_step_while_it_runs : MayHappen world begun (Step Instance (Stamp 0)) → ⊥
 no_step_while_it_runs may = call_is_there (may.1 0 refl)
 
-no_prepare_while_it_runs : MayHappen world begun (Prepare Ticket 0 (numbered 0)) → ⊥
+no_prepare_while_it_runs : MayHappen world begun (Prepare Instance 0 (numbered 0)) → ⊥
 no_prepare_while_it_runs may = call_is_there (may.1 0 refl)
 
 -- and of its table, which belongs to the first module
@@ -242,7 +242,7 @@ begun_with_a_table = after_all world opened (takes ++ Step Table (Claim 0 0) ∷
 no_restore_while_it_runs : MayHappen world begun_with_a_table (Restore Table 0) → ⊥
 no_restore_while_it_runs may = call_is_there (may.1 0 refl)
 
-no_clear_while_it_runs : MayHappen world begun (Clear Ticket 0 []) → ⊥
+no_clear_while_it_runs : MayHappen world begun (Clear Instance 0 []) → ⊥
 no_clear_while_it_runs may = call_is_there (may.1 0 refl)
 
 no_second_call_while_it_runs : MayHappen world begun (Begin 0 (request_of 0 2)) → ⊥
@@ -252,22 +252,22 @@ no_call_is_given_up_twice : MayHappen world (after world turned_twice (Cancel 0)
 no_call_is_given_up_twice (r, calls) = call_is_there (sym calls)
 
 -- a step that its pool refuses
-no_refused_step : MayHappen world opened (Step Ticket (Home 0 0)) → ⊥
+no_refused_step : MayHappen world opened (Step Instance (Home 0 0)) → ⊥
 no_refused_step may = let four : 4 ≡ 0 = may.0 in omega (arith, four)
 
 -- a value is prepared where a seat has it out
-no_prepare_of_nothing : MayHappen world opened (Prepare Ticket 0 (numbered 0)) → ⊥
+no_prepare_of_nothing : MayHappen world opened (Prepare Instance 0 (numbered 0)) → ⊥
 no_prepare_of_nothing may = let e = may.0.holds in cc
 
-no_prepare_in_its_slot : MayHappen world (after world opened (Step Ticket (Claim 0 0))) (Prepare Ticket 0 (numbered 0)) → ⊥
+no_prepare_in_its_slot : MayHappen world (after world opened (Step Instance (Claim 0 0))) (Prepare Instance 0 (numbered 0)) → ⊥
 no_prepare_in_its_slot may = true≢false (sym may.0.out)
 
 -- for a module on the shelf
-no_prepare_for_another : MayHappen world taken (Prepare Ticket 0 (record (numbered 1) { tag = 2 })) → ⊥
+no_prepare_for_another : MayHappen world taken (Prepare Instance 0 (record (numbered 1) { tag = 2 })) → ⊥
 no_prepare_for_another may = two (sym (ap (λ (n : Named). n.tag) may.2.on_shelf))
 
 -- restored where it has a module, and cleared to what is cold
-no_restore_of_a_ticket : MayHappen world taken (Restore Ticket 0) → ⊥
+no_restore_of_a_ticket : MayHappen world taken (Restore Instance 0) → ⊥
 no_restore_of_a_ticket may = true≢false (sym may.2)
 
 abbrev table_out : Machine
@@ -278,7 +278,7 @@ no_clear_to_an_element may = let e = may.2.1 in cc (e)
 
 -- a call begins with a slot of each kind that its module needs, and with arguments of its function's types
 no_call_without_a_ticket : MayHappen world opened (Begin 0 (request_of 0 2)) → ⊥
-no_call_without_a_ticket may = let e = (may.1 Ticket refl).holds in cc
+no_call_without_a_ticket may = let e = (may.1 Instance refl).holds in cc
 
 -- a shelf on which each number has this module
 abbrev pub world_of : ModuleTree → World
@@ -306,5 +306,5 @@ no_call_of_what_is_not_there : IsCallable (request_in (record set_module { funct
 no_call_of_what_is_not_there is = let e = is.typed in cc (e)
 
 -- a ticket is not released as warm
-no_release_as_warm : ReleaseFits world taken (Step Ticket (Release 0 0 (record { state = Warm; tag = 0; stamp = 0 }))) → ⊥
+no_release_as_warm : ReleaseFits world taken (Step Instance (Release 0 0 (record { state = Warm; tag = 0; stamp = 0 }))) → ⊥
 no_release_as_warm fits = fits

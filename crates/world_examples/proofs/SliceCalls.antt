@@ -14,7 +14,7 @@ use Rattle.pool_core.specs.declared.events.Event.TheVariants.{Claim, Out}
 use Rattle.memory_blocks.specs.Blocks.{KeepsUnmarked, is_marked}
 use Rattle.pool_worlds.specs.Contents.{MemoryContents, Contents, filled, turned}
 use Rattle.pool_worlds.specs.declared.kinds.Kind.{Kind}
-use Rattle.pool_worlds.specs.declared.kinds.Kind.TheVariants.{Ticket, Memory, Table}
+use Rattle.pool_worlds.specs.declared.kinds.Kind.TheVariants.{Instance, Memory, Table}
 use Rattle.pool_worlds.specs.PoolMachine.{World, Request, Running, Machine, WorldEvent, Step, Begin, Turn, End as Ends, caller_contents, result, store_or, IsFuelEnd, after_all, AllMayHappen, CanTurn, MarksTurn, MayHappen}
 use Rattle.pool_worlds.specs.Runs.{LeavesFrom, HostResumes, AreTurnsTo}
 use Rattle.pool_worlds.specs.Worlds.{Calls, IsPaused, AreTurnsOf, SlicesAreTurns}
@@ -56,7 +56,7 @@ abbrev memory_of : List ℕ → List Bool → MemoryContents
 memory_of bytes marks = record { bytes = filled 1 bytes; pages = 1; marks = marks; holds = Some (world.shelf 0) }
 
 abbrev slots : List ℕ → List Bool → (k : Kind) → Contents k
-slots bytes marks Ticket = I32 1 ∷ []
+slots bytes marks Instance = I32 1 ∷ []
 slots bytes marks Memory = memory_of bytes marks
 slots bytes marks Table = record { entries = []; holds = None }
 
@@ -67,7 +67,7 @@ abbrev marked_block : List Bool
 marked_block = true ∷ []
 
 abbrev begun : Machine
-begun = after_all world opened (Step Ticket (Claim 0 0) ∷ Step Ticket (Out 0 0) ∷ Step Memory (Claim 0 0) ∷ Step Memory (Out 0 0) ∷ Begin 0 request ∷ [])
+begun = after_all world opened (Step Instance (Claim 0 0) ∷ Step Instance (Out 0 0) ∷ Step Memory (Claim 0 0) ∷ Step Memory (Out 0 0) ∷ Begin 0 request ∷ [])
 
 -- it waits for its fourth turn, and for its fifth
 abbrev at_three : Machine
@@ -78,13 +78,13 @@ at_four = after_all world at_three (replicate 1 (Turn 0 marked_block))
 
 lies_at_three : (k : Kind) → caller_contents world at_three 0 k ≡ slots before unmarked_block k
 unfolding exec
-lies_at_three Ticket = refl
+lies_at_three Instance = refl
 lies_at_three Memory = refl
 lies_at_three Table = refl
 
 lies_at_four : (k : Kind) → caller_contents world at_four 0 k ≡ slots written marked_block k
 unfolding exec
-lies_at_four Ticket = refl
+lies_at_four Instance = refl
 lies_at_four Memory = refl
 lies_at_four Table = refl
 
@@ -128,7 +128,7 @@ the_fourth = record {
   still = λ needed out same. absurd (omega (arith, same));
 } where
   left_there : (k : Kind) → slots written marked_block k ≡ turned 1 (waits_with written).store marked_block k (slots before unmarked_block k)
-  left_there Ticket = refl
+  left_there Instance = refl
   left_there Memory = refl
   left_there Table = refl
 
@@ -138,7 +138,7 @@ no_fourth_without_its_mark leaves = seven_is_not_a ((leaves.marked refl 4 (waits
 
 -- and which leaves the memory to its module
 abbrev of_nobody : (k : Kind) → Contents k
-of_nobody Ticket = I32 1 ∷ []
+of_nobody Instance = I32 1 ∷ []
 of_nobody Memory = record (memory_of written marked_block) { holds = None }
 of_nobody Table = record { entries = []; holds = None }
 
@@ -160,7 +160,7 @@ of_no_turn = record {
   still = λ needed out same. refl;
 } where
   left_there : (k : Kind) → slots before unmarked_block k ≡ turned 1 (waits_with before).store unmarked_block k (slots before unmarked_block k)
-  left_there Ticket = refl
+  left_there Instance = refl
   left_there Memory = refl
   left_there Table = refl
 
@@ -182,7 +182,7 @@ of_an_import = record {
   still = λ needed out same. absurd (true≢false (sym out));
 } where
   left_there : (k : Kind) → slots written marked_block k ≡ turned 1 (ends_with (Some (I32 1))).store marked_block k (slots before unmarked_block k)
-  left_there Ticket = refl
+  left_there Instance = refl
   left_there Memory = refl
   left_there Table = refl
 
@@ -205,7 +205,7 @@ the_fifth marks = record {
   still = λ needed out same. absurd (omega (arith, same));
 } where
   left_there : (k : Kind) → slots written marks k ≡ turned 1 (ends_with None).store marks k (slots written marks k)
-  left_there Ticket = refl
+  left_there Instance = refl
   left_there Memory = refl
   left_there Table = refl
 

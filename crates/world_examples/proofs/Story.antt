@@ -13,7 +13,7 @@ use Rattle.pool_core.specs.StateWords.{cold_target}
 use Rattle.memory_blocks.specs.Blocks.{KeepsUnmarked, is_marked}
 use Rattle.pool_worlds.specs.Contents.{MemoryContents, memory_image, rewritten_from, restored as restored_contents, Matches}
 use Rattle.pool_worlds.specs.declared.kinds.Kind.{Kind}
-use Rattle.pool_worlds.specs.declared.kinds.Kind.TheVariants.{Ticket, Memory, Table}
+use Rattle.pool_worlds.specs.declared.kinds.Kind.TheVariants.{Instance, Memory, Table}
 use Rattle.pool_worlds.specs.PoolMachine.{Machine, WorldEvent, Step, Prepare, Restore, Clear, Begin, Turn, End, HasOut, held_by, after, after_all, AllMayHappen}
 use Rattle.pool_worlds.specs.Fitting.{AllReleasesFit}
 use Rattle.pool_worlds.specs.Worlds.{IsSameRequest, answers}
@@ -33,10 +33,10 @@ zeros = replicate 65532 0
 -- ---- a pass for each caller, and a slot of each kind
 
 abbrev takes : List WorldEvent
-takes = Step Ticket (Split 0 1) ∷ Step Memory (Split 0 1) ∷ Step Table (Split 0 1)
-    ∷ Step Ticket (Load 0 0) ∷ Step Ticket (Load 0 1)
-    ∷ Step Ticket (Claim 0 0) ∷ Step Ticket (Out 0 0) ∷ Step Memory (Claim 0 0) ∷ Step Memory (Out 0 0) ∷ Step Table (Claim 0 0) ∷ Step Table (Out 0 0)
-    ∷ Step Ticket (Claim 1 1) ∷ Step Ticket (Out 1 1) ∷ Step Memory (Claim 1 1) ∷ Step Memory (Out 1 1)
+takes = Step Instance (Split 0 1) ∷ Step Memory (Split 0 1) ∷ Step Table (Split 0 1)
+    ∷ Step Instance (Load 0 0) ∷ Step Instance (Load 0 1)
+    ∷ Step Instance (Claim 0 0) ∷ Step Instance (Out 0 0) ∷ Step Memory (Claim 0 0) ∷ Step Memory (Out 0 0) ∷ Step Table (Claim 0 0) ∷ Step Table (Out 0 0)
+    ∷ Step Instance (Claim 1 1) ∷ Step Instance (Out 1 1) ∷ Step Memory (Claim 1 1) ∷ Step Memory (Out 1 1)
     ∷ Step Table (Claim 1 0) ∷ Step Table (Claim 1 1) ∷ Step Table (Out 1 1) ∷ []
 
 abbrev pub taken : Machine
@@ -54,12 +54,12 @@ abbrev pub begun : Machine
 begun = after_all world taken begins
 
 first_slots : (k : Kind) → HasOut taken k 0
-first_slots Ticket = record { number = 0; holds = refl; out = refl }
+first_slots Instance = record { number = 0; holds = refl; out = refl }
 first_slots Memory = record { number = 0; holds = refl; out = refl }
 first_slots Table = record { number = 0; holds = refl; out = refl }
 
 second_slots : (k : Kind) → HasOut (after world taken (Begin 0 (request_of first 5))) k 1
-second_slots Ticket = record { number = 1; holds = refl; out = refl }
+second_slots Instance = record { number = 1; holds = refl; out = refl }
 second_slots Memory = record { number = 1; holds = refl; out = refl }
 second_slots Table = record { number = 1; holds = refl; out = refl }
 
@@ -131,7 +131,7 @@ writes_happen = (
 abbrev gives : List WorldEvent
 gives = Step Table (Home 0 0) ∷ Step Table (WarmUp 0) ∷ Step Table (Stamp 0) ∷ Step Table (Release 0 0 (warm 0 0))
     ∷ Step Memory (Home 0 0) ∷ Step Memory (AwaitUp 0) ∷ Step Memory (Stamp 0) ∷ Step Memory (Release 0 0 (awaiting 0 0))
-    ∷ Step Ticket (Home 0 0) ∷ Step Ticket (Release 0 0 cold_target) ∷ []
+    ∷ Step Instance (Home 0 0) ∷ Step Instance (Release 0 0 cold_target) ∷ []
 
 abbrev given : Machine
 given = after_all world written gives
@@ -249,7 +249,7 @@ clears_happen = ((record { number = 1; holds = refl; out = refl }, is_free asked
 abbrev leaves : List WorldEvent
 leaves = Step Table (Home 1 1) ∷ Step Table (Release 1 1 cold_target)
     ∷ Step Memory (Home 1 1) ∷ Step Memory (AwaitUp 1) ∷ Step Memory (Stamp 1) ∷ Step Memory (Release 1 1 (awaiting 1 1))
-    ∷ Step Ticket (Home 1 1) ∷ Step Ticket (Release 1 1 cold_target) ∷ []
+    ∷ Step Instance (Home 1 1) ∷ Step Instance (Release 1 1 cold_target) ∷ []
 
 abbrev left : Machine
 left = after_all world cleared leaves
@@ -282,7 +282,7 @@ leaves_fit = (
 -- ---- the first caller calls again, in the memory that the second one used
 
 abbrev takes_again : List WorldEvent
-takes_again = Step Ticket (Claim 0 0) ∷ Step Ticket (Out 0 0) ∷ Step Memory (Claim 0 1) ∷ Step Memory (AwaitDown 0) ∷ Step Memory (Out 0 1)
+takes_again = Step Instance (Claim 0 0) ∷ Step Instance (Out 0 0) ∷ Step Memory (Claim 0 1) ∷ Step Memory (AwaitDown 0) ∷ Step Memory (Out 0 1)
     ∷ Step Table (Claim 0 0) ∷ Step Table (WarmDown 0) ∷ Step Table (Out 0 0) ∷ []
 
 abbrev taken_again : Machine
@@ -298,7 +298,7 @@ abbrev called_again : Machine
 called_again = after_all world taken_again calls_again
 
 slots_again : (k : Kind) → HasOut (after world taken_again (Prepare Table 0 first)) k 0
-slots_again Ticket = record { number = 0; holds = refl; out = refl }
+slots_again Instance = record { number = 0; holds = refl; out = refl }
 slots_again Memory = record { number = 1; holds = refl; out = refl }
 slots_again Table = record { number = 0; holds = refl; out = refl }
 

@@ -2,12 +2,12 @@
 use Rattle.std.specs.Prelude.{◌≡◌, [], ◌∷◌, refl}
 use Rattle.pool_core.specs.declared.events.Event.TheVariants.{AwaitDown, AwaitUp, Claim, Home, Load, Out, Release, Split, Stamp, WarmDown, WarmUp}
 use Rattle.pool_core.specs.StateWords.{cold_target}
-use Rattle.pool_worlds.specs.declared.kinds.Kind.TheVariants.{Ticket, Memory, Table}
+use Rattle.pool_worlds.specs.declared.kinds.Kind.TheVariants.{Instance, Memory, Table}
 use Rattle.pool_worlds.specs.Histories.{steps_of}
 use Rattle.world_examples.proofs.Story.{awaiting, warm, story}
 
 -- caller 0 reads the words of both slots before it claims one
-tickets : steps_of Ticket story ≡ Split 0 1 ∷ Load 0 0 ∷ Load 0 1 ∷ Claim 0 0 ∷ Out 0 0 ∷ Claim 1 1 ∷ Out 1 1 ∷ Home 0 0 ∷ Release 0 0 cold_target ∷ Home 1 1 ∷ Release 1 1 cold_target ∷ Claim 0 0 ∷ Out 0 0 ∷ []
+tickets : steps_of Instance story ≡ Split 0 1 ∷ Load 0 0 ∷ Load 0 1 ∷ Claim 0 0 ∷ Out 0 0 ∷ Claim 1 1 ∷ Out 1 1 ∷ Home 0 0 ∷ Release 0 0 cold_target ∷ Home 1 1 ∷ Release 1 1 cold_target ∷ Claim 0 0 ∷ Out 0 0 ∷ []
 tickets = refl
 
 memories : steps_of Memory story ≡ Split 0 1 ∷ Claim 0 0 ∷ Out 0 0 ∷ Claim 1 1 ∷ Out 1 1 ∷ Home 0 0 ∷ AwaitUp 0 ∷ Stamp 0 ∷ Release 0 0 (awaiting 0 0)

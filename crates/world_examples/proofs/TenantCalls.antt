@@ -11,7 +11,7 @@ use Rattle.pool_core.specs.declared.words.StateWord.{StateWord}
 use Rattle.pool_core.specs.declared.events.Event.TheVariants.{Claim, Load, Split, Stamp}
 use Rattle.pool_core.specs.PoolCore.{PoolCore, is_live, opening_core, seat_at}
 use Rattle.pool_worlds.specs.declared.kinds.Kind.{Kind}
-use Rattle.pool_worlds.specs.declared.kinds.Kind.TheVariants.{Ticket, Memory, Table}
+use Rattle.pool_worlds.specs.declared.kinds.Kind.TheVariants.{Instance, Memory, Table}
 use Rattle.pool_worlds.specs.PoolMachine.{World, InstanceLimits, Request, Running, Machine, WorldEvent, Step, Begin, Turn, End, Cancel}
 use Rattle.pool_worlds.specs.Tenants.{TenantEvent, Tenants, Pools, pools_after, pools_after_all, AllMayCome, own_events, claim_read, tenant_reads, tenant_answers, IsSameCall, AreSameCalls, LookSame, OpenAlike, SeesSame, free_warm, all_free_warm, OpenWithin}
 use Rattle.world_examples.proofs.ShortCalls.{world, opened, taken, begun, request_of, running, turned_twice, used, with_memory}
@@ -31,13 +31,13 @@ all_opened t = opened
 
 -- tenant 0 claims its ticket 0 by one seat and by another; tenant 1 both of its tickets
 abbrev claims : List TenantEvent
-claims = by 1 (Step Ticket (Split 0 1)) ∷ by 1 (Step Ticket (Claim 0 1)) ∷ by 0 (Step Ticket (Split 0 1)) ∷ by 0 (Step Ticket (Claim 0 0)) ∷ by 0 (Step Ticket (Claim 1 0)) ∷ by 1 (Step Ticket (Claim 1 0)) ∷ []
+claims = by 1 (Step Instance (Split 0 1)) ∷ by 1 (Step Instance (Claim 0 1)) ∷ by 0 (Step Instance (Split 0 1)) ∷ by 0 (Step Instance (Claim 0 0)) ∷ by 0 (Step Instance (Claim 1 0)) ∷ by 1 (Step Instance (Claim 1 0)) ∷ []
 
 abbrev claimed : Pools
 claimed = pools_after_all alike all_opened claims
 
 abbrev held_words : Machine → List Bool
-held_words p = map (λ w. w.held) (p.core Ticket).words
+held_words p = map (λ w. w.held) (p.core Instance).words
 
 tickets_of_0 : held_words (claimed 0) ≡ true ∷ false ∷ []
 tickets_of_0 = refl
@@ -48,10 +48,10 @@ tickets_of_1 = refl
 tickets_of_2 : held_words (claimed 2) ≡ false ∷ false ∷ []
 tickets_of_2 = refl
 
-events_of_0 : own_events 0 claims ≡ Step Ticket (Split 0 1) ∷ Step Ticket (Claim 0 0) ∷ Step Ticket (Claim 1 0) ∷ []
+events_of_0 : own_events 0 claims ≡ Step Instance (Split 0 1) ∷ Step Instance (Claim 0 0) ∷ Step Instance (Claim 1 0) ∷ []
 events_of_0 = refl
 
-events_of_1 : own_events 1 claims ≡ Step Ticket (Split 0 1) ∷ Step Ticket (Claim 0 1) ∷ Step Ticket (Claim 1 0) ∷ []
+events_of_1 : own_events 1 claims ≡ Step Instance (Split 0 1) ∷ Step Instance (Claim 0 1) ∷ Step Instance (Claim 1 0) ∷ []
 events_of_1 = refl
 
 -- a free cold word reads as 0, and one that is held as 1
@@ -62,7 +62,7 @@ reads_of_1 : tenant_reads alike all_opened claims 1 ≡ 0 ∷ 0 ∷ []
 reads_of_1 = refl
 
 -- by the number claimed and not by the seat, in the pool of its kind, and before it is won; a load is no claim
-reads_its_slot : claim_read (claimed 0) (Step Ticket (Claim 0 1)) ≡ 0 ∷ []
+reads_its_slot : claim_read (claimed 0) (Step Instance (Claim 0 1)) ≡ 0 ∷ []
 reads_its_slot = refl
 
 reads_its_kind : claim_read (claimed 0) (Step Memory (Claim 0 0)) ≡ 0 ∷ []
@@ -71,24 +71,24 @@ reads_its_kind = refl
 abbrev warm_word : StateWord
 warm_word = record { target = record { state = Warm; tag = 3; stamp = 1 }; held = false }
 
-reads_the_word : claim_read (record opened { core = λ k. record (opening_core 2 0 2) { words = warm_word ∷ [] } }) (Step Ticket (Claim 0 0)) ≡ 8388634 ∷ []
+reads_the_word : claim_read (record opened { core = λ k. record (opening_core 2 0 2) { words = warm_word ∷ [] } }) (Step Instance (Claim 0 0)) ≡ 8388634 ∷ []
 reads_the_word = refl
 
-loads_claim_nothing : claim_read (claimed 0) (Step Ticket (Load 0 0)) ≡ []
+loads_claim_nothing : claim_read (claimed 0) (Step Instance (Load 0 0)) ≡ []
 loads_claim_nothing = refl
 
 -- each event is judged in the pools of its tenant, as those before left them
 claims_may_come : AllMayCome alike all_opened claims
 claims_may_come = ((refl, λ i e. refl), ((refl, λ i e. refl), ((refl, λ i e. refl), ((refl, λ i e. refl), ((refl, λ i e. refl), ((refl, λ i e. refl), tt))))))
 
-no_claim_by_a_seat_to_come : AllMayCome alike all_opened (by 0 (Step Ticket (Split 0 1)) ∷ by 1 (Step Ticket (Claim 1 0)) ∷ []) → ⊥
+no_claim_by_a_seat_to_come : AllMayCome alike all_opened (by 0 (Step Instance (Split 0 1)) ∷ by 1 (Step Instance (Claim 1 0)) ∷ []) → ⊥
 no_claim_by_a_seat_to_come may = absurd (cc (may.1.0.0))
 
 -- a tenant's world is its own: in that of tenant 1 caller i has the seat i + 1
 abbrev apart : Tenants
 apart t = if t == 1 then beside else world
 
-own_seats : ((pools_after apart (λ t. taken) (by 1 (Begin 0 (request_of 0 2))) 1).contents Ticket 1) ≡ I32 1 ∷ []
+own_seats : ((pools_after apart (λ t. taken) (by 1 (Begin 0 (request_of 0 2))) 1).contents Instance 1) ≡ I32 1 ∷ []
 own_seats = refl
 
 -- ---- answers
@@ -139,7 +139,7 @@ another_global s = let e = ap (λ (t : Store). t.globals) s.store in cc (e)
 
 another_size : IsSameCall world world used (record used {
   contents = elim [
-    | Ticket ↦ λ n. I32 7 ∷ []
+    | Instance ↦ λ n. I32 7 ∷ []
     | Memory ↦ λ n. record { bytes = 9 ∷ []; pages = 4; marks = true ∷ []; holds = None }
     | Table ↦ λ n. record { entries = []; holds = None }
   ];
@@ -182,17 +182,17 @@ that_is_no_opening : OpenAlike world world opened used → ⊥
 that_is_no_opening open_alike = no_opening_with_contents open_alike.opens_too
 
 more_seats : OpenAlike world world opened (record opened { core = λ k. opening_core 2 0 3 }) → ⊥
-more_seats open_alike = let e = ap (λ (c : PoolCore). c.seats) (open_alike.cores Ticket) in cc (e)
+more_seats open_alike = let e = ap (λ (c : PoolCore). c.seats) (open_alike.cores Instance) in cc (e)
 
 -- one tenant sees another state, reads something or is answered
 abbrev makes_a_seat : List TenantEvent
-makes_a_seat = by 0 (Step Ticket (Split 0 1)) ∷ []
+makes_a_seat = by 0 (Step Instance (Split 0 1)) ∷ []
 
 other_state : SeesSame alike alike all_opened all_opened makes_a_seat makes_a_seat 0 1 → ⊥
-other_state sees = true≢false (ap (λ (c : PoolCore). is_live (seat_at c 1).stage) (sees.pools.cores Ticket))
+other_state sees = true≢false (ap (λ (c : PoolCore). is_live (seat_at c 1).stage) (sees.pools.cores Instance))
 
 abbrev loses_a_claim : List TenantEvent
-loses_a_claim = by 0 (Step Ticket (Claim 1 0)) ∷ []
+loses_a_claim = by 0 (Step Instance (Claim 1 0)) ∷ []
 
 other_reads : SeesSame alike alike (λ t. taken) (λ t. taken) loses_a_claim loses_a_claim 0 1 → ⊥
 other_reads sees = let e = sees.reads in cc (e)
@@ -220,7 +220,7 @@ two_are_warm = refl
 abbrev warmed : Pools
 warmed t = record opened {
   core = elim [
-    | Ticket ↦ opening_core 2 0 2
+    | Instance ↦ opening_core 2 0 2
     | Memory ↦ if t == 1 then opening_core 2 2 2 else of_five
     | Table ↦ opening_core 2 2 2
   ];

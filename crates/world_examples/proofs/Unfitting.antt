@@ -6,7 +6,7 @@ use Rattle.wasm_spec.specs.Store.{minimum_of}
 use Rattle.pool_core.specs.declared.words.State.TheVariants.{Cold, Warm, Awaiting}
 use Rattle.memory_blocks.specs.Blocks.{is_marked}
 use Rattle.pool_worlds.specs.Contents.{Named, MemoryContents, TableContents, memory_image, table_image, Matches}
-use Rattle.pool_worlds.specs.declared.kinds.Kind.TheVariants.{Ticket, Memory, Table}
+use Rattle.pool_worlds.specs.declared.kinds.Kind.TheVariants.{Instance, Memory, Table}
 use Rattle.world_examples.proofs.Scenes.{first, cold, unmarked}
 
 -- ---- memories
@@ -108,11 +108,11 @@ filled_table_is_not_cold : Matches 1 Table Cold 0 (record { entries = None ∷ [
 filled_table_is_not_cold c = let e = c.1 in cc
 
 -- a ticket is cold, and never anything else
-ticket_is_cold : Matches 1 Ticket Cold 0 (I32 7 ∷ [])
+ticket_is_cold : Matches 1 Instance Cold 0 (I32 7 ∷ [])
 ticket_is_cold = tt
 
-ticket_is_not_warm : Matches 1 Ticket Warm 0 [] → ⊥
+ticket_is_not_warm : Matches 1 Instance Warm 0 [] → ⊥
 ticket_is_not_warm h = h
 
-ticket_does_not_await : Matches 1 Ticket Awaiting 0 [] → ⊥
+ticket_does_not_await : Matches 1 Instance Awaiting 0 [] → ⊥
 ticket_does_not_await h = h

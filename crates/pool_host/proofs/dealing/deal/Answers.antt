@@ -23,7 +23,7 @@ loop-preserved g c =
       memories = memories.0;
       tables = tables.0;
       tags = tags.0;
-      passes = rw c.push_reserved.ensures.items (All-push (IsNewHostPass host) c.loop.all.items _ i.passes (record { pools = record { ticket = ticket; memory = memory; table = table }; tags = tag }));
+      passes = rw c.push_reserved.ensures.items (All-push (IsNewHostPass host) c.loop.all.items _ i.passes (record { pools = record { ticket = ticket; memory = memory; table = table }; tags = tag; no_answer = c.in_ok-answer.ensures }));
       tickets_left = search rules;
       memories_left = search rules;
       tables_left = search rules;

@@ -10,11 +10,11 @@ returns g c = λ config host m answer before after adds.
     let prefers = c.takes_prefer_their_own.ensures in
     let ends = c.the_last_claim_names_the_slot.ensures in
     record {
-      memory = served_own (IsMemoryTake config host m) (IsMemoryGive config host m) (IsFullMemoryTake config host m) m.tag
+      memory = served_own (IsMemoryTake config host m) (IsMemoryGive config host m) (IsFullMemoryTake config host m) (slots_of host.memories) m.tag
           (prefers.batched (limit_of host.memories) (slots_of host.memories) m.tag)
           (ends.batched (limit_of host.memories) (slots_of host.memories) m.tag)
           (visit_if (needs Memory m.tree) answer Memory) _ _ adds.memory;
-      table = served_own (IsTableTake config host m) (IsTableGive config host m) (IsFullTableTake config host m) m.tag
+      table = served_own (IsTableTake config host m) (IsTableGive config host m) (IsFullTableTake config host m) (slots_of host.tables) m.tag
           (prefers.affine (limit_of host.tables) (slots_of host.tables) m.tag)
           (ends.affine (limit_of host.tables) (slots_of host.tables) m.tag)
           (visit_if (needs Table m.tree) answer Table) _ _ adds.table;

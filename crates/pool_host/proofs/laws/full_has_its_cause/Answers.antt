@@ -7,7 +7,7 @@ use Rattle.slot_pools.specs.Takes.{IsFullAffineTake, IsFullAnyTake, IsFullBatche
 use Rattle.pool_limits.specs.declared.numbers.Numbers.{Numbers}
 use Rattle.pool_worlds.specs.Contents.{Named}
 use Rattle.pool_worlds.specs.declared.kinds.Kind.{Kind}
-use Rattle.pool_worlds.specs.declared.kinds.Kind.TheVariants.{Memory, Table, Ticket}
+use Rattle.pool_worlds.specs.declared.kinds.Kind.TheVariants.{Memory, Table, Instance}
 use Rattle.pool_host.specs.declared.host.Host.{Host}
 use Rattle.pool_host.specs.declared.passes.Passes.{Passes}
 use Rattle.pool_host.specs.Preferring.{FoundAllHeld}
@@ -19,7 +19,7 @@ module _ (any : (slots : ℕ) (done : List Operation) → IsFullAnyTake slots do
     (batched : (limit slots tag : ℕ) (done : List Operation) → IsFullBatchedTake limit slots tag done → FullAfterMark slots done)
     (affine : (limit slots tag : ℕ) (done : List Operation) → IsFullAffineTake limit slots tag done → FullAfterLook limit slots tag done) where
   found_all_held : {N : Type 0} (config : Numbers) (host : Host N) (m : Named) (k : Kind) (before after : Passes N) → HasCause config host m before after k → FoundAllHeld host m before after k
-  found_all_held config host m Ticket before after cause =
+  found_all_held config host m Instance before after cause =
       let slots : ℕ = slots_of host.tickets in
       grew_as (IsFullTicketTake config host m) (FullAfterScan slots) (trail before.ticket) (trail after.ticket) (any slots) cause.full
   found_all_held config host m Memory before after cause =

@@ -1,6 +1,5 @@
 use Rattle.std.proofs.Common.{ℕ, List, [], sym, ap, subst}
 use Rattle.wasm_values.specs.declared.outcome.Val.{Val}
-use Rattle.wasm_spec.specs.Store.{fresh_store}
 use Rattle.pool_worlds.specs.Contents.{Named}
 use Rattle.instance_calls.specs.CallWords.{MayCall}
 use Rattle.instance_calls.specs.Parts.{BelongsTo, table_slot}
@@ -16,7 +15,7 @@ invariant_of-result g c =
     let call = c.begin-call.result in
     let (export, may) = c.requires.call in
     let kept : IsPausedInstance config x m call c.args.answer = record {
-      paused = subst (λ (bytes : List ℕ). IsPausedOn config m [] (fresh_store m.tree) call bytes x) (sym c.requires.none) (c.begin-call.ensures.paused []);
+      paused = subst (λ (bytes : List ℕ). IsPausedOn config m [] call bytes x) (sym c.requires.none) (c.begin-call.ensures.paused []);
       memory_belongs = subst (BelongsTo m) (sym c.begin-call.ensures.slots.memory) c.requires.memory;
       table_belongs = subst (BelongsTo m) (ap table_slot (sym c.begin-call.ensures.slots.table)) c.requires.table;
       export = export;

@@ -9,7 +9,6 @@ use Rattle.memory_blocks.specs.Blocks.{KeepsUnmarked}
 use Rattle.wasm_machine.specs.Lent.{lent_store}
 use Rattle.pool_worlds.specs.Contents as contents
 use Rattle.pool_worlds.specs.declared.kinds.Kind.{Kind}
-use Rattle.pool_worlds.specs.declared.kinds.Kind.TheVariants as kind
 use Rattle.pool_worlds.specs.Contents.{MemoryContents, turned}
 use Rattle.pool_worlds.specs.Runs.{LeavesFrom}
 use Rattle.paused_call.specs.Standing.{CanResume, Stands, upto, whole}

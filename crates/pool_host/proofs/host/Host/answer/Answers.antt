@@ -1,21 +1,41 @@
 use Rattle.pool_host.proofs.SlotLemmas.{all_served, gave_those, still_have}
+use Rattle.pool_host.proofs.StartLemmas.{look_is, refused_cause, refused_so, refused_trails}
+use Rattle.instance_calls.proofs.CallLemmas.{ends_with}
 use Rattle.pool_host.proofs.host.Host.answer.Goals as goal
 
 pub give_slots-requires-clause-have : goal.give_slots-requires-clause-have
 give_slots-requires-clause-have g c =
-    (c.args.module.now, still_have g.N.Naming.config c.args.self.now c.args.module.now c.in-Ok-take_slots.instance c.run-outcome.new.self c.run-outcome.ensures.slots c.take_slots.new.passes c.in-Ok-take_slots.ensures.have)
+    (c.args.module.now, still_have g.N.Naming.config c.args.self.now c.args.module.now c.in-Ok.instance c.run-outcome.new.self c.run-outcome.ensures.slots c.start.new.passes c.in-Ok.ensures.have)
 
-pub returns-in-Ok-take_slots-clause-trails : goal.returns-in-Ok-take_slots-clause-trails
-returns-in-Ok-take_slots-clause-trails g c =
+pub returns-in-Ok-clause-trails : goal.returns-in-Ok-clause-trails
+returns-in-Ok-clause-trails g c =
     let config = g.N.Naming.config in
     let host = c.args.self.now in
     let m = c.args.module.now in
-    let x = c.in-Ok-take_slots.instance in
+    let x = c.in-Ok.instance in
     let y = c.run-outcome.new.self in
     let keeps = c.run-outcome.ensures.slots in
-    let have = still_have config host m x y keeps c.take_slots.new.passes c.in-Ok-take_slots.ensures.have in
-    let gave = gave_those config host m x y keeps c.take_slots.new.passes c.give_slots.new.passes (c.give_slots.ensures.gave m have) in
-    all_served config host m x c.args.passes.now c.take_slots.new.passes c.give_slots.new.passes c.in-Ok-take_slots.ensures.fresh c.in-Ok-take_slots.ensures.took gave c.run-outcome.result
+    let have = still_have config host m x y keeps c.start.new.passes c.in-Ok.ensures.have in
+    let gave = gave_those config host m x y keeps c.start.new.passes c.give_slots.new.passes (c.give_slots.ensures.gave m have) in
+    all_served config host m x c.args.passes.now c.start.new.passes c.give_slots.new.passes c.in-Ok.ensures.fresh c.in-Ok.ensures.took gave c.run-outcome.result
 
-pub returns-in-Ok-take_slots-clause-answer : goal.returns-in-Ok-take_slots-clause-answer
-returns-in-Ok-take_slots-clause-answer g c = c.run-outcome.ensures.ends c.args.asked.now.export.now c.in-Ok.ensures.found
+pub returns-in-Ok-clause-answer : goal.returns-in-Ok-clause-answer
+returns-in-Ok-clause-answer g c =
+    let asked = c.args.asked.now in
+    ends_with g.N.Naming.config c.args.module.now.tree asked.export.now c.in-Ok.function asked.args.now asked.request.now asked.fuel c.run-outcome.result c.run-outcome.new.answer c.in-Ok.ensures.may c.run-outcome.ensures.ends
+
+pub returns-in-Err-clause-answer : goal.returns-in-Err-clause-answer
+returns-in-Err-clause-answer g c =
+    let asked = c.args.asked.now in
+    rw c.answer.ensures (refused_so g.N.Naming.config c.args.self.now c.args.module.now asked.export.now asked.args.now c.args.passes.now asked.request.now asked.fuel c.start.new.passes c.start.new.said c.in-Err.refused c.start.ensures.none c.in-Err.ensures.refused)
+
+pub returns-in-Err-clause-trails : goal.returns-in-Err-clause-trails
+returns-in-Err-clause-trails g c =
+    rw c.answer.ensures (refused_trails g.N.Naming.config c.args.self.now c.args.module.now c.args.asked.now.export.now c.args.asked.now.args.now c.args.passes.now c.start.new.passes c.in-Err.refused c.in-Err.ensures.refused)
+
+pub returns-in-Err-clause-full : goal.returns-in-Err-clause-full
+returns-in-Err-clause-full g c =
+    rw c.answer.ensures (refused_cause g.N.Naming.config c.args.self.now c.args.module.now c.args.asked.now.export.now c.args.asked.now.args.now c.args.passes.now c.start.new.passes c.in-Err.refused c.in-Err.ensures.refused)
+
+pub returns-in-Err-clause-looked : goal.returns-in-Err-clause-looked
+returns-in-Err-clause-looked g c = rw c.answer.ensures (rw (look_is c.in-Err.refused) c.in-Err.ensures.looked)

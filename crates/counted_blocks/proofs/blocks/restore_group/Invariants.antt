@@ -1,0 +1,17 @@
+use Rattle.std.proofs.Common.{◌≡◌, ◌+◌, ◌<◌, ◌≤◌, ℕ, false, length, take}
+use Rattle.std.specs.Prelude.{slice_index_or}
+use Rattle.counted_blocks.specs.Counted.{AreSame}
+use Rattle.counted_blocks.specs.Images.{KeepsImage, byte_of}
+use Rattle.counted_blocks.proofs.MarkLemmas.{count}
+use Rattle.counted_blocks.proofs.blocks.restore_group.Given as goal
+
+abbrev pub invariant-loop-block : goal.invariant-loop-block
+invariant-loop-block g l = record {
+  references : AreSame l.initial.counted l.counted;
+  room : length l.counted.bytes.now ≡ length l.initial.counted.bytes.now;
+  outside : KeepsImage l.counted.bytes.now l.marks (byte_of l.image);
+  clean : (k : ℕ) → l.first ≤ k → k < l.block → slice_index_or l.marks k false ≡ false;
+  before : (k : ℕ) → k < l.first → slice_index_or l.marks k false ≡ slice_index_or l.initial.marks k false;
+  later : (k : ℕ) → l.block ≤ k → slice_index_or l.marks k false ≡ slice_index_or l.initial.marks k false;
+  steps : l.counted.steps.now + count (take l.first l.initial.marks) ≡ l.initial.counted.steps.now + count (take l.block l.initial.marks);
+}

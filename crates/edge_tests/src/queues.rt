@@ -1,0 +1,48 @@
+//! The board of calls, the queue of jobs and the run queue, each with one item.
+use job_queue::{Board, Jobs, RunQueue, Stray};
+use report_text::CallLine;
+use std::marker::Brand;
+use std::test::Fail;
+
+#[test]
+fn a_line_is_collected_once(rt: HostRuntime) -> Result<(), Fail> {
+    let mut board = Board::open(rt.alloc(), 1)?;
+    let answers = [
+        board.collect(1, CallLine::NoExport),
+        board.collect(1, CallLine::NoExport),
+        board.collect(2, CallLine::NoExport),
+    ];
+    assert_eq!(rt;
+        answers,
+        [Ok(()), Err(Stray::Double(1)), Err(Stray::Stranger(2))]
+    );
+    Ok(())
+}
+
+#[test]
+fn a_job_is_handed_out_once(rt: HostRuntime) -> Result<(), Fail> {
+    let (jobs, mut putter, mut takers) = Jobs::<u64>::open(rt.alloc(), 7, 1, 1)?;
+    let mut taker = takers.pop().unwrap();
+    jobs.put(&rt, &mut putter, 7, 5);
+    let taken = jobs.next(&rt, &mut taker);
+    jobs.join_pass(&mut putter, taker);
+    let left = jobs.next(&rt, &mut putter);
+    assert_eq!(rt; [taken, left], [Some((7, 5)), None]);
+    Ok(())
+}
+
+#[test]
+fn what_is_put_back_comes_again(rt: HostRuntime) -> Result<(), Fail> {
+    let (queue, mut first, mut others) = RunQueue::<u64, Brand>::open(rt.alloc(), 1, 1)?;
+    let mut second = others.pop().unwrap();
+    queue.put(&rt, &mut first, 5);
+    let Some(item) = queue.next(&rt, &mut second) else {
+        panic!(rt; "none");
+    };
+    queue.put(&rt, &mut second, item);
+    queue.join_pass(&mut first, second);
+    let again = queue.next(&rt, &mut first);
+    let left = queue.next(&rt, &mut first);
+    assert_eq!(rt; [again, left], [Some(5), None]);
+    Ok(())
+}

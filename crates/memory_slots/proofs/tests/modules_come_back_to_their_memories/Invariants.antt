@@ -1,4 +1,0 @@
-use Rattle.memory_slots.proofs.tests.modules_come_back_to_their_memories.Given as goal
-
-abbrev pub ghosts-check_visits : goal.ghosts-check_visits
-ghosts-check_visits g a = record { shelves = a.opened.modules; config = a.opened.config }

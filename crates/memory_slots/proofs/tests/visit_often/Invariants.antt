@@ -1,6 +1,0 @@
-use Rattle.slot_words.specs.Passes.{IsIdle}
-use Rattle.slot_words.specs.Owned.{IsPassOf}
-use Rattle.memory_slots.proofs.tests.visit_often.Given as goal
-
-abbrev pub invariant-loop : goal.invariant-loop
-invariant-loop g l = IsPassOf l.pool l.pass × IsIdle l.pass

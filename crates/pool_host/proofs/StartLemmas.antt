@@ -1,0 +1,63 @@
+-- What comes of a call that takes no slots.
+use Rattle.std.proofs.Common.{◌≡◌, ℕ, List, [], refl, ap}
+use Rattle.wasm_values.specs.declared.outcome.Val.{Val}
+use Rattle.slot_words.specs.Passes.{trail}
+use Rattle.retired_tags.specs.Passes.{IsTagPass}
+use Rattle.module_store.specs.declared.naming.Naming.{Ghosts}
+use Rattle.pool_limits.specs.declared.numbers.Numbers.{Numbers}
+use Rattle.pool_worlds.specs.Contents.{Named, needs}
+use Rattle.pool_worlds.specs.declared.kinds.Kind.TheVariants as kind
+use Rattle.instance_calls.specs.CallWords.{run_limits}
+use Rattle.pool_host.specs.declared.answers.Answer.TheVariants as answer
+use Rattle.pool_host.specs.declared.host.Host.{Host}
+use Rattle.pool_host.specs.declared.passes.HostPass.{HostPass}
+use Rattle.pool_host.specs.declared.passes.Passes.{Passes}
+use Rattle.pool_host.specs.declared.starting.Refused.{Refused}
+use Rattle.pool_host.specs.declared.starting.Refused.TheVariants.{BadArgs, Full, NoExport, Retired}
+use Rattle.pool_host.specs.CallWords.{IfFull, IsHostAnswer}
+use Rattle.pool_host.specs.Hosts.{ArePassesOf, AreSamePasses}
+use Rattle.pool_host.specs.Looks.{look_of, refused_look}
+use Rattle.pool_host.specs.Pausing.{HasBegun}
+use Rattle.pool_host.specs.Starting.{HasRefused, refused_answer, refused_begun}
+use Rattle.pool_host.specs.Trails.{AddsTrails, HasCause, IsFullMemoryTake, IsFullTableTake, IsFullTicketTake, IsMemoryGive, IsMemoryTake, IsTableGive, IsTableTake, IsTicketGive, IsTicketTake}
+use Rattle.pool_host.proofs.VisitLemmas.{nothing, nothing_if}
+
+pub look_is : (why : Refused) → look_of (refused_answer why) ≡ refused_look why
+look_is NoExport = refl
+look_is BadArgs = refl
+look_is Retired = refl
+look_is (Full kind) = refl
+
+module _ {N : Type 0} (config : Numbers) (host : Host N) (m : Named) (export : List ℕ) (args : List Val) (before : Passes N) where
+  untouched : (after : Passes N) → after ≡ before → AddsTrails config host m answer.Retired before after
+  untouched after same = record {
+    ticket = nothing (IsTicketTake config host m) (IsTicketGive config host m) (IsFullTicketTake config host m) _ _ (ap (λ p. trail p.ticket) same);
+    memory = nothing_if (IsMemoryTake config host m) (IsMemoryGive config host m) (IsFullMemoryTake config host m) (needs kind.Memory m.tree) _ _ (ap (λ p. trail p.memory) same);
+    table = nothing_if (IsTableTake config host m) (IsTableGive config host m) (IsFullTableTake config host m) (needs kind.Table m.tree) _ _ (ap (λ p. trail p.table) same);
+  }
+
+  pub refused_so : (request : List ℕ) (fuel : ℕ) (after : Passes N) (said : List ℕ) (why : Refused) → said ≡ [] → HasRefused config host m export args before after why
+      → IsHostAnswer m.tree (run_limits config) export args request fuel (refused_answer why) said
+  refused_so request fuel after said NoExport none h = (h.0, none)
+  refused_so request fuel after said BadArgs none h = (h.0, none)
+  refused_so request fuel after said Retired none h = (h.0.0, h.0.1, none)
+  refused_so request fuel after said (Full kind) none h = (h.0.0, h.0.1, none)
+
+  pub refused_trails : (after : Passes N) (why : Refused) → HasRefused config host m export args before after why → AddsTrails config host m (refused_answer why) before after
+  refused_trails after NoExport h = let n = untouched after h.1 in record { ticket = n.ticket; memory = n.memory; table = n.table }
+  refused_trails after BadArgs h = let n = untouched after h.1 in record { ticket = n.ticket; memory = n.memory; table = n.table }
+  refused_trails after Retired h = untouched after h.1
+  refused_trails after (Full kind) h = h.1
+
+  pub refused_cause : (after : Passes N) (why : Refused) → HasRefused config host m export args before after why → IfFull (refused_answer why) (HasCause config host m before after)
+  refused_cause after NoExport h = tt
+  refused_cause after BadArgs h = tt
+  refused_cause after Retired h = tt
+  refused_cause after (Full kind) h = h.2
+
+  pub not_begun : {G : Ghosts N} (fuel number : ℕ) (pass : HostPass N G) (why : Refused) → ArePassesOf host pass.passes → IsTagPass host.retired.tags pass.retired → AreSamePasses before pass.passes → pass.answer ≡ []
+      → HasRefused config host m export args before pass.passes why → HasBegun config host m export args fuel number before (refused_begun why pass)
+  not_begun fuel number pass NoExport pools tags same none h = (record { own = record { pools = pools; tags = tags }; passes_are = h.1; no_answer = none }, h.0)
+  not_begun fuel number pass BadArgs pools tags same none h = (record { own = record { pools = pools; tags = tags }; passes_are = h.1; no_answer = none }, h.0)
+  not_begun fuel number pass Retired pools tags same none h = record { untouched = record { own = record { pools = pools; tags = tags }; passes_are = h.1; no_answer = none }; function = h.0.0; may = h.0.1 }
+  not_begun fuel number pass (Full kind) pools tags same none h = record { own = record { pools = pools; tags = tags }; same = same; function = h.0.0; may = h.0.1; trails = h.1; full = h.2; no_answer = none }

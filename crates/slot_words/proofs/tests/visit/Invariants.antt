@@ -1,6 +1,0 @@
-use Rattle.slot_words.specs.Passes.{IsIdle}
-use Rattle.slot_words.specs.Owned.{IsPassOf}
-use Rattle.slot_words.proofs.tests.visit.Given as goal
-
-abbrev pub invariant-loop : goal.invariant-loop
-invariant-loop l = IsPassOf l.words l.pass × IsIdle l.pass

@@ -1,0 +1,95 @@
+//! A module that is retired on a host.
+ghost use Rattle.module_store.specs.Names.{Bears};
+ghost use Rattle.pool_host.specs.Hosts.{IsHostPass};
+
+use crate::stores::{ONE, one_module};
+use host_edge::OpenGate;
+use module_store::{ModuleRef, ModuleStore, Naming, Opened};
+use pool_host::{Answer, Host, HostPass, PoolCounts, Retire};
+use pool_limits::{Numbers, PoolConfig, Share};
+use slot_words::KindCounts;
+use std::alloc::Global;
+use std::marker::Brand;
+use std::process::Abort;
+use std::sync::Wait;
+use std::test::Fail;
+
+// Two memories may be warm, and they are cleaned 64 at once.
+const NUMBERS: Numbers = Numbers {
+    workers: 1,
+    instances: 1,
+    memories: 2,
+    tables: 1,
+    warm: 2,
+    batch: 64,
+    pages: 4,
+    elements: 8,
+    depth: 16,
+    frame: 16,
+};
+
+const SHARE: Share = Share {
+    instances: 1,
+    memories: 2,
+    tables: 1,
+};
+
+// What a call of the module and its retirement are answered, and both once more.
+fn around_retirement<N: Naming>(
+    host: &Host<N>,
+    pass: &mut HostPass<N>,
+    store: &ModuleStore<N>,
+    module: &ModuleRef<N>,
+) -> ([Answer; 2], [Retire; 2])
+    requires { IsHostPass host.now pass.old }
+    ensures { IsHostPass host.now pass.new }
+{
+    let gate = OpenGate;
+    let before = host.call(pass, store, module, b"bump", &[], 100, 1, &gate);
+    let first = host.retire(pass, store, module);
+    let behind = host.call(pass, store, module, b"bump", &[], 100, 2, &gate);
+    let again = host.retire(pass, store, module);
+    ([before, behind], [first, again])
+}
+
+// The slots of a host that is closed with its one pass.
+fn close_one<N: Naming, R: Abort>(
+    rt: &R,
+    alloc: Global,
+    host: Host<N>,
+    pass: HostPass<N>,
+) -> PoolCounts
+    requires { IsHostPass host pass }
+{
+    let mut passes = Vec::new(alloc);
+    passes.push(pass).expect(rt, "room");
+    host.close(passes)
+}
+
+fn check<N: Naming, R: Abort + Wait>(rt: &R, alloc: Global, opened: Opened)
+    requires { Bears opened N.shelves N.config }
+{
+    let (store, module) = one_module::<N, R>(rt, alloc, opened);
+    let (host, mut passes) = Host::open(alloc, &store, SHARE, 1).expect(rt, "opened");
+    let mut pass = passes.pop().unwrap();
+    let (calls, retired) = around_retirement(&host, &mut pass, &store, &module);
+    let memories = close_one(rt, alloc, host, pass).memory;
+    let all_cold = KindCounts {
+        cold: 2,
+        warm: 0,
+        awaiting: 0,
+        held: 0,
+    };
+    assert_eq!(rt;
+        (calls, memories),
+        ([Answer::Done(ONE), Answer::Retired], all_cold)
+    );
+    assert_eq!(rt; retired, [Retire::First { cleaned: 1 }, Retire::Already]);
+}
+
+#[test]
+fn a_retired_module_is_called_no_more_and_its_memory_is_cold(rt: HostRuntime) -> Result<(), Fail> {
+    let opened = Opened::open(rt.alloc(), PoolConfig::new(NUMBERS)?)?;
+    check::<Brand, HostRuntime>(&rt, rt.alloc(), opened);
+    Ok(())
+}

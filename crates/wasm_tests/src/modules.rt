@@ -1,0 +1,274 @@
+//! Bytes that spell modules and bytes that spell none, modules that are valid and such that are refused, and a deep one.
+
+use std::alloc::{AllocError, Global};
+use std::test::Fail;
+use wasm_decode::{DecodeFault, decode};
+use wasm_validate::{ValidFault, validate};
+use wasm_values::Profile;
+
+// What follows the magic bytes and the version, and whether node's engine takes the module in profile 1 and in profile 2.
+const SPELLED: &[(&[u8], bool, bool)] = &[
+    // custom sections; empty sections of every kind that has items; a padded size
+    (b"\0\x02\x01a", true, true),
+    (b"\0\x01\0\0\x03\x01bc", true, true),
+    (
+        b"\x01\x01\0\x02\x01\0\x03\x01\0\x04\x01\0\x05\x01\0\x06\x01\0\x07\x01\0\x09\x01\0\x0a\x01\0\x0b\x01\0",
+        true,
+        true,
+    ),
+    (b"\x01\x81\0\0", true, true),
+    // no section but a byte, a size past the end, contents longer than the items, contents shorter
+    (b"\x01", false, false),
+    (b"\x01\x02\0", false, false),
+    (b"\x01\x02\0\0", false, false),
+    (b"\x01\x01\x01", false, false),
+    // a custom section's name that isn't UTF-8, or doesn't fit
+    (b"\0\x02\x01\xff", false, false),
+    (b"\0\x01\x01", false, false),
+    // ids that don't rise, the same one twice, and one that there isn't
+    (b"\x03\x01\0\x01\x01\0", false, false),
+    (b"\x01\x01\0\x01\x01\0", false, false),
+    (b"\x7f\x01\0", false, false),
+    // a type; a function without code; code without a function
+    (b"\x01\x04\x01\x60\0\0", true, true),
+    (b"\x01\x04\x01\x60\0\0\x03\x02\x01\0", false, false),
+    (b"\x01\x04\x01\x60\0\0\x0a\x04\x01\x02\0\x0b", false, false),
+    // a body; one with a run of no locals; longer than its size, shorter, without an end; an opcode of no instruction
+    (
+        b"\x01\x04\x01\x60\0\0\x03\x02\x01\0\x0a\x04\x01\x02\0\x0b",
+        true,
+        true,
+    ),
+    (
+        b"\x01\x04\x01\x60\0\0\x03\x02\x01\0\x0a\x06\x01\x04\x01\0\x7c\x0b",
+        true,
+        true,
+    ),
+    (
+        b"\x01\x04\x01\x60\0\0\x03\x02\x01\0\x0a\x04\x01\x01\0\x0b",
+        false,
+        false,
+    ),
+    (
+        b"\x01\x04\x01\x60\0\0\x03\x02\x01\0\x0a\x05\x01\x03\0\x0b\x0b",
+        false,
+        false,
+    ),
+    (
+        b"\x01\x04\x01\x60\0\0\x03\x02\x01\0\x0a\x04\x01\x02\0\x6a",
+        false,
+        false,
+    ),
+    (
+        b"\x01\x04\x01\x60\0\0\x03\x02\x01\0\x0a\x05\x01\x03\0\xff\x0b",
+        false,
+        false,
+    ),
+    // a block, an `if` with an `else` and one without, a `br_table`, a call by the table
+    (
+        b"\x01\x04\x01\x60\0\0\x03\x02\x01\0\x04\x04\x01\x70\0\x01\x0a\x1f\x01\x1d\0\x02\x40\x41\0\x04\x40\x01\x05\x01\x0b\x41\0\x04\x40\x0b\x41\0\x0e\x01\0\0\x0b\x41\0\x11\0\0\x0b",
+        true,
+        true,
+    ),
+    // an `else` outside an `if`, one twice, a block that isn't closed
+    (
+        b"\x01\x04\x01\x60\0\0\x03\x02\x01\0\x0a\x05\x01\x03\0\x05\x0b",
+        false,
+        false,
+    ),
+    (
+        b"\x01\x04\x01\x60\0\0\x03\x02\x01\0\x0a\x0b\x01\x09\0\x41\0\x04\x40\x05\x05\x0b\x0b",
+        false,
+        false,
+    ),
+    (
+        b"\x01\x04\x01\x60\0\0\x03\x02\x01\0\x0a\x06\x01\x04\0\x02\x40\x0b",
+        false,
+        false,
+    ),
+    // an export of the function, one whose name isn't UTF-8, one of a kind that there isn't
+    (
+        b"\x01\x04\x01\x60\0\0\x03\x02\x01\0\x07\x05\x01\x01f\0\0\x0a\x04\x01\x02\0\x0b",
+        true,
+        true,
+    ),
+    (
+        b"\x01\x04\x01\x60\0\0\x03\x02\x01\0\x07\x05\x01\x01\xff\0\0\x0a\x04\x01\x02\0\x0b",
+        false,
+        false,
+    ),
+    (
+        b"\x01\x04\x01\x60\0\0\x03\x02\x01\0\x07\x05\x01\x01f\x04\0\x0a\x04\x01\x02\0\x0b",
+        false,
+        false,
+    ),
+    // a count of items that the bytes can't hold
+    (b"\x01\x05\xff\xff\xff\xff\x0f", false, false),
+    // a data count section for one data segment: it says one, none, two
+    (
+        b"\x05\x03\x01\0\x01\x0c\x01\x01\x0b\x07\x01\0\x41\0\x0b\x01a",
+        false,
+        true,
+    ),
+    (
+        b"\x05\x03\x01\0\x01\x0c\x01\0\x0b\x07\x01\0\x41\0\x0b\x01a",
+        false,
+        false,
+    ),
+    (
+        b"\x05\x03\x01\0\x01\x0c\x01\x02\x0b\x07\x01\0\x41\0\x0b\x01a",
+        false,
+        false,
+    ),
+    // a padded number, a byte behind it, and no number
+    (
+        b"\x05\x03\x01\0\x01\x0c\x02\x81\0\x0b\x07\x01\0\x41\0\x0b\x01a",
+        false,
+        true,
+    ),
+    (b"\x0c\x02\0\0", false, false),
+    (b"\x0c\0", false, false),
+    // before the section 9, between 9 and 10, behind 10, behind 11, twice
+    (b"\x0c\x01\0\x09\x01\0", false, false),
+    (b"\x09\x01\0\x0c\x01\0\x0a\x01\0", false, true),
+    (b"\x0a\x01\0\x0c\x01\0", false, false),
+    (b"\x0b\x01\0\x0c\x01\0", false, false),
+    (b"\x0c\x01\0\x0c\x01\0", false, false),
+    // a fill, a copy, a copy with one zero byte, and a number behind the prefix that is none of theirs
+    (
+        b"\x01\x04\x01\x60\0\0\x03\x02\x01\0\x05\x03\x01\0\x01\x0a\x0d\x01\x0b\0\x41\0\x41\0\x41\0\xfc\x0b\0\x0b",
+        false,
+        true,
+    ),
+    (
+        b"\x01\x04\x01\x60\0\0\x03\x02\x01\0\x05\x03\x01\0\x01\x0a\x0e\x01\x0c\0\x41\0\x41\0\x41\0\xfc\x0a\0\0\x0b",
+        false,
+        true,
+    ),
+    (
+        b"\x01\x04\x01\x60\0\0\x03\x02\x01\0\x05\x03\x01\0\x01\x0a\x0d\x01\x0b\0\x41\0\x41\0\x41\0\xfc\x0a\0\x0b",
+        false,
+        false,
+    ),
+    (
+        b"\x01\x04\x01\x60\0\0\x03\x02\x01\0\x05\x03\x01\0\x01\x0a\x0d\x01\x0b\0\x41\0\x41\0\x41\0\xfc\x09\0\x0b",
+        false,
+        false,
+    ),
+    // the first of the sign extensions, the last, and what would be one more
+    (
+        b"\x01\x04\x01\x60\0\0\x03\x02\x01\0\x0a\x08\x01\x06\0\x41\0\xc0\x1a\x0b",
+        false,
+        true,
+    ),
+    (
+        b"\x01\x04\x01\x60\0\0\x03\x02\x01\0\x0a\x08\x01\x06\0\x42\0\xc4\x1a\x0b",
+        false,
+        true,
+    ),
+    (
+        b"\x01\x04\x01\x60\0\0\x03\x02\x01\0\x0a\x08\x01\x06\0\x42\0\xc5\x1a\x0b",
+        false,
+        false,
+    ),
+];
+
+// The magic bytes and the version, and what follows.
+fn module(alloc: Global, after: &[u8]) -> Result<Vec<u8>, AllocError> {
+    let mut bytes = Vec::from_slice(alloc, b"\0asm\x01\0\0\0")?;
+    bytes.extend_from_slice(after)?;
+    Ok(bytes)
+}
+
+// Whether these bytes spell a module in a profile.
+fn spells(alloc: Global, profile: Profile, after: &[u8]) -> Result<bool, DecodeFault> {
+    let bytes = module(alloc, after)?;
+    match decode(alloc, profile, bytes.as_slice()) {
+        Ok(_) => Ok(true),
+        Err(DecodeFault::Malformed) => Ok(false),
+        Err(fault) => Err(fault),
+    }
+}
+
+#[test]
+fn bytes_are_modules_as_another_engine_says(rt: HostRuntime) -> Result<(), Fail> {
+    for (after, one, two) in SPELLED {
+        assert_eq!(rt; spells(rt.alloc(), Profile::One, after)?, *one, "{after:?}");
+        assert_eq!(rt; spells(rt.alloc(), Profile::Two, after)?, *two, "{after:?}");
+    }
+    Ok(())
+}
+
+// What follows the magic bytes and the version, and the need of the last function, or why the module is refused in profile 1.
+const CHECKED: &[(&[u8], Result<u64, ValidFault>)] = &[
+    // an addition, and a recursion
+    (
+        b"\x01\x07\x01\x60\x02\x7f\x7f\x01\x7f\x03\x02\x01\0\x07\x07\x01\x03add\0\0\x0a\x09\x01\x07\0\x20\0\x20\x01\x6a\x0b",
+        Ok(5),
+    ),
+    (
+        b"\x01\x06\x01\x60\x01\x7f\x01\x7f\x03\x02\x01\0\x07\x07\x01\x03rec\0\0\x0a\x14\x01\x12\0\x20\0\x45\x04\x7f\x41\0\x05\x20\0\x41\x01\x6b\x10\0\x0b\x0b",
+        Ok(5),
+    ),
+    // what is not reached: an addition, and an i64 where an i32 is due
+    (
+        b"\x01\x05\x01\x60\0\x01\x7f\x03\x02\x01\0\x0a\x06\x01\x04\0\0\x6a\x0b",
+        Ok(2),
+    ),
+    (
+        b"\x01\x05\x01\x60\0\x01\x7f\x03\x02\x01\0\x0a\x07\x01\x05\0\0\x42\0\x0b",
+        Err(ValidFault::Invalid),
+    ),
+    // an addition of one operand, a float, an import
+    (
+        b"\x01\x04\x01\x60\0\0\x03\x02\x01\0\x0a\x08\x01\x06\0\x41\x01\x6a\x1a\x0b",
+        Err(ValidFault::Invalid),
+    ),
+    (
+        b"\x01\x04\x01\x60\0\0\x03\x02\x01\0\x0a\x0a\x01\x08\0\x43\0\0\0\0\x1a\x0b",
+        Err(ValidFault::Unsupported),
+    ),
+    (
+        b"\x01\x04\x01\x60\0\0\x02\x07\x01\x01a\x01b\0\0",
+        Err(ValidFault::Unsupported),
+    ),
+];
+
+// The need of a module's last function, or why it is refused.
+fn last_need(alloc: Global, after: &[u8]) -> Result<Result<u64, ValidFault>, DecodeFault> {
+    let bytes = module(alloc, after)?;
+    let module = decode(alloc, Profile::One, bytes.as_slice())?;
+    Ok(match validate(alloc, Profile::One, module) {
+        Ok(valid) => Ok(valid.frame_needs().last().copied().unwrap_or(0)),
+        Err(fault) => Err(fault),
+    })
+}
+
+#[test]
+fn modules_are_valid_or_refused(rt: HostRuntime) -> Result<(), Fail> {
+    for (after, need) in CHECKED {
+        assert_eq!(rt; last_need(rt.alloc(), after)?, *need, "{after:?}");
+    }
+    Ok(())
+}
+
+// 50,000 `if`s, each in the second arm of the one around it.
+fn nested_arms(alloc: Global) -> Result<Vec<u8>, AllocError> {
+    let mut after = Vec::from_slice(
+        alloc,
+        b"\x01\x04\x01\x60\0\0\x03\x02\x01\0\x0a\xe6\xa7\x12\x01\xe2\xa7\x12\0",
+    )?;
+    let opened = b"\x41\0\x04\x40\x05".repeat(alloc, 50_000)?;
+    after.extend_from_slice(opened.as_slice())?;
+    let closed = b"\x0b".repeat(alloc, 50_001)?;
+    after.extend_from_slice(closed.as_slice())?;
+    Ok(after)
+}
+
+// Nothing recurses on them.
+#[test]
+fn arms_may_be_nested_deep(rt: HostRuntime) -> Result<(), Fail> {
+    let after = nested_arms(rt.alloc())?;
+    assert_eq!(rt; last_need(rt.alloc(), after.as_slice())?, Ok(50_002));
+    Ok(())
+}
