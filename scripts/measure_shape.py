@@ -3,17 +3,21 @@
 
 Usage: scripts/measure_shape.py (at the top of a checkout)
 
-Prints the lines of the definitions of WebAssembly and of the pool, without comments, blank lines and imports;
-each function whose body has more than 40 lines; each signature with more than eight parameters; how many lines of
-clauses have more than 160 characters (with -v also where); each crate that has more than 1,500 lines of code or 100
-functions.
+Prints the lines that a reader has to believe of the headline's claims and of all, by `trusted_path.py`: of them those
+of WebAssembly and of the pool; each function whose body has more than 40 lines; each signature with more than eight
+parameters; how many lines of clauses have more than 160 characters (with -v also where); each crate that has more than
+1,500 lines of code or 100 functions.
 """
 import glob
 import re
 import sys
 
+import trusted_path
+
+HEADLINE = "SLFTH"
 WASM = ["wasm_types", "wasm_spec"]
-POOL = ["memory_blocks", "slot_words", "pool_core", "pool_worlds", "slot_pools", "memory_slots", "table_slots", "instance_slots", "pool_host"]
+POOL = ["memory_blocks", "pool_core", "slot_words", "retired_tags", "affinity_index", "decommit_batch", "slot_pools", "pool_worlds",
+        "memory_slots", "table_slots", "instance_slots", "pool_host"]
 
 
 def lines_of(path):
@@ -21,15 +25,15 @@ def lines_of(path):
         return file.read().split("\n")
 
 
-def definition_lines(crate):
-    """Lines of a crate's specs/ that are no comment, no blank line and no import."""
-    count = 0
-    for path in glob.glob(f"crates/{crate}/specs/**/*.antt", recursive=True):
-        for line in lines_of(path):
-            text = line.strip()
-            if text and not re.match(r"--|use |pub use |mod |pub mod |import ", text):
-                count += 1
-    return count
+def print_believed():
+    """The lines of definitions and of types that claims reach: of all crates, of WebAssembly and of the pool."""
+    checkout = trusted_path.Checkout()
+    paths = {letter: checkout.path(roots) for letter, _, roots in trusted_path.CLAIMS}
+    for letters in (HEADLINE, "".join(paths)):
+        items = set().union(*(paths[letter] for letter in letters))
+        for name, crates in (("all", None), ("WebAssembly", WASM), ("the pool", POOL)):
+            files, specs, types = trusted_path.counts({item for item in items if not crates or item.source.crate in crates})
+            print(f"to believe for {letters}, {name}: {specs:,} lines of definitions, {types:,} of types, in {files} files")
 
 
 def clause_lines(lines):
@@ -74,11 +78,7 @@ def functions(path):
 
 
 def main():
-    total = {}
-    for name, crates in (("WebAssembly", WASM), ("the pool", POOL)):
-        counts = [(crate, definition_lines(crate)) for crate in crates]
-        total[name] = sum(count for _, count in counts)
-        print(f"definitions of {name}: {total[name]} lines: " + ", ".join(f"{crate} {count}" for crate, count in counts))
+    print_believed()
     wide = {}
     for path in sorted(glob.glob("crates/*/src/**/*.rt", recursive=True)):
         for name, line, parameters, body in functions(path):
