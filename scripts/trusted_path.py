@@ -31,14 +31,14 @@ CLAIMS = [
      ["wasm_decode::decode", "wasm_validate::validate", "wasm_machine::run"]),
     ("A", "a call on slots is answered as if it were alone", ["pool_host::Host::send"]),
     ("P", "a call in slices ends as one made whole",
-     ["pool_host::Host::begin", "pool_host::Paused::resume", "pool_host::Paused::cancel"]),
+     ["pool_host::laws::slices_end_as_the_call", "pool_host::Host::begin", "pool_host::Paused::resume",
+      "pool_host::Paused::cancel"]),
     ("R", "a retired module is called no more",
      ["pool_host::Host::retire", "pool_host::laws::a_retired_module_is_never_called_again"]),
 ]
 
 PAGE = "docs/DEFINITIONS.md"
 HEAD = re.compile(r"\s*(?:(?:pub|abbrev|unfoldable|opaque)\s+)+(?:record\s+|data\s+)?(\S+)")
-SHOWS = re.compile(r" *ghost (Value|view) =")  # what contracts see of a type
 
 
 class Item:
@@ -102,6 +102,13 @@ def read_definitions(source):
                 source.items.setdefault(case.group(1), current)
 
 
+def is_shown(kind, line):
+    """Whether a line of a type says what contracts see of it. What it keeps true of itself they do not see."""
+    if kind == "model":
+        return re.match(r" *ghost (Value|view) =", line)
+    return not re.match(r" *(#\[|ghost use )", line) and (kind == "trait" or not re.match(r" *ghost ", line))
+
+
 def read_types(source):
     """The items of a file of code: structs, enums, traits and constants, and what a type shows."""
     for number, line in enumerate(source.lines):
@@ -113,9 +120,10 @@ def read_types(source):
         item = source.items.setdefault(name, Item(source, name, "types", number + 1))
         end = next((k for k in range(number, len(source.lines)) if source.lines[k].endswith((";", "}"))
                     and (k == number or not source.lines[k].startswith(" "))), number)
-        for text in source.lines[number : end + 1]:
-            if text.strip() and (SHOWS.match(text) if shows else not re.match(r"\s*(ghost use|#\[)", text)):
-                item.add(re.sub(r"^    \w+", "", text) if head and head.group(1) == "enum" else text)
+        kind = head.group(1) if head else "model"
+        for text in filter(str.strip, source.lines[number : end + 1]):
+            if is_shown(kind, text):
+                item.add(re.sub(r"^    \w+", "", text) if kind == "enum" else text)
 
 
 class Checkout:
@@ -132,9 +140,7 @@ class Checkout:
             read_types(source)
             self.code.setdefault(source.crate, []).append(source)
             for name, item in source.items.items():
-                known = self.types.setdefault((source.crate, name), item)
-                if item.count and not known.count:
-                    self.types[(source.crate, name)] = item
+                self.types.setdefault((source.crate, name), item)
 
     def imported(self, source, module, name):
         """The item that an import of a name names, or none where it is of std or of a ported crate."""
