@@ -14,7 +14,6 @@ import sys
 
 import trusted_path
 
-HEADLINE = "SLFTH"
 WASM = ["wasm_types", "wasm_spec"]
 POOL = ["memory_blocks", "pool_core", "slot_words", "retired_tags", "affinity_index", "decommit_batch", "slot_pools", "pool_worlds",
         "memory_slots", "table_slots", "instance_slots", "pool_host"]
@@ -29,7 +28,7 @@ def print_believed():
     """The lines of definitions and of types that claims reach: of all crates, of WebAssembly and of the pool."""
     checkout = trusted_path.Checkout()
     paths = {letter: checkout.path(roots) for letter, _, roots in trusted_path.CLAIMS}
-    for letters in (HEADLINE, "".join(paths)):
+    for letters in (trusted_path.HEADLINE, "".join(paths)):
         items = set().union(*(paths[letter] for letter in letters))
         for name, crates in (("all", None), ("WebAssembly", WASM), ("the pool", POOL)):
             files, specs, types = trusted_path.counts({item for item in items if not crates or item.source.crate in crates})

@@ -37,6 +37,7 @@ CLAIMS = [
      ["pool_host::Host::retire", "pool_host::laws::a_retired_module_is_never_called_again"]),
 ]
 
+HEADLINE = "SLFTH"
 PAGE = "docs/DEFINITIONS.md"
 HEAD = re.compile(r"\s*(?:(?:pub|abbrev|unfoldable|opaque)\s+)+(?:record\s+|data\s+)?(\S+)")
 
@@ -245,12 +246,12 @@ def shown(roots):
 
 
 def claim_table(paths):
-    """One row for each claim, and one for all."""
+    """One row for each claim, one for those of the headline, and one for all."""
     rows = ["| | claim | stated by | files | definitions | types |", "|---|---|---|---|---|---|"]
     for letter, claim, roots in CLAIMS:
         files, specs, types = counts(paths[letter])
         rows.append(f"| {letter} | {claim} | {shown(roots)} | {files} | {specs:,} | {types:,} |")
-    for letters in ("SLFTH", "SLFTHBAPR"):
+    for letters in (HEADLINE, "".join(paths)):
         files, specs, types = counts(set().union(*(paths[letter] for letter in letters)))
         rows.append(f"| {letters} | these together | | {files} | {specs:,} | {types:,} |")
     return rows
