@@ -270,7 +270,7 @@ def believed(paths):
         files = sorted((os.path.basename(source.path), sum(found[0].values()), "".join(found[1]))
                        for source, found in reached.items() if source.crate == crate)
         if files:
-            names = ", ".join(f"`{name}` {lines} {letters}" for name, lines, letters in files)
+            names = ", ".join(f"`{name}`\0{lines}\0{letters}" for name, lines, letters in files)
             rows += wrapped(f"- `{crate}`, {sum(lines for _, lines, _ in files):,} lines: {names}")
     return rows
 
@@ -289,7 +289,9 @@ def not_believed(checkout, paths):
 
 
 def wrapped(text):
-    return textwrap.wrap(text, 120, subsequent_indent="  ", break_on_hyphens=False, break_long_words=False)
+    """The lines of an item of a list. A zero is a space at which no line ends."""
+    lines = textwrap.wrap(text, 120, subsequent_indent="  ", break_on_hyphens=False, break_long_words=False)
+    return [line.replace("\0", " ") for line in lines]
 
 
 def with_tables(page, tables):
