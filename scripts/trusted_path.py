@@ -21,11 +21,11 @@ import sys
 import textwrap
 
 CLAIMS = [
-    ("S", "each run writes what is due, with its status", ["host_run::serve"]),
+    ("S", "a run delivers what is due, with its status", ["host_run::serve"]),
     ("L", "a call's line is its own; one answer is due",
      ["host_run::laws::same_line", "host_run::laws::same_bytes", "host_run::laws::one_answer_is_due"]),
     ("F", "a reused slot shows a fresh instance", ["pool_worlds::laws::shadow", "pool_worlds::laws::two_worlds"]),
-    ("T", "a tenant's own events decide what it sees", ["tenant_share::laws::own_full"]),
+    ("T", "what a tenant sees is by its own events alone", ["tenant_share::laws::own_full"]),
     ("H", "no slot has two holders, at any moment", ["slot_words::laws::passes_share_the_words"]),
     ("B", "bytes are decoded, checked and run as defined",
      ["wasm_decode::decode", "wasm_validate::validate", "wasm_machine::run"]),
