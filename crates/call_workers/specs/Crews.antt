@@ -10,6 +10,7 @@ use Rattle.pool_limits.specs.declared.wants.Want.{Want}
 use Rattle.pool_worlds.specs.Contents.{Named}
 use Rattle.tenant_share.specs.declared.passes.Caller.{Caller}
 use Rattle.tenant_share.specs.declared.share_host.ShareHost.{ShareHost}
+use Rattle.tenant_share.specs.Retiring.{CallerKnows}
 use Rattle.tenant_share.specs.Tenants.{HasShares, IsCaller, IsNewCaller}
 use Rattle.due_calls.specs.declared.calls.Due.{Due}
 use Rattle.due_calls.specs.declared.entries.Worked.{Worked}
@@ -59,6 +60,19 @@ module _ {N : Type 0} {G : Ghosts N} where
   pub record IsDone (config : Numbers) (shared : Shared N) (jobs : Jobs (Option Named)) (began : Worker N G) (done : Done N G) : Type 0 where
     pub ended : HasEnded config shared jobs done
     pub made : IfOk done.made (λ made. HasWorked config shared jobs began.caller done.worker made.items)
+
+module _ {N : Type 0} {G : Ghosts N} where
+  -- what each of these callers knew to be retired, each of those knows
+  abbrev pub StillKnow : (before after : List (Caller N G)) → Type 0
+  StillKnow before after = (tag : ℕ) → All (CallerKnows tag) before → All (CallerKnows tag) after
+
+  -- a worker's caller knows that the module of this tag is retired
+  abbrev pub WorkerKnows : (tag : ℕ) → Worker N G → Type 0
+  WorkerKnows tag worker = CallerKnows tag worker.caller
+
+  -- so does that of a worker that has ended, if memory lasted
+  abbrev pub DoneKnows : (tag : ℕ) → Done N G → Type 0
+  DoneKnows tag done = IfOk done.made (λ made. WorkerKnows tag done.worker)
 
 -- A pass of the queue into which the passes of so many workers were joined: it put what it put, was given what they were, a 0 for each
 -- worker among it, and these are the entries of those calls.

@@ -1,9 +1,9 @@
 //! Workers that work side by side.
-ghost use Rattle.std.specs.Prelude.{◌≡◌, ◌+◌, ◌≤◌, All, IfOk, length};
+ghost use Rattle.std.specs.Prelude.{◌≡◌, ◌+◌, ◌≤◌, ℕ, All, IfOk, length};
 ghost use Rattle.std.specs.List.{AllZip};
 ghost use Rattle.job_queue.specs.Passes.{count_of, first_of};
 ghost use Rattle.due_calls.specs.Entries.{AreNumbered, IsOfTenants};
-ghost use Rattle.call_workers.specs.Crews.{HasEnded, IsDone, IsNewCrew, IsNewWorker};
+ghost use Rattle.call_workers.specs.Crews.{DoneKnows, HasEnded, IsDone, IsNewCrew, IsNewWorker, WorkerKnows};
 
 use crate::members::{Crew, Done, Worker};
 use crate::shared::Shared;
@@ -80,6 +80,7 @@ pub fn work_all<N: Naming + Send + Sync, R: Threads + Wait + Sync, G: Gate>(
     requires numbers { first_of jobs.now + count_of jobs.now ≤ length shared.now.calls.items + 1 }
     ensures done { IfOk result (λ done. AllZip (IsDone N.config shared.now jobs.now) workers.items done.items) }
     ensures ended { IfOk result (λ done. All (HasEnded N.config shared.now jobs.now) done.items) }
+    ensures known { IfOk result (λ done. (tag : ℕ) → All (WorkerKnows tag) workers.items → All (DoneKnows tag) done.items) }
     ensures count { IfOk result (λ done. length done.items ≡ length workers.items) }
 {
     let done = thread::map_vec(

@@ -1,9 +1,10 @@
 //! What all workers of a round made, once they have ended.
-ghost use Rattle.std.specs.Prelude.{◌≡◌, ◌+◌, ◌<◌, [], All, IfOk, length};
+ghost use Rattle.std.specs.Prelude.{◌≡◌, ◌+◌, ◌<◌, ℕ, [], All, IfOk, length};
 ghost use Rattle.job_queue.specs.Passes.{IsJobPass, given_to, passes_of, put_by, share_of};
+ghost use Rattle.tenant_share.specs.Retiring.{CallerKnows};
 ghost use Rattle.tenant_share.specs.Tenants.{IsCaller};
 ghost use Rattle.due_calls.specs.Entries.{AnswersAll, EndsAll};
-ghost use Rattle.call_workers.specs.Crews.{HasEnded, HasJoined};
+ghost use Rattle.call_workers.specs.Crews.{DoneKnows, HasEnded, HasJoined};
 
 use crate::members::{Done, Worker};
 use crate::shared::Shared;
@@ -29,6 +30,7 @@ fn join_all<N: Naming>(
     requires callers { All (IsCaller shared.now.share) callers.old.items }
     requires done { All (HasEnded N.config shared.now jobs.now) done.items }
     ensures callers { All (IsCaller shared.now.share) callers.new.items }
+    ensures known { IfOk result (λ _. (tag : ℕ) → All (CallerKnows tag) callers.old.items → All (DoneKnows tag) done.items → All (CallerKnows tag) callers.new.items) }
     ensures back { IfOk result (λ _. length callers.new.items ≡ length callers.old.items + length done.items) }
     ensures entries { IfOk result (λ entries. HasJoined N.config jobs.now shared.now.calls.items own.old own.new (length done.items) entries.items) }
 {
@@ -68,6 +70,7 @@ pub fn finish<N: Naming, R: Wait>(
     requires done { All (HasEnded N.config shared.now jobs.now) done.items }
     requires callers { All (IsCaller shared.now.share) callers.old.items }
     ensures callers { All (IsCaller shared.now.share) callers.new.items }
+    ensures known { IfOk result (λ _. (tag : ℕ) → All (CallerKnows tag) callers.old.items → All (DoneKnows tag) done.items → All (CallerKnows tag) callers.new.items) }
     ensures back { IfOk result (λ _. length callers.new.items ≡ length callers.old.items + length done.items) }
     ensures entries { IfOk result (λ entries. AnswersAll N.config shared.now.calls.items (put_by own) entries.items) }
 {

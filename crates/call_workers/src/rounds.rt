@@ -1,8 +1,9 @@
 //! Rounds of calls, each with a queue of its own.
-ghost use Rattle.std.specs.Prelude.{◌≡◌, ◌+◌, ◌^◌, ◌≤◌, All, IfOk, length, min};
+ghost use Rattle.std.specs.Prelude.{◌≡◌, ◌+◌, ◌^◌, ◌≤◌, ℕ, All, IfOk, length, min};
 ghost use Rattle.job_queue.specs.Passes.{IsNewTakerOf};
+ghost use Rattle.tenant_share.specs.Retiring.{CallerKnows};
 ghost use Rattle.tenant_share.specs.Tenants.{IsCaller};
-ghost use Rattle.call_workers.specs.Crews.{IsNewRound, IsNewWorker};
+ghost use Rattle.call_workers.specs.Crews.{IsNewRound, IsNewWorker, StillKnow, WorkerKnows};
 
 use crate::members::{Round, Worker};
 use crate::shared::Shared;
@@ -26,6 +27,8 @@ fn staff<N: Naming>(
     requires callers { All (IsCaller shared.now.share) callers.old.items }
     requires enough { length takers.items ≤ length callers.old.items }
     ensures callers { All (IsCaller shared.now.share) callers.new.items }
+    ensures still { StillKnow callers.old.items callers.new.items }
+    ensures known { IfOk result (λ workers. (tag : ℕ) → All (CallerKnows tag) callers.old.items → All (WorkerKnows tag) workers.items) }
     ensures workers { IfOk result (λ workers. All (IsNewWorker shared.now.share jobs.now) workers.items) }
     ensures many { IfOk result (λ workers. length workers.items ≡ length takers.items) }
     ensures rest { IfOk result (λ workers. length callers.new.items + length workers.items ≡ length callers.old.items) }
@@ -57,6 +60,8 @@ pub fn open_round<N: Naming>(
     requires first { 1 ≤ first }
     requires numbers { first + count ≤ 2 ^ 32 }
     ensures callers { All (IsCaller shared.now.share) callers.new.items }
+    ensures still { StillKnow callers.old.items callers.new.items }
+    ensures known { IfOk result (λ round. (tag : ℕ) → All (CallerKnows tag) callers.old.items → All (WorkerKnows tag) round.workers.items) }
     ensures round { IfOk result (IsNewRound shared.now.share first count (min count (length callers.old.items))) }
     ensures rest { IfOk result (λ round. length callers.new.items + length round.workers.items ≡ length callers.old.items) }
 {

@@ -1,25 +1,26 @@
 -- The entries of the module lines.
-use Rattle.std.proofs.Common.{◌≡◌, ◌⊎◌, inl, inr, ⊎_elim, true, false, ℕ, zero, suc, ◌+◌, ◌<◌, List, [], ◌∷◌, ◌++◌, Some, Ok, Err, length, take, drop, take-append-drop, refl, sym, ap, ◌∙◌, subst, arith, append-nil, length-append}
+use Rattle.std.proofs.Common.{◌≡◌, ◌⊎◌, inl, inr, ⊎_elim, true, false, cond, ℕ, zero, suc, ◌+◌, ◌<◌, ◌≤◌, List, [], ◌∷◌, ◌++◌, Some, Ok, Err, length, take, drop, take-append-drop, refl, sym, ap, ◌∙◌, subst, arith, append-nil, length-append}
 use Rattle.std.proofs.lemmas.List.Elements.{filter_map-append}
+use Rattle.std.proofs.lemmas.List.Recursion.{is_count_by}
 use Rattle.std.proofs.lemmas.Option.{same_Some, slice_get_within}
 use Rattle.std.specs.Prelude.{Result, IfErr, IfOk, OnErr, slice_get}
+use Rattle.std.specs.List.{count_by}
 use Rattle.wasm_values.specs.declared.outcome.NoMemory.{NoMemory}
 use Rattle.wasm_spec.specs.Loading as loading
 use Rattle.wasm_spec.specs.Loading.{Loads}
-use Rattle.module_limits.specs.Limits.{demand_of}
-use Rattle.pool_limits.specs.declared.wants.Want.{Want}
+use Rattle.pool_limits.specs.Limits.{demand_of}
 use Rattle.initial_image.specs.Segments.{extent_of}
 use Rattle.pool_worlds.specs.Contents.{Named}
 use Rattle.module_store.specs.Faults.{IsRefusal}
+use Rattle.module_store.specs.declared.desk.DeskCounts.{DeskCounts}
 use Rattle.module_store.specs.declared.fault.LoadFault.{LoadFault}
 use Rattle.module_store.specs.declared.fault.LoadFault.TheVariants as fault
 use Rattle.request_text.specs.declared.request.Directive.{Directive}
 use Rattle.request_text.specs.declared.request.Directive.TheVariants.{Module, Call, Retire}
 use Rattle.report_text.specs.declared.report.ModuleLine.{ModuleLine}
-use Rattle.request_text.specs.Text.{AreRequests, module_bytes, module_names, modules_of}
-use Rattle.module_store.specs.declared.desk.TheConstants.{MOST_MODULES}
+use Rattle.request_text.specs.Text.{module_bytes, module_names, modules_of}
 use Rattle.host_report.specs.Report.{Limits, IsModuleLine, load_limits}
-use Rattle.host_report.specs.Entries.{AreEntries, AreKept, AreTagged, Entry, IsEntered, IsEntry, IsEntryOf, TakesTag, entry_line}
+use Rattle.host_report.specs.Entries.{AreEntries, AreKept, AreTagged, Entry, IsEntered, IsEntry, IsEntryOf, TakesTag, entry_line, is_module}
 use Rattle.host_report.specs.Rounds.{AreEntered}
 use Rattle.request_text.proofs.PlaceLemmas.{slice_get-append}
 use Rattle.host_report.proofs.PlaceLemmas.{module_counts, modules_next, no_module}
@@ -138,6 +139,11 @@ tag_taken before after (Err (fault.Segment misfit)) r took same is = rw is same
 tag_taken before after (Err fault.NoMemory) (Ok entry) took same is = let wanting : false ≡ true = is in cc
 tag_taken before after (Err fault.NoMemory) (Err wanting) took same is = tt
 
+-- who keeps the desk keeps its count
+pub desk_kept : (after before : DeskCounts) (loaded : Result Named LoadFault) → OnErr loaded (after ≡ before) → OnErr loaded (after.registered ≡ before.registered)
+desk_kept after before (Ok named) same = same
+desk_kept after before (Err fault) same = ap (λ (d : DeskCounts). d.registered) same
+
 -- ---- entries of the directives before a place
 
 pub element_below : (modules : List (List ℕ)) (i : ℕ) → i < length modules → (b : List ℕ) × (slice_get modules i ≡ Some b)
@@ -145,7 +151,17 @@ element_below [] i lt = absurd (omega arith)
 element_below (b ∷ modules) zero lt = (b, refl)
 element_below (b ∷ modules) (suc i) lt = element_below modules i (omega arith)
 
-same_many : (ds : List Directive) → length (module_names ds) ≡ length (modules_of ds)
+-- as many modules as module lines
+module_or_not : (d : Directive) (ds : List Directive) → length (modules_of (d ∷ ds)) ≡ cond (is_module d) (1 + length (modules_of ds)) (length (modules_of ds))
+module_or_not (Module name bytes) ds = omega arith
+module_or_not (Call tenant place retired invocation) ds = refl
+module_or_not (Retire place name) ds = refl
+
+pub module_count : (ds : List Directive) → count_by is_module ds ≡ length (modules_of ds)
+module_count ds = sym (is_count_by (λ (all : List Directive). length (modules_of all)) is_module refl module_or_not ds)
+
+-- as many modules as names
+pub same_many : (ds : List Directive) → length (module_names ds) ≡ length (modules_of ds)
 same_many [] = refl
 same_many (Module name bytes ∷ ds) = ap suc (same_many ds)
 same_many (Call tenant place retired invocation ∷ ds) = same_many ds
@@ -157,36 +173,36 @@ module _ (limits : Limits) (all : List Directive) where
       let both : modules_of all ≡ modules_of (take at all) ++ modules_of (drop at all) = ap modules_of (sym (take-append-drop at all)) ∙ filter_map-append module_bytes (take at all) (drop at all) in
       ap (λ (ms : List (List ℕ)). slice_get ms place) both ∙ slice_get-append (modules_of (take at all)) (modules_of (drop at all)) place bytes got
 
-  pub entered_none : AreEntered limits all 0 [] 0
-  entered_none = record {
+  pub entered_none : (desk : DeskCounts) → desk.registered ≡ 0 → length (modules_of all) ≤ desk.most → AreEntered limits all 0 [] desk
+  entered_none desk none room = record {
     are = tt;
     tagged = record { few = omega arith; given = λ place m got. cc; own = λ i j m n got_i got_j same. cc };
+    room = room;
   }
 
-  module _ (at : ℕ) (entries : List Entry) (desk : ℕ) (h : AreEntered limits all at entries desk) where
+  module _ (at : ℕ) (entries : List Entry) (desk : DeskCounts) (h : AreEntered limits all at entries desk) where
     pub many_entries : length entries ≡ length (modules_of (take at all))
     many_entries = length-entries limits (modules_of (take at all)) entries h.are
 
     -- there is room for a module line
-    pub room_for_module : (wants : List Want) (name bytes : List ℕ) → AreRequests wants all → slice_get all at ≡ Some (Module name bytes) → desk < MOST_MODULES
-    room_for_module wants name bytes lawful got =
+    pub room_for_module : (name bytes : List ℕ) → slice_get all at ≡ Some (Module name bytes) → desk.registered < desk.most
+    room_for_module name bytes got =
         let one = module_counts all at name bytes got in
-        let few = lawful.few_modules in
-        let t = h.tagged.few in
-        let names = same_many all in omega (arith, many_entries)
+        let room = h.room in
+        let t = h.tagged.few in omega (arith, many_entries)
 
-    pub entered_module : (name bytes : List ℕ) (entries' : List Entry) (desk' : ℕ) → slice_get all at ≡ Some (Module name bytes) → IsEntered limits bytes entries desk entries' desk'
+    pub entered_module : (name bytes : List ℕ) (entries' : List Entry) (desk' : DeskCounts) → slice_get all at ≡ Some (Module name bytes) → IsEntered limits bytes entries desk entries' desk'
         → AreEntered limits all (at + 1) entries' desk'
     entered_module name bytes entries' desk' got e =
         let more : modules_of (take (at + 1) all) ≡ modules_of (take at all) ++ bytes ∷ [] = modules_next all at (Module name bytes) got in
         subst (λ (es : List Entry). AreEntered limits all (at + 1) es desk') (sym e.after_is)
-        (record { are = rw more (entries_more limits (modules_of (take at all)) entries bytes e.entry h.are e.is_entry); tagged = tagged_more entries e.entry desk desk' h.tagged e.tag })
+        (record { are = rw more (entries_more limits (modules_of (take at all)) entries bytes e.entry h.are e.is_entry); tagged = tagged_more entries e.entry desk.registered desk'.registered h.tagged e.tag; room = rw e.most h.room })
 
     pub entered_other : (d : Directive) → slice_get all at ≡ Some d → ((name bytes : List ℕ) → d ≡ Module name bytes → ⊥) → AreEntered limits all (at + 1) entries desk
     entered_other d got other =
         let same : modules_of (take (at + 1) all) ≡ modules_of (take at all) =
         modules_next all at d got ∙ (ap (λ (more : List (List ℕ)). modules_of (take at all) ++ more) (no_module d other) ∙ append-nil (modules_of (take at all))) in
-        record { are = rw same h.are; tagged = h.tagged }
+        record { are = rw same h.are; tagged = h.tagged; room = h.room }
 
     -- what the entry of a module before the place is of
     pub entry_of_place : (place : ℕ) (e : Entry) → slice_get entries place ≡ Some e → (bytes : List ℕ) × (slice_get (modules_of all) place ≡ Some bytes) × IsEntry limits bytes e
@@ -200,5 +216,5 @@ module _ (limits : Limits) (all : List Directive) where
 pub kept_all : (entries : List Entry) → AreKept entries entries
 kept_all entries place e got = got
 
-pub kept_more : (limits : Limits) (bytes : List ℕ) (first before after : List Entry) (desk desk' : ℕ) → AreKept first before → IsEntered limits bytes before desk after desk' → AreKept first after
+pub kept_more : (limits : Limits) (bytes : List ℕ) (first before after : List Entry) (desk desk' : DeskCounts) → AreKept first before → IsEntered limits bytes before desk after desk' → AreKept first after
 kept_more limits bytes first before after desk desk' h e place x got = ap (λ (es : List Entry). slice_get es place) e.after_is ∙ slice_get-append before (e.entry ∷ []) place x (h place x got)

@@ -1,7 +1,7 @@
 -- What the lane's steps at its retired tags say, and what a run knows of them.
-use Rattle.std.proofs.Common.{◌≡◌, ◌≢◌, ◌⊎◌, inl, inr, ⊎_elim, ℕ, ◌+◌, ◌≤◌, ◌==◌, Bool, false, true≢false, List, [], ◌∷◌, ◌++◌, Option, Some, None, Ok, Err, refl, sym, ap, ◌∙◌, arith, cond}
+use Rattle.std.proofs.Common.{◌≡◌, ◌≢◌, ◌⊎◌, inl, inr, ⊎_elim, ℕ, ◌+◌, ◌≤◌, ◌==◌, Bool, false, true≢false, List, [], ◌∷◌, ◌++◌, Option, Some, None, Ok, Err, refl, sym, ap, ◌∙◌, subst, ◌<◌, arith, cond}
 use Rattle.std.specs.Prelude.{slice_get, count_by}
-use Rattle.std.proofs.lemmas.Bool.{cases_eq}
+use Rattle.std.proofs.lemmas.Bool.{cases_eq, cases_lt}
 use Rattle.std.proofs.lemmas.Bool.Decides.{nat_tests}
 use Rattle.std.proofs.lemmas.List.Sums.{sum_by-append, sum_by-cons}
 use Rattle.retired_tags.specs.declared.tags.RetiredTags.{RetiredTags}
@@ -14,15 +14,19 @@ use Rattle.pool_host.specs.declared.lane.LaneAnswer.TheVariants as answer
 use Rattle.pool_host.specs.CallWords.{host_answer, is_retired}
 use Rattle.pool_host.specs.Looks.{IsDecidedBy, Looked, SetsBit, look_of, look_steps}
 use Rattle.pool_worlds.specs.Contents.{Named}
+use Rattle.module_store.specs.declared.desk.DeskCounts.{DeskCounts}
 use Rattle.request_text.specs.declared.invocation.Invocation.{Invocation}
 use Rattle.request_text.specs.declared.request.Directive.{Directive}
 use Rattle.request_text.specs.declared.request.Directive.TheVariants.{Call, Retire}
 use Rattle.pool_limits.specs.declared.wants.Want.{Want}
-use Rattle.request_text.specs.Text.{AreRequests}
+use Rattle.request_text.specs.Text.{AreRequests, IsPlacedFrom}
 use Rattle.host_report.specs.Entries.{AreKept, AreTagged, Entry}
 use Rattle.host_report.specs.Put.{module_of}
-use Rattle.host_report.specs.Rounds.{AreRetired}
-use Rattle.host_report.proofs.PlaceLemmas.{flagged_behind}
+use Rattle.host_report.specs.Report.{Limits}
+use Rattle.host_report.specs.Rounds.{AreEntered, AreKnown, AreOfOneRound, AreRetired, IsRetired}
+use Rattle.host_report.proofs.BoardLemmas.{got_within}
+use Rattle.host_report.proofs.EntryLemmas.{many_entries}
+use Rattle.host_report.proofs.PlaceLemmas.{fewer_modules, flagged_behind, placed_retire}
 
 abbrev sets_of : ℕ → List TagStep → ℕ
 sets_of tag done = count_by (sets tag) done
@@ -107,3 +111,51 @@ unset_here wants entries desk all from at tenant place retired invocation done l
     let flag = flagged_behind all [] r.line at tenant place r.name retired invocation lawful.flagged (let e = r.earlier in omega arith) line_is call in
     true≢false (sym flag ∙ free)
 unset_here wants entries desk all from at tenant place retired invocation done lawful tagged h order call (Err line) there m is free has = cc
+
+-- ---- what is known
+
+-- one of so many directives, the first, which it stands before too
+pub retired_by : (entries : List Entry) (all : List Directive) (place place' tag : ℕ) → (r : IsRetired entries all place tag) → r.line < place' → IsRetired entries all place' tag
+retired_by entries all place place' tag r earlier =
+    record { line = r.line; earlier = earlier; of_module = r.of_module; name = r.name; line_is = r.line_is; m = r.m; accepted = r.accepted; tag_is = r.tag_is }
+
+-- a module that is retired by the end of a round is retired by its beginning
+pub retired_before_round : (entries : List Entry) (all : List Directive) (from to tag : ℕ) → AreOfOneRound all from to → IsRetired entries all to tag → IsRetired entries all from tag
+retired_before_round entries all from to tag one_round r = elim (cases_lt r.line from) [
+  | inl before ↦ retired_by entries all to from tag r before
+  | inr behind ↦ absurd (one_round r.line r.of_module r.name behind r.earlier r.line_is)
+]
+
+-- and was entered by then
+pub retired_then : (limits : Limits) (entries entries' : List Entry) (desk : DeskCounts) (all : List Directive) (place tag : ℕ) → AreEntered limits all place entries desk → AreKept entries entries'
+    → IsPlacedFrom 0 all → IsRetired entries' all place tag → IsRetired entries all place tag
+retired_then limits entries entries' desk all place tag entered kept placed r =
+    let earlier = r.earlier in
+    let among = placed_retire all 0 r.line r.of_module r.name placed r.line_is in
+    let fewer = fewer_modules all r.line place (omega arith) in
+    let many = many_entries limits all place entries desk entered in
+    let (entry, there) = got_within entries r.of_module (omega arith) in
+    record {
+      line = r.line;
+      earlier = r.earlier;
+      of_module = r.of_module;
+      name = r.name;
+      line_is = r.line_is;
+      m = r.m;
+      accepted = there ∙ sym (kept r.of_module entry there) ∙ r.accepted;
+      tag_is = r.tag_is;
+    }
+
+-- one retire line further: its module is known, and what was known still is
+pub known_more : (entries : List Entry) (all : List Directive) (place of_module : ℕ) (name : List ℕ) (old new : ℕ → Type 0) → slice_get all place ≡ Some (Retire of_module name)
+    → AreKnown entries all place old → ((tag : ℕ) → old tag → new tag) → ((m : Named) → slice_get entries of_module ≡ Some (Ok m) → new m.tag) → AreKnown entries all (place + 1) new
+known_more entries all place of_module name old new line h still own tag r = elim (cases_lt r.line place) [
+  | inl before ↦ still tag (h tag (retired_by entries all (place + 1) place tag r before))
+  | inr behind ↦ (
+      let earlier = r.earlier in
+      let here : r.line ≡ place = omega arith in
+      let both : ◌≡◌ {A = Option Directive} (Some (Retire r.of_module r.name)) (Some (Retire of_module name)) = sym r.line_is ∙ ap (slice_get all) here ∙ line in
+      let same : r.of_module ≡ of_module = cc in
+      subst new r.tag_is (own r.m (subst (λ (p : ℕ). slice_get entries p ≡ Some (Ok r.m)) same r.accepted))
+      )
+]

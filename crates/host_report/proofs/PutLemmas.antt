@@ -223,6 +223,13 @@ module _ (entries : List Entry) where
       (omega (arith, call_count-call tenant place retired invocation ds))
       (subst (λ (most : ℕ). All (λ (pair : Pair). pair.0 < most) (pairs_from entries (n + 1) ds)) same (below_from (n + 1) ds))
 
+  -- where there is no call no pair is put
+  pub put_no_calls : (n : ℕ) (ds : List Directive) → call_count ds ≡ 0 → pairs_from entries n ds ≡ []
+  put_no_calls n [] none = refl
+  put_no_calls n (Module name bytes ∷ ds) none = put_no_calls n ds (let same = call_count-module name bytes ds in omega arith)
+  put_no_calls n (Retire place name ∷ ds) none = put_no_calls n ds (let same = call_count-retire place name ds in omega arith)
+  put_no_calls n (Call tenant place retired invocation ∷ ds) none = absurd (let one = call_count-call tenant place retired invocation ds in omega arith)
+
   counted_from : (n : ℕ) (ds : List Directive) → 0 < n → All (λ (pair : Pair). 0 < pair.0) (pairs_from entries n ds)
   counted_from n [] some = All-nil (λ (pair : Pair). 0 < pair.0)
   counted_from n (Module name bytes ∷ ds) some = counted_from n ds some

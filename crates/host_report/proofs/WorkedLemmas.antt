@@ -1,15 +1,17 @@
 -- What workers made of the calls of a round are their lines.
-use Rattle.std.proofs.Common.{◌≡◌, ℕ, zero, suc, ◌+◌, ◌-◌, ◌<◌, ◌≤◌, ◌==◌, Bool, true, false, not, List, [], ◌∷◌, inl, inr, Option, Some, None, Ok, Err, length, refl, sym, ap, ◌∙◌, subst, arith, cond}
-use Rattle.std.specs.Prelude.{slice_get, count_by}
+use Rattle.std.proofs.Common.{◌≡◌, ℕ, zero, suc, ◌+◌, ◌-◌, ◌<◌, ◌≤◌, ◌==◌, Bool, true, false, not, List, [], ◌∷◌, ◌++◌, inl, inr, Option, Some, None, Ok, Err, length, min, refl, sym, ap, ◌∙◌, subst, arith, cond}
+use Rattle.std.specs.Prelude.{IfOk, Result, slice_get, count_by}
 use Rattle.std.specs.List.{All, AllZip}
 use Rattle.std.specs.Option.{option_map_or}
 use Rattle.std.proofs.lemmas.Bool.{cases_lt}
-use Rattle.std.proofs.lemmas.Option.{same_Some, slice_get_past}
+use Rattle.std.proofs.Math.Nat.{zero-min}
+use Rattle.std.proofs.lemmas.Option.{none-some, same_Some, slice_get_past}
 use Rattle.std.proofs.lemmas.List.Elements.{All-cons, All-filter, All-head, All-nil, All-tail}
-use Rattle.std.proofs.lemmas.List.Sorted.{All-permutation, sum_by-IsPermutation}
+use Rattle.std.proofs.lemmas.List.Sorted.{All-permutation, IsPermutation-refl, sum_by-IsPermutation}
 use Rattle.std.proofs.lemmas.List.Sums.{sum_by-cons}
 use Rattle.request_text.specs.declared.invocation.Invocation.{Invocation}
 use Rattle.wasm_values.specs.declared.profile.Profile.{Profile}
+use Rattle.module_store.specs.declared.naming.Naming.{Ghosts}
 use Rattle.pool_limits.specs.declared.numbers.Numbers.{Numbers}
 use Rattle.pool_worlds.specs.Contents.{Named}
 use Rattle.pool_host.specs.declared.answers.Answer.{Answer}
@@ -24,18 +26,23 @@ use Rattle.due_calls.specs.declared.entries.Worked.{Worked}
 use Rattle.due_calls.specs.Entries as worked
 use Rattle.due_calls.specs.Entries.{AnswersAll, IsAnswered, Pair, called}
 use Rattle.due_calls.proofs.EntryLemmas.{called_counted}
+use Rattle.request_text.specs.Text.{Asked}
+use Rattle.call_workers.specs.declared.members.Crew.{Crew}
+use Rattle.host_report.specs.declared.books.Books.{Books}
 use Rattle.host_report.specs.declared.books.Span.{Span}
-use Rattle.host_report.specs.Collected.{AreToCollect, IsLineOf, IsOfWorked, call_at, line_made, line_of, stands}
+use Rattle.host_report.specs.Collected.{AreToCollect, IsCollected, IsLineOf, IsOfWorked, call_at, line_made, line_of, stands}
 use Rattle.host_report.specs.Due.{due_of, dues_from}
 use Rattle.host_report.specs.Entries.{Entry, IsEntry}
-use Rattle.host_report.specs.Put.{module_of, pairs_put}
+use Rattle.host_report.specs.Put.{module_of, pairs_put, round_pairs}
 use Rattle.host_report.specs.Report.{IsCallLine, Limits, answer_line, limits_in}
-use Rattle.host_report.specs.Rounds.{AreEntered, HasLines, IsSpan, calls_to, directives_in}
+use Rattle.module_store.specs.declared.desk.DeskCounts.{DeskCounts}
+use Rattle.host_report.specs.Rounds.{AreEntered, HasLines, IsSpan, calls_in, calls_to, directives_in}
+use Rattle.host_report.specs.Worked.{AnswersRound, MadeByCrew, MadeByWorkers, workers_for}
 use Rattle.host_report.proofs.BoardLemmas.{got_within}
 use Rattle.host_report.proofs.CallLemmas.{accepted_call, refused_call, retired_call}
 use Rattle.host_report.proofs.DueLemmas.{due_at_call}
 use Rattle.host_report.proofs.EntryLemmas.{entry_of_place}
-use Rattle.host_report.proofs.PutLemmas.{IsPair, IsPairAt, calls_of_span, put_before, put_below, put_once, put_pairs}
+use Rattle.host_report.proofs.PutLemmas.{IsPair, IsPairAt, calls_of_span, put_before, put_below, put_no_calls, put_once, put_pairs}
 
 -- ---- the line of one call
 
@@ -71,7 +78,7 @@ module _ (profile : Profile) (config : Numbers) (bytes : List ℕ) (asked : Invo
       subst (λ (l : CallLine). IsCallLine (limits_in profile config) bytes retired asked l) (no_module_line retired shown line shows)
       (refused_call (limits_in profile config) bytes (Err why) why retired asked refl entry)
 
-module _ (profile : Profile) (config : Numbers) (all : List Directive) (place : ℕ) (entries : List Entry) (desk : ℕ) (entered : AreEntered (limits_in profile config) all place entries desk) where
+module _ (profile : Profile) (config : Numbers) (all : List Directive) (place : ℕ) (entries : List Entry) (desk : DeskCounts) (entered : AreEntered (limits_in profile config) all place entries desk) where
   line_right : (at : ℕ) (m : Option Named) (due : Due) (a : Option Answer) (shown : Option (List ℕ)) (line : CallLine) → IsPairAt entries all at m
       → slice_get (dues_from 1 all) at ≡ Some due → IsAnswered config due.invocation m a shown → line_of due.retired a shown ≡ Some line → IsLineOf (limits_in profile config) all at line
   line_right at m due a shown line p due_is answered told =
@@ -195,7 +202,7 @@ module _ (profile : Profile) (config : Numbers) (all : List Directive) (span : S
     ];
   }
 
-  pub lines_of_calls : (place desk : ℕ) → AreEntered (limits_in profile config) all place entries desk
+  pub lines_of_calls : (place : ℕ) (desk : DeskCounts) → AreEntered (limits_in profile config) all place entries desk
       → ((at tenant module_place : ℕ) (retired : Bool) (invocation : Invocation) → call_at (directives_in all span) at ≡ Some (Call tenant module_place retired invocation) → module_place < length entries)
       → (at : ℕ) (line : CallLine) → IsOfWorked (dues_from 1 all) made at line → IsLineOf (limits_in profile config) all at line
   lines_of_calls place desk entered placed at line w =
@@ -203,3 +210,27 @@ module _ (profile : Profile) (config : Numbers) (all : List Directive) (span : S
       (All-filter (λ (pair : Pair). not (pair.0 == 0)) (IsPair entries all) h.given
       (All-permutation (IsPair entries all) (pairs_put entries (span.calls + 1) (directives_in all span) workers) h.given h.all (put_pairs entries all span workers is_span placed)))
       at line w.place w.one w.one_is w.number_is w.line_is
+
+-- ---- what workers made of a round
+
+pub made_by_workers : {N : Type 0} (config : Numbers) (asked : Asked) (span : Span) (workers : ℕ) (before after : Books N) (entries : List Worked) → AnswersRound config asked span workers after.registry entries
+    → IsCollected (dues_from 1 asked.directives) entries before.board after.board → MadeByWorkers config asked span workers before after
+made_by_workers config asked span workers before after entries answers collected = record { entries = entries; answers = answers; collected = collected }
+
+-- ---- a round without a call
+
+collected_none : (calls : List Due) (board board' : List (Option CallLine)) → board' ≡ board → IsCollected calls [] board board'
+collected_none calls board board' same = rw same (record { many = refl; kept = λ at line got. got; lines = λ at line got. inl got; all = λ place one line got. absurd (none-some one got) })
+
+module _ {N E : Type 0} {G : Ghosts N} (config : Numbers) (asked : Asked) (span : Span) (crew : Crew N G) (before : Books N) where
+  -- its workers make no entry
+  pub made_by_none : (r : Result (Books N) E) → calls_in asked.directives span ≡ 0 → IfOk r (λ after. after.board ≡ before.board) → IfOk r (MadeByCrew config asked span (Some crew) before)
+  made_by_none (Err e) none same = tt
+  made_by_none (Ok after) none same =
+      let workers : workers_for asked.directives span crew ≡ 0 = ap (λ n. min n (length crew.callers.items)) none ∙ zero-min (length crew.callers.items) in
+      let pairs : round_pairs after.registry asked span (workers_for asked.directives span crew) ≡ [] =
+      ap (λ n. round_pairs after.registry asked span n) workers ∙ ap (λ (ps : List Pair). ps ++ []) (put_no_calls after.registry.entries.items (span.calls + 1) (directives_in asked.directives span) none) in record {
+        entries = [];
+        answers = subst (λ ps. AnswersAll config (dues_from 1 asked.directives) ps []) (sym pairs) (record { given = []; all = IsPermutation-refl []; made = tt });
+        collected = collected_none (dues_from 1 asked.directives) before.board after.board same;
+      }

@@ -1,14 +1,23 @@
 -- What became of the module lines of a request file.
 use Rattle.wasm_values.specs.declared.outcome.NoMemory.{NoMemory}
-use Rattle.std.specs.Prelude.{◌≡◌, ◌<◌, ◌≤◌, ℕ, ◌+◌, length, slice_get, Some, List, [], ◌∷◌, ◌++◌, Result, Ok, Err, IsErr}
+use Rattle.std.specs.Prelude.{◌≡◌, ◌<◌, ◌≤◌, ℕ, ◌+◌, length, slice_get, Some, List, [], ◌∷◌, ◌++◌, Result, Ok, Err, IsErr, Bool, true, false}
+use Rattle.module_store.specs.declared.desk.DeskCounts.{DeskCounts}
 use Rattle.module_store.specs.declared.fault.LoadFault.{LoadFault}
 use Rattle.module_store.specs.declared.fault.LoadFault.TheVariants as fault
 use Rattle.wasm_spec.specs.Loading.{Loads, Refusal}
 use Rattle.pool_worlds.specs.Contents.{Named}
+use Rattle.request_text.specs.declared.request.Directive.{Directive}
+use Rattle.request_text.specs.declared.request.Directive.TheVariants.{Module, Call, Retire}
 use Rattle.host_report.specs.declared.books.Registry.{Registry}
 use Rattle.host_report.specs.Report.{Limits, load_limits, loading_line}
 use Rattle.report_text.specs.declared.report.ModuleLine.{ModuleLine}
 use Rattle.report_text.specs.declared.report.ModuleLine.TheVariants as module_line
+
+-- a module line
+abbrev pub is_module : Directive → Bool
+is_module (Module name bytes) = true
+is_module (Call tenant place retired invocation) = false
+is_module (Retire place name) = false
 
 -- a module that may be called, or the line that tells why it is refused
 abbrev pub Entry : Type 0
@@ -55,10 +64,11 @@ pub record AreTagged (entries : List Entry) (desk : ℕ) : Type 0 where
   pub own : (i j : ℕ) (m n : Named) → slice_get entries i ≡ Some (Ok m) → slice_get entries j ≡ Some (Ok n) → m.tag ≡ n.tag → i ≡ j
 
 -- an entry more, for the module line of these bytes
-pub record IsEntered (limits : Limits) (bytes : List ℕ) (before : List Entry) (desk : ℕ) (after : List Entry) (desk_after : ℕ) : Type 0 where
+pub record IsEntered (limits : Limits) (bytes : List ℕ) (before : List Entry) (desk : DeskCounts) (after : List Entry) (desk_after : DeskCounts) : Type 0 where
   pub entry : Entry
   pub is_entry : IsEntry limits bytes entry
-  pub tag : TakesTag desk desk_after entry
+  pub tag : TakesTag desk.registered desk_after.registered entry
+  pub most : desk_after.most ≡ desk.most
   pub after_is : after ≡ before ++ entry ∷ []
 
 -- a registry with an entry more than before, for the module line of these bytes

@@ -7,4 +7,5 @@ pub mod Lines
 pub mod Put
 pub mod Report
 pub mod Rounds
+pub mod Runs
 pub mod Worked

@@ -1,19 +1,21 @@
 -- What a run has between its rounds, and within one.
-use Rattle.std.specs.Prelude.{◌≡◌, ℕ, ◌<◌, ◌≤◌, List, All, drop, length, slice_get, take, Option, Some, None, IfSome, Ok}
-use Rattle.std.specs.List.{AllZip}
+use Rattle.std.specs.Prelude.{◌≡◌, ◌≢◌, ℕ, ◌<◌, ◌≤◌, List, All, drop, length, slice_get, take, Option, Some, None, IfSome, MatchOption, Ok}
 use Rattle.retired_tags.specs.declared.views.TagStep.{TagStep}
 use Rattle.retired_tags.specs.Passes.{steps}
-use Rattle.retired_tags.specs.Steps.{HasSet}
+use Rattle.retired_tags.specs.Steps.{HasSet, Knows}
+use Rattle.module_store.specs.declared.desk.DeskCounts.{DeskCounts}
 use Rattle.module_store.specs.declared.naming.Naming.{Ghosts}
 use Rattle.pool_limits.specs.declared.numbers.Numbers.{Numbers}
+use Rattle.pool_limits.specs.Shares.{lane_share}
+use Rattle.pool_host.specs.Hosts.{HasShare}
 use Rattle.pool_worlds.specs.Contents.{Named}
 use Rattle.request_text.specs.declared.request.Directive.{Directive}
 use Rattle.request_text.specs.declared.request.Directive.TheVariants.{Retire}
 use Rattle.request_text.specs.Text.{Asked, call_count, modules_of}
 use Rattle.report_text.specs.declared.report.CallLine.{CallLine}
-use Rattle.due_calls.specs.declared.calls.Due.{Due}
-use Rattle.tenant_share.specs.Retiring.{IsRetirement, RetiredForAll}
-use Rattle.tenant_share.specs.Tenants.{IsCaller}
+use Rattle.tenant_share.specs.Retiring.{CallerKnows}
+use Rattle.tenant_share.specs.Shares.{shares}
+use Rattle.tenant_share.specs.Tenants.{HasShares, IsCaller}
 use Rattle.call_workers.specs.declared.members.Crew.{Crew}
 use Rattle.host_report.specs.declared.books.Books.{Books}
 use Rattle.host_report.specs.declared.books.Registry.{Registry}
@@ -43,10 +45,11 @@ abbrev pub calls_to : List Directive → Span → ℕ
 calls_to all span = call_count (take span.to all)
 
 module _ (limits : Limits) (all : List Directive) where
-  -- the entries of the modules among so many directives, the first, each accepted one with a tag of its own
-  pub record AreEntered (place : ℕ) (entries : List Entry) (desk : ℕ) : Type 0 where
+  -- the entries of the modules among so many directives, the first, each accepted one with a tag of its own, at a desk that may register all modules
+  pub record AreEntered (place : ℕ) (entries : List Entry) (desk : DeskCounts) : Type 0 where
     pub are : AreEntries limits (modules_of (take place all)) entries
-    pub tagged : AreTagged entries desk
+    pub tagged : AreTagged entries desk.registered
+    pub room : length (modules_of all) ≤ desk.most
 
   -- a board that has the lines of so many calls, the first, some of those of the calls behind them, and from the last number on none
   pub record HasLines (made last : ℕ) (board : List (Option CallLine)) : Type 0 where
@@ -91,28 +94,45 @@ pub record IsRetired (entries : List Entry) (all : List Directive) (place tag : 
 abbrev pub AreRetired : List Entry → (all : List Directive) → (place : ℕ) → List TagStep → Type 0
 AreRetired entries all place done = (tag : ℕ) → HasSet tag done → IsRetired entries all place tag
 
+-- and the tag of each module that is retired so is known
+abbrev pub AreKnown : List Entry → (all : List Directive) → (place : ℕ) → (known : ℕ → Type 0) → Type 0
+AreKnown entries all place known = (tag : ℕ) → IsRetired entries all place tag → known tag
+
+-- no retire line stands among the directives from one place up to another: they are of one round
+abbrev pub AreOfOneRound : List Directive → (from to : ℕ) → Type 0
+AreOfOneRound all from to = (line of_module : ℕ) (name : List ℕ) → from ≤ line → line < to → slice_get all line ≡ Some (Retire of_module name) → ⊥
+
 module _ {N : Type 0} {G : Ghosts N} where
-  -- a crew of these calls that can make a round
-  pub record IsReady (calls : List Due) (crew : Crew N G) : Type 0 where
-    pub calls_are : crew.shared.calls.items ≡ calls
+  -- A crew of several workers that can make a round of this file: the tenants' hosts have the slots that configuration and wants give them, and there is a
+  -- caller, with a pass of each, for each configured worker.
+  pub record IsReady (config : Numbers) (asked : Asked) (crew : Crew N G) : Type 0 where
+    pub several : config.workers ≢ 1
+    pub slots : HasShares (shares config asked.wants) config.workers crew.shared.share
+    pub calls_are : crew.shared.calls.items ≡ dues_from 1 asked.directives
+    pub many : length crew.callers.items ≡ config.workers
     pub callers : All (IsCaller crew.shared.share) crew.callers.items
     pub few : (1 ≤ length crew.callers.items) × (length crew.callers.items ≤ 32)
 
-  -- a run of this file behind one of its rounds: it has the entries and the lines of the directives so far, its lane retired their retired modules alone, and its crew is ready
+  -- there is such a crew where several workers are configured, and else none
+  abbrev pub HasCrew : Numbers → Asked → Option (Crew N G) → Type 0
+  HasCrew config asked crew = MatchOption crew (config.workers ≡ 1) (IsReady config asked)
+
+  -- each caller of a crew, where there is one, knows that the module of this tag is retired
+  abbrev pub CrewKnows : (tag : ℕ) → Option (Crew N G) → Type 0
+  CrewKnows tag crew = IfSome crew (λ crew. All (CallerKnows tag) crew.callers.items)
+
+  -- the lane knows it, and each caller of the crew
+  pub record RunKnows (run : Run N G) (tag : ℕ) : Type 0 where
+    pub lane : Knows tag (steps run.lane.pass.retired)
+    pub crew : CrewKnows tag run.crew
+
+  -- A run of this file behind one of its rounds. It has the entries and the lines of the directives so far, its lane has its slots, and there is a crew where
+  -- several workers are configured. The lane retired the modules of the retire lines so far and no other, and all passes know each of them.
   pub record IsRun (config : Numbers) (asked : Asked) (run : Run N G) : Type 0 where
     pub within : run.done ≤ length asked.directives
     pub calls_are : run.calls ≡ call_count (take run.done asked.directives)
     pub books : AreBooks config asked run.done run.calls run.calls run.books
-    pub lane : AreRetired run.books.registry.entries.items asked.directives run.done (steps run.lane.pass.retired)
-    pub crew : IfSome run.crew (IsReady (dues_from 1 asked.directives))
-
-  -- each caller of a crew retired the module with its pass of each tenant
-  abbrev pub CrewRetired : Named → (before after : Option (Crew N G)) → Type 0
-  CrewRetired m None None = Unit {0}
-  CrewRetired m (Some before) (Some after) = AllZip (RetiredForAll before.shared.share m) before.callers.items after.callers.items
-  CrewRetired m _ _ = ⊥
-
-  -- a run whose lane and whose crew retired the module
-  pub record HasRetired (m : Named) (before after : Run N G) : Type 0 where
-    pub lane : IsRetirement before.lane.host m before.lane.pass after.lane.pass
-    pub crew : CrewRetired m before.crew after.crew
+    pub slots : HasShare config.warm (lane_share config) run.lane.host
+    pub crew : HasCrew config asked run.crew
+    pub retired : AreRetired run.books.registry.entries.items asked.directives run.done (steps run.lane.pass.retired)
+    pub known : AreKnown run.books.registry.entries.items asked.directives run.done (RunKnows run)

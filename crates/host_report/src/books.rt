@@ -1,6 +1,7 @@
 //! What is written down of a run: the entries of its modules, and the lines of its calls.
 ghost use Rattle.std.specs.Prelude.{◌≡◌, length};
 ghost use Rattle.host_report.specs.Rounds.{IsSpan};
+ghost use Rattle.host_report.specs.Runs.{whole_file};
 
 use crate::modules::Entry;
 use job_queue::Board;
@@ -18,6 +19,7 @@ pub(crate) struct Span {
 impl Span {
     // All directives.
     pub(crate) fn of_all(requests: &Requests) -> Span
+        ensures whole { result ≡ whole_file requests.now }
         ensures span { IsSpan requests.now.directives result }
         ensures from { result.from ≡ 0 }
         ensures to { result.to ≡ length requests.now.directives }

@@ -2,7 +2,7 @@
 ghost use Rattle.std.specs.Prelude.{◌≡◌, ◌-◌, ◌<◌, ◌≤◌, ℕ, List, false, IfOk, IfSome, OnOk, Some, is_none, length, slice_get};
 ghost use Rattle.wasm_values.specs.declared.profile.Profile.{Profile};
 ghost use Rattle.retired_tags.specs.Passes.{steps};
-ghost use Rattle.retired_tags.specs.Steps.{HasSet};
+ghost use Rattle.retired_tags.specs.Steps.{HasSet, Knows};
 ghost use Rattle.pool_worlds.specs.Contents.{Named};
 ghost use Rattle.host_report.specs.Entries.{IsEntry};
 ghost use Rattle.host_report.specs.Left.{MadeOnLane, MadeRest};
@@ -49,7 +49,8 @@ fn call_line<N: Naming, G: Gate>(
     requires { (m : Named) → module_of entry.now ≡ Some m → retired ≡ false → HasSet m.tag (steps lane.old.pass.retired) → ⊥ }
     ensures lane { lane.new.host ≡ lane.old.host }
     ensures tags { (tag : ℕ) → HasSet tag (steps lane.new.pass.retired) → HasSet tag (steps lane.old.pass.retired) }
-    ensures made { MadeOnLane N.config lane.old.host (module_of entry.now) lane.old.pass.passes lane.new.pass.passes }
+    ensures known { (tag : ℕ) → Knows tag (steps lane.old.pass.retired) → Knows tag (steps lane.new.pass.retired) }
+    ensures made { MadeOnLane N.config lane.old.host (module_of entry.now) lane.old.pass lane.new.pass }
     ensures line { (profile : Profile) (bytes : List ℕ) → IsEntry (limits_in profile N.config) bytes entry.now
         → IfOk result (IsCallLine (limits_in profile N.config) bytes retired asked.now) }
 {
@@ -103,6 +104,7 @@ pub(crate) fn make_left<N: Naming, G: Gate>(
     ensures books { IfOk result (λ _. AreBooksAfter N.config requests.now span books.new) }
     ensures lane { lane.new.host ≡ lane.old.host }
     ensures tags { (tag : ℕ) → HasSet tag (steps lane.new.pass.retired) → HasSet tag (steps lane.old.pass.retired) }
+    ensures known { (tag : ℕ) → Knows tag (steps lane.old.pass.retired) → Knows tag (steps lane.new.pass.retired) }
     ensures made { OnOk result (MadeRest N.config requests.now span books.old lane.old lane.new) }
 {
     let directives = requests.directives();

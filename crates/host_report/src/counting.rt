@@ -1,7 +1,10 @@
-//! How many calls there are.
-ghost use Rattle.std.specs.Prelude.{◌≡◌, ◌≤◌};
+//! How many calls and modules there are.
+ghost use Rattle.std.specs.Prelude.{◌≡◌, ◌≤◌, length};
+ghost use Rattle.std.specs.List.{count_by};
+ghost use Rattle.module_store.specs.declared.desk.TheConstants.{MOST_MODULES};
 ghost use Rattle.request_text.specs.declared.request.TheConstants.{MOST_CALLS};
-ghost use Rattle.request_text.specs.Text.{AreRequests, call_count, is_call};
+ghost use Rattle.request_text.specs.Text.{AreRequests, call_count, is_call, modules_of};
+ghost use Rattle.host_report.specs.Entries.{is_module};
 ghost use Rattle.host_report.specs.Rounds.{IsSpan, calls_in};
 
 use crate::books::Span;
@@ -25,7 +28,33 @@ pub(crate) fn count_calls(requests: &[Directive]) -> u32
     calls.count() as u32
 }
 
-// How many a round of a request file has.
+fn is_module(directive: &Directive) -> bool
+    ensures { result ≡ is_module directive.now }
+{
+    match directive {
+        Directive::Module { .. } => true,
+        Directive::Call { .. } | Directive::Retire { .. } => false,
+    }
+}
+
+// How many module lines there are.
+fn count_module_lines(requests: &[Directive]) -> u32
+    requires { count_by is_module requests.now ≤ MOST_MODULES }
+    ensures { result ≡ count_by is_module requests.now }
+{
+    let modules = requests.iter().filter(|directive| is_module(directive));
+    modules.count() as u32
+}
+
+// How many modules a request file has.
+pub(crate) fn count_modules(requests: &Requests) -> u32
+    ensures count { result ≡ length (modules_of requests.now.directives) }
+    ensures few { result ≤ MOST_MODULES }
+{
+    count_module_lines(requests.directives())
+}
+
+// How many calls a round of a request file has.
 pub(crate) fn calls_in(requests: &Requests, span: Span) -> u32
     requires { IsSpan requests.now.directives span }
     ensures count { result ≡ calls_in requests.now.directives span }

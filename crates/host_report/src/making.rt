@@ -1,10 +1,12 @@
 //! All calls of a request file are made.
-ghost use Rattle.std.specs.Prelude.{◌≡◌, ◌≢◌, ◌<◌, ◌≤◌, [], IfOk, None};
+ghost use Rattle.std.specs.Prelude.{◌≡◌, ◌≢◌, ◌<◌, ◌≤◌, [], IfOk, None, false, length};
 ghost use Rattle.pool_limits.specs.Plans.{plan_fault};
 ghost use Rattle.pool_limits.specs.Shares.{shared_share};
 ghost use Rattle.slice_workers.specs.Crews.{IsNewSliceCrew};
+ghost use Rattle.request_text.specs.Text.{modules_of};
 ghost use Rattle.host_report.specs.Due.{dues_from};
 ghost use Rattle.host_report.specs.Rounds.{AreBooks, AreClosedBooks, IsReady};
+ghost use Rattle.host_report.specs.Runs.{IsMade, MadeInRounds, MadeInSlices, books_of};
 
 use crate::books::{Books, Registry, Span};
 use crate::calls::make_left;
@@ -12,7 +14,7 @@ use crate::counting::count_calls;
 use crate::dues::dues;
 use crate::rounds::{Run, make_rounds};
 use crate::shares::{open_lane, open_slicers, open_workers, worker_count};
-use crate::slicing::by_slicers;
+use crate::slicing::{SlicedBooks, SlicedRun, by_slicers};
 use call_workers::Crew;
 use host_edge::Gate;
 use job_queue::Board;
@@ -30,7 +32,8 @@ fn open_books<N: Naming>(
     requests: &Requests,
     desk: Desk<N>,
 ) -> Result<Books<N>, NoMemory>
-    requires { desk ≡ 0 }
+    requires desk { desk.registered ≡ 0 }
+    requires room { length (modules_of requests.now.directives) ≤ desk.most }
     ensures { IfOk result (AreBooks N.config requests.now 0 0 0) }
 {
     let entries = Vec::new(alloc);
@@ -47,7 +50,7 @@ fn open_crew_for<N: Naming>(
 ) -> Result<Crew<N>, NoMemory>
     requires several { N.config.workers ≢ 1 }
     requires plan { (plan_fault N.config [] ≡ None) → plan_fault N.config requests.now.wants ≡ None }
-    ensures { IfOk result (IsReady (dues_from 1 requests.now.directives)) }
+    ensures { IfOk result (IsReady N.config requests.now) }
 {
     let calls = dues(alloc, requests.directives())?;
     open_workers(alloc, store, requests.wants(), calls)
@@ -67,6 +70,25 @@ fn open_slicers_for<N: Naming>(
     open_slicers(alloc, store, calls)
 }
 
+// How a file was made: in rounds, or all of it in slices.
+#[derive(Drop)]
+pub(crate) enum Made<N: Naming> {
+    InRounds(Run<N>),
+    InSlices(SlicedRun<N>),
+}
+
+impl<N: Naming> Made<N> {
+    // The books of the file.
+    pub(crate) fn into_books(self) -> Books<N>
+        ensures { result ≡ books_of self }
+    {
+        match self {
+            Made::InRounds(Run { books, .. }) => books,
+            Made::InSlices(SlicedRun { books, .. }) => books,
+        }
+    }
+}
+
 // All calls are made round by round: by the lane, and by a crew where there are several workers.
 fn by_rounds<N: Naming + Send + Sync, R: Threads + Wait + Sync, G: Gate>(
     rt: &R,
@@ -75,10 +97,10 @@ fn by_rounds<N: Naming + Send + Sync, R: Threads + Wait + Sync, G: Gate>(
     requests: &Requests,
     books: Books<N>,
     gate: &G,
-) -> Result<Books<N>, NoMemory>
+) -> Result<Run<N>, NoMemory>
     requires plan { (plan_fault N.config [] ≡ None) → plan_fault N.config requests.now.wants ≡ None }
     requires books { AreBooks N.config requests.now 0 0 0 books }
-    ensures { IfOk result (AreClosedBooks N.config requests.now) }
+    ensures { IfOk result (MadeInRounds N.config requests.now) }
 {
     let crew = if worker_count(store) == 1 {
         None
@@ -93,8 +115,7 @@ fn by_rounds<N: Naming + Send + Sync, R: Threads + Wait + Sync, G: Gate>(
         done: 0,
         calls: 0,
     };
-    let Run { books, .. } = make_rounds(rt, alloc, store, requests, run, gate)?;
-    Ok(books)
+    make_rounds(rt, alloc, store, requests, run, gate)
 }
 
 // All calls are made in slices of so many instructions, as one round, and the lane makes those that are left.
@@ -106,21 +127,28 @@ fn in_slices<N: Naming + Send + Sync, R: Threads + Wait + Sync, G: Gate>(
     books: Books<N>,
     slice: u32,
     gate: &G,
-) -> Result<Books<N>, NoMemory>
+) -> Result<SlicedRun<N>, NoMemory>
     requires several { N.config.workers ≢ 1 }
+    requires sliced { slice ≢ 0 }
+    requires may { requests.now.whole ≡ false }
     requires books { AreBooks N.config requests.now 0 0 0 books }
-    ensures { IfOk result (AreClosedBooks N.config requests.now) }
+    ensures { IfOk result (MadeInSlices N.config requests.now slice) }
 {
     let crew = open_slicers_for(alloc, store, requests)?;
-    let mut books = by_slicers(rt, alloc, store, requests, crew, books, slice, gate)?;
+    let made = by_slicers(rt, alloc, store, requests, crew, books, slice, gate)?;
+    let SlicedBooks { mut books, shared } = made;
     let mut lane = open_lane(alloc, store)?;
     let span = Span::of_all(requests);
     make_left(alloc, store, requests, span, &mut books, &mut lane, gate)?;
-    Ok(books)
+    Ok(SlicedRun {
+        books,
+        shared,
+        lane,
+    })
 }
 
-// The entries of all modules, and the lines of all calls. Several workers make calls in slices of so many instructions, unless that is 0 or
-// the file's calls run whole.
+// The entries of all modules, and the lines of all calls, with what made them. Several workers make calls in slices of so many instructions,
+// unless that is 0 or the file's calls run whole.
 pub(crate) fn make_all<N: Naming + Send + Sync, R: Threads + Wait + Sync, G: Gate>(
     rt: &R,
     alloc: Global,
@@ -129,15 +157,19 @@ pub(crate) fn make_all<N: Naming + Send + Sync, R: Threads + Wait + Sync, G: Gat
     slice: u32,
     requests: &Requests,
     gate: &G,
-) -> Result<Books<N>, NoMemory>
+) -> Result<Made<N>, NoMemory>
     requires plan { (plan_fault N.config [] ≡ None) → plan_fault N.config requests.now.wants ≡ None }
-    requires desk { desk ≡ 0 }
-    ensures { IfOk result (AreClosedBooks N.config requests.now) }
+    requires desk { desk.registered ≡ 0 }
+    requires room { length (modules_of requests.now.directives) ≤ desk.most }
+    ensures made { IfOk result (IsMade N.config requests.now slice) }
+    ensures books { IfOk result (λ made. AreClosedBooks N.config requests.now (books_of made)) }
 {
     let books = open_books(alloc, requests, desk)?;
     if worker_count(store) == 1 || slice == 0 || requests.runs_whole() {
-        by_rounds(rt, alloc, store, requests, books, gate)
+        let run = by_rounds(rt, alloc, store, requests, books, gate)?;
+        Ok(Made::InRounds(run))
     } else {
-        in_slices(rt, alloc, store, requests, books, slice, gate)
+        let run = in_slices(rt, alloc, store, requests, books, slice, gate)?;
+        Ok(Made::InSlices(run))
     }
 }

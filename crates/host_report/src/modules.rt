@@ -1,6 +1,5 @@
 //! The modules of a request file.
 ghost use Rattle.std.specs.Prelude.{◌≡◌, ◌<◌, IfOk, IsErrOf};
-ghost use Rattle.module_store.specs.declared.desk.TheConstants.{MOST_MODULES};
 ghost use Rattle.host_report.specs.Entries.{AreKept, EntersModule, IsEntry, IsEntryOf, TakesTag, entry_line};
 ghost use Rattle.host_report.specs.Report.{limits_in};
 ghost use Rattle.host_report.specs.Rounds.{HasEntered, IsSpan};
@@ -52,9 +51,10 @@ fn register<N: Naming, R: Wait>(
     profile: Profile,
     bytes: &[u8],
 ) -> Result<Entry<N>, NoMemory>
-    requires { desk.old < MOST_MODULES }
+    requires { desk.old.registered < desk.old.most }
     ensures entry { IfOk result (λ entry. IsEntry (limits_in profile N.config) bytes.now entry) }
-    ensures tag { IfOk result (TakesTag desk.old desk.new) }
+    ensures tag { IfOk result (TakesTag desk.old.registered desk.new.registered) }
+    ensures most { desk.new.most ≡ desk.old.most }
 {
     entry_of(store.register(rt, alloc, desk, profile, bytes))
 }
@@ -68,7 +68,7 @@ pub(crate) fn enter<N: Naming, R: Wait>(
     bytes: &[u8],
     registry: &mut Registry<N>,
 ) -> Result<(), NoMemory>
-    requires { registry.old.desk < MOST_MODULES }
+    requires { registry.old.desk.registered < registry.old.desk.most }
     ensures { IfOk result (λ _. EntersModule (limits_in profile N.config) bytes.now registry.old registry.new) }
 {
     let Registry { entries, desk } = registry;

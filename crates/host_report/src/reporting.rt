@@ -1,5 +1,5 @@
 //! The report on what a request file asks for.
-ghost use Rattle.std.specs.Prelude.{◌≡◌, [], IfOk, None, Some, slice_get, slice_set};
+ghost use Rattle.std.specs.Prelude.{◌≡◌, ◌≤◌, [], IfOk, None, Some, length, slice_get, slice_set};
 ghost use Rattle.module_store.specs.Names.{Bears};
 ghost use Rattle.pool_limits.specs.Plans.{plan_fault};
 ghost use Rattle.request_text.specs.Text.{modules_of};
@@ -10,6 +10,7 @@ ghost use Rattle.host_report.specs.Lines.{HasLine, HasSource, ShowsNext, board_a
 ghost use Rattle.host_report.specs.Report.{IsReport, limits_in};
 
 use crate::books::Books;
+use crate::counting::count_modules;
 use crate::making::make_all;
 use crate::modules::{Entry, entry_line};
 use host_edge::Gate;
@@ -112,12 +113,14 @@ fn report_in<N: Naming + Send + Sync, R: Threads + Wait + Sync, G: Gate>(
     requests: &Requests,
     gate: &G,
 ) -> Result<Vec<ReportLine>, NoMemory>
-    requires name { Bears opened N.shelves N.config }
+    requires name { Bears opened N.shelves N.config N.most }
+    requires room { length (modules_of requests.now.directives) ≤ N.most }
     requires plan { (plan_fault N.config [] ≡ None) → plan_fault N.config requests.now.wants ≡ None }
     ensures { IfOk result (λ lines. IsReport N.config requests.now lines.items) }
 {
     let (store, desk) = opened.named::<N>();
-    let Books { registry, board } = make_all(rt, alloc, &store, desk, slice, requests, gate)?;
+    let made = make_all(rt, alloc, &store, desk, slice, requests, gate)?;
+    let Books { registry, board } = made.into_books();
     let mut board = board.into_lines();
     lines(alloc, requests, &registry.entries, &mut board)
 }
@@ -139,6 +142,6 @@ pub fn report<R: Threads + Wait + Sync, G: Gate>(
     requires plan { (plan_fault config [] ≡ None) → plan_fault config requests.now.wants ≡ None }
     ensures { IfOk result (λ lines. IsReport config requests.now lines.items) }
 {
-    let opened = Opened::open(alloc, config)?;
+    let opened = Opened::open_for(alloc, config, count_modules(requests))?;
     report_in::<Brand, R, G>(rt, alloc, opened, slice, requests, gate)
 }

@@ -1,10 +1,10 @@
 //! A run, round by round: the calls before the first retire line, those between two, and those after the last.
-ghost use Rattle.std.specs.Prelude.{◌≡◌, ℕ, ◌+◌, ◌≤◌, List, IfOk, IfSome, Ok, Some, length, slice_get};
-ghost use Rattle.pool_worlds.specs.Contents.{Named};
+ghost use Rattle.std.specs.Prelude.{◌≡◌, ℕ, ◌≤◌, List, IfOk, Some, length, slice_get};
 ghost use Rattle.request_text.specs.declared.request.Directive.TheVariants.{Retire};
-ghost use Rattle.host_report.specs.Due.{dues_from};
 ghost use Rattle.host_report.specs.Entries.{AreKept};
-ghost use Rattle.host_report.specs.Rounds.{AreBooks, AreBooksWithin, HasRetired, IsReady, IsRun, IsSpan};
+ghost use Rattle.host_report.specs.Rounds.{AreBooks, AreBooksWithin, AreOfOneRound, CrewKnows, HasCrew, IsRun, IsSpan};
+ghost use Rattle.host_report.specs.Runs.{CarriedOut, MadeRound, MadeRounds};
+ghost use Rattle.host_report.specs.Worked.{MadeByCrew};
 
 use crate::books::{Books, Span};
 use crate::calls::{entry_at, make_left};
@@ -43,9 +43,11 @@ fn enter_and_call<N: Naming + Send + Sync, R: Threads + Wait + Sync, G: Gate>(
     gate: &G,
 ) -> Result<Books<N>, NoMemory>
     requires span { IsSpan requests.now.directives span }
-    requires crew { IfSome crew.old (IsReady (dues_from 1 requests.now.directives)) }
+    requires crew { HasCrew N.config requests.now crew.old }
     requires books { AreBooks N.config requests.now span.from span.calls span.calls books }
-    ensures crew { IfOk result (λ _. IfSome crew.new (IsReady (dues_from 1 requests.now.directives))) }
+    ensures crew { IfOk result (λ _. HasCrew N.config requests.now crew.new) }
+    ensures known { IfOk result (λ _. (tag : ℕ) → CrewKnows tag crew.old → CrewKnows tag crew.new) }
+    ensures made { IfOk result (MadeByCrew N.config requests.now span crew.old books) }
     ensures books { IfOk result (AreBooksWithin N.config requests.now span) }
     ensures kept { IfOk result (λ after. AreKept books.registry.entries.items after.registry.entries.items) }
 {
@@ -55,7 +57,8 @@ fn enter_and_call<N: Naming + Send + Sync, R: Threads + Wait + Sync, G: Gate>(
     }
 }
 
-// One round, up to this directive: its modules are entered, a crew makes its calls meanwhile, and the lane makes those that are left.
+// One round, up to this directive: its modules are entered, a crew makes its calls meanwhile, and the lane makes those that are left. No
+// retire line may stand among its directives.
 fn make_round<N: Naming + Send + Sync, R: Threads + Wait + Sync, G: Gate>(
     rt: &R,
     alloc: Global,
@@ -67,8 +70,9 @@ fn make_round<N: Naming + Send + Sync, R: Threads + Wait + Sync, G: Gate>(
 ) -> Result<Run<N>, NoMemory>
     requires run { IsRun N.config requests.now run }
     requires to { (run.done ≤ to) × (to ≤ length requests.now.directives) }
+    requires one_round { AreOfOneRound requests.now.directives run.done to }
     ensures run { IfOk result (IsRun N.config requests.now) }
-    ensures done { IfOk result (λ after. after.done ≡ to) }
+    ensures made { IfOk result (MadeRound N.config requests.now to run) }
 {
     let Run {
         books,
@@ -100,8 +104,7 @@ fn retire<N: Naming>(store: &ModuleStore<N>, requests: &Requests, place: u32, ru
     requires run { IsRun N.config requests.now run.old }
     requires line { (name : List ℕ) × (slice_get requests.now.directives run.old.done ≡ Some (Retire place name)) }
     ensures run { IsRun N.config requests.now run.new }
-    ensures done { run.new.done ≡ run.old.done + 1 }
-    ensures retired { (m : Named) → slice_get run.old.books.registry.entries.items place ≡ Some (Ok m) → HasRetired m run.old run.new }
+    ensures carried_out { CarriedOut place run.old run.new }
 {
     let _requests = requests.directives();
     if let Ok(module) = entry_at(&run.books.registry.entries, place) {
@@ -125,6 +128,7 @@ pub(crate) fn make_rounds<N: Naming + Send + Sync, R: Threads + Wait + Sync, G: 
     requires run { IsRun N.config requests.now run }
     requires start { run.done ≡ 0 }
     ensures run { IfOk result (IsRun N.config requests.now) }
+    ensures rounds { IfOk result (MadeRounds N.config requests.now 0 requests.now.directives run) }
     ensures done { IfOk result (λ after. after.done ≡ length requests.now.directives) }
 {
     let directives = requests.directives();

@@ -1,12 +1,11 @@
 //! Workers make the calls of a round on tenants' hosts that they share, while its modules are registered.
-ghost use Rattle.std.specs.Prelude.{◌≡◌, ◌+◌, ◌<◌, ◌≤◌, All, IfOk, length};
-ghost use Rattle.call_workers.specs.Crews.{HasEnded, IsNewWorker};
+ghost use Rattle.std.specs.Prelude.{◌≡◌, ◌+◌, ◌<◌, ◌≤◌, ℕ, All, IfOk, Some, length};
+ghost use Rattle.call_workers.specs.Crews.{DoneKnows, HasEnded, IsNewWorker, StillKnow, WorkerKnows};
 ghost use Rattle.job_queue.specs.Passes.{count_of, first_of};
-ghost use Rattle.host_report.specs.Due.{dues_from};
 ghost use Rattle.host_report.specs.Entries.{AreKept};
 ghost use Rattle.host_report.specs.Put.{CanPutAll, HasPutAll};
 ghost use Rattle.host_report.specs.Rounds.{AreBooks, AreBooksWithin, HasEntered, IsReady, IsSpan, calls_in};
-ghost use Rattle.host_report.specs.Worked.{AnswersRound, workers_for};
+ghost use Rattle.host_report.specs.Worked.{AnswersRound, MadeByCrew, workers_for};
 
 use crate::books::{Books, Registry, Span};
 use crate::collecting::collect_all;
@@ -37,9 +36,10 @@ fn work_round<N: Naming + Send + Sync, R: Threads + Wait + Sync, G: Gate>(
 ) -> Result<(Registry<N>, Vec<Worked>), NoMemory>
     requires span { IsSpan requests.now.directives span }
     requires entered { HasEntered N.config requests.now span.from registry }
-    requires crew { IsReady (dues_from 1 requests.now.directives) crew.old }
+    requires crew { IsReady N.config requests.now crew.old }
     requires some { 0 < calls_in requests.now.directives span }
-    ensures crew { IfOk result (λ _. IsReady (dues_from 1 requests.now.directives) crew.new) }
+    ensures crew { IfOk result (λ _. IsReady N.config requests.now crew.new) }
+    ensures still { IfOk result (λ _. StillKnow crew.old.callers.items crew.new.callers.items) }
     ensures entered { IfOk result (λ r. HasEntered N.config requests.now span.to r.0) }
     ensures kept { IfOk result (λ r. AreKept registry.entries.items r.0.entries.items) }
     ensures answers { IfOk result (λ r. AnswersRound N.config requests.now span (workers_for requests.now.directives span crew.old) r.0 r.1.items) }
@@ -65,6 +65,7 @@ fn work_round<N: Naming + Send + Sync, R: Threads + Wait + Sync, G: Gate>(
             requires numbers { first_of jobs.now + count_of jobs.now ≤ length shared.now.calls.items + 1 }
             ensures many { IfOk result (λ done. length done.items ≡ length workers.items) }
             ensures done { IfOk result (λ done. All (HasEnded N.config shared.entry.now jobs.entry.now) done.items) }
+            ensures known { IfOk result (λ done. (tag : ℕ) → All (WorkerKnows tag) workers.items → All (DoneKnows tag) done.items) }
         { work_all(rt, alloc, store, shared, jobs, workers, gate) },
         move || -> Put<N>
             requires { CanPutAll N.config requests.now span jobs.now many putter }
@@ -91,6 +92,7 @@ pub(crate) fn enter_alone<N: Naming, R: Wait>(
     requires books { AreBooks N.config requests.now span.from span.calls span.calls books }
     ensures books { IfOk result (AreBooksWithin N.config requests.now span) }
     ensures kept { IfOk result (λ after. AreKept books.registry.entries.items after.registry.entries.items) }
+    ensures board { IfOk result (λ after. after.board ≡ books.board) }
 {
     let Books {
         mut registry,
@@ -113,10 +115,12 @@ pub(crate) fn by_crew<N: Naming + Send + Sync, R: Threads + Wait + Sync, G: Gate
     gate: &G,
 ) -> Result<Books<N>, NoMemory>
     requires span { IsSpan requests.now.directives span }
-    requires crew { IsReady (dues_from 1 requests.now.directives) crew.old }
+    requires crew { IsReady N.config requests.now crew.old }
     requires books { AreBooks N.config requests.now span.from span.calls span.calls books }
-    ensures crew { IfOk result (λ _. IsReady (dues_from 1 requests.now.directives) crew.new) }
+    ensures crew { IfOk result (λ _. IsReady N.config requests.now crew.new) }
+    ensures still { IfOk result (λ _. StillKnow crew.old.callers.items crew.new.callers.items) }
     ensures books { IfOk result (AreBooksWithin N.config requests.now span) }
+    ensures made { IfOk result (MadeByCrew N.config requests.now span (Some crew.old) books) }
     ensures kept { IfOk result (λ after. AreKept books.registry.entries.items after.registry.entries.items) }
 {
     if calls_in(requests, span) == 0 {

@@ -8,15 +8,17 @@ ghost use Rattle.request_text.specs.Text.{call_count};
 ghost use Rattle.host_report.specs.Due.{dues_from};
 ghost use Rattle.host_report.specs.Put.{CanPutAll, HasPutAll};
 ghost use Rattle.host_report.specs.Rounds.{AreBooks, HasEntered};
-ghost use Rattle.host_report.specs.Worked.{AnswersFile, AreSliced};
+ghost use Rattle.host_report.specs.Runs.{whole_file};
+ghost use Rattle.host_report.specs.Worked.{AnswersFile, AreSliced, MadeByWorkers};
 
 use crate::books::{Books, Registry, Span};
 use crate::collecting::collect_all;
 use crate::putting::{Put, Putter, put_all};
 use crate::shares::worker_count;
-use due_calls::{Due, Worked};
+use due_calls::Worked;
 use host_edge::Gate;
 use module_store::{ModuleStore, Naming};
+use pool_host::LaneHost;
 use request_text::Requests;
 use slice_workers::{SliceCrew, SliceShared, Sliced, finish_slices, slice_all};
 use std::alloc::Global;
@@ -24,12 +26,27 @@ use std::sync::Wait;
 use std::thread::{self, Threads};
 use wasm_values::NoMemory;
 
-// What workers left: the registry, the calls, and what they made of these.
+// What workers left: the registry, the host and the calls that they shared, and what they made of these.
 #[derive(Drop)]
 pub(crate) struct SlicedCalls<N: Naming> {
     pub registry: Registry<N>,
-    pub calls: Vec<Due>,
+    pub shared: SliceShared<N>,
     pub worked: Vec<Worked>,
+}
+
+// The same with the books that have their lines.
+#[derive(Drop)]
+pub(crate) struct SlicedBooks<N: Naming> {
+    pub books: Books<N>,
+    pub shared: SliceShared<N>,
+}
+
+// A run whose calls were made in slices: what is written down of it, what the workers shared, and the lane.
+#[derive(Drop)]
+pub(crate) struct SlicedRun<N: Naming> {
+    pub books: Books<N>,
+    pub shared: SliceShared<N>,
+    pub lane: LaneHost<N>,
 }
 
 // What the workers made of all calls in slices, and the registry with the modules that were entered beside them. Where no thread can be
@@ -47,7 +64,7 @@ fn slice_calls<N: Naming + Send + Sync, R: Threads + Wait + Sync, G: Gate>(
     requires entered { HasEntered N.config requests.now 0 registry }
     requires crew { IsNewSliceCrew N.config (shared_share N.config) (dues_from 1 requests.now.directives) N.config.workers crew }
     requires some { (0 < N.config.workers) × (N.config.workers ≤ 16) }
-    ensures calls { IfOk result (λ r. r.calls.items ≡ dues_from 1 requests.now.directives) }
+    ensures shared { IfOk result (λ r. r.shared ≡ crew.shared) }
     ensures entered { IfOk result (λ r. HasEntered N.config requests.now (length requests.now.directives) r.registry) }
     ensures answers { IfOk result (λ r. AnswersFile N.config requests.now N.config.workers r.registry r.worked.items) }
 {
@@ -81,10 +98,9 @@ fn slice_calls<N: Naming + Send + Sync, R: Threads + Wait + Sync, G: Gate>(
     let Put { own, registry } = put;
     let registry = registry?;
     let worked = finish_slices(rt, of_calls, own, sliced?, workers);
-    let SliceShared { calls, .. } = shared;
     Ok(SlicedCalls {
         registry,
-        calls,
+        shared,
         worked,
     })
 }
@@ -100,11 +116,13 @@ pub(crate) fn by_slicers<N: Naming + Send + Sync, R: Threads + Wait + Sync, G: G
     books: Books<N>,
     slice: u32,
     gate: &G,
-) -> Result<Books<N>, NoMemory>
+) -> Result<SlicedBooks<N>, NoMemory>
     requires books { AreBooks N.config requests.now 0 0 0 books }
     requires crew { IsNewSliceCrew N.config (shared_share N.config) (dues_from 1 requests.now.directives) N.config.workers crew }
     requires some { (0 < N.config.workers) × (N.config.workers ≤ 16) }
-    ensures { IfOk result (AreBooks N.config requests.now (length requests.now.directives) 0 (call_count requests.now.directives)) }
+    ensures shared { IfOk result (λ r. r.shared ≡ crew.shared) }
+    ensures books { IfOk result (λ r. AreBooks N.config requests.now (length requests.now.directives) 0 (call_count requests.now.directives) r.books) }
+    ensures made { IfOk result (λ r. MadeByWorkers N.config requests.now (whole_file requests.now) N.config.workers books r.books) }
 {
     let _requests = requests.directives();
     let Books {
@@ -113,9 +131,10 @@ pub(crate) fn by_slicers<N: Naming + Send + Sync, R: Threads + Wait + Sync, G: G
     } = books;
     let SlicedCalls {
         registry,
-        calls,
+        shared,
         worked,
     } = slice_calls(rt, alloc, store, requests, crew, registry, slice, gate)?;
-    collect_all(&mut board, &calls, worked);
-    Ok(Books { registry, board })
+    collect_all(&mut board, &shared.calls, worked);
+    let books = Books { registry, board };
+    Ok(SlicedBooks { books, shared })
 }

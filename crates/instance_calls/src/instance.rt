@@ -18,6 +18,7 @@ use module_store::{ModuleRef, ModuleStore, Naming};
 use paused_call::{PausedCall, Turned};
 use slot_words::Lease;
 use table_slots::TableSlot;
+use wasm_machine::RunInputs;
 use wasm_values::{Outcome, Val};
 
 /// What a call runs on: a ticket, and a memory and a table where its module has them. Each is a slot that was taken, and is given
@@ -123,20 +124,22 @@ impl<N: Naming> Instance<N> {
         let limits = limits_of(store);
         let valid = store.valid(module);
         let table = entries_of(&self.table);
+        let inputs = RunInputs {
+            valid,
+            limits,
+            request,
+            table,
+        };
         let ticket = &mut self.ticket.value;
         match &mut self.memory {
             Some(memory) => {
                 let memory = &mut memory.value;
-                let turned = resume_with_memory(
-                    ticket, memory, table, call, valid, slice, limits, request, answer,
-                );
+                let turned = resume_with_memory(ticket, memory, &inputs, call, slice, answer);
                 keep(turned, answer);
                 turned
             }
             None => {
-                let turned = resume_without_memory(
-                    ticket, table, call, valid, slice, limits, request, answer,
-                );
+                let turned = resume_without_memory(ticket, &inputs, call, slice, answer);
                 keep(turned, answer);
                 turned
             }

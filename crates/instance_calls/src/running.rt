@@ -6,6 +6,7 @@ ghost use Rattle.wasm_spec.specs.Execution.{terms};
 ghost use Rattle.wasm_spec.specs.Result.{CallResult};
 ghost use Rattle.wasm_spec.specs.Store.{Store};
 ghost use Rattle.wasm_machine.specs.Calls.{FitsFrame, IsCall};
+ghost use Rattle.wasm_machine.specs.Lent.{run_terms};
 ghost use Rattle.wasm_machine.specs.TypedConfiguration.{IsTypedStore};
 ghost use Rattle.pool_worlds.specs.Contents.{MemoryContents, Named};
 ghost use Rattle.pool_worlds.specs.Runs.{LeavesFrom};
@@ -23,6 +24,7 @@ use module_store::{ModuleStore, Naming};
 use paused_call::{PausedCall, Turned};
 use slot_words::Lease;
 use table_slots::TableSlot;
+use wasm_machine::RunInputs;
 use wasm_types::RunLimits;
 use wasm_validate::Valid;
 use wasm_values::Val;
@@ -53,48 +55,43 @@ pub(crate) fn entries_of<N: Naming>(table: &Option<Lease<TableSlot<N>>>) -> &[Op
 pub(crate) fn resume_with_memory<N: Naming>(
     ticket: &mut Ticket<N>,
     memory: &mut MemSlot<N>,
-    table: &[Option<u32>],
+    inputs: &RunInputs<'_>,
     call: &mut PausedCall,
-    valid: &Valid,
     slice: u64,
-    limits: RunLimits,
-    request: &[u8],
     answer: &mut AnswerBuf,
 ) -> Turned
-    requires limits { limits ≡ run_limits N.config }
-    requires stands { (begun : Store) × StandsWithMemory valid.now (terms limits request.now) begun call.old ticket.old memory.old table.now answer.old }
-    requires ready { IsReady (room_for valid.now.memories N.config.pages) memory.old }
-    requires frame { FitsFrame valid.now N.config.frame }
-    requires request { length request.now ≤ 65536 }
+    requires limits { inputs.now.limits ≡ run_limits N.config }
+    requires stands { (begun : Store)
+        × StandsWithMemory inputs.now.valid.now (run_terms inputs.now) begun call.old ticket.old memory.old inputs.now.table.now answer.old }
+    requires ready { IsReady (room_for inputs.now.valid.now.memories N.config.pages) memory.old }
+    requires frame { FitsFrame inputs.now.valid.now N.config.frame }
+    requires request { length inputs.now.request.now ≤ 65536 }
     ensures turned { (begun : Store)
-        → StandsWithMemory valid.now (terms limits request.now) begun call.old ticket.old memory.old table.now answer.old
-        → HasTurned (whole valid.now (terms limits request.now) call.old ticket.old.args begun) call.old slice
-        (store_in valid.now memory.new table.now ticket.new.globals answer.new) result }
+        → StandsWithMemory inputs.now.valid.now (run_terms inputs.now) begun call.old ticket.old memory.old inputs.now.table.now answer.old
+        → HasTurned (whole inputs.now.valid.now (run_terms inputs.now) call.old ticket.old.args begun) call.old slice
+        (store_in inputs.now.valid.now memory.new inputs.now.table.now ticket.new.globals answer.new) result }
     ensures stands { result ≡ Turned.Again → (begun : Store)
-        → StandsWithMemory valid.now (terms limits request.now) begun call.old ticket.old memory.old table.now answer.old
-        → StandsWithMemory valid.now (terms limits request.now) begun call.new ticket.new memory.new table.now answer.new }
+        → StandsWithMemory inputs.now.valid.now (run_terms inputs.now) begun call.old ticket.old memory.old inputs.now.table.now answer.old
+        → StandsWithMemory inputs.now.valid.now (run_terms inputs.now) begun call.new ticket.new memory.new inputs.now.table.now answer.new }
     ensures leaves { (begun : Store)
-        → StandsWithMemory valid.now (terms limits request.now) begun call.old ticket.old memory.old table.now answer.old
+        → StandsWithMemory inputs.now.valid.now (run_terms inputs.now) begun call.old ticket.old memory.old inputs.now.table.now answer.old
         → (owner : Option Named) → (r : CallResult)
-        × LeavesFrom N.config.pages (module_tree valid.now) (whole valid.now (terms limits request.now) call.old ticket.old.args begun) call.old.turns
-        (upto call.old slice)
-        (parts memory.old owner table.now ticket.old.globals) (parts memory.new owner table.now ticket.new.globals) memory.new.marks r }
+        × LeavesFrom N.config.pages (module_tree inputs.now.valid.now) (whole inputs.now.valid.now (run_terms inputs.now) call.old ticket.old.args begun)
+        call.old.turns (upto call.old slice)
+        (parts memory.old owner inputs.now.table.now ticket.old.globals) (parts memory.new owner inputs.now.table.now ticket.new.globals) memory.new.marks r }
     ensures holds { memory.new.holds ≡ memory.old.holds }
-    ensures ready { IsReady (room_for valid.now.memories N.config.pages) memory.new }
+    ensures ready { IsReady (room_for inputs.now.valid.now.memories N.config.pages) memory.new }
     ensures args { ticket.new.args ≡ ticket.old.args }
     ensures same { (call.new.function ≡ call.old.function) × (call.new.fuel ≡ call.old.fuel) }
     ensures turns { result ≡ Turned.Again → call.new.turns ≡ call.old.turns + slice }
 {
     memory.resume(
         call,
-        valid,
         &ticket.args,
+        inputs,
         slice,
-        limits,
-        table,
         &mut ticket.globals,
         &mut ticket.stacks,
-        request,
         answer,
     )
 }
@@ -102,46 +99,41 @@ pub(crate) fn resume_with_memory<N: Naming>(
 // Makes turns of a paused call of a module that has no memory.
 pub(crate) fn resume_without_memory<N: Naming>(
     ticket: &mut Ticket<N>,
-    table: &[Option<u32>],
+    inputs: &RunInputs<'_>,
     call: &mut PausedCall,
-    valid: &Valid,
     slice: u64,
-    limits: RunLimits,
-    request: &[u8],
     answer: &mut AnswerBuf,
 ) -> Turned
-    requires limits { limits ≡ run_limits N.config }
-    requires none { valid.now.memories ≡ [] }
-    requires stands { (begun : Store) × StandsWithoutMemory valid.now (terms limits request.now) begun call.old ticket.old table.now answer.old }
-    requires frame { FitsFrame valid.now N.config.frame }
-    requires request { length request.now ≤ 65536 }
+    requires limits { inputs.now.limits ≡ run_limits N.config }
+    requires none { inputs.now.valid.now.memories ≡ [] }
+    requires stands { (begun : Store)
+        × StandsWithoutMemory inputs.now.valid.now (run_terms inputs.now) begun call.old ticket.old inputs.now.table.now answer.old }
+    requires frame { FitsFrame inputs.now.valid.now N.config.frame }
+    requires request { length inputs.now.request.now ≤ 65536 }
     ensures turned { (begun : Store)
-        → StandsWithoutMemory valid.now (terms limits request.now) begun call.old ticket.old table.now answer.old
-        → HasTurned (whole valid.now (terms limits request.now) call.old ticket.old.args begun) call.old slice
-        (bare_store valid.now table.now ticket.new.globals answer.new) result }
+        → StandsWithoutMemory inputs.now.valid.now (run_terms inputs.now) begun call.old ticket.old inputs.now.table.now answer.old
+        → HasTurned (whole inputs.now.valid.now (run_terms inputs.now) call.old ticket.old.args begun) call.old slice
+        (bare_store inputs.now.valid.now inputs.now.table.now ticket.new.globals answer.new) result }
     ensures stands { result ≡ Turned.Again → (begun : Store)
-        → StandsWithoutMemory valid.now (terms limits request.now) begun call.old ticket.old table.now answer.old
-        → StandsWithoutMemory valid.now (terms limits request.now) begun call.new ticket.new table.now answer.new }
+        → StandsWithoutMemory inputs.now.valid.now (run_terms inputs.now) begun call.old ticket.old inputs.now.table.now answer.old
+        → StandsWithoutMemory inputs.now.valid.now (run_terms inputs.now) begun call.new ticket.new inputs.now.table.now answer.new }
     ensures leaves { (begun : Store)
-        → StandsWithoutMemory valid.now (terms limits request.now) begun call.old ticket.old table.now answer.old
+        → StandsWithoutMemory inputs.now.valid.now (run_terms inputs.now) begun call.old ticket.old inputs.now.table.now answer.old
         → (x : MemoryContents) (owner : Option Named) → (r : CallResult)
-        × LeavesFrom N.config.pages (module_tree valid.now) (whole valid.now (terms limits request.now) call.old ticket.old.args begun) call.old.turns
-        (upto call.old slice)
-        (parts x owner table.now ticket.old.globals) (parts x owner table.now ticket.new.globals) x.marks r }
+        × LeavesFrom N.config.pages (module_tree inputs.now.valid.now) (whole inputs.now.valid.now (run_terms inputs.now) call.old ticket.old.args begun)
+        call.old.turns (upto call.old slice)
+        (parts x owner inputs.now.table.now ticket.old.globals) (parts x owner inputs.now.table.now ticket.new.globals) x.marks r }
     ensures args { ticket.new.args ≡ ticket.old.args }
     ensures same { (call.new.function ≡ call.old.function) × (call.new.fuel ≡ call.old.fuel) }
     ensures turns { result ≡ Turned.Again → call.new.turns ≡ call.old.turns + slice }
 {
     call.resume(
-        valid,
         &ticket.args,
+        inputs,
         slice,
-        limits,
         &mut ticket.memory,
-        table,
         &mut ticket.globals,
         &mut ticket.stacks,
-        request,
         answer,
     )
 }

@@ -4,7 +4,7 @@ use Rattle.wasm_values.specs.declared.outcome.Val.{Val}
 use Rattle.linear_memory.specs.declared.memory.Memory.{Memory}
 use Rattle.linear_memory.specs.Bytes.{IsMemory}
 use Rattle.wasm_machine.specs.Room.{StacksView}
-use Rattle.module_limits.specs.declared.over.TheConstants.{MOST_GLOBALS}
+use Rattle.pool_limits.specs.declared.over.TheConstants.{MOST_GLOBALS}
 use Rattle.pool_limits.specs.declared.numbers.Numbers.{Numbers}
 
 -- its globals, the arguments of a call that is paused on it, and its stacks

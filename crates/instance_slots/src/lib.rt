@@ -5,6 +5,6 @@ pub mod laws;
 mod pool;
 mod ticket;
 
-pub use pool::take;
+pub use pool::TicketPool;
 pub use slot_pools::Full;
 pub use ticket::Ticket;

@@ -6,8 +6,8 @@ ghost use Rattle.pool_worlds.specs.declared.kinds.Kind.TheVariants as kind;
 ghost use Rattle.pool_worlds.specs.Contents.{prepared, Matches};
 ghost use Rattle.pool_worlds.specs.OwnTags.{own_tag, fits-own_tag};
 
-use module_limits::MOST_GLOBALS;
 use module_store::{ModuleRef, ModuleStore, Naming};
+use pool_limits::MOST_GLOBALS;
 use slot_pools::OpenSlot;
 use slot_words::{NoMemory as Refused, Pooled};
 use std::alloc::Global;

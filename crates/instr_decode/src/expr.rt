@@ -15,13 +15,12 @@ use std::alloc::Global;
 use wasm_types::Expr;
 use wasm_values::Profile;
 
-/// The expression of a profile at the cursor: instructions up to their end, just after which the cursor then stands. Nothing recurses
-/// on the bytes. Source: Core Specification 1.0, section 5.4.6.
+/// The expression of a profile at the cursor: instructions up to their end, just after which the cursor then stands. Source: Core
+/// Specification 1.0, section 5.4.6.
 ///
 /// # Errors
 ///
-/// `Malformed` exactly where no expression stands there; `NoMemory` only where memory was refused, for an instruction or a
-/// label that has been read.
+/// `Malformed` only where no expression stands there; `NoMemory` only where a first instruction stands there, or its first label.
 pub fn decode_expr(
     alloc: Global,
     profile: Profile,

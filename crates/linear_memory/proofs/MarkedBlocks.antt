@@ -10,56 +10,14 @@ use Rattle.linear_memory.specs.declared.memory.Memory.{Memory}
 use Rattle.linear_memory.specs.Bytes.{IsMemory, shown, size_of}
 use Rattle.memory_blocks.specs.Blocks.{KeepsUnmarked, is_marked}
 use Rattle.memory_blocks.proofs.KeepingLemmas.{unmarked_more}
-use Rattle.linear_memory.specs.Marks.{MarksChanges, touched}
+use Rattle.linear_memory.specs.Marks.{MarksChanges, MarksPart, touched, with_part}
 use Rattle.wasm_spec.proofs.StoreSizes.{length-written}
 use Rattle.linear_memory.proofs.WrittenBytes.{drop-written, outside_written, take-written}
 
--- ---- one mark that is set
-
-set_here : (xs : List Bool) (i : ℕ) → i < length xs → get_or (set xs i true) i false ≡ true
-set_here [] i h = absurd (omega arith)
-set_here (x ∷ xs) zero h = refl
-set_here (x ∷ xs) (suc i) h = set_here xs i (omega arith)
-
--- what is not marked afterwards was not before
-unset_before : (xs : List Bool) (i b : ℕ) → get_or (set xs i true) b false ≡ false → get_or xs b false ≡ false
-unset_before [] i b e = e
-unset_before (x ∷ xs) zero zero e = absurd (cc)
-unset_before (x ∷ xs) zero (suc b) e = e
-unset_before (x ∷ xs) (suc i) zero e = e
-unset_before (x ∷ xs) (suc i) (suc b) e = unset_before xs i b e
-
-set_counted : (xs : List Bool) (i : ℕ) → i < length xs → count_by (λ b. b) (set xs i true) ≤ count_by (λ b. b) xs + 1
-set_counted xs i h = omega (arith, sum_by-set (λ b. cond b 1 0) xs i true true h)
-
--- ---- the blocks of a piece
-
--- a place within so short a piece lies in its first block or in its last
-block_of : (at n i : ℕ) → 0 < n → n ≤ 4096 → at ≤ i → i < at + n → (i / 4096 ≡ at / 4096) ⊎ (i / 4096 ≡ (at + n - 1) / 4096)
-block_of at n i p h l u = grind arith
-
--- both marks are set, so a place that lies in no marked block lies outside the piece
 -- what does not lie within a part lies before it or past it
 outside_part : (at n i : ℕ) → (at ≤ i → i < at + n → ⊥) → (i < at) ⊎ (at + n ≤ i)
 outside_part at n i out =
     ⊎_elim (λ (l : i < at). inl l) (λ (l : at ≤ i). ⊎_elim (λ (u : i < at + n). absurd (out l u)) (λ (u : at + n ≤ i). inr u) (cases_lt i (at + n))) (cases_lt i at)
-
-module _ (marks : List Bool) (at n i : ℕ) (some : 0 < n) (short : n ≤ 4096) (first : at / 4096 < length marks) (last : (at + n - 1) / 4096 < length marks) (unmarked : is_marked (set (set marks (at / 4096) true) ((at + n - 1) / 4096) true) i ≡ false) where
-  not_last : i / 4096 ≡ (at + n - 1) / 4096 → ⊥
-  not_last e =
-      let is : get_or (set (set marks (at / 4096) true) ((at + n - 1) / 4096) true) (i / 4096) false ≡ true =
-      ap (λ (b : ℕ). get_or (set (set marks (at / 4096) true) ((at + n - 1) / 4096) true) b false) e
-      ∙ set_here (set marks (at / 4096) true) ((at + n - 1) / 4096) (omega (arith, length-set {A = Bool})) in
-      cc (is, unmarked)
-
-  not_first : i / 4096 ≡ at / 4096 → ⊥
-  not_first e =
-      let is : get_or (set marks (at / 4096) true) (i / 4096) false ≡ true =
-      ap (λ (b : ℕ). get_or (set marks (at / 4096) true) b false) e ∙ set_here marks (at / 4096) first in
-      cc (is, unset_before (set marks (at / 4096) true) ((at + n - 1) / 4096) (i / 4096) unmarked)
-
-  pub lies_outside : (i < at) ⊎ (at + n ≤ i)
-  lies_outside = outside_part at n i (λ l u. ⊎_elim not_first not_last (block_of at n i some short l u))
 
 -- ---- a row of marks that is set
 
@@ -135,6 +93,45 @@ part_unset marks at (suc n) b fits u =
     let long : length (replicate (touched at (suc n)) true) ≡ touched at (suc n) = length-replicate (touched at (suc n)) true in
     row_unset (at / 4096) (touched at (suc n)) (at / 4096 + length (replicate (touched at (suc n)) true)) marks b (omega arith) (omega arith) u
 
+-- ---- one mark or two
+
+set_once : (xs : List Bool) (i : ℕ) → i < length xs → set (set xs i true) i true ≡ take i xs ++ (true ∷ drop (suc i) xs)
+set_once [] i h = absurd (omega arith)
+set_once (x ∷ xs) zero h = refl
+set_once (x ∷ xs) (suc i) h = ap (λ (l : List Bool). x ∷ l) (set_once xs i (omega arith))
+
+set_both : (xs : List Bool) (i : ℕ) → suc i < length xs → set (set xs i true) (suc i) true ≡ take i xs ++ (true ∷ (true ∷ drop (suc (suc i)) xs))
+set_both [] i h = absurd (omega arith)
+set_both (x ∷ []) i h = absurd (omega arith)
+set_both (x ∷ (y ∷ xs)) zero h = refl
+set_both (x ∷ (y ∷ xs)) (suc i) h = ap (λ (l : List Bool). x ∷ l) (set_both (y ∷ xs) i (omega arith))
+
+ends_near : (at n : ℕ) → 0 < n → n ≤ 4096 → ((at + n - 1) / 4096 ≡ at / 4096) ⊎ ((at + n - 1) / 4096 ≡ suc (at / 4096))
+ends_near at n some short = grind arith
+
+-- so short a part lies in its first block and its last
+pub pair_is_part : (marks : List Bool) (at n : ℕ) → 0 < n → n ≤ 4096 → (at + n - 1) / 4096 < length marks
+    → set (set marks (at / 4096) true) ((at + n - 1) / 4096) true ≡ with_part marks at n
+pair_is_part marks at n some short last =
+    let first : ℕ = at / 4096 in
+    let end = touched_end at n some in
+    let after_one : suc first ≡ first + 1 = omega arith in
+    let after_two : suc (suc first) ≡ first + 2 = omega arith in
+    let one : (at + n - 1) / 4096 ≡ first → set (set marks first true) ((at + n - 1) / 4096) true ≡ with_part marks at n = λ e.
+    let blocks : 1 ≡ touched at n = omega arith in
+    ap (λ (i : ℕ). set (set marks first true) i true) e ∙ set_once marks first (omega arith)
+    ∙ ap (λ (d : ℕ). take first marks ++ (true ∷ drop d marks)) after_one ∙ ap (λ (k : ℕ). written marks first (replicate k true)) blocks in
+    let two : (at + n - 1) / 4096 ≡ suc first → set (set marks first true) ((at + n - 1) / 4096) true ≡ with_part marks at n = λ e.
+    let blocks : 2 ≡ touched at n = omega arith in
+    ap (λ (i : ℕ). set (set marks first true) i true) e ∙ set_both marks first (omega arith)
+    ∙ ap (λ (d : ℕ). take first marks ++ (true ∷ (true ∷ drop d marks))) after_two ∙ ap (λ (k : ℕ). written marks first (replicate k true)) blocks in
+    ⊎_elim one two (ends_near at n some short)
+
+-- and so in two at most
+pub touched_short : (at n : ℕ) → n ≤ 4096 → touched at n ≤ 2
+touched_short at zero short = omega arith
+touched_short at (suc n) short = omega arith
+
 -- ---- memories
 
 pub changes_none : (old new : Memory) → new.bytes.items ≡ old.bytes.items → new.marks.items ≡ old.marks.items → MarksChanges old new 0
@@ -143,6 +140,10 @@ changes_none old new bytes marks = record {
   counted = omega (arith, ap (count_by (λ b. b)) marks);
   room = record { bytes = ap length bytes; marks = ap length marks };
 }
+
+-- of no byte no block is marked
+pub part_none : (memory : Memory) (at : ℕ) → MarksPart memory memory at 0
+part_none memory at = record { changes = changes_none memory memory refl refl; marks = sym (no_row memory.marks.items (at / 4096)) }
 
 -- one change after another
 pub changes_more : (a b c : Memory) (n k j : ℕ) → MarksChanges a b n → MarksChanges b c k → n + k ≡ j → MarksChanges a c j
@@ -180,31 +181,8 @@ module _ (old new : Memory) (at : ℕ) (p : List ℕ) (fits : at + length p ≤ 
   within : (most : ℕ) → IsMemory most old → at + length p ≤ length old.bytes.items
   within most is = let r = is.bytes in let s = is.size in omega arith
 
-  pub changes_written : (most : ℕ) → IsMemory most old → 0 < length p → length p ≤ 4096
-      → new.marks.items ≡ set (set old.marks.items (at / 4096) true) ((at + length p - 1) / 4096) true → MarksChanges old new 2
-  changes_written most is some short marks =
-      let m = is.marks in
-      let s = is.size in
-      let first : at / 4096 < length old.marks.items = omega arith in
-      let last : (at + length p - 1) / 4096 < length old.marks.items = omega arith in
-      let one = set old.marks.items (at / 4096) true in
-      record {
-        unmarked = record {
-          bytes = λ i u.
-              ap (λ (l : List ℕ). get_or l i 0) bytes
-              ∙ outside_written at p old.bytes.items i (within most is) (lies_outside old.marks.items at (length p) i some short first last (ap (λ (l : List Bool). is_marked l i) (sym marks) ∙ u));
-          marks = λ i u. unset_before old.marks.items (at / 4096) (i / 4096) (unset_before one ((at + length p - 1) / 4096) (i / 4096) (ap (λ (l : List Bool). is_marked l i) (sym marks) ∙ u));
-        };
-        counted = rw marks (omega (arith, set_counted old.marks.items (at / 4096) first, set_counted one ((at + length p - 1) / 4096) (omega (arith, length-set {A = Bool}))));
-        room = record {
-          bytes = ap length bytes ∙ length-written old.bytes.items at p (within most is);
-          marks = ap length marks ∙ omega (arith, length-set {A = Bool});
-        };
-      }
-
-  -- the same of a part of any length, whose blocks are marked in one row
-  pub changes_in_row : (most n : ℕ) → IsMemory most old → length p ≡ n → new.marks.items ≡ written old.marks.items (at / 4096) (replicate (touched at n) true) → MarksChanges old new (touched at n)
-  changes_in_row most n is counts marks =
+  row_changes : (most n : ℕ) → IsMemory most old → length p ≡ n → new.marks.items ≡ with_part old.marks.items at n → MarksChanges old new (touched at n)
+  row_changes most n is counts marks =
       let m = is.marks in
       let s = is.size in
       let room : at + n ≤ length old.marks.items * 4096 = omega arith in
@@ -224,6 +202,10 @@ module _ (old new : Memory) (at : ℕ) (p : List ℕ) (fits : at + length p ≤ 
           marks = ap length marks ∙ row_length old.marks.items at n room;
         };
       }
+
+  -- the blocks of the piece are marked
+  pub marks_part : (most n : ℕ) → IsMemory most old → length p ≡ n → new.marks.items ≡ with_part old.marks.items at n → MarksPart old new at n
+  marks_part most n is counts marks = record { changes = row_changes most n is counts marks; marks = marks }
 
   pub shown_written : (most : ℕ) → IsMemory most old → new.pages ≡ old.pages → shown new ≡ written (shown old) at p
   shown_written most is pages =

@@ -4,7 +4,7 @@ ghost use Rattle.std.specs.Int.{from_le_bytes, w8, w16, w32, w64};
 ghost use Rattle.wasm_spec.specs.Store.{written, loaded};
 ghost use Rattle.linear_memory.specs.Bytes.{Grows, IsMemory, IsZeroed, shown};
 ghost use Rattle.memory_blocks.specs.Blocks.{block_size};
-ghost use Rattle.linear_memory.specs.Marks.{MarksChanges, touched};
+ghost use Rattle.linear_memory.specs.Marks.{MarksPart, with_part};
 
 use std::alloc::{AllocError, Global};
 use wasm_types::PAGE_SIZE;
@@ -86,7 +86,7 @@ fn mark_row(marks: &mut Vec<bool>, first: usize, count: usize)
 fn mark_touched(marks: &mut Vec<bool>, at: u64, count: u64)
     requires fits { at + count ≤ length marks.old.items * block_size }
     requires small { at + count < 2 ^ 64 }
-    ensures { marks.new.items ≡ written marks.old.items (at / block_size) (replicate (touched at count) true) }
+    ensures { marks.new.items ≡ with_part marks.old.items at count }
 {
     if count == 0 {
         return;
@@ -132,7 +132,7 @@ impl Memory {
         ensures fits { result ≡ not (nat_lt (length (shown self.old)) (at + length piece.now)) }
         ensures after { shown self.new ≡ (if result then written (shown self.old) at piece.now else shown self.old) }
         ensures memory { (most : ℕ) → IsMemory most self.old → IsMemory most self.new }
-        ensures marks { MarksChanges self.old self.new 2 }
+        ensures marks { MarksPart self.old self.new at (if result then length piece.now else 0) }
     {
         let size = u64::from(self.pages) * PAGE_SIZE;
         let count = piece.len() as u64;
@@ -155,7 +155,7 @@ impl Memory {
         ensures fits { result ≡ nat_le (to + count) (length (shown self.old)) && nat_le (from + count) (length (shown self.old)) }
         ensures after { shown self.new ≡ (if result then written (shown self.old) to (take count (drop from (shown self.old))) else shown self.old) }
         ensures memory { (most : ℕ) → IsMemory most self.old → IsMemory most self.new }
-        ensures marks { MarksChanges self.old self.new (touched to count) }
+        ensures marks { MarksPart self.old self.new to (if result then count else 0) }
     {
         let size = u64::from(self.pages) * PAGE_SIZE;
         if size < count || to > size - count || from > size - count {
@@ -173,7 +173,7 @@ impl Memory {
         ensures fits { result ≡ nat_le (to + count) (length (shown self.old)) }
         ensures after { shown self.new ≡ (if result then written (shown self.old) to (replicate count value) else shown self.old) }
         ensures memory { (most : ℕ) → IsMemory most self.old → IsMemory most self.new }
-        ensures marks { MarksChanges self.old self.new (touched to count) }
+        ensures marks { MarksPart self.old self.new to (if result then count else 0) }
     {
         let size = u64::from(self.pages) * PAGE_SIZE;
         if size < count || to > size - count {
@@ -208,7 +208,7 @@ impl Memory {
         requires fits { to + length piece.now ≤ length (shown self.old) }
         ensures after { shown self.new ≡ written (shown self.old) to piece.now }
         ensures memory { (most : ℕ) → IsMemory most self.old → IsMemory most self.new }
-        ensures marks { MarksChanges self.old self.new (touched to (length piece.now)) }
+        ensures marks { MarksPart self.old self.new to (length piece.now) }
     {
         put(&mut self.bytes, to as usize, piece);
         mark_touched(&mut self.marks, to, piece.len() as u64);
@@ -219,7 +219,7 @@ impl Memory {
         requires { (limit : ℕ) × IsMemory limit self.old × (most ≤ limit) }
         ensures grown { Grows most pages self.old result self.new }
         ensures memory { (limit : ℕ) → most ≤ limit → IsMemory limit self.old → IsMemory limit self.new }
-        ensures marks { MarksChanges self.old self.new 0 }
+        ensures marks { MarksPart self.old self.new 0 0 }
     {
         let before = self.pages;
         if pages > most || before > most - pages {

@@ -1,15 +1,12 @@
 -- Copies and fills.
-use Rattle.std.proofs.Common.{◌≡◌, ◌≢◌, ℕ, List, [], ◌∷◌, length, Bool, true, false, refl, ap, arith}
+use Rattle.std.proofs.Common.{◌≡◌, ◌≢◌, ℕ, List, [], ◌∷◌, Bool, true, false, refl, ap}
 use Rattle.std.specs.Prelude.{if◌then◌else◌}
-use Rattle.std.proofs.lemmas.List.Sums.{count_by-le-length}
 use Rattle.wasm_values.specs.declared.outcome.Val.{Val}
 use Rattle.wasm_values.specs.declared.outcome.Val.TheVariants as val
 use Rattle.wasm_types.specs.declared.instr.Instr.TheVariants as instr
 use Rattle.wasm_types.specs.Tree.{ModuleTree}
 use Rattle.wasm_spec.specs.Store.{Store, written}
 use Rattle.wasm_spec.specs.Execution.{Terms, Signal, Stuck, pop_numbers, copy_bytes, fill_bytes, write_where, memory_set, plain}
-use Rattle.linear_memory.specs.declared.memory.Memory.{Memory}
-use Rattle.linear_memory.specs.Marks.{MarksChanges}
 use Rattle.machine_steps.specs.declared.machine.Machine.{Machine}
 use Rattle.machine_steps.specs.Configuration.{Configuration, state}
 use Rattle.machine_steps.specs.StackLayout.{Represents}
@@ -54,11 +51,3 @@ pub written_after : (b : Bool) (k : Configuration) (vs : List Val) (new : Machin
     → EndsAs (write_where b to bytes vs (state k before)) k (trap_unless b) new after
 written_after true k vs new before after to bytes same sh = (sh, same)
 written_after false k vs new before after to bytes same sh = (refl, same)
-
--- a change marks no more blocks than there are
-pub marks_within : (old new : Memory) (n : ℕ) → MarksChanges old new n → MarksChanges old new (length old.marks.items)
-marks_within old new n changes = record {
-  unmarked = changes.unmarked;
-  counted = let all = count_by-le-length (λ (b : Bool). b) new.marks.items in let room = changes.room.marks in omega arith;
-  room = changes.room;
-}

@@ -6,3 +6,4 @@ pub mod LocalLemmas
 pub mod AccessLemmas
 pub mod BulkLemmas
 pub mod HostLemmas
+pub mod PartLemmas

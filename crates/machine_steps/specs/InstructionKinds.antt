@@ -1,5 +1,5 @@
 -- What plain instructions of one kind have in common: the widths of what they take and give, and what they make of it.
-use Rattle.std.specs.Prelude.{ℕ, Bool, true, false, if◌then◌else◌, Result, Ok}
+use Rattle.std.specs.Prelude.{ℕ, Bool, true, false, Result, Ok}
 use Rattle.std.specs.Int as int
 use Rattle.std.specs.Int.{w32}
 use Rattle.wasm_values.specs.declared.outcome.TrapKind.{TrapKind}
@@ -9,7 +9,6 @@ use Rattle.wasm_types.specs.declared.instr.Instr.{Instr}
 use Rattle.wasm_types.specs.declared.instr.Instr.TheVariants as instr
 use Rattle.wasm_spec.specs.Operators.{bit_width, int_width, unary, binary, compare, eqz, wrap, pack_bits, pack_width}
 use Rattle.wasm_spec.specs.Execution.{extended}
-use Rattle.wasm_spec.specs.Bulk.{is_bulk}
 
 -- instructions that leave their sequence, or may
 abbrev pub jumps : Instr → Bool
@@ -102,9 +101,3 @@ loaded_as _ n = n
 abbrev pub stored_as : Instr → ℕ → ℕ
 stored_as (instr.StorePacked w p a) n = wrap (pack_bits p) n
 stored_as _ n = n
-
--- ---- marks
-
--- how many blocks an instruction marks at most, of so many
-abbrev pub marks_by : Instr → ℕ → ℕ
-marks_by i blocks = if is_bulk i then blocks else 2

@@ -7,3 +7,4 @@ pub mod Accesses
 pub mod InstructionKinds
 pub mod PlainSteps
 pub mod HostSteps
+pub mod WrittenParts

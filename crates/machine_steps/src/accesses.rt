@@ -12,10 +12,11 @@ ghost use Rattle.wasm_spec.specs.Operators.{bit_width, extend_s, int_width, wrap
 ghost use Rattle.machine_steps.specs.StackLayout.{KeepsRoom};
 ghost use Rattle.machine_steps.specs.InstructionKinds.{IsLoad, IsStoring, access_width, gives_width, loaded_as, address_offset, stored_as, takes_width};
 ghost use Rattle.linear_memory.specs.Bytes.{IsMemory, shown};
-ghost use Rattle.linear_memory.specs.Marks.{MarksChanges};
+ghost use Rattle.linear_memory.specs.Marks.{MarksPart};
 ghost use Rattle.machine_steps.specs.Lent.{store_of};
 ghost use Rattle.machine_steps.specs.Accesses.{loaded_at, written_where};
 ghost use Rattle.machine_steps.specs.PlainSteps.{CanExecute, Executes};
+ghost use Rattle.machine_steps.specs.WrittenParts.{MarksWritten};
 
 use crate::cells::Cell;
 use crate::machine::Machine;
@@ -137,7 +138,7 @@ fn write_number(memory: &mut Memory, width: Width, at: u64, v: Cell) -> bool
     ensures after { (n : ℕ) → number width v ≡ Some n
         → shown memory.new ≡ written_where result (shown memory.old) at (to_le_bytes (int_width width) n) }
     ensures memory { (most : ℕ) → IsMemory most memory.old → IsMemory most memory.new }
-    ensures marks { MarksChanges memory.old memory.new 2 }
+    ensures marks { MarksPart memory.old memory.new at (if result then byte_len (int_width width) else 0) }
 {
     match width {
         Width::W32 => memory.write(at, &v.number32().to_le_bytes()),
@@ -151,7 +152,7 @@ fn write_narrow(memory: &mut Memory, size: PackSize, at: u64, n: u64) -> bool
     ensures fits { result ≡ not (nat_lt (length (shown memory.old)) (at + byte_len (pack_width size))) }
     ensures after { shown memory.new ≡ written_where result (shown memory.old) at (to_le_bytes (pack_width size) (wrap (pack_bits size) n)) }
     ensures memory { (most : ℕ) → IsMemory most memory.old → IsMemory most memory.new }
-    ensures marks { MarksChanges memory.old memory.new 2 }
+    ensures marks { MarksPart memory.old memory.new at (if result then byte_len (pack_width size) else 0) }
 {
     match size {
         PackSize::Pack8 => memory.write(at, &((n % 0x100) as u8).to_le_bytes()),
@@ -169,7 +170,7 @@ fn store_value(memory: &mut Memory, instr: &Instr, at: u64, v: Cell) -> bool
     ensures after { (n : ℕ) → number (takes_width instr.now) v ≡ Some n
         → shown memory.new ≡ written_where result (shown memory.old) at (to_le_bytes (access_width instr.now) (stored_as instr.now n)) }
     ensures memory { (most : ℕ) → IsMemory most memory.old → IsMemory most memory.new }
-    ensures marks { MarksChanges memory.old memory.new 2 }
+    ensures marks { MarksPart memory.old memory.new at (if result then byte_len (access_width instr.now) else 0) }
 {
     match instr {
         Instr::Store(width, _) => write_number(memory, *width, at, v),
@@ -214,7 +215,7 @@ impl Machine {
             → Executes m limits instr.now self.old (store_of memory.old table globals answer) result self.new (store_of memory.new table globals answer) }
         ensures room { KeepsRoom self.old self.new }
         ensures memory { (most : ℕ) → IsMemory most memory.old → IsMemory most memory.new }
-        ensures marks { MarksChanges memory.old memory.new 2 }
+        ensures marks { MarksWritten instr.now self.old result memory.old memory.new }
     {
         let value = self.pop();
         let base = self.pop32();
@@ -245,7 +246,7 @@ impl Machine {
             → Executes m limits instr.MemoryGrow self.old (store_of memory.old table globals answer) None self.new (store_of memory.new table globals answer) }
         ensures room { KeepsRoom self.old self.new }
         ensures memory { (limit : ℕ) → most ≤ limit → IsMemory limit memory.old → IsMemory limit memory.new }
-        ensures marks { MarksChanges memory.old memory.new 0 }
+        ensures marks { MarksPart memory.old memory.new 0 0 }
     {
         let pages = self.pop32();
         let before = memory.grow(most, pages).unwrap_or(u32::MAX);

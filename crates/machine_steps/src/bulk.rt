@@ -1,14 +1,14 @@
 //! Copies and fills of the memory.
-ghost use Rattle.std.specs.Prelude.{◌≡◌, ℕ, List, Option, length};
+ghost use Rattle.std.specs.Prelude.{◌≡◌, ℕ, List, Option};
 ghost use Rattle.wasm_values.specs.declared.outcome.Val.{Val as AVal};
 ghost use Rattle.wasm_types.specs.declared.instr.Instr.TheVariants as instr;
 ghost use Rattle.wasm_types.specs.Tree.{ModuleTree};
 ghost use Rattle.wasm_spec.specs.Execution.{Terms};
 ghost use Rattle.machine_steps.specs.StackLayout.{KeepsRoom};
 ghost use Rattle.linear_memory.specs.Bytes.{IsMemory};
-ghost use Rattle.linear_memory.specs.Marks.{MarksChanges};
 ghost use Rattle.machine_steps.specs.Lent.{store_of};
 ghost use Rattle.machine_steps.specs.PlainSteps.{CanExecute, Executes, trap_unless};
+ghost use Rattle.machine_steps.specs.WrittenParts.{MarksWritten};
 
 use crate::machine::Machine;
 use linear_memory::Memory;
@@ -31,7 +31,7 @@ impl Machine {
             (store_of memory.new table globals answer) }
         ensures room { KeepsRoom self.old self.new }
         ensures memory { (most : ℕ) → IsMemory most memory.old → IsMemory most memory.new }
-        ensures marks { MarksChanges memory.old memory.new (length memory.old.marks.items) }
+        ensures marks { MarksWritten instr.MemoryCopy self.old result memory.old memory.new }
     {
         let count = self.pop32();
         let from = self.pop32();
@@ -48,7 +48,7 @@ impl Machine {
             (store_of memory.new table globals answer) }
         ensures room { KeepsRoom self.old self.new }
         ensures memory { (most : ℕ) → IsMemory most memory.old → IsMemory most memory.new }
-        ensures marks { MarksChanges memory.old memory.new (length memory.old.marks.items) }
+        ensures marks { MarksWritten instr.MemoryFill self.old result memory.old memory.new }
     {
         let count = self.pop32();
         let value = self.pop32();

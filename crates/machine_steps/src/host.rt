@@ -1,15 +1,16 @@
 //! The functions of the host.
-ghost use Rattle.std.specs.Prelude.{◌≡◌, ℕ, ◌+◌, ◌-◌, ◌<◌, ◌++◌, ◌^◌, List, Option, Some, None, length, nat_le, nat_lt, vec_len, vec_capacity, if◌then◌else◌};
+ghost use Rattle.std.specs.Prelude.{◌≡◌, ℕ, ◌+◌, ◌-◌, ◌<◌, ◌++◌, ◌^◌, List, Option, Some, None, length, nat_le, nat_lt, unwrap_or, vec_len, vec_capacity, if◌then◌else◌};
 ghost use Rattle.wasm_values.specs.declared.outcome.Val.{Val as AVal};
 ghost use Rattle.wasm_types.specs.declared.host.HostFunction.TheVariants as host;
 ghost use Rattle.wasm_spec.specs.Store.{Store};
 ghost use Rattle.wasm_spec.specs.Execution.{most_answer, part};
 ghost use Rattle.linear_memory.specs.Bytes.{IsMemory, shown};
-ghost use Rattle.linear_memory.specs.Marks.{MarksChanges};
+ghost use Rattle.linear_memory.specs.Marks.{MarksPart};
 ghost use Rattle.machine_steps.specs.Lent.{store_of};
 ghost use Rattle.machine_steps.specs.Accesses.{written_where};
 ghost use Rattle.machine_steps.specs.HostSteps.{CallsHost, CanCallHost, IsHostReady};
 ghost use Rattle.machine_steps.specs.StackLayout.{KeepsRoom};
+ghost use Rattle.machine_steps.specs.WrittenParts.{MarksRead};
 
 use crate::machine::Machine;
 use call_payload::{AnswerBuf, read_part};
@@ -30,7 +31,7 @@ pub fn copy_request(
     ensures count { result ≡ (if nat_le (to + count) (length (shown memory.old)) then Some (length (part request.now from count)) else None) }
     ensures after { shown memory.new ≡ written_where (nat_le (to + count) (length (shown memory.old))) (shown memory.old) to (part request.now from count) }
     ensures memory { (most : ℕ) → IsMemory most memory.old → IsMemory most memory.new }
-    ensures marks { (added : ℕ) × MarksChanges memory.old memory.new added }
+    ensures marks { MarksPart memory.old memory.new to (unwrap_or result 0) }
 {
     if !memory.holds(to as u64, count as u64) {
         return None;
@@ -77,7 +78,7 @@ impl Machine {
             → CallsHost request.now host.Read self.old (store_of memory.old table globals answer) result self.new (store_of memory.new table globals answer) }
         ensures room { KeepsRoom self.old self.new }
         ensures memory { (most : ℕ) → IsMemory most memory.old → IsMemory most memory.new }
-        ensures marks { (added : ℕ) × MarksChanges memory.old memory.new added }
+        ensures marks { MarksRead request.now host.Read self.old result memory.old memory.new }
     {
         let count = self.pop32();
         let from = self.pop32();
@@ -128,7 +129,7 @@ impl Machine {
             (store_of memory.new table globals answer.new) }
         ensures room { KeepsRoom self.old self.new }
         ensures memory { (most : ℕ) → IsMemory most memory.old → IsMemory most memory.new }
-        ensures marks { (added : ℕ) × MarksChanges memory.old memory.new added }
+        ensures marks { MarksRead request.now function self.old result memory.old memory.new }
     {
         match function {
             HostFunction::Len => {

@@ -4,12 +4,12 @@ ghost use Rattle.wasm_spec.specs.Execution.{Terms};
 ghost use Rattle.wasm_types.specs.Tree.{ModuleTree};
 ghost use Rattle.wasm_spec.specs.Execution.{most_pages};
 ghost use Rattle.linear_memory.specs.Bytes.{IsMemory};
-ghost use Rattle.linear_memory.specs.Marks.{MarksChanges};
-ghost use Rattle.machine_steps.specs.InstructionKinds.{jumps, marks_by};
+ghost use Rattle.machine_steps.specs.InstructionKinds.{jumps};
 ghost use Rattle.machine_steps.specs.Lent.{store_of};
 ghost use Rattle.machine_steps.specs.PlainSteps.{CanExecute, Executes, IsReady, effect_unless, trap_of};
 ghost use Rattle.machine_steps.specs.declared.plain.Effect.TheVariants as effect;
 ghost use Rattle.machine_steps.specs.StackLayout.{KeepsRoom};
+ghost use Rattle.machine_steps.specs.WrittenParts.{MarksWritten};
 
 use crate::cells::Cell;
 use crate::machine::Machine;
@@ -58,7 +58,7 @@ impl Machine {
             (store_of memory.new table globals.new answer) }
         ensures room { KeepsRoom self.old self.new }
         ensures memory { (limit : ℕ) → most ≤ limit → IsMemory limit memory.old → IsMemory limit memory.new }
-        ensures marks { MarksChanges memory.old memory.new (marks_by instr.now (length memory.old.marks.items)) }
+        ensures marks { MarksWritten instr.now self.old (trap_of result) memory.old memory.new }
         ensures globals { length globals.new ≡ length globals.old }
     {
         match instr {

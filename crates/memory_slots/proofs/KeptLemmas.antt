@@ -12,7 +12,7 @@ use Rattle.pool_worlds.specs.Contents.{Named, MemoryContents, belongs_to, memory
 use Rattle.pool_worlds.proofs.Parts.{rewritten-is, filled-past}
 use Rattle.pool_worlds.proofs.Images.{clean_is}
 use Rattle.pool_limits.specs.declared.numbers.Numbers.{Numbers}
-use Rattle.module_limits.specs.Limits.{load_limits}
+use Rattle.pool_limits.specs.Limits.{load_limits}
 use Rattle.loaded_modules.specs.Within.{IsWithin}
 use Rattle.memory_slots.specs.Kept.{IsKeptMemory, contents_of}
 use Rattle.memory_slots.specs.Lent.{IsReady}

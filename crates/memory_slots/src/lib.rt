@@ -8,6 +8,6 @@ mod slot;
 
 pub use counted_blocks::Steps;
 pub use linear_memory::Memory;
-pub use pool::{give, take};
+pub use pool::MemoryPool;
 pub use slot::MemSlot;
 pub use slot_pools::Full;

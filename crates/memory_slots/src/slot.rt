@@ -9,7 +9,7 @@ ghost use Rattle.wasm_spec.specs.Result.{CallResult};
 ghost use Rattle.wasm_spec.specs.Bulk.{HasFewMarks};
 ghost use Rattle.memory_blocks.specs.Blocks.{KeepsUnmarked};
 ghost use Rattle.wasm_machine.specs.Calls.{IsCall, FitsFrame, IsDone};
-ghost use Rattle.wasm_machine.specs.Lent.{others};
+ghost use Rattle.wasm_machine.specs.Lent.{others, run_terms};
 ghost use Rattle.wasm_machine.specs.TypedConfiguration.{IsTypedStore};
 ghost use Rattle.pool_worlds.specs.Contents as contents;
 ghost use Rattle.pool_worlds.specs.declared.kinds.Kind.TheVariants as kind;
@@ -31,7 +31,7 @@ use slot_words::{NoMemory as Refused, Pooled};
 use std::alloc::Global;
 use std::marker::{Brand, Model};
 use std::sync::ledger::{Blank, Ledger};
-use wasm_machine::{RunEnd, Stacks, run};
+use wasm_machine::{RunEnd, RunInputs, Stacks, run};
 use wasm_types::RunLimits;
 use wasm_validate::Valid;
 use wasm_values::{NoMemory, Val};
@@ -280,49 +280,51 @@ impl<N: Naming> MemSlot<N> {
     pub fn resume(
         &mut self,
         call: &mut PausedCall,
-        valid: &Valid,
         args: &[Val],
+        inputs: &RunInputs<'_>,
         slice: u64,
-        limits: RunLimits,
-        table: &[Option<u32>],
         globals: &mut [Val],
         stacks: &mut Stacks,
-        request: &[u8],
         answer: &mut AnswerBuf,
     ) -> Turned
-        requires stands { CanResumeOn valid.now (terms limits request.now) args.now call.old stacks.old (lent self.old table.now globals.old answer.old) }
-        requires pages { limits.pages ≤ N.config.pages }
-        requires ready { IsReady (room_for valid.now.memories limits.pages) self.old }
-        requires request { length request.now ≤ 65536 }
-        requires frame { FitsFrame valid.now stacks.old.room.frame }
+        requires stands { CanResumeOn inputs.now.valid.now (run_terms inputs.now) args.now call.old stacks.old
+            (lent self.old inputs.now.table.now globals.old answer.old) }
+        requires pages { inputs.now.limits.pages ≤ N.config.pages }
+        requires ready { IsReady (room_for inputs.now.valid.now.memories inputs.now.limits.pages) self.old }
+        requires request { length inputs.now.request.now ≤ 65536 }
+        requires frame { FitsFrame inputs.now.valid.now stacks.old.room.frame }
         ensures turned { (begun : Store)
-            → StandsOn valid.now (terms limits request.now) begun args.now call.old stacks.old (lent self.old table.now globals.old answer.old)
-            → HasTurned (whole valid.now (terms limits request.now) call.old args.now begun) call.old slice
-            (store_in valid.now self.new table.now globals.new answer.new) result }
+            → StandsOn inputs.now.valid.now (run_terms inputs.now) begun args.now call.old stacks.old
+            (lent self.old inputs.now.table.now globals.old answer.old)
+            → HasTurned (whole inputs.now.valid.now (run_terms inputs.now) call.old args.now begun) call.old slice
+            (store_in inputs.now.valid.now self.new inputs.now.table.now globals.new answer.new) result }
         ensures stands { result ≡ Turned.Again → (begun : Store)
-            → StandsOn valid.now (terms limits request.now) begun args.now call.old stacks.old (lent self.old table.now globals.old answer.old)
-            → StandsOn valid.now (terms limits request.now) begun args.now call.new stacks.new (lent self.new table.now globals.new answer.new) }
+            → StandsOn inputs.now.valid.now (run_terms inputs.now) begun args.now call.old stacks.old
+            (lent self.old inputs.now.table.now globals.old answer.old)
+            → StandsOn inputs.now.valid.now (run_terms inputs.now) begun args.now call.new stacks.new
+            (lent self.new inputs.now.table.now globals.new answer.new) }
         ensures leaves { (begun : Store)
-            → StandsOn valid.now (terms limits request.now) begun args.now call.old stacks.old (lent self.old table.now globals.old answer.old)
+            → StandsOn inputs.now.valid.now (run_terms inputs.now) begun args.now call.old stacks.old
+            (lent self.old inputs.now.table.now globals.old answer.old)
             → (owner : Option Named) → (r : CallResult)
-            × LeavesFrom N.config.pages (module_tree valid.now) (whole valid.now (terms limits request.now) call.old args.now begun)
-            call.old.turns (upto call.old slice) (parts self.old owner table.now globals.old) (parts self.new owner table.now globals.new) self.new.marks r }
-        ensures ready { IsReady (room_for valid.now.memories limits.pages) self.new }
+            × LeavesFrom N.config.pages (module_tree inputs.now.valid.now) (whole inputs.now.valid.now (run_terms inputs.now) call.old args.now begun)
+            call.old.turns (upto call.old slice) (parts self.old owner inputs.now.table.now globals.old)
+            (parts self.new owner inputs.now.table.now globals.new) self.new.marks r }
+        ensures ready { IsReady (room_for inputs.now.valid.now.memories inputs.now.limits.pages) self.new }
         ensures holds { self.new.holds ≡ self.old.holds }
-        ensures counted { HasFewMarks (module_tree valid.now) → (begun : Store)
-            → StandsOn valid.now (terms limits request.now) begun args.now call.old stacks.old (lent self.old table.now globals.old answer.old)
-            → (r : CallResult) → whole valid.now (terms limits request.now) call.old args.now begun (upto call.old slice) ≡ Some r
+        ensures counted { HasFewMarks (module_tree inputs.now.valid.now) → (begun : Store)
+            → StandsOn inputs.now.valid.now (run_terms inputs.now) begun args.now call.old stacks.old
+            (lent self.old inputs.now.table.now globals.old answer.old)
+            → (r : CallResult) → whole inputs.now.valid.now (run_terms inputs.now) call.old args.now begun (upto call.old slice) ≡ Some r
             → dirty_blocks self.new ≤ dirty_blocks self.old + 2 * (upto call.old slice - call.old.turns - r.fuel) }
         ensures same { (call.new.function ≡ call.old.function) × (call.new.fuel ≡ call.old.fuel) }
         ensures turns { result ≡ Turned.Again → call.new.turns ≡ call.old.turns + slice }
         ensures globals { length globals.new ≡ length globals.old }
-        ensures others { others valid.now globals.new ≡ others valid.now globals.old }
+        ensures others { others inputs.now.valid.now globals.new ≡ others inputs.now.valid.now globals.old }
         ensures stacks { stacks.new.room ≡ stacks.old.room }
     {
         let memory = &mut self.memory;
-        call.resume(
-            valid, args, slice, limits, memory, table, globals, stacks, request, answer,
-        )
+        call.resume(args, inputs, slice, memory, globals, stacks, answer)
     }
 
     // Outside its marked blocks a memory that belongs to a module is that module's. This does nothing: its contract is what the

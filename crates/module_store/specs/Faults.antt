@@ -7,7 +7,7 @@ use Rattle.wasm_spec.specs.Loading.{Loads}
 use Rattle.initial_image.specs.Segments.{extent_of}
 use Rattle.initial_image.specs.declared.image.ImageFault.{ImageFault}
 use Rattle.initial_image.specs.declared.image.ImageFault.TheVariants as image
-use Rattle.module_limits.specs.Limits.{demand_of}
+use Rattle.pool_limits.specs.Limits.{demand_of}
 use Rattle.instr_decode.specs.declared.fault.DecodeFault.{DecodeFault}
 use Rattle.instr_decode.specs.declared.fault.DecodeFault.TheVariants as decode
 use Rattle.wasm_validate.specs.declared.valid.ValidFault.{ValidFault}

@@ -5,7 +5,7 @@ use Rattle.wasm_types.specs.Tree.{ModuleTree, module_tree}
 use Rattle.wasm_spec.specs.Loading.{Loads}
 use Rattle.initial_image.specs.Image.{IsImageOf}
 use Rattle.pool_limits.specs.declared.numbers.Numbers.{Numbers}
-use Rattle.module_limits.specs.Limits.{load_limits}
+use Rattle.pool_limits.specs.Limits.{load_limits}
 use Rattle.module_store.specs.declared.desk.TheConstants.{MOST_MODULES}
 use Rattle.module_store.specs.declared.reference.Loaded.{Loaded}
 
@@ -15,9 +15,10 @@ pub record IsLoaded (config : Numbers) (tree : ModuleTree) : Type 0 where
   pub bytes : List ℕ
   pub loads : Loads profile bytes (load_limits config) (Ok tree)
 
--- a loaded module with its image, under this tag
-pub record IsKeptModule (config : Numbers) (tag : ℕ) (l : Loaded) : Type 0 where
+-- a loaded module with its image, under this tag, in a store that may have so many modules
+pub record IsKeptModule (config : Numbers) (most tag : ℕ) (l : Loaded) : Type 0 where
   pub tag_is : l.tag ≡ tag
+  pub within : tag < most
   pub small : tag < MOST_MODULES
   pub loaded : IsLoaded config (module_tree l.valid)
   pub image : IsImageOf (module_tree l.valid) l.image

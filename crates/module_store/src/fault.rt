@@ -4,7 +4,7 @@ ghost use Rattle.module_store.specs.Faults.{fault_of_decode, fault_of_valid, fau
 ghost use Rattle.module_store.specs.declared.fault.LoadFault.TheVariants as fault;
 
 use initial_image::{ImageFault, Misfit};
-use module_limits::Over;
+use pool_limits::Over;
 use thiserror::Error;
 use wasm_decode::DecodeFault;
 use wasm_validate::ValidFault;

@@ -5,11 +5,13 @@ mod desk;
 mod fault;
 mod loading;
 mod naming;
+mod opened;
 mod reference;
 mod store;
 
-pub use desk::{Desk, MOST_MODULES};
+pub use desk::{Desk, DeskCounts, MOST_MODULES};
 pub use fault::LoadFault;
 pub use naming::Naming;
+pub use opened::Opened;
 pub use reference::ModuleRef;
-pub use store::{ModuleStore, Opened};
+pub use store::ModuleStore;

@@ -3,13 +3,12 @@ ghost use Rattle.std.specs.Prelude.{◌≡◌, ◌≢◌, Ok, IfErr, IfOk};
 ghost use Rattle.wasm_types.specs.Tree.{module_tree};
 ghost use Rattle.wasm_spec.specs.Loading.{Loads};
 ghost use Rattle.initial_image.specs.Image.{IsImageOf};
-ghost use Rattle.module_limits.specs.Limits.{load_limits};
+ghost use Rattle.pool_limits.specs.Limits.{load_limits};
 ghost use Rattle.module_store.specs.Faults.{IsRefusal};
 ghost use Rattle.module_store.specs.declared.fault.LoadFault.TheVariants as fault;
 
 use crate::fault::LoadFault;
 use initial_image::{Image, build};
-use module_limits::check_limits;
 use pool_limits::PoolConfig;
 use std::alloc::Global;
 use wasm_decode::decode;
@@ -31,7 +30,7 @@ pub(crate) fn load(
 {
     let module = decode(alloc, profile, bytes)?;
     let valid = validate(alloc, profile, module)?;
-    check_limits(config, &valid)?;
+    config.check(&valid)?;
     let image = build(alloc, &valid)?;
     Ok((valid, image))
 }

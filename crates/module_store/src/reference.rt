@@ -46,7 +46,7 @@ impl<N: Naming> Model for ModuleRef<N> {
 
     ghost view = { λ r. record { number = r.seen.index; tag = r.tag; tree = module_tree r.seen.value.value.valid; code = r.seen.value.value.valid } };
 
-    ghost invariant = { λ r. Shows N.shelves r.seen × IsKeptModule N.config r.tag r.seen.value.value };
+    ghost invariant = { λ r. Shows N.shelves r.seen × IsKeptModule N.config N.most r.tag r.seen.value.value };
 }
 
 impl<N: Naming> Drop for ModuleRef<N> {
@@ -70,6 +70,7 @@ impl<N: Naming> ModuleRef<N> {
     /// How many modules the desk had registered before it. Takes no memory.
     pub fn tag(&self) -> u32
         ensures tag { result ≡ self.now.tag }
+        ensures within { result < N.most }
         ensures small { result < MOST_MODULES }
     {
         self.tag

@@ -1,21 +1,21 @@
 //! A call in slices.
 ghost use Rattle.std.specs.Prelude.{◌≡◌, ℕ, ◌+◌, ◌-◌, ◌*◌, ◌<◌, ◌≤◌, true, List, Some, length};
 ghost use Rattle.wasm_values.specs.declared.outcome.Val.{Val as AVal};
-ghost use Rattle.wasm_spec.specs.Execution.{Terms, terms};
+ghost use Rattle.wasm_spec.specs.Execution.{Terms};
 ghost use Rattle.wasm_spec.specs.Instances.{room_for};
 ghost use Rattle.wasm_spec.specs.Result.{CallResult};
 ghost use Rattle.wasm_spec.specs.Store.{Store};
 ghost use Rattle.linear_memory.specs.Bytes.{IsMemory};
 ghost use Rattle.memory_blocks.specs.Blocks.{KeepsUnmarked};
 ghost use Rattle.wasm_machine.specs.Calls.{FitsFrame, IsCall, IsDone};
-ghost use Rattle.wasm_machine.specs.Lent.{MarksWithin, lent_store, others};
+ghost use Rattle.wasm_machine.specs.Lent.{MarksWithin, others, run_store, run_terms};
 ghost use Rattle.wasm_machine.specs.Resuming.{IsOutOfFuel};
 ghost use Rattle.wasm_machine.specs.Room.{StacksView};
 ghost use Rattle.wasm_machine.specs.TypedConfiguration.{IsTypedStore};
 ghost use Rattle.paused_call.specs.Standing.{CanResume, HasTurned, Ran, Stands, Went, upto, whole};
 
 use call_payload::AnswerBuf;
-use wasm_machine::{Memory, RunEnd, RunLimits, Stacks};
+use wasm_machine::{Memory, RunEnd, RunInputs, Stacks};
 use wasm_validate::Valid;
 use wasm_values::{Outcome, Val};
 
@@ -64,112 +64,82 @@ impl PausedCall {
     // it has its effect here.
     fn advance(
         &self,
-        valid: &Valid,
         args: &[Val],
+        inputs: &RunInputs<'_>,
         fuel: u64,
-        limits: RunLimits,
         memory: &mut Memory,
-        table: &[Option<u32>],
         globals: &mut [Val],
         stacks: &mut Stacks,
-        request: &[u8],
         answer: &mut AnswerBuf,
     ) -> RunEnd
-        requires stands { CanResume valid.now (terms limits request.now) args.now self.now stacks.old
-            (lent_store valid.now memory.old table.now globals.old answer.old) }
-        requires frame { FitsFrame valid.now stacks.old.room.frame }
-        requires memory { IsMemory (room_for valid.now.memories limits.pages) memory.old }
-        requires request { length request.now ≤ 65536 }
+        requires stands { CanResume inputs.now.valid.now (run_terms inputs.now) args.now self.now stacks.old
+            (run_store inputs.now memory.old globals.old answer.old) }
+        requires frame { FitsFrame inputs.now.valid.now stacks.old.room.frame }
+        requires memory { IsMemory (room_for inputs.now.valid.now.memories inputs.now.limits.pages) memory.old }
+        requires request { length inputs.now.request.now ≤ 65536 }
         ensures ran { (begun : Store)
-            → Stands valid.now (terms limits request.now) begun args.now self.now stacks.old (lent_store valid.now memory.old table.now globals.old answer.old)
-            → Ran valid.now (terms limits request.now) begun args.now self.now fuel memory.old memory.new stacks.new
-            (record { outcome = result.outcome; store = lent_store valid.now memory.new table.now globals.new answer.new; fuel = result.left }) }
+            → Stands inputs.now.valid.now (run_terms inputs.now) begun args.now self.now stacks.old (run_store inputs.now memory.old globals.old answer.old)
+            → Ran inputs.now.valid.now (run_terms inputs.now) begun args.now self.now fuel memory.old memory.new stacks.new
+            (record { outcome = result.outcome; store = run_store inputs.now memory.new globals.new answer.new; fuel = result.left }) }
         ensures left { result.left ≤ fuel }
-        ensures store { IsDone result.outcome → IsTypedStore valid.now (lent_store valid.now memory.new table.now globals.new answer.new) }
+        ensures store { IsDone result.outcome → IsTypedStore inputs.now.valid.now (run_store inputs.now memory.new globals.new answer.new) }
         ensures still { IsOutOfFuel result.outcome → result.left ≡ fuel → memory.new.marks.items ≡ memory.old.marks.items }
         ensures start_still { self.now.starts ≡ true → result.left ≡ fuel → memory.new.marks.items ≡ memory.old.marks.items }
-        ensures marks { MarksWithin valid.now memory.old memory.new (2 * (fuel - result.left)) }
-        ensures memory { IsMemory (room_for valid.now.memories limits.pages) memory.new }
+        ensures marks { MarksWithin inputs.now.valid.now memory.old memory.new (2 * (fuel - result.left)) }
+        ensures memory { IsMemory (room_for inputs.now.valid.now.memories inputs.now.limits.pages) memory.new }
         ensures globals { length globals.new ≡ length globals.old }
-        ensures others { others valid.now globals.new ≡ others valid.now globals.old }
+        ensures others { others inputs.now.valid.now globals.new ≡ others inputs.now.valid.now globals.old }
         ensures stacks { stacks.new.room ≡ stacks.old.room }
     {
         if self.entered {
-            return stacks.advance(valid, fuel, limits, memory, table, globals, request, answer);
+            return stacks.advance(inputs, fuel, memory, globals, answer);
         }
-        match valid.module().start {
-            Some(start) => stacks.invoke(
-                valid,
-                start,
-                &[],
-                fuel,
-                limits,
-                memory,
-                table,
-                globals,
-                request,
-                answer,
-            ),
-            None => stacks.invoke(
-                valid,
-                self.function,
-                args,
-                fuel,
-                limits,
-                memory,
-                table,
-                globals,
-                request,
-                answer,
-            ),
+        match inputs.valid.module().start {
+            Some(start) => stacks.invoke(inputs, start, &[], fuel, memory, globals, answer),
+            None => stacks.invoke(inputs, self.function, args, fuel, memory, globals, answer),
         }
     }
 
     // Goes on, on so much of the fuel that is left. Where the start function ends well the export follows.
     fn go_on(
         &mut self,
-        valid: &Valid,
         args: &[Val],
+        inputs: &RunInputs<'_>,
         fuel: u64,
-        limits: RunLimits,
         memory: &mut Memory,
-        table: &[Option<u32>],
         globals: &mut [Val],
         stacks: &mut Stacks,
-        request: &[u8],
         answer: &mut AnswerBuf,
     ) -> RunEnd
-        requires stands { CanResume valid.now (terms limits request.now) args.now self.old stacks.old
-            (lent_store valid.now memory.old table.now globals.old answer.old) }
+        requires stands { CanResume inputs.now.valid.now (run_terms inputs.now) args.now self.old stacks.old
+            (run_store inputs.now memory.old globals.old answer.old) }
         requires fuel { self.old.turns + fuel ≤ self.old.fuel }
-        requires frame { FitsFrame valid.now stacks.old.room.frame }
-        requires memory { IsMemory (room_for valid.now.memories limits.pages) memory.old }
-        requires request { length request.now ≤ 65536 }
+        requires frame { FitsFrame inputs.now.valid.now stacks.old.room.frame }
+        requires memory { IsMemory (room_for inputs.now.valid.now.memories inputs.now.limits.pages) memory.old }
+        requires request { length inputs.now.request.now ≤ 65536 }
         ensures result { (begun : Store)
-            → Stands valid.now (terms limits request.now) begun args.now self.old stacks.old (lent_store valid.now memory.old table.now globals.old answer.old)
-            → whole valid.now (terms limits request.now) self.old args.now begun (self.old.turns + fuel)
-            ≡ Some (record { outcome = result.outcome; store = lent_store valid.now memory.new table.now globals.new answer.new; fuel = result.left }) }
+            → Stands inputs.now.valid.now (run_terms inputs.now) begun args.now self.old stacks.old (run_store inputs.now memory.old globals.old answer.old)
+            → whole inputs.now.valid.now (run_terms inputs.now) self.old args.now begun (self.old.turns + fuel)
+            ≡ Some (record { outcome = result.outcome; store = run_store inputs.now memory.new globals.new answer.new; fuel = result.left }) }
         ensures left { result.left ≤ fuel }
         ensures stands { IsOutOfFuel result.outcome → (begun : Store)
-            → Stands valid.now (terms limits request.now) begun args.now self.old stacks.old (lent_store valid.now memory.old table.now globals.old answer.old)
-            → Stands valid.now (terms limits request.now) begun args.now (record self.new { turns = self.old.turns + fuel }) stacks.new
-            (lent_store valid.now memory.new table.now globals.new answer.new) }
+            → Stands inputs.now.valid.now (run_terms inputs.now) begun args.now self.old stacks.old (run_store inputs.now memory.old globals.old answer.old)
+            → Stands inputs.now.valid.now (run_terms inputs.now) begun args.now (record self.new { turns = self.old.turns + fuel }) stacks.new
+            (run_store inputs.now memory.new globals.new answer.new) }
         ensures marked { (begun : Store)
-            → Stands valid.now (terms limits request.now) begun args.now self.old stacks.old (lent_store valid.now memory.old table.now globals.old answer.old)
+            → Stands inputs.now.valid.now (run_terms inputs.now) begun args.now self.old stacks.old (run_store inputs.now memory.old globals.old answer.old)
             → (turns : ℕ) (x : CallResult) → self.old.turns ≤ turns → turns ≤ self.old.turns + fuel
-            → whole valid.now (terms limits request.now) self.old args.now begun turns ≡ Some x
+            → whole inputs.now.valid.now (run_terms inputs.now) self.old args.now begun turns ≡ Some x
             → KeepsUnmarked memory.old.bytes.items x.store.memory memory.old.marks.items memory.new.marks.items }
         ensures still { IsOutOfFuel result.outcome → fuel ≡ 0 → memory.new.marks.items ≡ memory.old.marks.items }
-        ensures marks { MarksWithin valid.now memory.old memory.new (2 * (fuel - result.left)) }
+        ensures marks { MarksWithin inputs.now.valid.now memory.old memory.new (2 * (fuel - result.left)) }
         ensures call { self.new ≡ record self.old { starts = self.new.starts; entered = self.new.entered } }
-        ensures memory { IsMemory (room_for valid.now.memories limits.pages) memory.new }
+        ensures memory { IsMemory (room_for inputs.now.valid.now.memories inputs.now.limits.pages) memory.new }
         ensures globals { length globals.new ≡ length globals.old }
-        ensures others { others valid.now globals.new ≡ others valid.now globals.old }
+        ensures others { others inputs.now.valid.now globals.new ≡ others inputs.now.valid.now globals.old }
         ensures stacks { stacks.new.room ≡ stacks.old.room }
     {
-        let end = self.advance(
-            valid, args, fuel, limits, memory, table, globals, stacks, request, answer,
-        );
+        let end = self.advance(args, inputs, fuel, memory, globals, stacks, answer);
         self.entered = true;
         if !self.starts {
             return end;
@@ -179,15 +149,12 @@ impl PausedCall {
         };
         self.starts = false;
         stacks.invoke(
-            valid,
+            inputs,
             self.function,
             args,
             end.left,
-            limits,
             memory,
-            table,
             globals,
-            request,
             answer,
         )
     }
@@ -199,46 +166,41 @@ impl PausedCall {
     /// makes none: it is over after its first slice, of whatever length.
     pub fn resume(
         &mut self,
-        valid: &Valid,
         args: &[Val],
+        inputs: &RunInputs<'_>,
         slice: u64,
-        limits: RunLimits,
         memory: &mut Memory,
-        table: &[Option<u32>],
         globals: &mut [Val],
         stacks: &mut Stacks,
-        request: &[u8],
         answer: &mut AnswerBuf,
     ) -> Turned
-        requires stands { CanResume valid.now (terms limits request.now) args.now self.old stacks.old
-            (lent_store valid.now memory.old table.now globals.old answer.old) }
-        requires frame { FitsFrame valid.now stacks.old.room.frame }
-        requires memory { IsMemory (room_for valid.now.memories limits.pages) memory.old }
-        requires request { length request.now ≤ 65536 }
+        requires stands { CanResume inputs.now.valid.now (run_terms inputs.now) args.now self.old stacks.old
+            (run_store inputs.now memory.old globals.old answer.old) }
+        requires frame { FitsFrame inputs.now.valid.now stacks.old.room.frame }
+        requires memory { IsMemory (room_for inputs.now.valid.now.memories inputs.now.limits.pages) memory.old }
+        requires request { length inputs.now.request.now ≤ 65536 }
         ensures turned { (begun : Store)
-            → Stands valid.now (terms limits request.now) begun args.now self.old stacks.old (lent_store valid.now memory.old table.now globals.old answer.old)
-            → HasTurned (whole valid.now (terms limits request.now) self.old args.now begun) self.old slice
-            (lent_store valid.now memory.new table.now globals.new answer.new) result }
+            → Stands inputs.now.valid.now (run_terms inputs.now) begun args.now self.old stacks.old (run_store inputs.now memory.old globals.old answer.old)
+            → HasTurned (whole inputs.now.valid.now (run_terms inputs.now) self.old args.now begun) self.old slice
+            (run_store inputs.now memory.new globals.new answer.new) result }
         ensures stands { result ≡ Turned.Again → (begun : Store)
-            → Stands valid.now (terms limits request.now) begun args.now self.old stacks.old (lent_store valid.now memory.old table.now globals.old answer.old)
-            → Stands valid.now (terms limits request.now) begun args.now self.new stacks.new
-            (lent_store valid.now memory.new table.now globals.new answer.new) }
+            → Stands inputs.now.valid.now (run_terms inputs.now) begun args.now self.old stacks.old (run_store inputs.now memory.old globals.old answer.old)
+            → Stands inputs.now.valid.now (run_terms inputs.now) begun args.now self.new stacks.new
+            (run_store inputs.now memory.new globals.new answer.new) }
         ensures went { (begun : Store)
-            → Stands valid.now (terms limits request.now) begun args.now self.old stacks.old (lent_store valid.now memory.old table.now globals.old answer.old)
-            → Went valid.now (whole valid.now (terms limits request.now) self.old args.now begun) self.old.turns (upto self.old slice) memory.old memory.new
-            (lent_store valid.now memory.new table.now globals.new answer.new) }
+            → Stands inputs.now.valid.now (run_terms inputs.now) begun args.now self.old stacks.old (run_store inputs.now memory.old globals.old answer.old)
+            → Went inputs.now.valid.now (whole inputs.now.valid.now (run_terms inputs.now) self.old args.now begun) self.old.turns (upto self.old slice)
+            memory.old memory.new (run_store inputs.now memory.new globals.new answer.new) }
         ensures same { (self.new.function ≡ self.old.function) × (self.new.fuel ≡ self.old.fuel) }
         ensures turns { result ≡ Turned.Again → self.new.turns ≡ self.old.turns + slice }
-        ensures memory { IsMemory (room_for valid.now.memories limits.pages) memory.new }
+        ensures memory { IsMemory (room_for inputs.now.valid.now.memories inputs.now.limits.pages) memory.new }
         ensures globals { length globals.new ≡ length globals.old }
-        ensures others { others valid.now globals.new ≡ others valid.now globals.old }
+        ensures others { others inputs.now.valid.now globals.new ≡ others inputs.now.valid.now globals.old }
         ensures stacks { stacks.new.room ≡ stacks.old.room }
     {
         let most = self.fuel - self.turns;
         if slice < most {
-            let end = self.go_on(
-                valid, args, slice, limits, memory, table, globals, stacks, request, answer,
-            );
+            let end = self.go_on(args, inputs, slice, memory, globals, stacks, answer);
             match end.outcome {
                 Outcome::Fuel => {
                     self.turns += slice;
@@ -247,9 +209,7 @@ impl PausedCall {
                 _ => Turned::Done(end.outcome),
             }
         } else {
-            let end = self.go_on(
-                valid, args, most, limits, memory, table, globals, stacks, request, answer,
-            );
+            let end = self.go_on(args, inputs, most, memory, globals, stacks, answer);
             Turned::Done(end.outcome)
         }
     }

@@ -1,5 +1,6 @@
 pub mod CallWords
 pub mod Closing
+pub mod Ending
 pub mod Hosts
 pub mod Idle
 pub mod Kinds

@@ -1,8 +1,7 @@
-//! Pools of each kind are opened, and their passes are put together.
-ghost use Rattle.std.specs.Prelude.{◌≡◌, ◌≤◌, IfOk, length};
+//! The passes of the pools of each kind are put together.
+ghost use Rattle.std.specs.Prelude.{◌≡◌, IfOk, length};
 ghost use Rattle.std.specs.List.{All};
-ghost use Rattle.pool_core.specs.declared.limits.TheConstants.{MOST_SLOTS};
-ghost use Rattle.slot_words.specs.Owned.{IsNewPassOf, limit_of, passes_of, slots_of};
+ghost use Rattle.slot_words.specs.Owned.{IsNewPassOf};
 ghost use Rattle.retired_tags.specs.Passes.{IsNewTagPass};
 ghost use Rattle.pool_host.specs.Hosts.{IsNewHostPass};
 
@@ -13,29 +12,10 @@ use instance_slots::Ticket;
 use memory_slots::MemSlot;
 use module_store::Naming;
 use retired_tags::TagPass;
-use slot_pools::OpenSlot;
-use slot_words::{Pass, Words};
+use slot_words::Pass;
 use std::alloc::Global;
 use table_slots::TableSlot;
 use wasm_values::NoMemory;
-
-// A pool of one kind, and its passes.
-pub(crate) fn open_kind<V: OpenSlot + Drop>(
-    alloc: Global,
-    images: &V::Images,
-    count: u32,
-    warm: u32,
-    passes: u32,
-) -> Result<(Words<V>, Vec<Pass<V>>), NoMemory>
-    requires count { (1 ≤ count) × (count ≤ MOST_SLOTS) }
-    requires passes { 1 ≤ passes }
-    ensures slots { IfOk result (λ o. slots_of o.0 ≡ count) }
-    ensures limit { IfOk result (λ o. limit_of o.0 ≡ warm) }
-    ensures count { IfOk result (λ o. passes_of o.0 ≡ passes) }
-    ensures passes { IfOk result (λ o. (length o.1.items ≡ passes) × All (IsNewPassOf o.0) o.1.items) }
-{
-    slot_pools::open(alloc, images, count, warm, passes).map_err(|_| NoMemory)
-}
 
 // Puts the passes of each kind together. There are as many of each.
 pub(crate) fn deal<N: Naming>(

@@ -15,7 +15,6 @@ use crate::passes::Passes;
 use instance_slots::Ticket;
 use memory_slots::MemSlot;
 use module_store::{ModuleStore, Naming};
-use slot_pools::give_cold;
 use slot_words::Lease;
 use table_slots::TableSlot;
 
@@ -36,7 +35,7 @@ pub(crate) fn give_table<N: Naming>(
         → Grew (Gave (IsTableGive N.config host.now m) (table_slot table)) (trail passes.old.table) (trail passes.new.table) }
 {
     if let Some(lease) = table {
-        table_slots::give(&host.tables, &mut passes.table, lease, store);
+        host.tables.give(&mut passes.table, lease, store);
     }
 }
 
@@ -58,7 +57,7 @@ pub(crate) fn give_memory<N: Naming>(
         → Grew (Gave (IsMemoryGive N.config host.now m) (memory_slot memory)) (trail passes.old.memory) (trail passes.new.memory) }
 {
     if let Some(lease) = memory {
-        memory_slots::give(&host.memories, &mut passes.memory, lease, store);
+        host.memories.give(&mut passes.memory, lease, store);
     }
 }
 
@@ -66,6 +65,7 @@ pub(crate) fn give_memory<N: Naming>(
 pub(crate) fn give_ticket<N: Naming>(
     host: &Host<N>,
     passes: &mut Passes<N>,
+    store: &ModuleStore<N>,
     ticket: Lease<Ticket<N>>,
 )
     requires own { ArePassesOf host.now passes.old }
@@ -78,5 +78,5 @@ pub(crate) fn give_ticket<N: Naming>(
     ensures idle { IsIdle passes.new.ticket }
     ensures gave { (m : Named) → Grew (IsTicketGive N.config host.now m (lease_number ticket)) (trail passes.old.ticket) (trail passes.new.ticket) }
 {
-    give_cold(&host.tickets, &mut passes.ticket, ticket);
+    host.tickets.give(&mut passes.ticket, ticket, store);
 }

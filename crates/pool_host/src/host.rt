@@ -11,21 +11,20 @@ ghost use Rattle.retired_tags.specs.Passes.{IsTagPass};
 
 use crate::answers::Answer;
 use crate::closing::{PoolCounts, join_all};
-use crate::dealing::{deal, open_kind};
+use crate::dealing::deal;
+use crate::ended::Ended;
 use crate::passes::{HostPass, Passes};
 use crate::retired::Retired;
-use crate::slots::give_slots;
 use crate::starting::start;
 use call_payload::AnswerBuf;
 use host_edge::Gate;
-use instance_slots::Ticket;
-use memory_slots::MemSlot;
-use module_store::{MOST_MODULES, ModuleRef, ModuleStore, Naming};
+use instance_slots::TicketPool;
+use memory_slots::MemoryPool;
+use module_store::{ModuleRef, ModuleStore, Naming};
 use pool_limits::Share;
-use retired_tags::{RetiredTags, TagPass};
-use slot_words::{Pass, Words};
+use retired_tags::TagPass;
 use std::alloc::Global;
-use table_slots::TableSlot;
+use table_slots::TablePool;
 use wasm_values::{NoMemory, Val};
 
 /// The most passes of a host.
@@ -34,10 +33,10 @@ pub const MOST_PASSES: u32 = 32;
 /// Pools of tickets, memories and tables, on which callers make calls at the same time, each with a pass of its own. A module that
 /// is retired on a host is called on it no more.
 pub struct Host<N: Naming> {
-    pub(crate) tickets: Words<Ticket<N>>,
-    pub(crate) memories: Words<MemSlot<N>>,
-    pub(crate) tables: Words<TableSlot<N>>,
-    pub(crate) retired: Retired,
+    pub(crate) tickets: TicketPool<N>,
+    pub(crate) memories: MemoryPool<N>,
+    pub(crate) tables: TablePool<N>,
+    pub(crate) retired: Retired<N>,
 }
 
 impl<N: Naming> Drop for Host<N> {
@@ -62,7 +61,8 @@ pub(crate) struct Asked<'a> {
 
 impl<N: Naming> Host<N> {
     /// A host with so many slots of each kind, and as many passes as are asked for. There are no others. Of the memories, and of
-    /// the tables, at most as many as the store's configuration says are warm while no call has them. No module is retired.
+    /// the tables, at most as many as the store's configuration says are warm while no call has them. No module is retired. It has a
+    /// word for each module that the store may have.
     ///
     /// # Errors
     ///
@@ -106,15 +106,15 @@ impl<N: Naming> Host<N> {
         ensures passes { IfOk result (λ o. All (IsNewHostPass o.0) o.1.items) }
         ensures own { IfOk result (λ o. All (IsHostPass o.0) o.1.items) }
     {
-        let (tickets, of_tickets) = open_kind(alloc, store, share.instances, warm, passes)?;
-        let (memories, of_memories) = open_kind(alloc, store, share.memories, warm, passes)?;
-        let (tables, of_tables) = open_kind(alloc, store, share.tables, warm, passes)?;
-        let (tags, of_tags) = RetiredTags::open(alloc, MOST_MODULES, passes).map_err(|_| NoMemory)?;
+        let (tickets, of_tickets) = TicketPool::open(alloc, store, share.instances, warm, passes)?;
+        let (memories, of_memories) = MemoryPool::open(alloc, store, share.memories, warm, passes)?;
+        let (tables, of_tables) = TablePool::open(alloc, store, share.tables, warm, passes)?;
+        let (retired, of_tags) = Retired::open(alloc, store, passes)?;
         let host = Host {
             tickets,
             memories,
             tables,
-            retired: Retired { tags },
+            retired,
         };
         let all = deal(alloc, &host, of_tickets, of_memories, of_tables, of_tags)?;
         Ok((host, all))
@@ -154,18 +154,10 @@ impl<N: Naming> Host<N> {
             asked.args,
             said,
         ) {
-            Ok((mut instance, function)) => {
+            Ok((instance, function)) => {
                 gate.entered(number);
-                let outcome = instance.run(
-                    store,
-                    module,
-                    function,
-                    asked.args,
-                    asked.fuel,
-                    asked.request,
-                    said,
-                );
-                give_slots(self, passes, store, instance);
+                let (outcome, ended) = Ended::run(instance, store, module, function, asked, said);
+                ended.give(self, passes, store);
                 Answer::Done(outcome)
             }
             Err(refused) => refused.answer(),

@@ -9,15 +9,15 @@ ghost use Rattle.pool_host.specs.Kinds.{IsTurnedAwayFrom, TookSlot};
 ghost use Rattle.pool_host.specs.Leases.{HoldsSlot};
 
 use instance_calls::{needs_memory, needs_table};
-use memory_slots::MemSlot;
+use memory_slots::{MemSlot, MemoryPool};
 use module_store::{ModuleRef, ModuleStore, Naming};
 use slot_pools::Full;
-use slot_words::{Lease, Pass, Words};
-use table_slots::TableSlot;
+use slot_words::{Lease, Pass};
+use table_slots::{TablePool, TableSlot};
 
 // Takes a memory for the module, if it has one.
 pub(crate) fn take_memory<N: Naming>(
-    pool: &Words<MemSlot<N>>,
+    pool: &MemoryPool<N>,
     pass: &mut Pass<MemSlot<N>>,
     store: &ModuleStore<N>,
     module: &ModuleRef<N>,
@@ -35,13 +35,13 @@ pub(crate) fn take_memory<N: Naming>(
     if !needs_memory(store, module) {
         return Ok(None);
     }
-    let lease = memory_slots::take(pool, pass, store, module)?;
+    let lease = pool.take(pass, store, module)?;
     Ok(Some(lease))
 }
 
 // Takes a table for the module, if it has one.
 pub(crate) fn take_table<N: Naming>(
-    pool: &Words<TableSlot<N>>,
+    pool: &TablePool<N>,
     pass: &mut Pass<TableSlot<N>>,
     store: &ModuleStore<N>,
     module: &ModuleRef<N>,
@@ -59,6 +59,6 @@ pub(crate) fn take_table<N: Naming>(
     if !needs_table(store, module) {
         return Ok(None);
     }
-    let lease = table_slots::take(pool, pass, store, module)?;
+    let lease = pool.take(pass, store, module)?;
     Ok(Some(lease))
 }

@@ -4,6 +4,7 @@
 mod answers;
 mod closing;
 mod dealing;
+mod ended;
 mod giving;
 mod host;
 mod kinds;

@@ -8,24 +8,24 @@ use crate::retired::Retired;
 use module_store::{ModuleRef, Naming};
 use retired_tags::TagPass;
 
-impl Retired {
+impl<N: Naming> Retired<N> {
     // Whether a module is retired, by one look.
-    pub(crate) fn look<N: Naming>(&self, pass: &mut TagPass, module: &ModuleRef<N>) -> bool
+    pub(crate) fn look(&self, pass: &mut TagPass, module: &ModuleRef<N>) -> bool
         requires { IsTagPass self.now.tags pass.old }
         ensures own { IsTagPass self.now.tags pass.new }
         ensures looked { Looked self.now.tags «module».now.tag pass.old pass.new (Some result) }
     {
-        self.tags.is_retired(pass, module.tag())
+        self.bits.tags.is_retired(pass, module.tag())
     }
 
     // Retires a module by one step, and tells whether it was retired before.
-    pub(crate) fn retire<N: Naming>(&self, pass: &mut TagPass, module: &ModuleRef<N>) -> bool
+    pub(crate) fn retire(&self, pass: &mut TagPass, module: &ModuleRef<N>) -> bool
         requires { IsTagPass self.now.tags pass.old }
         ensures own { IsTagPass self.now.tags pass.new }
         ensures bit { SetsBit self.now.tags «module».now.tag pass.old pass.new result }
         ensures known { Knows «module».now.tag (steps pass.new) }
         ensures before { Knows «module».now.tag (steps pass.old) → result ≡ true }
     {
-        self.tags.retire(pass, module.tag())
+        self.bits.tags.retire(pass, module.tag())
     }
 }

@@ -3,13 +3,13 @@ ghost use Rattle.pool_host.specs.Hosts.{IsHostPass};
 ghost use Rattle.pool_host.specs.Looks.{begun_look, Looked};
 ghost use Rattle.pool_host.specs.Pausing.{begun_tags, HasBegun, HasTurnedTo, IsGivenUp, IsOfHost};
 
+use crate::ended::{Ended, Sliced};
 use crate::host::Host;
 use crate::passes::HostPass;
 use crate::paused::Paused;
-use crate::slots::give_slots;
 use crate::starting::start;
 use host_edge::Gate;
-use instance_calls::{PausedInstance, Resumed};
+use instance_calls::PausedInstance;
 use module_store::{ModuleRef, ModuleStore, Naming};
 use pool_worlds::Kind;
 use wasm_values::{Outcome, Val};
@@ -119,15 +119,15 @@ impl<N: Naming> Paused<N> {
             running,
             number,
         } = self;
-        match running.resume(store, slice) {
-            Resumed::Again(running) => Turned::Again(Paused {
+        match Ended::resume(running, store, slice) {
+            Sliced::Again(running) => Turned::Again(Paused {
                 passes,
                 retired,
                 running,
                 number,
             }),
-            Resumed::Done(outcome, instance, answer) => {
-                give_slots(host, &mut passes, store, instance);
+            Sliced::Done(outcome, ended, answer) => {
+                ended.give(host, &mut passes, store);
                 gate.answered(number);
                 let pass = HostPass {
                     passes,
@@ -150,8 +150,8 @@ impl<N: Naming> Paused<N> {
             running,
             number,
         } = self;
-        let (instance, answer) = running.give_up();
-        give_slots(host, &mut passes, store, instance);
+        let (ended, answer) = Ended::give_up(running);
+        ended.give(host, &mut passes, store);
         gate.answered(number);
         HostPass {
             passes,

@@ -1,13 +1,64 @@
 //! The retired modules of a host.
-ghost use Rattle.std.specs.Prelude.{◌≡◌};
-ghost use Rattle.module_store.specs.declared.desk.TheConstants.{MOST_MODULES};
-ghost use Rattle.retired_tags.specs.Passes.{tags_of};
+ghost use Rattle.std.specs.Prelude.{◌≡◌, ◌≤◌, IfOk, length};
+ghost use Rattle.std.specs.List.{All};
+ghost use Rattle.retired_tags.specs.Passes.{IsNewTagPass, passes_of};
 
-use retired_tags::RetiredTags;
+use module_store::{ModuleStore, Naming};
+use retired_tags::{RetiredTags, TagPass};
+use std::alloc::Global;
+use std::marker::{Model, PhantomData};
+use wasm_values::NoMemory;
 
-// A bit for the tag of each module that a store may have.
+// The bits, as contracts see them.
 #[derive(Drop)]
-pub(crate) struct Retired {
+pub(crate) struct Bits {
     pub tags: RetiredTags,
-    ghost all_tags: { tags_of tags ≡ MOST_MODULES },
+}
+
+// A bit for the tag of each module that the store may have.
+#[derive(Drop)]
+pub(crate) struct Retired<N: Naming> {
+    pub(crate) bits: Bits,
+    of: PhantomData<N>,
+}
+
+impl<N: Naming> Model for Retired<N> {
+    ghost use Rattle.std.specs.Prelude.{◌≤◌};
+    ghost use Rattle.retired_tags.specs.Passes.{tags_of};
+    ghost use Rattle.pool_host.specs.declared.retired.Bits.{Bits};
+
+    ghost Value = { Bits };
+
+    ghost view = { λ r. r.bits };
+
+    ghost invariant = { λ r. N.most ≤ tags_of r.bits.tags };
+}
+
+// How many bits there are where a store may have so many modules: one is the least.
+fn bits_for(most: u32) -> u32
+    ensures enough { most ≤ result }
+    ensures some { 1 ≤ result }
+{
+    if most == 0 { 1 } else { most }
+}
+
+impl<N: Naming> Retired<N> {
+    // No module is retired, and there are as many passes as are asked for.
+    pub(crate) fn open(
+        alloc: Global,
+        store: &ModuleStore<N>,
+        passes: u32,
+    ) -> Result<(Retired<N>, Vec<TagPass>), NoMemory>
+        requires { 1 ≤ passes }
+        ensures count { IfOk result (λ o. passes_of o.0.tags ≡ passes) }
+        ensures passes { IfOk result (λ o. (length o.1.items ≡ passes) × All (IsNewTagPass o.0.tags) o.1.items) }
+    {
+        let many = bits_for(store.most());
+        let (tags, all) = RetiredTags::open(alloc, many, passes).map_err(|_| NoMemory)?;
+        let retired = Retired {
+            bits: Bits { tags },
+            of: PhantomData,
+        };
+        Ok((retired, all))
+    }
 }

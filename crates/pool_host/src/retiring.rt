@@ -29,8 +29,8 @@ impl<N: Naming> Host<N> {
         ensures idle { AreIdle passes.new }
         ensures swept { SweptAll self.now «module».now result passes.old passes.new }
     {
-        let memories = sweep(&self.memories, &mut passes.memory, module.tag());
-        let tables = sweep(&self.tables, &mut passes.table, module.tag());
+        let memories = sweep(self.memories.words(), &mut passes.memory, module.tag());
+        let tables = sweep(self.tables.words(), &mut passes.table, module.tag());
         memories + tables
     }
 

@@ -1,13 +1,12 @@
-//! The slots of a call are taken and given back.
+//! The slots of a call are taken.
 ghost use Rattle.std.specs.Prelude.{IfErr, IfOk, OnErr};
 ghost use Rattle.instance_calls.specs.Instances.{IsFreshInstance};
 ghost use Rattle.pool_host.specs.Hosts.{AreIdle, ArePassesOf, AreSamePasses};
-ghost use Rattle.pool_host.specs.Taking.{GaveSlots, HaveSlots, TookSlots};
+ghost use Rattle.pool_host.specs.Taking.{HaveSlots, TookSlots};
 ghost use Rattle.pool_host.specs.Trails.{AddsTrails, HasCause};
-ghost use Rattle.pool_worlds.specs.Contents.{Named};
 
 use crate::answers::Answer;
-use crate::giving::{give_memory, give_table, give_ticket};
+use crate::giving::{give_memory, give_ticket};
 use crate::host::Host;
 use crate::kinds::{take_memory, take_table};
 use crate::passes::Passes;
@@ -33,16 +32,16 @@ pub(crate) fn take_slots<N: Naming>(
     ensures trails { IfErr result (λ kind. AddsTrails N.config host.now «module».now (Answer.Full kind) passes.old passes.new) }
     ensures full { IfErr result (HasCause N.config host.now «module».now passes.old passes.new) }
 {
-    let Ok(ticket) = instance_slots::take(&host.tickets, &mut passes.ticket, store, module) else {
+    let Ok(ticket) = host.tickets.take(&mut passes.ticket, store, module) else {
         return Err(Kind::Instance);
     };
     let Ok(memory) = take_memory(&host.memories, &mut passes.memory, store, module) else {
-        give_ticket(host, passes, ticket);
+        give_ticket(host, passes, store, ticket);
         return Err(Kind::Memory);
     };
     let Ok(table) = take_table(&host.tables, &mut passes.table, store, module) else {
         give_memory(host, passes, store, memory);
-        give_ticket(host, passes, ticket);
+        give_ticket(host, passes, store, ticket);
         return Err(Kind::Table);
     };
     Ok(Instance {
@@ -50,27 +49,4 @@ pub(crate) fn take_slots<N: Naming>(
         memory,
         table,
     })
-}
-
-// Gives the slots of an instance of a module back, in the reverse order.
-pub(crate) fn give_slots<N: Naming>(
-    host: &Host<N>,
-    passes: &mut Passes<N>,
-    store: &ModuleStore<N>,
-    instance: Instance<N>,
-)
-    requires own { ArePassesOf host.now passes.old }
-    requires have { (m : Named) × HaveSlots host.now m passes.old instance }
-    ensures same { AreSamePasses passes.old passes.new }
-    ensures idle { AreIdle passes.new }
-    ensures gave { (m : Named) → HaveSlots host.now m passes.old instance → GaveSlots N.config host.now m passes.old passes.new instance }
-{
-    let Instance {
-        ticket,
-        memory,
-        table,
-    } = instance;
-    give_table(host, passes, store, table);
-    give_memory(host, passes, store, memory);
-    give_ticket(host, passes, ticket);
 }

@@ -1,4 +1,5 @@
 pub mod RangeLemmas
 pub mod ShareLemmas
 pub mod WantLemmas
+pub mod LimitLemmas
 mod Examples

@@ -1,3 +1,4 @@
 pub mod Ranges
 pub mod Shares
 pub mod Plans
+pub mod Limits

@@ -127,7 +127,7 @@ fn held<N: Naming + Send + Sync, R: Abort + Threads + Wait + Sync>(
     memories: u32,
     adds: bool,
 ) -> ([Answer; 3], [u32; 3])
-    requires bears { Bears opened N.shelves N.config }
+    requires bears { Bears opened N.shelves N.config N.most }
     requires memories { 0 < memories × memories < 5 }
 {
     let (store, mut desk) = opened.named::<N>();

@@ -20,7 +20,7 @@ const SHARE: Share = Share {
 };
 
 fn called<N: Naming, R: Abort + Wait>(rt: &R, alloc: Global, opened: Opened) -> LaneAnswer
-    requires { Bears opened N.shelves N.config }
+    requires { Bears opened N.shelves N.config N.most }
 {
     let (store, mut desk) = opened.named::<N>();
     let module = register(rt, alloc, &store, &mut desk, Profile::One, BUMP.as_slice());

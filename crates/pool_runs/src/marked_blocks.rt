@@ -11,10 +11,10 @@ ghost use Rattle.instance_calls.specs.Parts.{memory_slot};
 use crate::callers::{BUMP, ONE, open, register};
 use call_payload::AnswerBuf;
 use instance_calls::{Instance, find_function, needs_memory, needs_table};
-use instance_slots::Ticket;
-use memory_slots::MemSlot;
+use instance_slots::{Ticket, TicketPool};
+use memory_slots::{MemSlot, MemoryPool};
 use module_store::{ModuleRef, ModuleStore, Naming, Opened};
-use slot_words::{Lease, Pass, Words};
+use slot_words::{Lease, Pass};
 use std::alloc::Global;
 use std::marker::Brand;
 use std::process::Abort;
@@ -40,12 +40,10 @@ fn pool_of_one<N: Naming, R: Abort>(
     rt: &R,
     alloc: Global,
     store: &ModuleStore<N>,
-) -> (Words<MemSlot<N>>, Pass<MemSlot<N>>)
+) -> (MemoryPool<N>, Pass<MemSlot<N>>)
     ensures { IsNewPassOf result.0 result.1 }
 {
-    let (pool, mut passes) = slot_pools::open::<MemSlot<N>>(alloc, store, 1, 1, 1).expect(
-        rt, "opened",
-    );
+    let (pool, mut passes) = MemoryPool::open(alloc, store, 1, 1, 1).expect(rt, "opened");
     let pass = passes.pop().unwrap();
     (pool, pass)
 }
@@ -59,11 +57,9 @@ fn take_ticket<N: Naming, R: Abort>(
 ) -> Lease<Ticket<N>>
     ensures { take (length «module».now.tree.globals) result.value.globals ≡ (fresh_store «module».now.tree).globals }
 {
-    let (tickets, mut passes) = slot_pools::open::<Ticket<N>>(alloc, store, 1, 0, 1).expect(
-        rt, "opened",
-    );
+    let (tickets, mut passes) = TicketPool::open(alloc, store, 1, 0, 1).expect(rt, "opened");
     let mut pass = passes.pop().unwrap();
-    match instance_slots::take(&tickets, &mut pass, store, module) {
+    match tickets.take(&mut pass, store, module) {
         Ok(lease) => lease,
         Err(_) => panic!(rt; "a new pool is full"),
     }
@@ -114,14 +110,14 @@ fn marked_by<N: Naming, R: Abort>(
     fuel: u64,
 ) -> (Outcome, u32, u32) {
     let (pool, mut pass) = pool_of_one(rt, alloc, store);
-    let Ok(memory) = memory_slots::take(&pool, &mut pass, store, module) else {
+    let Ok(memory) = pool.take(&mut pass, store, module) else {
         panic!(rt; "a new pool is full");
     };
     let (outcome, memory) = call_on(rt, alloc, store, module, memory, export, args, fuel);
     let number = memory.number();
     let marked = memory.value.dirty();
-    memory_slots::give(&pool, &mut pass, memory, store);
-    match pool.claim(&mut pass, number) {
+    pool.give(&mut pass, memory, store);
+    match pool.words().claim(&mut pass, number) {
         Ok(memory) => (outcome, marked, memory.value.dirty()),
         Err(_) => panic!(rt; "the memory is held"),
     }
@@ -167,7 +163,7 @@ fn first_wrong<N: Naming, R: Abort>(
 
 // The same on a store with the modules of the rows.
 fn first_wrong_of<N: Naming, R: Abort + Wait>(rt: &R, alloc: Global, opened: Opened) -> usize
-    requires { Bears opened N.shelves N.config }
+    requires { Bears opened N.shelves N.config N.most }
 {
     let (store, mut desk) = opened.named::<N>();
     let modules = [

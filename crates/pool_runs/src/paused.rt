@@ -195,7 +195,7 @@ fn in_slices<N: Naming, R: Abort>(
 }
 
 fn check_slices<N: Naming, R: Abort + Wait>(rt: &R, alloc: Global, opened: Opened)
-    requires { Bears opened N.shelves N.config }
+    requires { Bears opened N.shelves N.config N.most }
 {
     let (store, mut desk) = opened.named::<N>();
     let bytes = COUNTING.as_slice();
@@ -274,7 +274,7 @@ fn check_dropped<N: Naming, R: Abort>(
 }
 
 fn check_slots<N: Naming, R: Abort + Wait>(rt: &R, alloc: Global, opened: Opened)
-    requires { Bears opened N.shelves N.config }
+    requires { Bears opened N.shelves N.config N.most }
 {
     let (store, mut desk) = opened.named::<N>();
     let module = register(rt, alloc, &store, &mut desk, Profile::One, BUMP.as_slice());

@@ -30,7 +30,7 @@ fn memories_after<N: Naming, R: Abort + Wait>(
     opened: Opened,
     calls: &[usize],
 ) -> KindCounts
-    requires { Bears opened N.shelves N.config }
+    requires { Bears opened N.shelves N.config N.most }
 {
     let (store, mut desk) = opened.named::<N>();
     let modules = [

@@ -768,18 +768,37 @@ impl Gate for CountingGate {
     }
 }
 
+// In slices of one, with slots for each call that is under way, and the lane's.
+const SLICES_WITH_SLOTS: &[&str] = &[
+    "--workers",
+    "2",
+    "--slice",
+    "1",
+    "--instances",
+    "5",
+    "--memories",
+    "5",
+    "--tables",
+    "5",
+];
+
+// Where there are slots no call is answered twice, in slices as well.
 #[test]
 fn the_gate_is_told_of_each_call_and_of_each_that_begins(rt: HostRuntime) -> Result<(), Fail> {
     let alloc = rt.alloc();
-    let gate = CountingGate {
-        entered: AtomicU64::new(0),
-        answered: AtomicU64::new(0),
-    };
-    let mut source = MemSource::new(CALLS.to_vec(alloc)?, 4096, Vec::new(alloc));
-    let mut sink = MemSink::new(alloc, 4096, Vec::new(alloc));
-    assert_eq!(rt; serve(&rt, alloc, RUN, &mut source, &mut sink, &gate), 0);
-    assert_eq!(rt; gate.entered.load(Ordering::SeqCst), 0x11_1110);
-    assert_eq!(rt; gate.answered.load(Ordering::SeqCst), 0x1111_1110);
+    for more in [SLICES_WITH_SLOTS, &[]] {
+        let gate = CountingGate {
+            entered: AtomicU64::new(0),
+            answered: AtomicU64::new(0),
+        };
+        let mut words = RUN.to_vec(alloc)?;
+        words.extend_from_slice(more)?;
+        let mut source = MemSource::new(CALLS.to_vec(alloc)?, 4096, Vec::new(alloc));
+        let mut sink = MemSink::new(alloc, 4096, Vec::new(alloc));
+        assert_eq!(rt; serve(&rt, alloc, &words, &mut source, &mut sink, &gate), 0);
+        assert_eq!(rt; gate.entered.load(Ordering::SeqCst), 0x11_1110);
+        assert_eq!(rt; gate.answered.load(Ordering::SeqCst), 0x1111_1110);
+    }
     Ok(())
 }
 

@@ -1,5 +1,5 @@
 -- What workers did in slices is put together, and the calls that still go round are made to their end.
-use Rattle.std.proofs.Common.{◌≡◌, ℕ, ◌+◌, false, List, [], ◌∷◌, ◌++◌, Option, Ok, Err, ap, ◌∙◌, subst, arith, append_assoc, append-nil}
+use Rattle.std.proofs.Common.{◌≡◌, inr, ℕ, ◌+◌, false, List, [], ◌∷◌, ◌++◌, Option, Ok, Err, ap, ◌∙◌, subst, arith, append_assoc, append-nil}
 use Rattle.std.specs.Prelude.{Result, OnOk}
 use Rattle.std.specs.List.Sorted.{IsPermutation}
 use Rattle.std.proofs.lemmas.List.Sorted.{IsPermutation-append_comm, IsPermutation-append_left, IsPermutation-trans}
@@ -20,14 +20,15 @@ use Rattle.due_calls.specs.declared.calls.Due.{Due}
 use Rattle.due_calls.specs.declared.entries.Worked.{Worked}
 use Rattle.slice_workers.specs.declared.queued.Queued.{Queued}
 use Rattle.slice_workers.specs.declared.queued.Queued.TheVariants as queued
-use Rattle.due_calls.specs.Entries.{IsEntry, Pair, called, zeros}
-use Rattle.slice_workers.specs.Queued.{pair_of, paused_pair, pairs_of}
+use Rattle.slice_workers.specs.declared.shared.SliceShared.{SliceShared}
+use Rattle.due_calls.specs.Entries.{Pair, called, zeros}
+use Rattle.slice_workers.specs.Queued.{IsOfRun, pair_of, paused_pair, pairs_of}
 use Rattle.slice_workers.specs.Crews.{HasIdle}
-use Rattle.slice_workers.specs.Slices.{DidSlices, HasSlicedAll, HaveSliced}
+use Rattle.slice_workers.specs.Slices.{AreMade, DidSlices, HasSlicedAll, HaveSliced, IsMadeBy, IsSliced}
 use Rattle.slice_workers.proofs.Cancelling.{flat_map_same, without}
 use Rattle.due_calls.proofs.EndLemmas.{zeros-append}
 use Rattle.due_calls.proofs.EntryLemmas.{all_zip_append, called-append}
-use Rattle.slice_workers.proofs.SliceLemmas.{both_even, pairs_of-append}
+use Rattle.slice_workers.proofs.SliceLemmas.{all_entries, all_sliced, both_even, pairs_of-append}
 
 abbrev Given : Type 0
 Given = Account (Option Named)
@@ -35,15 +36,18 @@ Given = Account (Option Named)
 abbrev Own : Type 0
 Own = JobPass (Option Named)
 
-module _ {N A : Type 0} {G : Ghosts N} (config : Numbers) (jobs : Jobs (Option Named)) (queue : RunQueue (Queued N G) A) (calls : List Due) where
+module _ {N A : Type 0} {G : Ghosts N} (config : Numbers) (shared : SliceShared N) (queue : RunQueue (Queued N G) A) (slice : ℕ) where
+  abbrev calls : List Due
+  calls = shared.calls.items
+
   abbrev Did : Own → RunPass (Queued N G) → List Worked → Type 0
-  Did own place made = DidSlices config calls 1 (new_account jobs.terms false) (account_of own) (new_run_account queue.terms) (run_account_of place) made
+  Did own place made = DidSlices config shared.host calls slice 1 (new_account shared.jobs.terms false) (account_of own) (new_run_account queue.terms) (run_account_of place) made
 
   abbrev Have : Own → RunPass (Queued N G) → ℕ → List Worked → Type 0
-  Have own place n entries = HaveSliced config jobs queue calls own place n entries
+  Have own place n entries = HaveSliced config shared queue slice own place n entries
 
   -- the first worker's passes, and the pass that put the idle passes
-  pub joined_first : (own : Own) (first after place : RunPass (Queued N G)) (made : List Worked) → HasIdle queue first → IsJobPass jobs own → IsRunPass queue after
+  pub joined_first : (own : Own) (first after place : RunPass (Queued N G)) (made : List Worked) → HasIdle queue first → IsJobPass shared.jobs own → IsRunPass queue after
       → run_account_of after ≡ run_joined (run_account_of first) (run_account_of place) → Did own place made → Have own after 1 made
   joined_first own first after place made idle is_own is_place both did =
       let given : given_to own ≡ did.taken = ap (λ (a : Given). a.given) did.account_is in
@@ -62,12 +66,12 @@ module _ {N A : Type 0} {G : Ghosts N} (config : Numbers) (jobs : Jobs (Option N
         puts_none = ap (λ (a : Given). a.put) did.account_is;
         ended = ap zeros given ∙ did.ended;
         made = did.made;
-        entries_are = did.entries_are;
+        entries_are = all_sliced G config shared.host calls slice did.made made did.entries_are;
         even = rw (given, all_given, all_put) did.even;
       }
 
   -- one worker's passes more
-  pub joined_next : (own after others : Own) (first later place : RunPass (Queued N G)) (n k : ℕ) (entries made all : List Worked) → Have own first n entries → IsJobPass jobs after → IsRunPass queue later
+  pub joined_next : (own after others : Own) (first later place : RunPass (Queued N G)) (n k : ℕ) (entries made all : List Worked) → Have own first n entries → IsJobPass shared.jobs after → IsRunPass queue later
       → account_of after ≡ joined (account_of own) (account_of others) → run_account_of later ≡ run_joined (run_account_of first) (run_account_of place) → Did others place made
       → n + 1 ≡ k → all ≡ entries ++ made → Have after later k all
   joined_next own after others first later place n k entries made all h is_own is_place both run_both did next behind =
@@ -90,14 +94,14 @@ module _ {N A : Type 0} {G : Ghosts N} (config : Numbers) (jobs : Jobs (Option N
         puts_none = ap (λ (a : Given). a.put) both ∙ (ap (λ (ps : List Pair). ps ++ put_by others) h.puts_none ∙ none);
         ended = ap zeros all_given ∙ (zeros-append (given_to own) did.taken ∙ (let e = h.ended in let f = did.ended in omega arith));
         made = h.made ++ did.made;
-        entries_are = rw behind (all_zip_append (IsEntry config calls) h.made did.made entries made h.entries_are did.entries_are);
+        entries_are = rw behind (all_zip_append (IsSliced G config shared.host calls slice) h.made did.made entries made h.entries_are (all_sliced G config shared.host calls slice did.made made did.entries_are));
         even = rw (all_given, called-append (given_to own) did.taken, run_given, run_put)
             (both_even (called (given_to own)) (pairs_of (run_given_to first)) (pairs_of (run_put_by first)) h.made (called did.taken) (pairs_of did.given) (pairs_of did.put) did.made h.even did.even);
       }
 
   -- the same as an answer, where memory may have been refused
   pub one_more : {V E : Type 0} (own after others : Own) (first later place : RunPass (Queued N G)) (entries made all : List Worked) (r : Result V E)
-      → Have own first (share_of own) entries → IsJobPass jobs after → IsRunPass queue later
+      → Have own first (share_of own) entries → IsJobPass shared.jobs after → IsRunPass queue later
       → account_of after ≡ joined (account_of own) (account_of others) → run_account_of later ≡ run_joined (run_account_of first) (run_account_of place) → Did others place made
       → OnOk r (all ≡ entries ++ made) → OnOk r (Have after later (share_of after) all)
   one_more own after others first later place entries made all (Ok done) h is_own is_place both run_both did behind =
@@ -129,15 +133,16 @@ module _ {N A : Type 0} {G : Ghosts N} (config : Numbers) (jobs : Jobs (Option N
         even = rw (given, put) h.even;
       }
 
-  pub ended_paused : (own : Own) (first after : RunPass (Queued N G)) (n : ℕ) (entries all : List Worked) (paused : Paused N G) (worked : Worked) → Have own first n entries → IsRunPass queue after
-      → run_account_of after ≡ more (run_account_of first) (queued.Paused paused) → IsEntry config calls (paused_pair paused) worked → all ≡ entries ++ worked ∷ [] → Have own after n all
-  ended_paused own first after n entries all paused worked h is_place took entry behind =
+  pub ended_paused : (own : Own) (first after : RunPass (Queued N G)) (n : ℕ) (entries all : List Worked) (paused : Paused N G) (left : Queued N G) (worked : Worked) → Have own first n entries → IsRunPass queue after
+      → run_account_of after ≡ more (run_account_of first) (queued.Paused paused) → IsOfRun shared.host calls slice (queued.Paused paused)
+      → IsMadeBy config shared.host calls 18446744073709551615 (queued.Paused paused) left (paused_pair paused) worked → all ≡ entries ++ worked ∷ [] → Have own after n all
+  ended_paused own first after n entries all paused left worked h is_place took came entry behind =
       let pair : List Pair = paused_pair paused ∷ [] in
       let given : pairs_of (run_given_to after) ≡ pairs_of (run_given_to first) ++ pair =
       ap (λ (r : RunAccount (Queued N G)). pairs_of r.given) took ∙ pairs_of-append (run_given_to first) (queued.Paused paused ∷ []) in
       let put : run_put_by after ≡ run_put_by first = ap (λ (r : RunAccount (Queued N G)). r.put) took in
-      let left = append_assoc (called (given_to own)) (pairs_of (run_given_to first)) pair in
-      let right = append_assoc (pairs_of (run_put_by first)) h.made pair in
+      let front = append_assoc (called (given_to own)) (pairs_of (run_given_to first)) pair in
+      let back = append_assoc (pairs_of (run_put_by first)) h.made pair in
       record {
         is_own = h.is_own;
         is_place = is_place;
@@ -146,27 +151,36 @@ module _ {N A : Type 0} {G : Ghosts N} (config : Numbers) (jobs : Jobs (Option N
         puts_none = h.puts_none;
         ended = h.ended;
         made = h.made ++ pair;
-        entries_are = rw behind (all_zip_append (IsEntry config calls) h.made pair entries (worked ∷ []) h.entries_are (entry, tt));
-        even = rw (given, put) (subst (λ (l : List Pair). IsPermutation l (pairs_of (run_put_by first) ++ (h.made ++ pair))) left
-            (subst (λ (l : List Pair). IsPermutation ((called (given_to own) ++ pairs_of (run_given_to first)) ++ pair) l) right (IsPermutation-append_left pair _ _ h.even)));
+        entries_are = rw behind (all_zip_append (IsSliced G config shared.host calls slice) h.made pair entries (worked ∷ []) h.entries_are
+            (inr (record { taken = queued.Paused paused; went_round = came; left = left; made = entry }), tt));
+        even = rw (given, put) (subst (λ (l : List Pair). IsPermutation l (pairs_of (run_put_by first) ++ (h.made ++ pair))) front
+            (subst (λ (l : List Pair). IsPermutation ((called (given_to own) ++ pairs_of (run_given_to first)) ++ pair) l) back (IsPermutation-append_left pair _ _ h.even)));
       }
 
   -- nothing goes round any more
-  pub sliced_all : (own : Own) (first : RunPass (Queued N G)) (n : ℕ) (entries : List Worked) → Have own first n entries → IsPermutation (run_put_by first) (run_given_to first)
-      → HasSlicedAll config jobs calls own n entries
-  sliced_all own first n entries h out =
+  all_made : (own : Own) (first : RunPass (Queued N G)) (n : ℕ) (entries : List Worked) (h : Have own first n entries) → IsPermutation (run_put_by first) (run_given_to first)
+      → IsPermutation (called (given_to own)) h.made
+  all_made own first n entries h out =
       let went : IsPermutation (pairs_of (run_put_by first)) (pairs_of (run_given_to first)) = flat_map_same pair_of (run_put_by first) (run_given_to first) out in
       let both : IsPermutation (called (given_to own) ++ pairs_of (run_given_to first)) (h.made ++ pairs_of (run_given_to first)) =
       IsPermutation-trans _ _ _ h.even (IsPermutation-trans _ _ _ (IsPermutation-append_left h.made _ _ went) (IsPermutation-append_comm (pairs_of (run_given_to first)) h.made)) in
-      record {
-        is_own = h.is_own;
-        share = h.share;
-        puts_none = h.puts_none;
-        ended = h.ended;
-        made = h.made;
-        all = without (pairs_of (run_given_to first)) (called (given_to own)) h.made both;
-        entries_are = h.entries_are;
-      }
+      without (pairs_of (run_given_to first)) (called (given_to own)) h.made both
+
+  pub sliced_all : (own : Own) (first : RunPass (Queued N G)) (n : ℕ) (entries : List Worked) → Have own first n entries → IsPermutation (run_put_by first) (run_given_to first)
+      → HasSlicedAll config shared.jobs calls own n entries
+  sliced_all own first n entries h out = record {
+    is_own = h.is_own;
+    share = h.share;
+    puts_none = h.puts_none;
+    ended = h.ended;
+    made = h.made;
+    all = all_made own first n entries h out;
+    entries_are = all_entries G config shared.host calls slice h.made entries h.entries_are;
+  }
+
+  pub made_all : (own : Own) (first : RunPass (Queued N G)) (n : ℕ) (entries : List Worked) → Have own first n entries → IsPermutation (run_put_by first) (run_given_to first)
+      → AreMade G config shared.host calls slice (called (given_to own)) entries
+  made_all own first n entries h out = record { made = h.made; all = all_made own first n entries h out; entries_are = h.entries_are }
 
 -- the pass that put is joined with those of the workers
 pub record IsWhole (own others after : Own) (workers : ℕ) : Type 0 where

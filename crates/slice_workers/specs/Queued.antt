@@ -1,5 +1,5 @@
 -- What goes round among workers that make calls in slices.
-use Rattle.std.specs.Prelude.{◌≡◌, ◌↔◌, ℕ, ◌-◌, ◌<◌, List, [], ◌∷◌, flat_map, None, Some, slice_get}
+use Rattle.std.specs.Prelude.{◌≡◌, ◌↔◌, ℕ, ◌-◌, ◌*◌, ◌<◌, List, [], ◌∷◌, flat_map, None, Some, slice_get}
 use Rattle.module_store.specs.declared.naming.Naming.{Ghosts}
 use Rattle.retired_tags.specs.Passes.{IsTagPass, TagPass}
 use Rattle.pool_host.specs.declared.host.Host.{Host}
@@ -26,6 +26,11 @@ pub record IsCallIn (calls : List Due) (number : ℕ) (v : PausedView) : Type 0 
   pub call : IsCallOf v.named function due.invocation.args due.invocation.fuel v
   pub small : (number < 4294967296) × (v.call.fuel < 4294967296)
 
+-- it has made slices of so many turns, and no turn else
+pub record HasMadeSlices (slice : ℕ) (v : PausedView) : Type 0 where
+  pub slices : ℕ
+  pub turns_are : v.call.turns ≡ slices * slice
+
 module _ {N : Type 0} where
   -- these are passes of the host: at its pools, and at its retired tags
   pub record AreIdleOn (host : Host N) (p : Passes N) (t : TagPass) : Type 0 where
@@ -38,10 +43,15 @@ module _ {N : Type 0} where
     pub tags : IsTagPass host.retired.tags t
     pub call : IsCallIn calls number v
 
-  -- what is known of idle passes, and of calls that are paused, is that they are of this host and of these calls
-  pub record NamesRun (host : Host N) (calls : List Due) (idle : Passes N → TagPass → Type 0) (paused : Passes N → TagPass → PausedView → ℕ → Type 0) : Type 0 where
+  -- so it goes round in slices of so many turns
+  pub record IsSlicedIn (host : Host N) (calls : List Due) (slice : ℕ) (p : Passes N) (t : TagPass) (v : PausedView) (number : ℕ) : Type 0 where
+    pub paused : IsPausedIn host calls p t v number
+    pub whole : HasMadeSlices slice v
+
+  -- what is known of idle passes, and of calls that are paused, is that they are of this host and of these calls, which go round in slices of so many turns
+  pub record NamesRun (host : Host N) (calls : List Due) (slice : ℕ) (idle : Passes N → TagPass → Type 0) (paused : Passes N → TagPass → PausedView → ℕ → Type 0) : Type 0 where
     pub idle_are : (p : Passes N) (t : TagPass) → idle p t ↔ AreIdleOn host p t
-    pub paused_are : (p : Passes N) (t : TagPass) (v : PausedView) (number : ℕ) → paused p t v number ↔ IsPausedIn host calls p t v number
+    pub paused_are : (p : Passes N) (t : TagPass) (v : PausedView) (number : ℕ) → paused p t v number ↔ IsSlicedIn host calls slice p t v number
 
 module _ {N : Type 0} {G : Ghosts N} where
   -- what is known of idle passes, or of calls that are paused, is so of this
@@ -50,9 +60,14 @@ module _ {N : Type 0} {G : Ghosts N} where
   goes_round idle paused (queued.Paused p) = paused p.passes p.retired p.running p.number
 
   -- a pass of the host, or a call of these that is paused there
-  abbrev pub IsOfRun : Host N → List Due → Queued N G → Type 0
-  IsOfRun host calls (queued.Idle pass) = IsHostPass host pass
-  IsOfRun host calls (queued.Paused p) = IsPausedIn host calls p.passes p.retired p.running p.number
+  abbrev pub IsOnHost : Host N → List Due → Queued N G → Type 0
+  IsOnHost host calls (queued.Idle pass) = IsHostPass host pass
+  IsOnHost host calls (queued.Paused p) = IsPausedIn host calls p.passes p.retired p.running p.number
+
+  -- the same of what goes round in slices of so many turns
+  abbrev pub IsOfRun : Host N → List Due → (slice : ℕ) → Queued N G → Type 0
+  IsOfRun host calls slice (queued.Idle pass) = IsHostPass host pass
+  IsOfRun host calls slice (queued.Paused p) = IsSlicedIn host calls slice p.passes p.retired p.running p.number
 
   -- the pair of a call that is paused: its number, and its module
   abbrev pub paused_pair : Paused N G → Pair

@@ -1,16 +1,16 @@
 //! Workers that make calls in slices, side by side.
 ghost use Rattle.std.specs.Prelude.{◌≡◌, ◌*◌, ◌^◌, ◌<◌, ◌≤◌, false, All, IfOk, length};
-ghost use Rattle.job_queue.specs.Passes.{IsNewPassOf};
+ghost use Rattle.job_queue.specs.Passes.{IsNewPassOf, given_to};
 ghost use Rattle.job_queue.specs.RunPasses.{FitsWhere, IsFirstRunPass, IsNewRunPass, run_capacity};
 ghost use Rattle.pool_host.specs.Hosts.{IsHostPass, IsShare};
-ghost use Rattle.due_calls.specs.Entries.{AreNumbered};
+ghost use Rattle.due_calls.specs.Entries.{AreNumbered, called};
 ghost use Rattle.slice_workers.specs.Crews.{HasIdle, IsNewSliceCrew, IsNewSlicer, IsSliceDone};
 ghost use Rattle.slice_workers.specs.Queued.{IsOfRun, NamesRun};
-ghost use Rattle.slice_workers.specs.Slices.{HasSlicedAll};
+ghost use Rattle.slice_workers.specs.Slices.{AreMade, HasSlicedAll};
 
 use crate::ends::{end_paused, join_slicers};
 use crate::queued::Queued;
-use crate::run_names::{InRun, RunNaming};
+use crate::run_names::{InRun, InSlices, RunNaming};
 use crate::shared::SliceShared;
 use crate::slicing::work_in_slices;
 use crate::steps::Slicer;
@@ -80,7 +80,7 @@ pub fn open_slice_crew<N: Naming>(
 }
 
 // Puts all passes of the host to go round.
-fn put_passes<N: Naming, A: Admits<Queued<N>>, R: Wait>(
+fn put_passes<N: Naming, A: Admits<Queued<N>> + InSlices, R: Wait>(
     rt: &R,
     shared: &SliceShared<N>,
     queue: &RunQueue<Queued<N>, A>,
@@ -90,7 +90,7 @@ fn put_passes<N: Naming, A: Admits<Queued<N>>, R: Wait>(
     requires first { IsFirstRunPass queue.now first.old }
     requires room { length passes.items ≤ run_capacity queue.now }
     requires passes { All (IsHostPass shared.now.host) passes.items }
-    requires fits { FitsWhere A.fits (IsOfRun shared.now.host shared.now.calls.items) }
+    requires fits { FitsWhere A.fits (IsOfRun shared.now.host shared.now.calls.items A.slice) }
     ensures { HasIdle queue.now first.new }
 {
     while let Some(pass) = passes.pop() {
@@ -99,7 +99,7 @@ fn put_passes<N: Naming, A: Admits<Queued<N>>, R: Wait>(
 }
 
 // A worker for each pass of the queue of calls and of the run queue.
-fn slicers<N: Naming, A: Admits<Queued<N>>>(
+fn slicers<N: Naming, A: Admits<Queued<N>> + InSlices>(
     alloc: Global,
     shared: &SliceShared<N>,
     queue: &RunQueue<Queued<N>, A>,
@@ -110,10 +110,11 @@ fn slicers<N: Naming, A: Admits<Queued<N>>>(
 ) -> Result<Vec<Slicer<N>>, NoMemory>
     requires takers { All (IsNewPassOf false shared.now.jobs) takers.items }
     requires places { All (IsNewRunPass queue.now) places.items }
-    requires fits { FitsWhere A.fits (IsOfRun shared.now.host shared.now.calls.items) }
+    requires fits { FitsWhere A.fits (IsOfRun shared.now.host shared.now.calls.items A.slice) }
     requires many { length places.items ≡ length takers.items }
+    requires slice { slice ≡ A.slice }
     ensures many { IfOk result (λ workers. length workers.items ≡ length takers.items) }
-    ensures new { IfOk result (λ workers. All (IsNewSlicer queue.now A.fits shared.now) workers.items) }
+    ensures new { IfOk result (λ workers. All (IsNewSlicer queue.now A.fits shared.now A.slice) workers.items) }
 {
     let mut workers = Vec::new(alloc);
     while let Some(place) = places.pop() {
@@ -130,7 +131,7 @@ fn slicers<N: Naming, A: Admits<Queued<N>>>(
 }
 
 // The work of one worker, whose passes are given back with what it made.
-fn slice_one<N: Naming, A: Admits<Queued<N>>, R: Wait, G: Gate>(
+fn slice_one<N: Naming, A: Admits<Queued<N>> + InSlices, R: Wait, G: Gate>(
     rt: &R,
     alloc: Global,
     store: &ModuleStore<N>,
@@ -139,8 +140,8 @@ fn slice_one<N: Naming, A: Admits<Queued<N>>, R: Wait, G: Gate>(
     mut worker: Slicer<N>,
     gate: &G,
 ) -> SliceDone<N>
-    requires worker { IsNewSlicer queue.now A.fits shared.now worker }
-    ensures { IsSliceDone queue.now N.config shared.now.jobs shared.now.calls.items result }
+    requires worker { IsNewSlicer queue.now A.fits shared.now A.slice worker }
+    ensures { IsSliceDone queue.now N.config shared.now A.slice result }
 {
     let made = work_in_slices(rt, alloc, store, shared, queue, &mut worker, gate);
     SliceDone { worker, made }
@@ -149,7 +150,7 @@ fn slice_one<N: Naming, A: Admits<Queued<N>>, R: Wait, G: Gate>(
 // Each worker works in a thread of its own, where one can be had; all have ended when they are given back.
 fn slice_each<
     N: Naming + Send + Sync,
-    A: Admits<Queued<N>> + Sync,
+    A: Admits<Queued<N>> + InSlices + Sync,
     R: Threads + Wait + Sync,
     G: Gate,
 >(
@@ -161,16 +162,16 @@ fn slice_each<
     workers: Vec<Slicer<N>>,
     gate: &G,
 ) -> Result<Vec<SliceDone<N>>, NoMemory>
-    requires workers { All (IsNewSlicer queue.now A.fits shared.now) workers.items }
+    requires workers { All (IsNewSlicer queue.now A.fits shared.now A.slice) workers.items }
     ensures count { IfOk result (λ done. length done.items ≡ length workers.items) }
-    ensures done { IfOk result (λ done. All (IsSliceDone queue.now N.config shared.now.jobs shared.now.calls.items) done.items) }
+    ensures done { IfOk result (λ done. All (IsSliceDone queue.now N.config shared.now A.slice) done.items) }
 {
     let done = thread::map_vec(
         rt,
         workers,
         &|worker| -> SliceDone<N>
-            requires worker { IsNewSlicer queue.now A.fits shared.now worker }
-            ensures { IsSliceDone queue.entry.now N.config shared.entry.now.jobs shared.entry.now.calls.items result }
+            requires worker { IsNewSlicer queue.now A.fits shared.now A.slice worker }
+            ensures { IsSliceDone queue.entry.now N.config shared.entry.now A.slice result }
         { slice_one(rt, alloc, store, shared, queue, worker, gate) },
     );
     match done {
@@ -199,8 +200,10 @@ fn slice_in<
     requires workers { (1 ≤ length takers.items) × (length takers.items ≤ MOST_PASSES) }
     requires passes { All (IsHostPass shared.now.host) passes.items }
     requires items { (1 ≤ length passes.items) × (length passes.items ≤ MOST_PASSES) }
-    requires run { NamesRun shared.now.host shared.now.calls.items J.idle J.paused }
-    ensures { IfOk result (λ done. HasSlicedAll N.config shared.now.jobs shared.now.calls.items done.own (length takers.items) done.entries.items) }
+    requires run { NamesRun shared.now.host shared.now.calls.items J.slice J.idle J.paused }
+    requires slice { J.slice ≡ slice }
+    ensures all { IfOk result (λ done. HasSlicedAll N.config shared.now.jobs shared.now.calls.items done.own (length takers.items) done.entries.items) }
+    ensures made { IfOk result (λ done. AreMade N.Naming N.config shared.now.host shared.now.calls.items slice (called (given_to done.own)) done.entries.items) }
 {
     let (count, items) = (takers.len() as u32, passes.len() as u32);
     let (queue, mut first, places) = RunQueue::<Queued<N>, InRun<N, J>>::open(alloc, items, count)?;
@@ -233,7 +236,10 @@ pub fn slice_all<N: Naming + Send + Sync, R: Threads + Wait + Sync, G: Gate>(
     requires workers { (1 ≤ length takers.items) × (length takers.items ≤ MOST_PASSES) }
     requires passes { All (IsHostPass shared.now.host) passes.items }
     requires items { (1 ≤ length passes.items) × (length passes.items ≤ MOST_PASSES) }
-    ensures { IfOk result (λ done. HasSlicedAll N.config shared.now.jobs shared.now.calls.items done.own (length takers.items) done.entries.items) }
+    ensures all { IfOk result (λ done. HasSlicedAll N.config shared.now.jobs shared.now.calls.items done.own (length takers.items) done.entries.items) }
+
+    // each entry has its cause on a pass of the host: a take that won nothing, a look at the tags, or a call that ended
+    ensures made { IfOk result (λ done. AreMade N.Naming N.config shared.now.host shared.now.calls.items slice (called (given_to done.own)) done.entries.items) }
 {
     slice_in::<N, Brand, R, G>(rt, alloc, store, shared, takers, passes, slice, gate)
 }

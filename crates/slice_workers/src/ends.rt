@@ -1,14 +1,15 @@
 //! What workers that make calls in slices made, once they have ended.
 ghost use Rattle.std.specs.Prelude.{◌≡◌, ◌+◌, ◌<◌, [], All, IfOk, OnOk, length};
 ghost use Rattle.job_queue.specs.Passes.{IsJobPass, given_to, passes_of, put_by, share_of};
-ghost use Rattle.job_queue.specs.RunPasses.{FitsWhere, HasAllRunPasses, run_capacity};
-ghost use Rattle.due_calls.specs.Entries.{AnswersAll, EndsAll, IsEntry};
+ghost use Rattle.job_queue.specs.RunPasses.{FitsWhere, HasAllRunPasses};
+ghost use Rattle.due_calls.specs.Entries.{AnswersAll, EndsAll, called};
 ghost use Rattle.slice_workers.specs.Crews.{HasIdle, IsSliceDone};
 ghost use Rattle.slice_workers.specs.Queued.{IsOfRun, IsPausedIn, paused_pair};
-ghost use Rattle.slice_workers.specs.Slices.{HasSlicedAll, HaveSliced, WorkersHaveSliced};
+ghost use Rattle.slice_workers.specs.Slices.{AreMade, HasSlicedAll, HaveSliced, IsMadeBy, WorkersHaveSliced};
 
 use crate::crew::{SliceDone, Sliced};
 use crate::queued::Queued;
+use crate::run_names::InSlices;
 use crate::shared::SliceShared;
 use crate::slices::{Slice, resume};
 use crate::steps::Slicer;
@@ -21,15 +22,15 @@ use std::sync::Wait;
 use wasm_values::NoMemory;
 
 // What the first worker made. The first pass of the run queue has put the idle passes of the host, and its pass is joined into that.
-fn join_first<N: Naming, A: Admits<Queued<N>>>(
+fn join_first<N: Naming, A: Admits<Queued<N>> + InSlices>(
     shared: &SliceShared<N>,
     queue: &RunQueue<Queued<N>, A>,
     first: &mut RunPass<Queued<N>>,
     done: SliceDone<N>,
 ) -> Result<Sliced<N>, NoMemory>
     requires first { HasIdle queue.now first.old }
-    requires done { IsSliceDone queue.now N.config shared.now.jobs shared.now.calls.items done }
-    ensures { IfOk result (λ sliced. HaveSliced N.config shared.now.jobs queue.now shared.now.calls.items sliced.own first.new 1 sliced.entries.items) }
+    requires done { IsSliceDone queue.now N.config shared.now A.slice done }
+    ensures { IfOk result (λ sliced. HaveSliced N.config shared.now queue.now A.slice sliced.own first.new 1 sliced.entries.items) }
 {
     let SliceDone { worker, made } = done;
     let Slicer { own, place, .. } = worker;
@@ -39,16 +40,16 @@ fn join_first<N: Naming, A: Admits<Queued<N>>>(
 }
 
 // Joins the passes of one worker more, and puts what it made behind.
-fn join_next<N: Naming, A: Admits<Queued<N>>>(
+fn join_next<N: Naming, A: Admits<Queued<N>> + InSlices>(
     shared: &SliceShared<N>,
     queue: &RunQueue<Queued<N>, A>,
     first: &mut RunPass<Queued<N>>,
     sliced: &mut Sliced<N>,
     done: SliceDone<N>,
 ) -> Result<(), NoMemory>
-    requires sliced { WorkersHaveSliced N.config shared.now queue.now sliced.old first.old }
-    requires done { IsSliceDone queue.now N.config shared.now.jobs shared.now.calls.items done }
-    ensures sliced { OnOk result (WorkersHaveSliced N.config shared.now queue.now sliced.new first.new) }
+    requires sliced { WorkersHaveSliced N.config shared.now queue.now A.slice sliced.old first.old }
+    requires done { IsSliceDone queue.now N.config shared.now A.slice done }
+    ensures sliced { OnOk result (WorkersHaveSliced N.config shared.now queue.now A.slice sliced.new first.new) }
     ensures share { OnOk result (share_of sliced.new.own ≡ share_of sliced.old.own + 1) }
 {
     let SliceDone { worker, made } = done;
@@ -59,7 +60,7 @@ fn join_next<N: Naming, A: Admits<Queued<N>>>(
 }
 
 // Joins the passes of both queues, and what all made, those of one worker first.
-pub(crate) fn join_slicers<N: Naming, A: Admits<Queued<N>>>(
+pub(crate) fn join_slicers<N: Naming, A: Admits<Queued<N>> + InSlices>(
     shared: &SliceShared<N>,
     queue: &RunQueue<Queued<N>, A>,
     first: &mut RunPass<Queued<N>>,
@@ -67,10 +68,10 @@ pub(crate) fn join_slicers<N: Naming, A: Admits<Queued<N>>>(
     mut others: Vec<SliceDone<N>>,
 ) -> Result<Sliced<N>, NoMemory>
     requires first { HasIdle queue.now first.old }
-    requires one { IsSliceDone queue.now N.config shared.now.jobs shared.now.calls.items one }
-    requires others { All (IsSliceDone queue.now N.config shared.now.jobs shared.now.calls.items) others.items }
+    requires one { IsSliceDone queue.now N.config shared.now A.slice one }
+    requires others { All (IsSliceDone queue.now N.config shared.now A.slice) others.items }
     ensures share { IfOk result (λ sliced. share_of sliced.own ≡ length others.items + 1) }
-    ensures sliced { IfOk result (λ sliced. WorkersHaveSliced N.config shared.now queue.now sliced first.new) }
+    ensures sliced { IfOk result (λ sliced. WorkersHaveSliced N.config shared.now queue.now A.slice sliced first.new) }
 {
     let mut sliced = join_first(shared, queue, first, one)?;
     while let Some(next) = others.pop() {
@@ -79,28 +80,25 @@ pub(crate) fn join_slicers<N: Naming, A: Admits<Queued<N>>>(
     Ok(sliced)
 }
 
-// Makes a call to its end.
+// Makes a call to its end: its entry, and what is left.
 fn end_call<N: Naming, G: Gate>(
     shared: &SliceShared<N>,
     store: &ModuleStore<N>,
     paused: Paused<N>,
     gate: &G,
-) -> Worked
+) -> (Worked, Queued<N>)
     requires paused { IsPausedIn shared.now.host shared.now.calls.items paused.passes paused.retired paused.running paused.number }
-    ensures { IsEntry N.config shared.now.calls.items (paused_pair paused) result }
+    ensures { IsMadeBy N.config shared.now.host shared.now.calls.items 18446744073709551615 (Queued.Paused paused) result.1 (paused_pair paused) result.0 }
 {
-    let Slice {
-        queued: _queued,
-        entry,
-    } = resume(shared, store, paused, u64::MAX, gate);
+    let Slice { queued, entry } = resume(shared, store, paused, u64::MAX, gate);
     match entry {
-        Ok(Some(worked)) => worked,
+        Ok(Some(worked)) => (worked, queued),
         _ => unreachable!(),
     }
 }
 
 // Makes the calls that still go round to their end, once all passes of the run queue are joined.
-pub(crate) fn end_paused<N: Naming, A: Admits<Queued<N>>, R: Wait, G: Gate>(
+pub(crate) fn end_paused<N: Naming, A: Admits<Queued<N>> + InSlices, R: Wait, G: Gate>(
     rt: &R,
     store: &ModuleStore<N>,
     shared: &SliceShared<N>,
@@ -110,9 +108,10 @@ pub(crate) fn end_paused<N: Naming, A: Admits<Queued<N>>, R: Wait, G: Gate>(
     gate: &G,
 ) -> Result<(), NoMemory>
     requires whole { HasAllRunPasses queue.now first.old }
-    requires sliced { WorkersHaveSliced N.config shared.now queue.now sliced.old first.old }
-    requires fits { FitsWhere A.fits (IsOfRun shared.now.host shared.now.calls.items) }
-    ensures { OnOk result (HasSlicedAll N.config shared.now.jobs shared.now.calls.items sliced.new.own (share_of sliced.old.own) sliced.new.entries.items) }
+    requires sliced { WorkersHaveSliced N.config shared.now queue.now A.slice sliced.old first.old }
+    requires fits { FitsWhere A.fits (IsOfRun shared.now.host shared.now.calls.items A.slice) }
+    ensures all { OnOk result (HasSlicedAll N.config shared.now.jobs shared.now.calls.items sliced.new.own (share_of sliced.old.own) sliced.new.entries.items) }
+    ensures made { OnOk result (AreMade N.Naming N.config shared.now.host shared.now.calls.items A.slice (called (given_to sliced.new.own)) sliced.new.entries.items) }
 {
     for _ in rt.forever() {
         sliced.entries.reserve(1).map_err(|_| NoMemory)?;
@@ -120,7 +119,7 @@ pub(crate) fn end_paused<N: Naming, A: Admits<Queued<N>>, R: Wait, G: Gate>(
             None => return Ok(()),
             Some(Queued::Idle(_pass)) => {}
             Some(Queued::Paused(paused)) => {
-                let worked = end_call(shared, store, paused, gate);
+                let (worked, _left) = end_call(shared, store, paused, gate);
                 sliced.entries.push_reserved(worked);
             }
         }
@@ -143,7 +142,8 @@ pub fn finish_slices<N: Naming, R: Wait>(
     requires ends { EndsAll (put_by own) workers }
     requires whole { share_of own + workers ≡ passes_of shared.now.jobs }
     requires sliced { HasSlicedAll N.config shared.now.jobs shared.now.calls.items sliced.own workers sliced.entries.items }
-    ensures { AnswersAll N.config shared.now.calls.items (put_by own) result.items }
+    ensures answers { AnswersAll N.config shared.now.calls.items (put_by own) result.items }
+    ensures same { result.items ≡ sliced.entries.items }
 {
     let Sliced {
         own: others,

@@ -5,7 +5,8 @@ use module_store::Naming;
 use std::marker::{Brand, PhantomData};
 
 /// What is known in one run of the passes of its host that are idle, and of its calls that are paused: of their passes at the pools and at
-/// the retired tags, of what they show, and of their numbers. It is picked by the proof of the function in which the run queue is opened.
+/// the retired tags, of what they show, and of their numbers; and how many turns a slice of a call has. It is picked by the proof of the
+/// function in which the run queue is opened.
 pub(crate) trait RunNaming<N> {
     ghost use Rattle.std.specs.Prelude.{ℕ};
     ghost use Rattle.retired_tags.specs.Passes.{TagPass};
@@ -15,6 +16,8 @@ pub(crate) trait RunNaming<N> {
     ghost idle: { Passes N → TagPass → Type 0 };
 
     ghost paused: { Passes N → TagPass → PausedView → ℕ → Type 0 };
+
+    ghost slice: { ℕ };
 }
 
 impl<N> RunNaming<N> for Brand {
@@ -23,6 +26,15 @@ impl<N> RunNaming<N> for Brand {
     ghost idle = { λ p t. ⊤ };
 
     ghost paused = { λ p t v n. ⊤ };
+
+    ghost slice = { 0 };
+}
+
+/// How many turns a slice of a call has.
+pub(crate) trait InSlices {
+    ghost use Rattle.std.specs.Prelude.{ℕ};
+
+    ghost slice: { ℕ };
 }
 
 /// What goes round in one run.
@@ -35,4 +47,8 @@ impl<N: Naming, J: RunNaming<N>> Admits<Queued<N>> for InRun<N, J> {
     ghost use Rattle.slice_workers.specs.Queued.{goes_round};
 
     ghost fits = { goes_round J.idle J.paused };
+}
+
+impl<N: Naming, J: RunNaming<N>> InSlices for InRun<N, J> {
+    ghost slice = { J.slice };
 }

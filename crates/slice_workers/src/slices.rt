@@ -1,5 +1,5 @@
 //! The slices of calls.
-ghost use Rattle.std.specs.Prelude.{◌≡◌, ◌-◌, ◌^◌, ◌<◌, ◌≤◌, None, Some, Ok, IfOk, length, slice_get};
+ghost use Rattle.std.specs.Prelude.{◌≡◌, ℕ, ◌-◌, ◌^◌, ◌<◌, ◌≤◌, None, Some, Ok, IfOk, length, slice_get};
 ghost use Rattle.request_text.specs.Invocations.{shown_of};
 ghost use Rattle.pool_host.specs.Hosts.{IsHostPass};
 ghost use Rattle.slice_workers.specs.Queued.{IsPausedIn, paused_pair};
@@ -50,7 +50,7 @@ fn begin<N: Naming, G: Gate>(
     requires counted { 0 < due.now.number }
     requires due { slice_get shared.now.calls.items (due.now.number - 1) ≡ Some due.now }
     requires unsent { due.now.invocation.request ≡ None }
-    ensures { IsSliceOf N.config shared.now.host shared.now.calls.items (due.now.number, Some called.now) result }
+    ensures { (turns : ℕ) → IsSliceOf N.config shared.now.host shared.now.calls.items turns (Queued.Idle pass) (due.now.number, Some called.now) result }
 {
     let asked = &due.invocation;
     let number = due.number;
@@ -106,7 +106,7 @@ fn send<N: Naming, G: Gate>(
     requires pass { IsHostPass shared.now.host pass }
     requires counted { 0 < due.now.number }
     requires due { slice_get shared.now.calls.items (due.now.number - 1) ≡ Some due.now }
-    ensures { IsSliceOf N.config shared.now.host shared.now.calls.items (due.now.number, Some called.now) result }
+    ensures { (turns : ℕ) → IsSliceOf N.config shared.now.host shared.now.calls.items turns (Queued.Idle pass) (due.now.number, Some called.now) result }
 {
     let asked = &due.invocation;
     let answer = shared.host.send(
@@ -140,7 +140,7 @@ pub(crate) fn begin_call<N: Naming, G: Gate>(
     requires pass { IsHostPass shared.now.host pass }
     requires counted { 0 < number }
     requires enough { number ≤ length shared.now.calls.items }
-    ensures { IsSliceOf N.config shared.now.host shared.now.calls.items (number, item) result }
+    ensures { (turns : ℕ) → IsSliceOf N.config shared.now.host shared.now.calls.items turns (Queued.Idle pass) (number, item) result }
 {
     let due = due_at(&shared.calls, number);
     match item {
@@ -161,7 +161,7 @@ pub(crate) fn resume<N: Naming, G: Gate>(
     gate: &G,
 ) -> Slice<N>
     requires paused { IsPausedIn shared.now.host shared.now.calls.items paused.passes paused.retired paused.running paused.number }
-    ensures slice { IsSliceOf N.config shared.now.host shared.now.calls.items (paused_pair paused) result }
+    ensures slice { IsSliceOf N.config shared.now.host shared.now.calls.items slice (Queued.Paused paused) (paused_pair paused) result }
     ensures over { 2 ^ 32 ≤ slice → (worked : Worked) × (result.entry ≡ Ok (Some worked)) }
 {
     let number = paused.number() as u32;

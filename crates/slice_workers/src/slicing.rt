@@ -8,6 +8,7 @@ ghost use Rattle.slice_workers.specs.Queued.{IsOfRun};
 ghost use Rattle.slice_workers.specs.Slices.{WorkerDid, WorkerHelped, WorkerHelpedKeeping};
 
 use crate::queued::Queued;
+use crate::run_names::InSlices;
 use crate::shared::SliceShared;
 use crate::steps::{Slicer, Step, go_on_keeping, next_step, put_kept};
 use due_calls::{Waits, Worked};
@@ -21,7 +22,7 @@ use wasm_values::NoMemory;
 
 // Makes slices of calls, and begins those that the queue gives, until it is told to end. After a call that found a kind full it makes
 // some slices of others before it begins the next one.
-fn work_until_end<N: Naming, A: Admits<Queued<N>>, R: Wait, G: Gate>(
+fn work_until_end<N: Naming, A: Admits<Queued<N>> + InSlices, R: Wait, G: Gate>(
     rt: &R,
     alloc: Global,
     store: &ModuleStore<N>,
@@ -32,10 +33,12 @@ fn work_until_end<N: Naming, A: Admits<Queued<N>>, R: Wait, G: Gate>(
 ) -> Result<Vec<Worked>, NoMemory>
     requires own { IsJobPass shared.now.jobs worker.old.own }
     requires place { IsRunPass queue.now worker.old.place }
-    requires fits { FitsWhere A.fits (IsOfRun shared.now.host shared.now.calls.items) }
+    requires slice { worker.old.slice ≡ A.slice }
+    requires fits { FitsWhere A.fits (IsOfRun shared.now.host shared.now.calls.items A.slice) }
     ensures own { IsJobPass shared.now.jobs worker.new.own }
     ensures place { IsRunPass queue.now worker.new.place }
-    ensures did { IfOk result (λ made. WorkerDid N.config shared.now.calls.items 1 worker.old worker.new made.items) }
+    ensures slice { worker.new.slice ≡ A.slice }
+    ensures did { IfOk result (λ made. WorkerDid N.config shared.now.host shared.now.calls.items A.slice 1 worker.old worker.new made.items) }
 {
     let mut made = Vec::new(alloc);
     let mut waits = Waits::none();
@@ -59,7 +62,7 @@ fn work_until_end<N: Naming, A: Admits<Queued<N>>, R: Wait, G: Gate>(
 }
 
 // Makes slices of the calls that go round and keeps the idle passes, until it has found nothing as often as there are items.
-fn help_keeping<N: Naming, A: Admits<Queued<N>>, R: Wait, G: Gate>(
+fn help_keeping<N: Naming, A: Admits<Queued<N>> + InSlices, R: Wait, G: Gate>(
     rt: &R,
     store: &ModuleStore<N>,
     shared: &SliceShared<N>,
@@ -71,13 +74,15 @@ fn help_keeping<N: Naming, A: Admits<Queued<N>>, R: Wait, G: Gate>(
 ) -> Result<(), NoMemory>
     requires own { IsJobPass shared.now.jobs worker.old.own }
     requires place { IsRunPass queue.now worker.old.place }
-    requires fits { FitsWhere A.fits (IsOfRun shared.now.host shared.now.calls.items) }
+    requires slice { worker.old.slice ≡ A.slice }
+    requires fits { FitsWhere A.fits (IsOfRun shared.now.host shared.now.calls.items A.slice) }
     requires kept { All (IsHostPass shared.now.host) kept.old.items }
     ensures own { worker.new.own ≡ worker.old.own }
     ensures place { IsRunPass queue.now worker.new.place }
+    ensures slice { worker.new.slice ≡ A.slice }
     ensures kept { All (IsHostPass shared.now.host) kept.new.items }
     ensures room { run_room worker.new.place + length kept.old.items ≡ run_room worker.old.place + length kept.new.items }
-    ensures did { OnOk result (WorkerHelpedKeeping N.config shared.now.calls.items worker.old worker.new made.old.items made.new.items) }
+    ensures did { OnOk result (WorkerHelpedKeeping N.config shared.now.host shared.now.calls.items A.slice worker.old worker.new made.old.items made.new.items) }
 {
     let mut idle = 0;
     for _ in rt.forever() {
@@ -102,7 +107,7 @@ fn help_keeping<N: Naming, A: Admits<Queued<N>>, R: Wait, G: Gate>(
 
 // Makes slices of the calls that go round while it finds some. The idle passes that it meets it keeps for so long: no call is left to begin,
 // and between two slices nobody has to take them. Then it puts them back, since a worker is told to end where it finds one.
-fn help<N: Naming, A: Admits<Queued<N>>, R: Wait, G: Gate>(
+fn help<N: Naming, A: Admits<Queued<N>> + InSlices, R: Wait, G: Gate>(
     rt: &R,
     alloc: Global,
     store: &ModuleStore<N>,
@@ -114,10 +119,11 @@ fn help<N: Naming, A: Admits<Queued<N>>, R: Wait, G: Gate>(
 ) -> Result<(), NoMemory>
     requires own { IsJobPass shared.now.jobs worker.old.own }
     requires place { IsRunPass queue.now worker.old.place }
-    requires fits { FitsWhere A.fits (IsOfRun shared.now.host shared.now.calls.items) }
+    requires slice { worker.old.slice ≡ A.slice }
+    requires fits { FitsWhere A.fits (IsOfRun shared.now.host shared.now.calls.items A.slice) }
     ensures own { worker.new.own ≡ worker.old.own }
     ensures place { IsRunPass queue.now worker.new.place }
-    ensures did { OnOk result (WorkerHelped N.config shared.now.calls.items worker.old worker.new made.old.items made.new.items) }
+    ensures did { OnOk result (WorkerHelped N.config shared.now.host shared.now.calls.items A.slice worker.old worker.new made.old.items made.new.items) }
 {
     let mut kept = Vec::new(alloc);
     let helped = help_keeping(rt, store, shared, queue, worker, &mut kept, made, gate);
@@ -132,7 +138,7 @@ fn help<N: Naming, A: Admits<Queued<N>>, R: Wait, G: Gate>(
 /// # Errors
 ///
 /// `NoMemory` where memory is refused. The calls that were answered in its hands are spent.
-pub(crate) fn work_in_slices<N: Naming, A: Admits<Queued<N>>, R: Wait, G: Gate>(
+pub(crate) fn work_in_slices<N: Naming, A: Admits<Queued<N>> + InSlices, R: Wait, G: Gate>(
     rt: &R,
     alloc: Global,
     store: &ModuleStore<N>,
@@ -143,10 +149,11 @@ pub(crate) fn work_in_slices<N: Naming, A: Admits<Queued<N>>, R: Wait, G: Gate>(
 ) -> Result<Vec<Worked>, NoMemory>
     requires own { IsJobPass shared.now.jobs worker.old.own }
     requires place { IsRunPass queue.now worker.old.place }
-    requires fits { FitsWhere A.fits (IsOfRun shared.now.host shared.now.calls.items) }
+    requires slice { worker.old.slice ≡ A.slice }
+    requires fits { FitsWhere A.fits (IsOfRun shared.now.host shared.now.calls.items A.slice) }
     ensures own { IsJobPass shared.now.jobs worker.new.own }
     ensures place { IsRunPass queue.now worker.new.place }
-    ensures did { IfOk result (λ made. WorkerDid N.config shared.now.calls.items 1 worker.old worker.new made.items) }
+    ensures did { IfOk result (λ made. WorkerDid N.config shared.now.host shared.now.calls.items A.slice 1 worker.old worker.new made.items) }
 {
     let mut made = work_until_end(rt, alloc, store, shared, queue, worker, gate)?;
     help(rt, alloc, store, shared, queue, worker, &mut made, gate)?;

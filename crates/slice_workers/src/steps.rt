@@ -4,10 +4,11 @@ ghost use Rattle.job_queue.specs.Passes.{IsJobPass};
 ghost use Rattle.job_queue.specs.RunAccounts.{with_run_put};
 ghost use Rattle.job_queue.specs.RunPasses.{FitsWhere, IsRunPass, run_account_of, run_room};
 ghost use Rattle.pool_host.specs.Hosts.{IsHostPass};
-ghost use Rattle.slice_workers.specs.Queued.{IsOfRun, IsPausedIn, paused_pair};
+ghost use Rattle.slice_workers.specs.Queued.{IsOfRun, paused_pair};
 ghost use Rattle.slice_workers.specs.Slices.{WorkerDid, WorkerDidKeeping, WorkerPutBack, WorkerTook, ends_of, entries_of, step_of};
 
 use crate::queued::Queued;
+use crate::run_names::InSlices;
 use crate::shared::SliceShared;
 use crate::slices::{Slice, begin_call, resume};
 use due_calls::{Item, Worked};
@@ -83,7 +84,7 @@ fn put_idle<N: Naming, A: Admits<Queued<N>>, R: Wait>(
 }
 
 // Begins the next call with an idle pass, which is put back where there is none.
-fn take_call<N: Naming, A: Admits<Queued<N>>, R: Wait, G: Gate>(
+fn take_call<N: Naming, A: Admits<Queued<N>> + InSlices, R: Wait, G: Gate>(
     rt: &R,
     alloc: Global,
     store: &ModuleStore<N>,
@@ -97,10 +98,12 @@ fn take_call<N: Naming, A: Admits<Queued<N>>, R: Wait, G: Gate>(
     requires own { IsJobPass shared.now.jobs worker.old.own }
     requires place { IsRunPass queue.now worker.old.place }
     requires room { 0 < run_room worker.old.place }
-    requires fits { FitsWhere A.fits (IsOfRun shared.now.host shared.now.calls.items) }
+    requires slice { worker.old.slice ≡ A.slice }
+    requires fits { FitsWhere A.fits (IsOfRun shared.now.host shared.now.calls.items A.slice) }
     ensures own { IsJobPass shared.now.jobs worker.new.own }
     ensures place { IsRunPass queue.now worker.new.place }
-    ensures took { IfOk result (WorkerTook N.config shared.now.calls.items worker.old worker.new) }
+    ensures slice { worker.new.slice ≡ A.slice }
+    ensures took { IfOk result (WorkerTook N.config shared.now.host shared.now.calls.items A.slice pass worker.old worker.new) }
 {
     match shared.jobs.next(rt, &mut worker.own) {
         None => {
@@ -120,7 +123,7 @@ fn take_call<N: Naming, A: Admits<Queued<N>>, R: Wait, G: Gate>(
 }
 
 // Makes the next slice of a call.
-fn resume_call<N: Naming, A: Admits<Queued<N>>, R: Wait, G: Gate>(
+fn resume_call<N: Naming, A: Admits<Queued<N>> + InSlices, R: Wait, G: Gate>(
     rt: &R,
     store: &ModuleStore<N>,
     shared: &SliceShared<N>,
@@ -129,21 +132,23 @@ fn resume_call<N: Naming, A: Admits<Queued<N>>, R: Wait, G: Gate>(
     paused: Paused<N>,
     gate: &G,
 ) -> Result<Step, NoMemory>
-    requires paused { IsPausedIn shared.now.host shared.now.calls.items paused.passes paused.retired paused.running paused.number }
+    requires paused { IsOfRun shared.now.host shared.now.calls.items A.slice (Queued.Paused paused) }
     requires place { IsRunPass queue.now worker.old.place }
     requires room { 0 < run_room worker.old.place }
-    requires fits { FitsWhere A.fits (IsOfRun shared.now.host shared.now.calls.items) }
+    requires slice { worker.old.slice ≡ A.slice }
+    requires fits { FitsWhere A.fits (IsOfRun shared.now.host shared.now.calls.items A.slice) }
     ensures own { worker.new.own ≡ worker.old.own }
     ensures place { IsRunPass queue.now worker.new.place }
+    ensures slice { worker.new.slice ≡ A.slice }
     ensures room { run_room worker.new.place ≡ run_room worker.old.place - 1 }
-    ensures put { IfOk result (WorkerPutBack N.config shared.now.calls.items (paused_pair paused) worker.old worker.new) }
+    ensures put { IfOk result (WorkerPutBack N.config shared.now.host shared.now.calls.items A.slice (Queued.Paused paused) (paused_pair paused) worker.old worker.new) }
 {
     let slice = resume(shared, store, paused, worker.slice as u64, gate);
     put_back(rt, queue, &mut worker.place, slice)
 }
 
 // Makes the next slice of a call, or begins the next call.
-fn take_turn<N: Naming, A: Admits<Queued<N>>, R: Wait, G: Gate>(
+fn take_turn<N: Naming, A: Admits<Queued<N>> + InSlices, R: Wait, G: Gate>(
     rt: &R,
     alloc: Global,
     store: &ModuleStore<N>,
@@ -154,10 +159,12 @@ fn take_turn<N: Naming, A: Admits<Queued<N>>, R: Wait, G: Gate>(
 ) -> Result<Step, NoMemory>
     requires own { IsJobPass shared.now.jobs worker.old.own }
     requires place { IsRunPass queue.now worker.old.place }
-    requires fits { FitsWhere A.fits (IsOfRun shared.now.host shared.now.calls.items) }
+    requires slice { worker.old.slice ≡ A.slice }
+    requires fits { FitsWhere A.fits (IsOfRun shared.now.host shared.now.calls.items A.slice) }
     ensures own { IsJobPass shared.now.jobs worker.new.own }
     ensures place { IsRunPass queue.now worker.new.place }
-    ensures did { IfOk result (λ step. WorkerDid N.config shared.now.calls.items (ends_of step) worker.old worker.new (entries_of step)) }
+    ensures slice { worker.new.slice ≡ A.slice }
+    ensures did { IfOk result (λ step. WorkerDid N.config shared.now.host shared.now.calls.items A.slice (ends_of step) worker.old worker.new (entries_of step)) }
 {
     match queue.next(rt, &mut worker.place) {
         None => {
@@ -178,7 +185,7 @@ fn take_turn<N: Naming, A: Admits<Queued<N>>, R: Wait, G: Gate>(
 /// # Errors
 ///
 /// None that comes, since no such call is sent bytes.
-pub(crate) fn go_on<N: Naming, A: Admits<Queued<N>>, R: Wait, G: Gate>(
+pub(crate) fn go_on<N: Naming, A: Admits<Queued<N>> + InSlices, R: Wait, G: Gate>(
     rt: &R,
     store: &ModuleStore<N>,
     shared: &SliceShared<N>,
@@ -188,11 +195,13 @@ pub(crate) fn go_on<N: Naming, A: Admits<Queued<N>>, R: Wait, G: Gate>(
 ) -> Result<Step, NoMemory>
     requires own { IsJobPass shared.now.jobs worker.old.own }
     requires place { IsRunPass queue.now worker.old.place }
-    requires fits { FitsWhere A.fits (IsOfRun shared.now.host shared.now.calls.items) }
+    requires slice { worker.old.slice ≡ A.slice }
+    requires fits { FitsWhere A.fits (IsOfRun shared.now.host shared.now.calls.items A.slice) }
     ensures own { worker.new.own ≡ worker.old.own }
     ensures place { IsRunPass queue.now worker.new.place }
+    ensures slice { worker.new.slice ≡ A.slice }
     ensures never_ends { IfOk result (λ step. ends_of step ≡ 0) }
-    ensures did { IfOk result (λ step. WorkerDid N.config shared.now.calls.items 0 worker.old worker.new (entries_of step)) }
+    ensures did { IfOk result (λ step. WorkerDid N.config shared.now.host shared.now.calls.items A.slice 0 worker.old worker.new (entries_of step)) }
 {
     match queue.next(rt, &mut worker.place) {
         None => {
@@ -215,7 +224,7 @@ pub(crate) fn go_on<N: Naming, A: Admits<Queued<N>>, R: Wait, G: Gate>(
 /// # Errors
 ///
 /// `NoMemory` where memory is refused for the pass, before anything is taken.
-pub(crate) fn go_on_keeping<N: Naming, A: Admits<Queued<N>>, R: Wait, G: Gate>(
+pub(crate) fn go_on_keeping<N: Naming, A: Admits<Queued<N>> + InSlices, R: Wait, G: Gate>(
     rt: &R,
     store: &ModuleStore<N>,
     shared: &SliceShared<N>,
@@ -226,13 +235,15 @@ pub(crate) fn go_on_keeping<N: Naming, A: Admits<Queued<N>>, R: Wait, G: Gate>(
 ) -> Result<Step, NoMemory>
     requires own { IsJobPass shared.now.jobs worker.old.own }
     requires place { IsRunPass queue.now worker.old.place }
-    requires fits { FitsWhere A.fits (IsOfRun shared.now.host shared.now.calls.items) }
+    requires slice { worker.old.slice ≡ A.slice }
+    requires fits { FitsWhere A.fits (IsOfRun shared.now.host shared.now.calls.items A.slice) }
     requires kept { All (IsHostPass shared.now.host) kept.old.items }
     ensures own { worker.new.own ≡ worker.old.own }
     ensures place { IsRunPass queue.now worker.new.place }
+    ensures slice { worker.new.slice ≡ A.slice }
     ensures kept { All (IsHostPass shared.now.host) kept.new.items }
     ensures room { run_room worker.new.place + length kept.old.items ≡ run_room worker.old.place + length kept.new.items }
-    ensures did { IfOk result (λ step. WorkerDidKeeping N.config shared.now.calls.items 0 worker.old worker.new (entries_of step)) }
+    ensures did { IfOk result (λ step. WorkerDidKeeping N.config shared.now.host shared.now.calls.items A.slice 0 worker.old worker.new (entries_of step)) }
 {
     kept.reserve(1).map_err(|_| NoMemory)?;
     match queue.next(rt, &mut worker.place) {
@@ -251,7 +262,7 @@ pub(crate) fn go_on_keeping<N: Naming, A: Admits<Queued<N>>, R: Wait, G: Gate>(
 }
 
 /// Puts back the idle passes that were kept.
-pub(crate) fn put_kept<N: Naming, A: Admits<Queued<N>>, R: Wait>(
+pub(crate) fn put_kept<N: Naming, A: Admits<Queued<N>> + InSlices, R: Wait>(
     rt: &R,
     shared: &SliceShared<N>,
     queue: &RunQueue<Queued<N>, A>,
@@ -259,13 +270,13 @@ pub(crate) fn put_kept<N: Naming, A: Admits<Queued<N>>, R: Wait>(
     mut kept: Vec<HostPass<N>>,
 )
     requires place { IsRunPass queue.now worker.old.place }
-    requires fits { FitsWhere A.fits (IsOfRun shared.now.host shared.now.calls.items) }
+    requires fits { FitsWhere A.fits (IsOfRun shared.now.host shared.now.calls.items A.slice) }
     requires kept { All (IsHostPass shared.now.host) kept.items }
     requires room { length kept.items ≤ run_room worker.old.place }
     ensures own { worker.new.own ≡ worker.old.own }
     ensures place { IsRunPass queue.now worker.new.place }
     ensures room { run_room worker.new.place + length kept.items ≡ run_room worker.old.place }
-    ensures put { WorkerDidKeeping N.config shared.now.calls.items 0 worker.old worker.new [] }
+    ensures put { WorkerDidKeeping N.config shared.now.host shared.now.calls.items A.slice 0 worker.old worker.new [] }
 {
     while let Some(pass) = kept.pop() {
         put_idle(rt, queue, &mut worker.place, pass);
@@ -277,7 +288,7 @@ pub(crate) fn put_kept<N: Naming, A: Admits<Queued<N>>, R: Wait>(
 /// # Errors
 ///
 /// `NoMemory` where memory is refused for what a call answered.
-pub(crate) fn next_step<N: Naming, A: Admits<Queued<N>>, R: Wait, G: Gate>(
+pub(crate) fn next_step<N: Naming, A: Admits<Queued<N>> + InSlices, R: Wait, G: Gate>(
     rt: &R,
     alloc: Global,
     store: &ModuleStore<N>,
@@ -289,10 +300,12 @@ pub(crate) fn next_step<N: Naming, A: Admits<Queued<N>>, R: Wait, G: Gate>(
 ) -> Result<Step, NoMemory>
     requires own { IsJobPass shared.now.jobs worker.old.own }
     requires place { IsRunPass queue.now worker.old.place }
-    requires fits { FitsWhere A.fits (IsOfRun shared.now.host shared.now.calls.items) }
+    requires slice { worker.old.slice ≡ A.slice }
+    requires fits { FitsWhere A.fits (IsOfRun shared.now.host shared.now.calls.items A.slice) }
     ensures own { IsJobPass shared.now.jobs worker.new.own }
     ensures place { IsRunPass queue.now worker.new.place }
-    ensures did { IfOk result (λ step. WorkerDid N.config shared.now.calls.items (ends_of step) worker.old worker.new (entries_of step)) }
+    ensures slice { worker.new.slice ≡ A.slice }
+    ensures did { IfOk result (λ step. WorkerDid N.config shared.now.host shared.now.calls.items A.slice (ends_of step) worker.old worker.new (entries_of step)) }
 {
     if may_begin {
         take_turn(rt, alloc, store, shared, queue, worker, gate)

@@ -3,8 +3,8 @@ ghost use Rattle.module_store.specs.Names.{Bears};
 
 use crate::stores::{ADD, BUMP, POKE, open};
 use initial_image::{Misfit, SegmentIndex};
-use module_limits::{Measure, Over};
 use module_store::{Desk, LoadFault, MOST_MODULES, ModuleStore, Naming, Opened};
+use pool_limits::{Measure, Over};
 use std::alloc::Global;
 use std::marker::Brand;
 use std::sync::Wait;
@@ -120,7 +120,7 @@ fn fill<N: Naming, R: Wait>(
 
 // What is told of the rows, of the beginnings of three modules, and of a desk that is filled.
 fn answers<N: Naming, R: Wait>(rt: &R, alloc: Global, opened: Opened) -> [u64; 5]
-    requires { Bears opened N.shelves N.config }
+    requires { Bears opened N.shelves N.config N.most }
 {
     let (store, mut desk) = opened.named::<N>();
     [

@@ -1,8 +1,7 @@
 //! What errors say.
 use initial_image::{Misfit, SegmentIndex};
-use module_limits::{Measure, Over};
 use module_store::LoadFault;
-use pool_limits::{BadNumber, Part, PlanFault, Setting};
+use pool_limits::{BadNumber, Measure, Over, Part, PlanFault, Setting};
 
 #[test]
 fn errors_are_told_in_words(rt: HostRuntime) {

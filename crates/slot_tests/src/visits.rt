@@ -4,9 +4,9 @@ ghost use Rattle.slot_words.specs.Owned.{IsNewPassOf, IsPassOf};
 ghost use Rattle.module_store.specs.Names.{Bears};
 
 use crate::stores::{open, register};
-use memory_slots::{MemSlot, give, take};
+use memory_slots::{MemSlot, MemoryPool};
 use module_store::{ModuleRef, ModuleStore, Naming, Opened};
-use slot_words::{Pass, Words};
+use slot_words::Pass;
 use std::alloc::{AllocError, Global};
 use std::marker::Brand;
 use std::process::Abort;
@@ -17,12 +17,10 @@ fn pool_of_three<N: Naming, R: Abort>(
     rt: &R,
     alloc: Global,
     store: &ModuleStore<N>,
-) -> (Words<MemSlot<N>>, Pass<MemSlot<N>>)
+) -> (MemoryPool<N>, Pass<MemSlot<N>>)
     ensures { IsNewPassOf result.0 result.1 }
 {
-    let (pool, mut passes) = slot_pools::open::<MemSlot<N>>(alloc, store, 3, 2, 1).expect(
-        rt, "opened",
-    );
+    let (pool, mut passes) = MemoryPool::open(alloc, store, 3, 2, 1).expect(rt, "opened");
     let pass = passes.pop().unwrap();
     (pool, pass)
 }
@@ -32,7 +30,7 @@ const FULL: u32 = 1_024;
 
 // The number of the memory that is taken for the module and given back, at the last of so many times.
 fn last_of<N: Naming>(
-    pool: &Words<MemSlot<N>>,
+    pool: &MemoryPool<N>,
     pass: &mut Pass<MemSlot<N>>,
     store: &ModuleStore<N>,
     module: &ModuleRef<N>,
@@ -45,18 +43,18 @@ fn last_of<N: Naming>(
 {
     let mut last = FULL;
     for _ in 0..times {
-        let Ok(lease) = take(pool, pass, store, module) else {
+        let Ok(lease) = pool.take(pass, store, module) else {
             return FULL;
         };
         last = lease.number();
-        give(pool, pass, lease, store);
+        pool.give(pass, lease, store);
     }
     last
 }
 
 // The memories of a module, another, the first again and a third, and that of the first at the last of many more visits.
 fn numbers<N: Naming>(
-    pool: &Words<MemSlot<N>>,
+    pool: &MemoryPool<N>,
     pass: &mut Pass<MemSlot<N>>,
     store: &ModuleStore<N>,
     first: &ModuleRef<N>,
@@ -84,7 +82,7 @@ fn numbers_and_kinds<N: Naming, R: Abort + Wait>(
     opened: Opened,
     bytes: &[u8],
 ) -> ([u32; 5], [u32; 3])
-    requires { Bears opened N.shelves N.config }
+    requires { Bears opened N.shelves N.config N.most }
 {
     let (store, mut desk) = opened.named::<N>();
     let first = register(rt, alloc, &store, &mut desk, bytes);

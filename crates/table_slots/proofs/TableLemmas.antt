@@ -6,7 +6,7 @@ use Rattle.wasm_spec.specs.Store.{fresh_store, table_size}
 use Rattle.wasm_spec.proofs.ResultLaws.{length-fresh_table}
 use Rattle.pool_worlds.specs.Contents.{Named, table_image}
 use Rattle.pool_limits.specs.declared.numbers.Numbers.{Numbers}
-use Rattle.module_limits.specs.Limits.{load_limits}
+use Rattle.pool_limits.specs.Limits.{load_limits}
 use Rattle.loaded_modules.specs.Within.{IsWithin}
 use Rattle.table_slots.specs.Kept.{IsKeptTable}
 

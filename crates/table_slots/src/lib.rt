@@ -4,6 +4,6 @@
 mod pool;
 mod slot;
 
-pub use pool::{give, take};
+pub use pool::TablePool;
 pub use slot::TableSlot;
 pub use slot_pools::Full;

@@ -67,7 +67,7 @@ fn close_one<N: Naming, R: Abort>(
 }
 
 fn check<N: Naming, R: Abort + Wait>(rt: &R, alloc: Global, opened: Opened)
-    requires { Bears opened N.shelves N.config }
+    requires { Bears opened N.shelves N.config N.most }
 {
     let (store, module) = one_module::<N, R>(rt, alloc, opened);
     let (host, mut passes) = Host::open(alloc, &store, SHARE, 1).expect(rt, "opened");

@@ -19,7 +19,7 @@ pub(crate) fn one_module<N: Naming, R: Abort + Wait>(
     alloc: Global,
     opened: Opened,
 ) -> (ModuleStore<N>, ModuleRef<N>)
-    requires { Bears opened N.shelves N.config }
+    requires { Bears opened N.shelves N.config N.most }
 {
     let (store, mut desk) = opened.named::<N>();
     let bytes = BUMP.as_slice();

@@ -123,7 +123,7 @@ fn held<N: Naming + Send + Sync, R: Abort + Threads + Wait + Sync>(
     opened: Opened,
     plan: &Plan,
 ) -> (Answer, (Answer, Answer))
-    requires bears { Bears opened N.shelves N.config }
+    requires bears { Bears opened N.shelves N.config N.most }
     requires plan { plan.now.0 ≡ N.config }
     requires tenants { length plan.now.1 ≡ 2 }
 {

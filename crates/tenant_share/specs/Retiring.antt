@@ -1,5 +1,5 @@
 -- What a caller's passes are after a module was retired.
-use Rattle.std.specs.Prelude.{◌≡◌, ◌≢◌, ℕ, slice_get}
+use Rattle.std.specs.Prelude.{◌≡◌, ◌≢◌, ℕ, Some, slice_get}
 use Rattle.retired_tags.specs.Passes.{steps}
 use Rattle.retired_tags.specs.Steps.{Knows}
 use Rattle.module_store.specs.declared.naming.Naming.{Ghosts}
@@ -11,6 +11,7 @@ use Rattle.pool_host.specs.declared.retiring.Retire.TheVariants.{Already}
 use Rattle.pool_host.specs.Looks.{SetsBit}
 use Rattle.pool_host.specs.Retiring.{is_already, Sweeps}
 use Rattle.tenant_share.specs.declared.passes.Caller.{Caller}
+use Rattle.tenant_share.specs.declared.passes.TenantPass.{TenantPass}
 use Rattle.tenant_share.specs.declared.share_host.ShareHost.{ShareHost}
 use Rattle.tenant_share.specs.Tenants.{OnTenant}
 
@@ -35,3 +36,7 @@ module _ {N : Type 0} {G : Ghosts N} where
   -- so did each of them
   abbrev pub RetiredForAll : ShareHost N → Named → (was now : Caller N G) → Type 0
   RetiredForAll share m was now = (tenant : ℕ) → HasRetired share m tenant was now
+
+  -- each pass of a caller knows that the module of this tag is retired
+  abbrev pub CallerKnows : (tag : ℕ) → Caller N G → Type 0
+  CallerKnows tag caller = (tenant : ℕ) (pass : TenantPass N G) → slice_get caller.passes.items tenant ≡ Some pass → Knows tag (steps pass.pass.retired)

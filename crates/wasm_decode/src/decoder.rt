@@ -23,14 +23,12 @@ use wasm_values::{Items, Profile};
 // The magic bytes and the version.
 const HEADER: [u8; 8] = [0x00, 0x61, 0x73, 0x6D, 0x01, 0x00, 0x00, 0x00];
 
-/// The module whose tree these bytes spell in a profile (`Spells`). Nothing recurses on the bytes, and the memory that is taken
-/// grows with those that have been read. Source: Core Specification 1.0, section 5.5.15; for the data count section version
-/// 2.0, section 5.5.16.
+/// The module whose tree these bytes spell in a profile (`Spells`). Source: Core Specification 1.0, section 5.5.15; for the data
+/// count section version 2.0, section 5.5.16.
 ///
 /// # Errors
 ///
-/// `Malformed` exactly where the bytes spell no module; `NoMemory` only where memory was refused, and never before a section
-/// behind the header has been read.
+/// `Malformed` only where the bytes spell no module; `NoMemory` only where a section stands behind the header.
 pub fn decode(alloc: Global, profile: Profile, bytes: &[u8]) -> Result<Module, DecodeFault>
     ensures read { Decodes (Spells profile bytes.now) module_tree result }
     ensures wanted { IsErrOf result DecodeFault.NoMemory → WantsModule bytes.now }

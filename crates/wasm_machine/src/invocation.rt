@@ -1,5 +1,5 @@
 //! A function's run, from its beginning to its end or in slices.
-ghost use Rattle.std.specs.Prelude.{◌≡◌, ℕ, ◌+◌, ◌-◌, ◌*◌, ◌<◌, ◌≤◌, ◌^◌, List, Option, Some, IsSome, length, map, option_and_then, reverse, slice_get};
+ghost use Rattle.std.specs.Prelude.{◌≡◌, ℕ, ◌+◌, ◌-◌, ◌*◌, ◌<◌, ◌≤◌, ◌^◌, List, Option, Some, IsSome, is_some, length, map, option_and_then, reverse, slice_get};
 ghost use Rattle.wasm_values.specs.declared.outcome.Val.{Val as AVal};
 ghost use Rattle.wasm_types.specs.declared.limits.RunLimits.{RunLimits as Limits};
 ghost use Rattle.wasm_types.specs.declared.instr.Width.TheVariants.{W32};
@@ -14,11 +14,12 @@ ghost use Rattle.wasm_spec.specs.Instances.{room_for};
 ghost use Rattle.wasm_spec.specs.Result.{CallResult, function_result, result_of, run_function};
 ghost use Rattle.linear_memory.specs.Bytes.{IsMemory};
 ghost use Rattle.memory_blocks.specs.Blocks.{KeepsUnmarked};
-ghost use Rattle.linear_memory.specs.Marks.{HasSameRoom, MarksChanges, count_marks};
+ghost use Rattle.linear_memory.specs.Marks.{HasSameRoom, count_marks};
 ghost use Rattle.machine_steps.specs.Lent.{store_of};
 ghost use Rattle.machine_steps.specs.StackLayout.{KeepsRoom};
+ghost use Rattle.machine_steps.specs.WrittenParts.{MarksIf, part_read};
 ghost use Rattle.wasm_machine.specs.Calls.{FitsFrame, GivesOutside, IsCall, IsOwnCall, IsDone, outside};
-ghost use Rattle.wasm_machine.specs.Lent.{MarksWithin, lent_store, others};
+ghost use Rattle.wasm_machine.specs.Lent.{MarksWithin, lent_store, others, run_store, run_terms};
 ghost use Rattle.wasm_machine.specs.Resuming.{CanResume, HasEnded, IsOutOfFuel, Resumes};
 ghost use Rattle.wasm_machine.specs.Simulation.{Simulates, after};
 ghost use Rattle.wasm_machine.specs.TypedConfiguration.{IsRunnable, IsTypedStore};
@@ -33,6 +34,16 @@ use machine_steps::{Machine, append_memory, copy_request};
 use wasm_types::{HostFunction, Module, RunLimits};
 use wasm_validate::Valid;
 use wasm_values::{Outcome, TrapKind, Val};
+
+/// What a run reads and does not change: the module, the limits of its pages and its depth, the request of at most 65,536 bytes, and
+/// the table, in which an entry is a function's number or none.
+#[derive(Clone, Copy)]
+pub struct RunInputs<'a> {
+    pub valid: &'a Valid,
+    pub limits: RunLimits,
+    pub request: &'a [u8],
+    pub table: &'a [Option<u32>],
+}
 
 /// How a run ended, and the fuel that it left.
 #[derive(Clone, Copy, Debug, PartialEq, Eq)]
@@ -67,7 +78,7 @@ fn host_from_outside(
         → GivesOutside (host_call request.now function (outside args.now (store_of memory.old table globals answer.old))) result
         (store_of memory.new table globals answer.new) }
     ensures memory { (most : ℕ) → IsMemory most memory.old → IsMemory most memory.new }
-    ensures marks { (added : ℕ) × MarksChanges memory.old memory.new added }
+    ensures marks { MarksIf (is_some result) (part_read request.now function (reverse args.now)) memory.old memory.new }
 {
     match function {
         HostFunction::Len => Some(request.len() as u32),
@@ -105,7 +116,7 @@ fn run_import(
     ensures ended { HasEnded result.outcome }
     ensures left { result.left ≡ fuel }
     ensures memory { (most : ℕ) → IsMemory most memory.old → IsMemory most memory.new }
-    ensures marks { (added : ℕ) × MarksChanges memory.old memory.new added }
+    ensures marks { MarksWithin m.now memory.old memory.new 0 }
 {
     let function = match host_of(m, x) {
         Some(function) => function,
@@ -200,55 +211,52 @@ impl Stacks {
     /// others meanwhile. It takes no memory.
     pub fn advance(
         &mut self,
-        valid: &Valid,
+        inputs: &RunInputs<'_>,
         fuel: u64,
-        limits: RunLimits,
         memory: &mut Memory,
-        table: &[Option<u32>],
         globals: &mut [Val],
-        request: &[u8],
         answer: &mut AnswerBuf,
     ) -> RunEnd
-        requires resumes { CanResume valid.now (terms limits request.now) self.old (lent_store valid.now memory.old table.now globals.old answer.old) }
-        requires frame { FitsFrame valid.now self.old.room.frame }
-        requires memory { IsMemory (room_for valid.now.memories limits.pages) memory.old }
-        requires request { length request.now ≤ 65536 }
+        requires resumes { CanResume inputs.now.valid.now (run_terms inputs.now) self.old (run_store inputs.now memory.old globals.old answer.old) }
+        requires frame { FitsFrame inputs.now.valid.now self.old.room.frame }
+        requires memory { IsMemory (room_for inputs.now.valid.now.memories inputs.now.limits.pages) memory.old }
+        requires request { length inputs.now.request.now ≤ 65536 }
         ensures result { (r : ℕ → Ended)
-            → Resumes valid.now (terms limits request.now) self.old (lent_store valid.now memory.old table.now globals.old answer.old) r
+            → Resumes inputs.now.valid.now (run_terms inputs.now) self.old (run_store inputs.now memory.old globals.old answer.old) r
             → result_of (r fuel)
-            ≡ Some (record { outcome = result.outcome; store = lent_store valid.now memory.new table.now globals.new answer.new; fuel = result.left }) }
+            ≡ Some (record { outcome = result.outcome; store = run_store inputs.now memory.new globals.new answer.new; fuel = result.left }) }
         ensures ended { HasEnded result.outcome → (r : ℕ → Ended)
-            → Resumes valid.now (terms limits request.now) self.old (lent_store valid.now memory.old table.now globals.old answer.old) r
+            → Resumes inputs.now.valid.now (run_terms inputs.now) self.old (run_store inputs.now memory.old globals.old answer.old) r
             → (more : ℕ) → result_of (r (fuel - result.left + more))
-            ≡ Some (record { outcome = result.outcome; store = lent_store valid.now memory.new table.now globals.new answer.new; fuel = more }) }
+            ≡ Some (record { outcome = result.outcome; store = run_store inputs.now memory.new globals.new answer.new; fuel = more }) }
         ensures stands { IsOutOfFuel result.outcome → (r : ℕ → Ended)
-            → Resumes valid.now (terms limits request.now) self.old (lent_store valid.now memory.old table.now globals.old answer.old) r
-            → Resumes valid.now (terms limits request.now) self.new (lent_store valid.now memory.new table.now globals.new answer.new) (after fuel r) }
+            → Resumes inputs.now.valid.now (run_terms inputs.now) self.old (run_store inputs.now memory.old globals.old answer.old) r
+            → Resumes inputs.now.valid.now (run_terms inputs.now) self.new (run_store inputs.now memory.new globals.new answer.new) (after fuel r) }
         ensures left { result.left ≤ fuel }
-        ensures memory { IsMemory (room_for valid.now.memories limits.pages) memory.new }
-        ensures store { IsDone result.outcome → IsTypedStore valid.now (lent_store valid.now memory.new table.now globals.new answer.new) }
+        ensures memory { IsMemory (room_for inputs.now.valid.now.memories inputs.now.limits.pages) memory.new }
+        ensures store { IsDone result.outcome → IsTypedStore inputs.now.valid.now (run_store inputs.now memory.new globals.new answer.new) }
 
         ensures marked { (r : ℕ → Ended)
-            → Resumes valid.now (terms limits request.now) self.old (lent_store valid.now memory.old table.now globals.old answer.old) r
+            → Resumes inputs.now.valid.now (run_terms inputs.now) self.old (run_store inputs.now memory.old globals.old answer.old) r
             → (turns : ℕ) (x : CallResult) → turns ≤ fuel → result_of (r turns) ≡ Some x
             → KeepsUnmarked memory.old.bytes.items x.store.memory memory.old.marks.items memory.new.marks.items }
         ensures unspent { result.left ≡ fuel → memory.new.marks.items ≡ memory.old.marks.items }
-        ensures marks { MarksWithin valid.now memory.old memory.new (2 * (fuel - result.left)) }
+        ensures marks { MarksWithin inputs.now.valid.now memory.old memory.new (2 * (fuel - result.left)) }
 
         ensures globals { length globals.new ≡ length globals.old }
-        ensures others { others valid.now globals.new ≡ others valid.now globals.old }
+        ensures others { others inputs.now.valid.now globals.new ≡ others inputs.now.valid.now globals.old }
         ensures stacks { self.new.room ≡ self.old.room }
     {
-        let m = valid.module();
+        let m = inputs.valid.module();
         let count = m.globals.len();
-        let inputs = Inputs {
+        let inner = Inputs {
             m,
-            limits,
-            request,
-            table,
+            limits: inputs.limits,
+            request: inputs.request,
+            table: inputs.table,
         };
         go_on(
-            &inputs,
+            &inner,
             fuel,
             memory,
             &mut globals[..count],
@@ -262,59 +270,56 @@ impl Stacks {
     /// gone. It takes no memory.
     pub fn invoke(
         &mut self,
-        valid: &Valid,
+        inputs: &RunInputs<'_>,
         function: u32,
         args: &[Val],
         fuel: u64,
-        limits: RunLimits,
         memory: &mut Memory,
-        table: &[Option<u32>],
         globals: &mut [Val],
-        request: &[u8],
         answer: &mut AnswerBuf,
     ) -> RunEnd
-        requires call { IsCall valid.now function args.now }
-        requires depth { 0 < limits.depth }
-        requires memory { IsMemory (room_for valid.now.memories limits.pages) memory.old }
-        requires store { IsTypedStore valid.now (lent_store valid.now memory.old table.now globals.old answer.old) }
-        requires request { length request.now ≤ 65536 }
-        requires frames { limits.depth ≤ self.old.room.depth }
-        requires frame { FitsFrame valid.now self.old.room.frame }
-        ensures result { function_result (module_tree valid.now) (terms limits request.now) function args.now
-            (lent_store valid.now memory.old table.now globals.old answer.old) fuel
-            ≡ Some (record { outcome = result.outcome; store = lent_store valid.now memory.new table.now globals.new answer.new; fuel = result.left }) }
+        requires call { IsCall inputs.now.valid.now function args.now }
+        requires depth { 0 < inputs.now.limits.depth }
+        requires memory { IsMemory (room_for inputs.now.valid.now.memories inputs.now.limits.pages) memory.old }
+        requires store { IsTypedStore inputs.now.valid.now (run_store inputs.now memory.old globals.old answer.old) }
+        requires request { length inputs.now.request.now ≤ 65536 }
+        requires frames { inputs.now.limits.depth ≤ self.old.room.depth }
+        requires frame { FitsFrame inputs.now.valid.now self.old.room.frame }
+        ensures result { function_result (module_tree inputs.now.valid.now) (run_terms inputs.now) function args.now
+            (run_store inputs.now memory.old globals.old answer.old) fuel
+            ≡ Some (record { outcome = result.outcome; store = run_store inputs.now memory.new globals.new answer.new; fuel = result.left }) }
         ensures ended { HasEnded result.outcome → (more : ℕ)
-            → function_result (module_tree valid.now) (terms limits request.now) function args.now
-            (lent_store valid.now memory.old table.now globals.old answer.old) (fuel - result.left + more)
-            ≡ Some (record { outcome = result.outcome; store = lent_store valid.now memory.new table.now globals.new answer.new; fuel = more }) }
+            → function_result (module_tree inputs.now.valid.now) (run_terms inputs.now) function args.now
+            (run_store inputs.now memory.old globals.old answer.old) (fuel - result.left + more)
+            ≡ Some (record { outcome = result.outcome; store = run_store inputs.now memory.new globals.new answer.new; fuel = more }) }
         ensures stands { IsOutOfFuel result.outcome
-            → Resumes valid.now (terms limits request.now) self.new (lent_store valid.now memory.new table.now globals.new answer.new)
-            (after fuel (run_function (module_tree valid.now) (terms limits request.now) function args.now
-            (lent_store valid.now memory.old table.now globals.old answer.old))) }
+            → Resumes inputs.now.valid.now (run_terms inputs.now) self.new (run_store inputs.now memory.new globals.new answer.new)
+            (after fuel (run_function (module_tree inputs.now.valid.now) (run_terms inputs.now) function args.now
+            (run_store inputs.now memory.old globals.old answer.old))) }
         ensures left { result.left ≤ fuel }
-        ensures memory { IsMemory (room_for valid.now.memories limits.pages) memory.new }
-        ensures store { IsDone result.outcome → IsTypedStore valid.now (lent_store valid.now memory.new table.now globals.new answer.new) }
+        ensures memory { IsMemory (room_for inputs.now.valid.now.memories inputs.now.limits.pages) memory.new }
+        ensures store { IsDone result.outcome → IsTypedStore inputs.now.valid.now (run_store inputs.now memory.new globals.new answer.new) }
 
         ensures marked { (turns : ℕ) (r : CallResult) → turns ≤ fuel
-            → function_result (module_tree valid.now) (terms limits request.now) function args.now
-            (lent_store valid.now memory.old table.now globals.old answer.old) turns ≡ Some r
+            → function_result (module_tree inputs.now.valid.now) (run_terms inputs.now) function args.now
+            (run_store inputs.now memory.old globals.old answer.old) turns ≡ Some r
             → KeepsUnmarked memory.old.bytes.items r.store.memory memory.old.marks.items memory.new.marks.items }
-        ensures unspent { length valid.now.imports ≤ function → result.left ≡ fuel → memory.new.marks.items ≡ memory.old.marks.items }
+        ensures unspent { length inputs.now.valid.now.imports ≤ function → result.left ≡ fuel → memory.new.marks.items ≡ memory.old.marks.items }
         ensures still { IsOutOfFuel result.outcome → result.left ≡ fuel → memory.new.marks.items ≡ memory.old.marks.items }
-        ensures marks { MarksWithin valid.now memory.old memory.new (2 * (fuel - result.left)) }
+        ensures marks { MarksWithin inputs.now.valid.now memory.old memory.new (2 * (fuel - result.left)) }
 
         ensures globals { length globals.new ≡ length globals.old }
-        ensures others { others valid.now globals.new ≡ others valid.now globals.old }
+        ensures others { others inputs.now.valid.now globals.new ≡ others inputs.now.valid.now globals.old }
         ensures stacks { self.new.room ≡ self.old.room }
     {
-        let m = valid.module();
+        let m = inputs.valid.module();
         let x = function as usize;
         let imported = m.imports.len();
         if x < imported {
-            return run_import(m, x, args, fuel, request, memory, answer);
+            return run_import(m, x, args, fuel, inputs.request, memory, answer);
         }
-        self.begin(valid, x - imported, args);
-        self.advance(valid, fuel, limits, memory, table, globals, request, answer)
+        self.begin(inputs.valid, x - imported, args);
+        self.advance(inputs, fuel, memory, globals, answer)
     }
 }
 
@@ -366,7 +371,11 @@ pub fn run(
     ensures others { others valid.now globals.new ≡ others valid.now globals.old }
     ensures stacks { stacks.new.room ≡ stacks.old.room }
 {
-    stacks.invoke(
-        valid, function, args, fuel, limits, memory, table, globals, request, answer,
-    )
+    let inputs = RunInputs {
+        valid,
+        limits,
+        request,
+        table,
+    };
+    stacks.invoke(&inputs, function, args, fuel, memory, globals, answer)
 }

@@ -9,7 +9,7 @@ mod lookup;
 mod running;
 mod stacks;
 
-pub use invocation::{RunEnd, run};
+pub use invocation::{RunEnd, RunInputs, run};
 pub use linear_memory::Memory;
 pub use stacks::Stacks;
 pub use wasm_types::RunLimits;

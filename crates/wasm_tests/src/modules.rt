@@ -1,6 +1,7 @@
 //! Bytes that spell modules and bytes that spell none, modules that are valid and such that are refused, and a deep one.
 
 use std::alloc::{AllocError, Global};
+use std::fs;
 use std::test::Fail;
 use wasm_decode::{DecodeFault, decode};
 use wasm_validate::{ValidFault, validate};
@@ -195,6 +196,42 @@ fn bytes_are_modules_as_another_engine_says(rt: HostRuntime) -> Result<(), Fail>
     for (after, one, two) in SPELLED {
         assert_eq!(rt; spells(rt.alloc(), Profile::One, after)?, *one, "{after:?}");
         assert_eq!(rt; spells(rt.alloc(), Profile::Two, after)?, *two, "{after:?}");
+    }
+    Ok(())
+}
+
+// The most KiB of addresses that the process ever had at once.
+fn most_addresses(rt: &HostRuntime) -> Result<u64, Fail> {
+    let status = fs::read_to_string(rt, "/proc/self/status")?;
+    let mut words = status.split_whitespace();
+    for word in words.by_ref() {
+        if word == "VmPeak:" {
+            break;
+        }
+    }
+    Ok(words.next().ok_or("no VmPeak")?.parse()?)
+}
+
+// What follows the magic bytes and the version. It claims 4,294,967,295 types or labels, and has one or two.
+const CLAIMED: &[&[u8]] = &[
+    b"\x01\x08\xff\xff\xff\xff\x0f\x60\0\0",
+    b"\x01\x0b\xff\xff\xff\xff\x0f\x60\0\0\x60\0\0",
+    b"\x01\x04\x01\x60\0\0\x03\x02\x01\0\x0a\x0a\x01\x08\0\x0e\xff\xff\xff\xff\x0f\0",
+    b"\x01\x04\x01\x60\0\0\x03\x02\x01\0\x0a\x0b\x01\x09\0\x0e\xff\xff\xff\xff\x0f\0\0",
+];
+
+// Memory for so many would be 4 GiB or more. A refusal would be an error, and what is had counts among the addresses.
+#[test]
+fn a_claimed_count_takes_no_memory(rt: HostRuntime) -> Result<(), Fail> {
+    for after in CLAIMED {
+        let before = most_addresses(&rt)?;
+        assert_eq!(rt;
+            spells(rt.alloc(), Profile::One, after)?,
+            false,
+            "{after:?}"
+        );
+        let more = most_addresses(&rt)?.saturating_sub(before);
+        assert!(rt; more < 1_048_576, "{more} KiB: {after:?}");
     }
     Ok(())
 }

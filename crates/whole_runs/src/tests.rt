@@ -162,7 +162,7 @@ const BUMP_CALL: &str = "call bump bump 100\n";
 const POKE_CALL: &str = "call poke poke 100 i32:0 i32:-1\n";
 
 // Calls of two modules, of which the one overwrites what the other counts in: in one memory, decommitted at once, and in two that
-// await their decommit.
+// await their decommit, of one worker and of four.
 #[test]
 fn two_modules_share_memories(rt: HostRuntime) -> Result<(), Fail> {
     let alloc = rt.alloc();
@@ -174,6 +174,11 @@ fn two_modules_share_memories(rt: HostRuntime) -> Result<(), Fail> {
         ),
         (
             "poolhost run --memories 2 --warm 1 --batch 8",
+            [BUMP_CALL, POKE_CALL, BUMP_CALL, ""],
+            "module bump ok\nmodule poke ok\n1 ok i32:1\n2 ok\n3 ok i32:1\n",
+        ),
+        (
+            "poolhost run --workers 4 --memories 2 --warm 1 --batch 8",
             [BUMP_CALL, POKE_CALL, BUMP_CALL, ""],
             "module bump ok\nmodule poke ok\n1 ok i32:1\n2 ok\n3 ok i32:1\n",
         ),

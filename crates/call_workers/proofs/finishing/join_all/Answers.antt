@@ -1,7 +1,8 @@
 use Rattle.std.proofs.Common.{arith, rules}
 use Rattle.std.proofs.lemmas.List.Elements.{All-pop, All-push}
+use Rattle.tenant_share.specs.Retiring.{CallerKnows}
 use Rattle.tenant_share.specs.Tenants.{IsCaller}
-use Rattle.call_workers.specs.Crews.{HasEnded}
+use Rattle.call_workers.specs.Crews.{DoneKnows, HasEnded}
 use Rattle.call_workers.proofs.CrewLemmas.{joined_more}
 use Rattle.call_workers.proofs.finishing.join_all.Goals as goal
 
@@ -16,5 +17,10 @@ loop-one-preserved g c =
           (let len = c.in-Some.ensures.len in let most = i.fewer in omega arith) c.in_ok-put_behind.ensures.ok;
       callers = rw (c.push_reserved.ensures.items, c.reserve.ensures.items) (All-push (IsCaller c.args.shared.now.share) _ _ i.callers one.caller);
       back = search rules;
+      known = λ tag knew ended.
+          let last : DoneKnows tag c.in-Some.one = rw c.in-Some.is at (All-pop (DoneKnows tag) _ _ _ c.pop.ensures.items (i.knowing tag ended)).1 in
+          let knows = rw c.in_ok-made.was at last in
+          rw (c.push_reserved.ensures.items, c.reserve.ensures.items) (All-push (CallerKnows tag) _ _ (i.known tag knew ended) knows);
+      knowing = λ tag ended. (All-pop (DoneKnows tag) _ _ _ c.pop.ensures.items (i.knowing tag ended)).0;
       done = rest.0;
     }

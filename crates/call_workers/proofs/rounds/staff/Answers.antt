@@ -1,8 +1,9 @@
 use Rattle.std.proofs.Common.{false, rules}
 use Rattle.std.proofs.lemmas.List.Elements.{All-pop, All-push}
 use Rattle.job_queue.specs.Passes.{IsNewPassOf}
+use Rattle.tenant_share.specs.Retiring.{CallerKnows}
 use Rattle.tenant_share.specs.Tenants.{IsCaller}
-use Rattle.call_workers.specs.Crews.{IsNewWorker}
+use Rattle.call_workers.specs.Crews.{IsNewWorker, WorkerKnows}
 use Rattle.call_workers.proofs.rounds.staff.Goals as goal
 
 pub loop-own-preserved : goal.loop-own-preserved
@@ -18,5 +19,9 @@ loop-own-preserved g c =
       count = search rules;
       rest = search rules;
       room = search rules;
+      still = λ tag knew. (All-pop (CallerKnows tag) _ _ _ c.pop-in-Some.ensures.items (i.still tag knew)).0;
+      known = λ tag knew.
+          let knows = rw c.unwrap-caller.ensures at (All-pop (CallerKnows tag) _ _ _ c.pop-in-Some.ensures.items (i.still tag knew)).1 in
+          rw c.push_reserved.ensures.items (All-push (WorkerKnows tag) _ _ (i.known tag knew) knows);
       workers = rw c.push_reserved.ensures.items (All-push (IsNewWorker c.args.shared.now.share c.args.jobs.now) _ _ i.workers (record { caller = caller; own = own }));
     }

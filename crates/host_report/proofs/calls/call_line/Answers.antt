@@ -1,6 +1,7 @@
 use Rattle.std.proofs.Common.{◌∙◌, List, ℕ, ap}
 use Rattle.std.specs.Prelude.{Option}
 use Rattle.retired_tags.specs.Passes.{steps}
+use Rattle.tenant_share.proofs.RetiringLemmas.{still_knows}
 use Rattle.request_text.specs.Invocations.{shown_of}
 use Rattle.host_report.specs.Put.{module_of}
 use Rattle.host_report.specs.Report.{answer_line, limits_in}
@@ -21,3 +22,21 @@ returns-then-retired-clause-line g c = λ profile bytes h. rw c.if-retired.true 
 
 pub returns-in-Err-clause-line : goal.returns-in-Err-clause-line
 returns-in-Err-clause-line g c = λ profile bytes h. refused_call (limits_in profile g.N.Naming.config) bytes _ _ _ _ c.in-Err.is h
+
+pub returns-in_ok-shown-in-Ok-clause-made : goal.returns-in_ok-shown-in-Ok-clause-made
+returns-in_ok-shown-in-Ok-clause-made g c = rw c.in-Ok.is (record { answer = c.send-answer.result; trails = c.send-answer.ensures.trails; looked = c.send-answer.ensures.looked })
+
+pub returns-in_ok-shown-in-Ok-clause-known : goal.returns-in_ok-shown-in-Ok-clause-known
+returns-in_ok-shown-in-Ok-clause-known g c = λ tag knows. still_knows tag _ _ _ c.send-answer.ensures.looked.same c.send-answer.ensures.looked.step knows
+
+pub returns-then-retired-clause-made : goal.returns-then-retired-clause-made
+returns-then-retired-clause-made g c = rw c.in-Ok.is (record { answer = c.send-answer.result; trails = c.send-answer.ensures.trails; looked = c.send-answer.ensures.looked })
+
+pub returns-then-retired-clause-known : goal.returns-then-retired-clause-known
+returns-then-retired-clause-known g c = λ tag knows. still_knows tag _ _ _ c.send-answer.ensures.looked.same c.send-answer.ensures.looked.step knows
+
+pub returns-in_err-shown-in-Ok-clause-made : goal.returns-in_err-shown-in-Ok-clause-made
+returns-in_err-shown-in-Ok-clause-made g c = rw c.in-Ok.is (record { answer = c.send-answer.result; trails = c.send-answer.ensures.trails; looked = c.send-answer.ensures.looked })
+
+pub returns-in_err-shown-in-Ok-clause-known : goal.returns-in_err-shown-in-Ok-clause-known
+returns-in_err-shown-in-Ok-clause-known g c = λ tag knows. still_knows tag _ _ _ c.send-answer.ensures.looked.same c.send-answer.ensures.looked.step knows

@@ -21,6 +21,7 @@ loop-at-init g c = record {
   lines = c.requires.books.lines;
   lane = refl;
   tags = λ tag has. has;
+  known = λ tag knows. knows;
   left = left_begin _ _ _ _ _ _ _;
 }
 
@@ -44,6 +45,9 @@ call_line-requires-after_bounds g c κs within =
     let there = rw c.deref.ensures.value at c.entry_at-entry.ensures in
     unset_here _ _ _ all c.args.span.from c.loop-at.at _ _ _ _ (steps c.loop-at.lane.pass.retired) c.directives-directives.ensures.lawful c.requires.books.entered.tagged (λ tag has. c.requires.tags tag (c.loop-at.invariant.tags tag has)) c.loop-at.invariant.above here
     c.entry_at-entry.result.now there
+
+pub returns-in_err-line-clause-known : goal.returns-in_err-line-clause-known
+returns-in_err-line-clause-known g c = λ tag knows. c.in_err-line.ensures.known tag (c.loop-at.invariant.known tag knows)
 
 pub returns-in_err-line-clause-tags : goal.returns-in_err-line-clause-tags
 returns-in_err-line-clause-tags g c = λ tag has. c.loop-at.invariant.tags tag (c.in_err-line.ensures.tags tag has)
@@ -95,6 +99,7 @@ loop-at-preserved g c =
             lines = rw (w.number-is, w.board-is) (lines_made limits all c.loop-at.number _ _ i.lines _ _ there (omega (arith, room.1)) (line_of_call limits all c.loop-at.at c.loop-at.number _ _ _ _ _ got i.number_is goes) collected);
             lane = rw w.lane-is (w.in_ok-line.ensures.lane ∙ i.lane);
             tags = rw w.lane-is (λ tag has. i.tags tag (w.in_ok-line.ensures.tags tag has));
+            known = rw w.lane-is (λ tag knows. w.in_ok-line.ensures.known tag (i.known tag knows));
             left = rw (w.number-is, w.board-is, w.lane-is) (left_made _ _ _ _ _ _ _ _ _ _ _ i.left _ _ (part_got all c.loop-at.at c.args.span.to _ test here) _ _ _ _ w.in-Call.is _ _ _ none collected made);
           }
           )
@@ -111,6 +116,7 @@ loop-at-preserved g c =
             lines = rw (w.number-is, w.board-is) (lines_had limits all c.loop-at.number _ _ i.lines line stands);
             lane = rw w.lane-is i.lane;
             tags = rw w.lane-is i.tags;
+            known = rw w.lane-is i.known;
             left = rw (w.number-is, w.board-is, w.lane-is) (left_had _ _ _ _ _ _ _ _ _ _ _ i.left _ _ (part_got all c.loop-at.at c.args.span.to _ test here) _ _ _ _ w.in-Call.is line stands);
           }
           )
@@ -123,6 +129,7 @@ loop-at-preserved g c =
             lines = rw (w.number-is, w.board-is) i.lines;
             lane = rw w.lane-is i.lane;
             tags = rw w.lane-is i.tags;
+            known = rw w.lane-is i.known;
             left = rw (w.number-is, w.board-is, w.lane-is) (left_other _ _ _ _ _ _ _ _ _ _ _ i.left _ _ (part_got all c.loop-at.at c.args.span.to _ test here) w.in_default.not-Call);
           }
           )

@@ -1,6 +1,6 @@
 use Rattle.std.proofs.Common.{◌≡◌, ◌≤◌, ℕ, drop, take}
 use Rattle.retired_tags.specs.Passes.{steps}
-use Rattle.retired_tags.specs.Steps.{HasSet}
+use Rattle.retired_tags.specs.Steps.{HasSet, Knows}
 use Rattle.request_text.specs.Text.{call_count}
 use Rattle.host_report.specs.Report.{limits_in}
 use Rattle.host_report.specs.Rounds.{HasLines, calls_to, directives_in}
@@ -15,6 +15,7 @@ invariant-loop-at g l = record {
   lines : HasLines (limits_in l.fn.requests.profile g.N.Naming.config) l.fn.requests.directives l.number (calls_to l.fn.requests.directives l.fn.span) l.board;
   lane : l.lane.host ≡ l.initial.lane.host;
   tags : (tag : ℕ) → HasSet tag (steps l.lane.pass.retired) → HasSet tag (steps l.initial.lane.pass.retired);
+  known : (tag : ℕ) → Knows tag (steps l.initial.lane.pass.retired) → Knows tag (steps l.lane.pass.retired);
   left : LeftSoFar g.N.Naming.config l.initial.lane.host l.registry.entries.items l.fn.span.calls (directives_in l.fn.requests.directives l.fn.span)
-      (drop l.at (take l.fn.span.to l.fn.requests.directives)) l.number l.initial.board l.board l.initial.lane.pass.passes l.lane.pass.passes;
+      (drop l.at (take l.fn.span.to l.fn.requests.directives)) l.number l.initial.board l.board l.initial.lane.pass l.lane.pass;
 }

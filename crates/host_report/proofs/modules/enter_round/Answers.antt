@@ -15,7 +15,7 @@ enter-requires g c =
     let within = c.requires.span.within in
     let test = c.loop-at-test.true in
     let here = got_item all c.loop-at.at _ (omega arith) (rw c.directives-directives.ensures.all at c.index-directives-at.is) ∙ ap (λ (d : Directive). Some d) c.in-Module.is in
-    room_for_module (limits_in c.args.requests.now.profile g.N.Naming.config) all c.loop-at.at _ _ c.loop-at.invariant.entered _ _ _ c.directives-directives.ensures.lawful here
+    room_for_module (limits_in c.args.requests.now.profile g.N.Naming.config) all c.loop-at.at _ _ c.loop-at.invariant.entered _ _ here
 
 pub loop-at-preserved : goal.loop-at-preserved
 loop-at-preserved g c =

@@ -22,7 +22,7 @@ enter-requires g c =
     let within = c.requires.span_is.within in
     let test = c.loop-at-test.true in
     let here = got_item all c.loop-at.at _ (omega arith) (rw c.directives-directives.ensures.all at c.index-directives-at.is) ∙ ap (λ (d : Directive). Some d) c.in-Module.is in
-    room_for_module (limits_in c.args.requests.now.profile g.N.Naming.config) all c.loop-at.at _ _ c.loop-at.invariant.entered _ _ _ c.directives-directives.ensures.lawful here
+    room_for_module (limits_in c.args.requests.now.profile g.N.Naming.config) all c.loop-at.at _ _ c.loop-at.invariant.entered _ _ here
 
 pub returns-in_err-enter-in-Module-clause-many : goal.returns-in_err-enter-in-Module-clause-many
 returns-in_err-enter-in-Module-clause-many g c = puts_many c.args.requests.now.directives c.args.span c.requires.span_is _ _ _ _ _ c.loop-at.invariant.left c.loop-at.invariant.within

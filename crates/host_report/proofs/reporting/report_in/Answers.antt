@@ -9,12 +9,14 @@ pub lines-requires-clause-all : goal.lines-requires-clause-all
 lines-requires-clause-all g c =
     let limits = limits_in c.args.requests.now.profile g.N.Naming.config in
     let all = c.args.requests.now.directives in
-    let told = all_told limits (modules_of all) all _ (lines_all limits all _ _ _ refl c.in_ok-registry.ensures.lines) in
+    let closed = rw (← c.into_books-registry.ensures) at c.in_ok-made.ensures.books in
+    let told = all_told limits (modules_of all) all _ (lines_all limits all _ _ _ refl closed.lines) in
     rw (c.deref_mut.ensures.value, c.into_lines-board.ensures) told.all
 
 pub lines-requires-clause-right : goal.lines-requires-clause-right
 lines-requires-clause-right g c =
     let limits = limits_in c.args.requests.now.profile g.N.Naming.config in
     let all = c.args.requests.now.directives in
-    let told = all_told limits (modules_of all) all _ (lines_all limits all _ _ _ refl c.in_ok-registry.ensures.lines) in
+    let closed = rw (← c.into_books-registry.ensures) at c.in_ok-made.ensures.books in
+    let told = all_told limits (modules_of all) all _ (lines_all limits all _ _ _ refl closed.lines) in
     rw (c.deref_mut.ensures.value, c.into_lines-board.ensures) told.right

@@ -1,11 +1,12 @@
 use Rattle.std.proofs.Common.{◌∙◌, Some, ap, sym, refl, arith}
 use Rattle.std.proofs.lemmas.Option.{same_Some}
 use Rattle.retired_tags.specs.Passes.{steps}
+use Rattle.tenant_share.proofs.RetiringLemmas.{still_knows}
 use Rattle.host_report.specs.Entries.{Entry}
 use Rattle.host_report.specs.Report.{limits_in}
 use Rattle.host_report.proofs.EntryLemmas.{many_entries}
 use Rattle.host_report.proofs.PlaceLemmas.{placed_retire}
-use Rattle.host_report.proofs.RunLemmas.{crew_none, lane_later, lane_retired, ready_retired, run_further, same_module}
+use Rattle.host_report.proofs.RunLemmas.{crew_knows, crew_none, lane_later, lane_retired, no_crew_knows, ready_retired, run_further, same_module}
 use Rattle.host_report.proofs.rounds.retire.Goals as goal
 use Rattle.host_report.proofs.rounds.retire.Goals.{in-Ok+in-Some, in-Ok+in_default-crew, in_default}
 
@@ -19,33 +20,57 @@ pub returns-clause-run : goal.returns-clause-run
 returns-clause-run g c =
     let r = c.requires.run in
     let line = c.requires.line in
-    let there = rw c.deref.ensures.value at c.entry_at.ensures in
-    elim c.match-entry_at.branch [
-      | in-Ok+in-Some w ↦ rw w.run-is (run_further _ _ _ _ _ _ _ r line.1
-          (lane_retired c.args.run.now.lane.host.retired.tags _ _ _ c.args.place c.requires.line.0 w.in-Ok.module c.args.run.now.lane.pass.retired w.retire.new.self.pass.retired _ r.lane line.1 (there ∙ ap (λ (e : Entry). Some e) w.in-Ok.is) w.retire.ensures.bit)
-          (ready_retired _ _ _ _ _ r.crew w.in-Some.is w.retire_for_each.ensures.callers w.retire_for_each.ensures.retired refl))
-      | in-Ok+in_default-crew w ↦ rw w.run-is (run_further _ _ _ _ _ _ _ r line.1
-          (lane_retired c.args.run.now.lane.host.retired.tags _ _ _ c.args.place c.requires.line.0 w.in-Ok.module c.args.run.now.lane.pass.retired w.retire.new.self.pass.retired _ r.lane line.1 (there ∙ ap (λ (e : Entry). Some e) w.in-Ok.is) w.retire.ensures.bit) r.crew)
-      | in_default w ↦ rw w.run-is (run_further _ _ _ _ _ _ _ r line.1 (lane_later _ _ _ (steps c.args.run.now.lane.pass.retired) r.lane) r.crew)
-    ]
-
-pub returns-clause-retired : goal.returns-clause-retired
-returns-clause-retired g c = λ m got.
+    let entries = c.args.run.now.books.registry.entries.items in
     let there = rw c.deref.ensures.value at c.entry_at.ensures in
     elim c.match-entry_at.branch [
       | in-Ok+in-Some w ↦ (
-          let same = same_module c.args.run.now.books.registry.entries.items c.args.place _ m _ there got w.in-Ok.is in
-          rw (w.run-is, same, w.in-Some.is) (record {
-            lane = record { how = w.retire.result; bit = w.retire.ensures.bit; known = w.retire.ensures.known; known_before = w.retire.ensures.before; sweeps = w.retire.ensures.sweeps };
-            crew = w.retire_for_each.ensures.retired;
-          })
+          let bit = w.retire.ensures.bit in
+          let accepted = there ∙ ap (λ (e : Entry). Some e) w.in-Ok.is in
+          rw w.run-is (run_further _ _ _ _ _ _ _ r line.1 w.retire.ensures.same.0
+          (ready_retired _ _ _ _ _ _ r.crew w.in-Some.is w.retire_for_each.ensures.callers w.retire_for_each.ensures.retired refl)
+          (lane_retired c.args.run.now.lane.host.retired.tags _ _ _ c.args.place c.requires.line.0 w.in-Ok.module c.args.run.now.lane.pass.retired w.retire.new.self.pass.retired _ r.retired line.1 accepted bit)
+          (λ tag knew. record { lane = still_knows tag _ _ _ bit.same bit.step knew.lane; crew = crew_knows tag _ w.in-Some.crew (record { shared = w.in-Some.crew.shared; callers = w.retire_for_each.new.callers }) w.in-Some.is w.retire_for_each.ensures.still knew.crew })
+          (λ m got. rw (same_module entries c.args.place _ m _ there got w.in-Ok.is) (record { lane = w.retire.ensures.known; crew = w.retire_for_each.ensures.known })))
           )
       | in-Ok+in_default-crew w ↦ (
-          let same = same_module c.args.run.now.books.registry.entries.items c.args.place _ m _ there got w.in-Ok.is in
-          rw (w.run-is, same) (record {
-            lane = record { how = w.retire.result; bit = w.retire.ensures.bit; known = w.retire.ensures.known; known_before = w.retire.ensures.before; sweeps = w.retire.ensures.sweeps };
-            crew = crew_none _ _ w.in_default-crew.not-Some;
-          })
+          let bit = w.retire.ensures.bit in
+          let accepted = there ∙ ap (λ (e : Entry). Some e) w.in-Ok.is in
+          rw w.run-is (run_further _ _ _ _ _ _ _ r line.1 w.retire.ensures.same.0 r.crew
+          (lane_retired c.args.run.now.lane.host.retired.tags _ _ _ c.args.place c.requires.line.0 w.in-Ok.module c.args.run.now.lane.pass.retired w.retire.new.self.pass.retired _ r.retired line.1 accepted bit)
+          (λ tag knew. record { lane = still_knows tag _ _ _ bit.same bit.step knew.lane; crew = knew.crew })
+          (λ m got. rw (same_module entries c.args.place _ m _ there got w.in-Ok.is) (record { lane = w.retire.ensures.known; crew = no_crew_knows _ _ w.in_default-crew.not-Some })))
           )
-      | in_default w ↦ absurd (w.in_default.not-Ok m (same_Some _ _ (sym there ∙ got)))
+      | in_default w ↦ rw w.run-is (run_further _ _ _ _ _ _ _ r line.1 refl r.crew (lane_later _ _ _ (steps c.args.run.now.lane.pass.retired) r.retired) (λ tag knew. record { lane = knew.lane; crew = knew.crew })
+          (λ m got. absurd (w.in_default.not-Ok m (same_Some _ _ (sym there ∙ got)))))
+    ]
+
+pub returns-clause-carried_out : goal.returns-clause-carried_out
+returns-clause-carried_out g c =
+    let there = rw c.deref.ensures.value at c.entry_at.ensures in
+    elim c.match-entry_at.branch [
+      | in-Ok+in-Some w ↦ rw w.run-is (record {
+        retired = λ m got.
+            let same = same_module c.args.run.now.books.registry.entries.items c.args.place _ m _ there got w.in-Ok.is in
+            rw (same, w.in-Some.is) (record {
+              lane = record { how = w.retire.result; bit = w.retire.ensures.bit; known = w.retire.ensures.known; known_before = w.retire.ensures.before; sweeps = w.retire.ensures.sweeps };
+              crew = w.retire_for_each.ensures.retired;
+            });
+        books = refl;
+        done = refl;
+      })
+      | in-Ok+in_default-crew w ↦ rw w.run-is (record {
+        retired = λ m got.
+            let same = same_module c.args.run.now.books.registry.entries.items c.args.place _ m _ there got w.in-Ok.is in
+            rw same (record {
+              lane = record { how = w.retire.result; bit = w.retire.ensures.bit; known = w.retire.ensures.known; known_before = w.retire.ensures.before; sweeps = w.retire.ensures.sweeps };
+              crew = crew_none _ _ w.in_default-crew.not-Some;
+            });
+        books = refl;
+        done = refl;
+      })
+      | in_default w ↦ rw w.run-is (record {
+        retired = λ m got. absurd (w.in_default.not-Ok m (same_Some _ _ (sym there ∙ got)));
+        books = refl;
+        done = refl;
+      })
     ]

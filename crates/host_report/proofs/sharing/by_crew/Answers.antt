@@ -4,7 +4,7 @@ use Rattle.host_report.proofs.BoardLemmas.{lines_collected}
 use Rattle.host_report.proofs.DueLemmas.{length-dues}
 use Rattle.host_report.proofs.EntryLemmas.{many_entries}
 use Rattle.host_report.proofs.PlaceLemmas.{all_calls, fewer_calls, placed_in_part}
-use Rattle.host_report.proofs.WorkedLemmas.{lines_of_calls, of_calls, to_collect}
+use Rattle.host_report.proofs.WorkedLemmas.{lines_of_calls, made_by_none, made_by_workers, of_calls, to_collect}
 use Rattle.host_report.proofs.sharing.by_crew.Goals as goal
 
 pub collect_all-requires-clause-many : goal.collect_all-requires-clause-many
@@ -37,3 +37,12 @@ returns-clause-books g c =
           let p = placed_in_part all c.args.span.from c.args.span.to at tenant place retired invocation c.calls_in.ensures.lawful.placed c.requires.span.order call in
           let many = many_entries limits all c.args.span.to _ _ entered in omega arith));
     }
+
+pub returns-clause-made : goal.returns-clause-made
+returns-clause-made g c =
+    made_by_workers _ _ _ _ _ _ _ c.in_ok-registry.ensures.answers (rw (c.deref.ensures.value ∙ c.in_ok-registry.ensures.crew.calls_are) at c.collect_all.ensures)
+
+pub returns-then-calls_in-eq0-clause-made : goal.returns-then-calls_in-eq0-clause-made
+returns-then-calls_in-eq0-clause-made g c =
+    let none = c.calls_in.ensures.count in
+    made_by_none g.N.Naming.config c.args.requests.now c.args.span c.args.crew.now c.args.books c.enter_alone.result (omega arith) c.enter_alone.ensures.board

@@ -63,8 +63,17 @@ returns-clause-crew g c =
     let done = rw c.in_ok-done.was at c.join-done.ensures.first.0 in
     let back = c.in_ok-worked.ensures.back in
     let rest = c.in_ok-round.ensures.rest in
+    let many = c.requires.crew.many in
     let few = c.requires.crew.few in record {
+      several = c.requires.crew.several;
+      slots = c.requires.crew.slots;
       calls_are = c.requires.crew.calls_are;
+      many = omega arith;
       callers = c.finish.ensures.callers;
       few = (omega (arith, few.0), omega (arith, few.1));
     }
+
+pub returns-clause-still : goal.returns-clause-still
+returns-clause-still g c = λ tag knew.
+    let done = rw c.in_ok-done.was at c.join-done.ensures.first.1.1 in
+    c.in_ok-worked.ensures.known tag (c.open_round.ensures.still tag knew) (done tag (c.in_ok-round.ensures.known tag knew))

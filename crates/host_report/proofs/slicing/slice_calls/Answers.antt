@@ -60,4 +60,4 @@ returns-clause-answers g c =
     let put = rw c.in_ok-registry.was at c.join-sliced.ensures.second.put in
     let s = c.of_all-span.ensures in
     let whole : directives_in all c.of_all-span.result ≡ all = part_all all c.of_all-span.result.from c.of_all-span.result.to s.from s.to in
-    rw (put.put, s.calls, whole, c.worker_count-workers.ensures, c.requires.crew.calls_are) at c.finish_slices-worked.ensures
+    rw (put.put, s.calls, whole, c.worker_count-workers.ensures, c.requires.crew.calls_are) at c.finish_slices-worked.ensures.answers

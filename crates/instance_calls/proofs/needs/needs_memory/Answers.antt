@@ -2,7 +2,7 @@ use Rattle.std.proofs.Common.{◌≡◌, [], subst}
 use Rattle.std.proofs.lemmas.Bool.{not-false}
 use Rattle.wasm_types.specs.declared.module.Module.{Module}
 use Rattle.wasm_types.specs.Tree.{ModuleTree}
-use Rattle.module_limits.specs.Limits.{load_limits}
+use Rattle.pool_limits.specs.Limits.{load_limits}
 use Rattle.instance_calls.proofs.InstanceLemmas.{bare_memory}
 use Rattle.instance_calls.proofs.needs.needs_memory.Goals as goal
 

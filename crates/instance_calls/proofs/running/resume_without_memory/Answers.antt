@@ -2,11 +2,11 @@ use Rattle.std.proofs.Common.{◌≡◌, ◌∙◌, ◌++◌, List, length, take
 use Rattle.wasm_types.specs.declared.types.Limits.{Limits}
 use Rattle.wasm_types.specs.declared.module.Module.{Module}
 use Rattle.wasm_values.specs.declared.outcome.Val.{Val}
-use Rattle.wasm_spec.specs.Execution.{Terms, terms}
+use Rattle.wasm_spec.specs.Execution.{Terms}
 use Rattle.wasm_spec.specs.Instances.{room_for}
 use Rattle.wasm_spec.specs.Store.{Store}
 use Rattle.linear_memory.specs.Bytes.{IsMemory}
-use Rattle.wasm_machine.specs.Lent.{lent_store}
+use Rattle.wasm_machine.specs.Lent.{run_store, run_terms}
 use Rattle.wasm_machine.specs.TypedConfiguration.{IsTypedStore}
 use Rattle.instance_slots.specs.Tickets.{TicketView}
 use Rattle.paused_call.specs.Standing.{Stands, Went, upto, whole}
@@ -21,20 +21,20 @@ use Rattle.instance_calls.proofs.running.resume_without_memory.Goals.{After-resu
 
 module _ (g : Over) (c : After-resume g) where
   abbrev m : Module
-  m = c.args.valid.now
+  m = c.args.inputs.now.valid.now
 
   abbrev limits : Terms
-  limits = terms c.args.limits c.args.request.now
+  limits = run_terms c.args.inputs.now
 
   abbrev left : List Val
   left = take c.ticket.inside.globals.len (c.resume.new.globals ++ drop (length c.resume.new.globals) c.ticket.inside.globals.items)
 
   -- the stores that are lent and left, without their memory of no bytes
   abbrev bare_lent : Store
-  bare_lent = bare_store m c.args.table.now c.deref_mut.result.now c.args.answer.now
+  bare_lent = bare_store m c.args.inputs.now.table.now c.deref_mut.result.now c.args.answer.now
 
   abbrev bare_left : Store
-  bare_left = bare_store m c.args.table.now c.resume.new.globals c.resume.new.answer
+  bare_left = bare_store m c.args.inputs.now.table.now c.resume.new.globals c.resume.new.answer
 
   -- what is lent is the ticket's, and what it is left with is written back
   lent : (c.deref_mut.result.now ≡ c.args.ticket.now.globals) × (c.resume.new.globals ≡ left) × (c.deref.result.now ≡ c.args.ticket.now.args)
@@ -44,27 +44,27 @@ module _ (g : Over) (c : After-resume g) where
     c.deref.ensures.value ∙ ap (λ (t : TicketView). t.args) c.ticket.view_is,
   )
 
-  lent_bare : lent_store m c.ticket.inside.memory c.args.table.now c.deref_mut.result.now c.args.answer.now ≡ bare_lent
-  lent_bare = bare_is m c.ticket.inside.memory c.args.table.now c.deref_mut.result.now c.args.answer.now c.ticket.invariant.no_bytes
+  lent_bare : run_store c.args.inputs.now c.ticket.inside.memory c.deref_mut.result.now c.args.answer.now ≡ bare_lent
+  lent_bare = bare_is m c.ticket.inside.memory c.args.inputs.now.table.now c.deref_mut.result.now c.args.answer.now c.ticket.invariant.no_bytes
 
-  module _ (begun : Store) (h : Stands m limits begun c.args.ticket.now.args c.args.call.now c.args.ticket.now.stacks (bare_store m c.args.table.now c.args.ticket.now.globals c.args.answer.now)) where
-    stands_lent : Stands m limits begun c.deref.result.now c.args.call.now c.ticket.inside.stacks (lent_store m c.ticket.inside.memory c.args.table.now c.deref_mut.result.now c.args.answer.now)
+  module _ (begun : Store) (h : Stands m limits begun c.args.ticket.now.args c.args.call.now c.args.ticket.now.stacks (bare_store m c.args.inputs.now.table.now c.args.ticket.now.globals c.args.answer.now)) where
+    stands_lent : Stands m limits begun c.deref.result.now c.args.call.now c.ticket.inside.stacks (run_store c.args.inputs.now c.ticket.inside.memory c.deref_mut.result.now c.args.answer.now)
     stands_lent =
         stands_same m limits begun c.args.call.now _ _ _ _ _ _ (sym lent.2) (ap (λ (t : TicketView). t.stacks) (sym c.ticket.view_is))
-        (ap (λ (xs : List Val). bare_store m c.args.table.now xs c.args.answer.now) (sym lent.0) ∙ sym lent_bare) h
+        (ap (λ (xs : List Val). bare_store m c.args.inputs.now.table.now xs c.args.answer.now) (sym lent.0) ∙ sym lent_bare) h
 
     abbrev went : Went m (whole m limits c.args.call.now c.deref.result.now begun) c.args.call.now.turns (upto c.args.call.now c.args.slice) c.ticket.inside.memory c.resume.new.memory
-        (lent_store m c.resume.new.memory c.args.table.now c.resume.new.globals c.resume.new.answer)
+        (run_store c.args.inputs.now c.resume.new.memory c.resume.new.globals c.resume.new.answer)
     went = c.resume.ensures.went begun stands_lent
 
     no_bytes : length c.resume.new.memory.bytes.items ≡ 0
     no_bytes = went.marks.changes.room.bytes ∙ c.ticket.invariant.no_bytes
 
-    left_bare : lent_store m c.resume.new.memory c.args.table.now c.resume.new.globals c.resume.new.answer ≡ bare_left
-    left_bare = bare_is m c.resume.new.memory c.args.table.now c.resume.new.globals c.resume.new.answer no_bytes
+    left_bare : run_store c.args.inputs.now c.resume.new.memory c.resume.new.globals c.resume.new.answer ≡ bare_left
+    left_bare = bare_is m c.resume.new.memory c.args.inputs.now.table.now c.resume.new.globals c.resume.new.answer no_bytes
 
-    store_left : lent_store m c.resume.new.memory c.args.table.now c.resume.new.globals c.resume.new.answer ≡ bare_store m c.args.table.now left c.resume.new.answer
-    store_left = left_bare ∙ ap (λ (xs : List Val). bare_store m c.args.table.now xs c.resume.new.answer) lent.1
+    store_left : run_store c.args.inputs.now c.resume.new.memory c.resume.new.globals c.resume.new.answer ≡ bare_store m c.args.inputs.now.table.now left c.resume.new.answer
+    store_left = left_bare ∙ ap (λ (xs : List Val). bare_store m c.args.inputs.now.table.now xs c.resume.new.answer) lent.1
 
     end_left : went.at.store ≡ bare_left
     end_left = went.shows ∙ left_bare
@@ -83,7 +83,7 @@ invariant_of-ticket g c =
       args_fit = c.ticket.invariant.args_fit;
       imports_fit = c.ticket.invariant.imports_fit;
       stacks_are = c.resume.ensures.stacks ∙ c.ticket.invariant.stacks_are;
-      memory_is = subst (λ (ms : List Limits). IsMemory (room_for ms c.args.limits.pages) c.resume.new.memory) c.requires.none c.resume.ensures.memory;
+      memory_is = subst (λ (ms : List Limits). IsMemory (room_for ms c.args.inputs.now.limits.pages) c.resume.new.memory) c.requires.none c.resume.ensures.memory;
       no_bytes = no_bytes g at begun h;
     }
 
@@ -104,7 +104,7 @@ returns-clause-leaves g c begun h x owner =
     let call = c.args.call.now in
     let end = (went g at begun h).at in (
       end,
-      leaves_same (m g at) (limits g at) begun call pages c.args.slice x x owner c.args.table.now x.marks end _ _ _ _ _ _ (lent g at).2 (lent g at).0 (lent g at).1
-          (leaves_bare_from pages (m g at) x owner c.args.table.now c.deref_mut.result.now c.resume.new.globals c.requires.none (whole (m g at) (limits g at) call c.deref.result.now begun) call.turns (upto call c.args.slice)
+      leaves_same (m g at) (limits g at) begun call pages c.args.slice x x owner c.args.inputs.now.table.now x.marks end _ _ _ _ _ _ (lent g at).2 (lent g at).0 (lent g at).1
+          (leaves_bare_from pages (m g at) x owner c.args.inputs.now.table.now c.deref_mut.result.now c.resume.new.globals c.requires.none (whole (m g at) (limits g at) call c.deref.result.now begun) call.turns (upto call c.args.slice)
           end c.args.answer.now c.resume.new.answer (typed_lent g at begun h) c.resume.ensures.globals c.resume.ensures.others (went g at begun h).gives (end_left g at begun h)),
     )

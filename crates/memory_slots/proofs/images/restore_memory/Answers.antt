@@ -3,7 +3,7 @@ use Rattle.std.specs.Prelude.{Some, slice_index_or}
 use Rattle.std.proofs.lemmas.List.{take_at}
 use Rattle.wasm_types.specs.Tree.{ModuleTree}
 use Rattle.wasm_spec.specs.Store.{minimum_of}
-use Rattle.module_limits.specs.Limits.{load_limits}
+use Rattle.pool_limits.specs.Limits.{load_limits}
 use Rattle.pool_worlds.proofs.Images.{clean_is}
 use Rattle.loaded_modules.proofs.WithinLemmas.{loaded-within}
 use Rattle.memory_slots.specs.Kept.{contents_of}

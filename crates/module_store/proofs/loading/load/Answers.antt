@@ -3,7 +3,7 @@ use Rattle.std.proofs.lemmas.Result.{err_from_is_err_and}
 use Rattle.wasm_types.specs.Tree.{module_tree}
 use Rattle.wasm_spec.specs.Grammar.{Spells}
 use Rattle.wasm_spec.specs.Validity.{IsSupported, IsValid}
-use Rattle.module_limits.specs.Limits.{load_limits}
+use Rattle.pool_limits.specs.Limits.{load_limits}
 use Rattle.module_store.proofs.RefusalLemmas.{IsRefusal-image}
 use Rattle.module_store.proofs.loading.load.Goals as goal
 
@@ -15,5 +15,5 @@ returns-in_err-image-clause-refused c =
     (subst (Spells c.args.profile c.args.bytes.now) same c.in_ok-module.ensures.read)
     (subst (IsSupported c.args.profile) same c.in_ok-valid.ensures.supported)
     (subst IsValid same c.in_ok-valid.ensures.valid)
-    c.in_ok-check_limits.ensures.ok
+    c.in_ok-check.ensures.ok
     c.in_err-image.ensures.misfit)

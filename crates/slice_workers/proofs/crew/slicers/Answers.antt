@@ -16,5 +16,5 @@ loop-place-preserved g c =
       owns = owns.0;
       many = search rules;
       count = search rules;
-      workers = rw (c.push_reserved.ensures.items, c.reserve.ensures.items) (All-push (IsNewSlicer _ _ _) _ _ i.workers (record { own = own; place = place; fits = c.requires.fits }));
+      workers = rw (c.push_reserved.ensures.items, c.reserve.ensures.items) (All-push (IsNewSlicer _ _ _ _) _ _ i.workers (record { own = own; place = place; slice_is = c.requires.slice; fits = c.requires.fits }));
     }

@@ -11,7 +11,7 @@ invariant-loop-place g l = record {
   owns : All (IsNewPassOf false l.shared.jobs) l.takers.items;
   many : length l.places.items ≡ length l.takers.items;
   count : length l.workers.items + length l.takers.items ≡ length l.initial.takers.items;
-  workers : All (IsNewSlicer l.queue g.A.Admits.fits l.shared) l.workers.items;
+  workers : All (IsNewSlicer l.queue g.A.Admits.fits l.shared g.A.InSlices.slice) l.workers.items;
 }
 
 abbrev pub decreases-loop-place : goal.decreases-loop-place

@@ -6,5 +6,5 @@ use Rattle.slice_workers.proofs.ends.end_paused.Given as goal
 abbrev pub invariant-loop : goal.invariant-loop
 invariant-loop g l = record {
   whole : HasAllRunPasses l.queue l.first;
-  sliced : HaveSliced g.N.Naming.config l.shared.jobs l.queue l.shared.calls.items l.sliced.own l.first (share_of l.initial.sliced.own) l.sliced.entries.items;
+  sliced : HaveSliced g.N.Naming.config l.shared l.queue g.A.InSlices.slice l.sliced.own l.first (share_of l.initial.sliced.own) l.sliced.entries.items;
 }

@@ -15,8 +15,8 @@ unreachable-requires g c =
     let ends = rw (sym whole.put) at c.requires.ends in
     nothing_left _ _ _ _ c.requires.some ends (ap zeros whole.given ∙ sliced.ended) (next (omega arith))
 
-pub returns : goal.returns
-returns g c =
+pub returns-clause-answers : goal.returns-clause-answers
+returns-clause-answers g c =
     let sliced = c.requires.sliced in
     let whole = joined_whole g.N.Naming.config c.args.shared.now.jobs c.args.shared.now.calls.items c.args.own c.args.sliced.own c.join_pass.new.pass c.args.workers c.args.sliced.entries.items sliced c.requires.none c.join_pass.ensures.both in
     let w = c.requires.whole in

@@ -12,7 +12,7 @@ loop-pass-init g c = record {
   kept = c.requires.kept;
   enough = c.requires.room;
   room = refl;
-  put = did_nothing g.N.Naming.config c.args.shared.now.calls.items _ _;
+  put = did_nothing g.N.Naming.config c.args.shared.now.host c.args.shared.now.calls.items g.A.InSlices.slice _ _;
 }
 
 pub loop-pass-preserved : goal.loop-pass-preserved
@@ -28,5 +28,5 @@ loop-pass-preserved g c =
       kept = passes.0;
       enough = omega arith;
       room = omega arith;
-      put = kept_put g.N.Naming.config c.args.shared.now.calls.items _ (run_account_of c.args.worker.now.place) (run_account_of c.loop-pass.worker.place) _ c.in-Some.pass i.put c.put_idle.ensures.put;
+      put = kept_put g.N.Naming.config c.args.shared.now.host c.args.shared.now.calls.items g.A.InSlices.slice _ (run_account_of c.args.worker.now.place) (run_account_of c.loop-pass.worker.place) _ c.in-Some.pass i.put c.put_idle.ensures.put;
     }

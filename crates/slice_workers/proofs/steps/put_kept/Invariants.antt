@@ -13,7 +13,7 @@ invariant-loop-pass g l = record {
   kept : All (IsHostPass l.shared.host) l.kept.items;
   enough : length l.kept.items ≤ run_room l.worker.place;
   room : run_room l.worker.place + length l.initial.kept.items ≡ run_room l.initial.worker.place + length l.kept.items;
-  put : DidSlices g.N.Naming.config l.shared.calls.items 0 (account_of l.initial.worker.own) (account_of l.initial.worker.own)
+  put : DidSlices g.N.Naming.config l.shared.host l.shared.calls.items g.A.InSlices.slice 0 (account_of l.initial.worker.own) (account_of l.initial.worker.own)
       (roomless (run_account_of l.initial.worker.place)) (roomless (run_account_of l.worker.place)) [];
 }
 

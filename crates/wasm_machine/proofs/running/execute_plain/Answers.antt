@@ -13,7 +13,7 @@ use Rattle.machine_steps.specs.Lent.{store_of}
 use Rattle.wasm_types.specs.Sequences.{code_at}
 use Rattle.wasm_spec.specs.Bulk.{is_bulk, code_uses_bulk}
 use Rattle.wasm_spec.proofs.NarrowModules.{neither}
-use Rattle.wasm_machine.proofs.MarkLemmas.{marks_of}
+use Rattle.wasm_machine.proofs.MarkLemmas.{marks_none, marks_of}
 use Rattle.wasm_machine.specs.Simulation.{HasFetched, SimulatesUnlessTrapped, body_of, SimulatesUnlessOver, SimulatesStep, paid, step_unless_over}
 use Rattle.wasm_machine.proofs.StepLemmas.{plain_done, plain_stays}
 use Rattle.machine_steps.specs.declared.plain.Effect.{Effect}
@@ -115,11 +115,13 @@ returns-in-Stays-clause-memory c =
 pub returns-in-Stays-clause-marks : goal.returns-in-Stays-clause-marks
 returns-in-Stays-clause-marks c =
     let (frame, answer, r, run, b) = c.requires.runs in
+    let m = c.args.inputs.now.m.now in
     let k = b.configuration in
     let i = c.args.instr.now in
-    marks_of c.args.inputs.now.m.now i c.args.memory.now c.plain.new.memory
-    (λ e. (neither (is_bulk i) (code_uses_bulk (code_at (body_of c.args.inputs.now.m.now k) k.sequence k.place)) (b.typed.narrow e)).0)
-    c.plain.ensures.marks
+    let store = store_of c.args.memory.now c.args.inputs.now.table.now c.args.globals.now answer in
+    let can = plain_can m (terms c.args.inputs.now.limits c.args.inputs.now.request.now) frame c.args.machine.now store c.args.here r i b (c.plain.ensures.stays (stays_apart c.plain.result c.in-Stays.is)) in
+    marks_of m i c.args.machine.now (trap_of c.plain.result) c.args.memory.now c.plain.new.memory
+    (λ e. (neither (is_bulk i) (code_uses_bulk (code_at (body_of m k) k.sequence k.place)) (b.typed.narrow e)).0) can c.plain.ensures.marks
 
 pub returns-in-Traps-clause-memory : goal.returns-in-Traps-clause-memory
 returns-in-Traps-clause-memory c =
@@ -130,11 +132,13 @@ returns-in-Traps-clause-memory c =
 pub returns-in-Traps-clause-marks : goal.returns-in-Traps-clause-marks
 returns-in-Traps-clause-marks c =
     let (frame, answer, r, run, b) = c.requires.runs in
+    let m = c.args.inputs.now.m.now in
     let k = b.configuration in
     let i = c.args.instr.now in
-    marks_of c.args.inputs.now.m.now i c.args.memory.now c.plain.new.memory
-    (λ e. (neither (is_bulk i) (code_uses_bulk (code_at (body_of c.args.inputs.now.m.now k) k.sequence k.place)) (b.typed.narrow e)).0)
-    c.plain.ensures.marks
+    let store = store_of c.args.memory.now c.args.inputs.now.table.now c.args.globals.now answer in
+    let can = plain_can m (terms c.args.inputs.now.limits c.args.inputs.now.request.now) frame c.args.machine.now store c.args.here r i b (c.plain.ensures.stays (traps_apart c.plain.result c.in-Traps.t c.in-Traps.is)) in
+    marks_of m i c.args.machine.now (trap_of c.plain.result) c.args.memory.now c.plain.new.memory
+    (λ e. (neither (is_bulk i) (code_uses_bulk (code_at (body_of m k) k.sequence k.place)) (b.typed.narrow e)).0) can c.plain.ensures.marks
 
 pub returns-in-Jumps-clause-memory : goal.returns-in-Jumps-clause-memory
 returns-in-Jumps-clause-memory c =
@@ -144,12 +148,8 @@ returns-in-Jumps-clause-memory c =
 
 pub returns-in-Jumps-clause-marks : goal.returns-in-Jumps-clause-marks
 returns-in-Jumps-clause-marks c =
-    let (frame, answer, r, run, b) = c.requires.runs in
-    let k = b.configuration in
-    let i = c.args.instr.now in
-    marks_of c.args.inputs.now.m.now i c.args.memory.now c.plain.new.memory
-    (λ e. (neither (is_bulk i) (code_uses_bulk (code_at (body_of c.args.inputs.now.m.now k) k.sequence k.place)) (b.typed.narrow e)).0)
-    c.plain.ensures.marks
+    let (kind, machine, memory, globals) = c.plain.ensures.jumps c.in-Jumps.is in
+    marks_none c.args.inputs.now.m.now c.args.memory.now c.plain.new.memory 2 memory
 
 pub returns-in-Stays-clause-stays : goal.returns-in-Stays-clause-stays
 returns-in-Stays-clause-stays c e =

@@ -7,7 +7,7 @@ use Rattle.wasm_spec.specs.Store.{fresh_store}
 use Rattle.wasm_machine.specs.Calls.{FitsFrame}
 use Rattle.wasm_machine.specs.TypedConfiguration.{IsTypedStore}
 use Rattle.loaded_modules.specs.Within.{IsWithin}
-use Rattle.module_limits.specs.Limits.{load_limits}
+use Rattle.pool_limits.specs.Limits.{load_limits}
 use Rattle.paused_call.specs.Standing.{Stands}
 use Rattle.instance_calls.specs.CallWords.{MayCall, run_limits}
 use Rattle.instance_calls.specs.Instances.{IsFreshInstance}

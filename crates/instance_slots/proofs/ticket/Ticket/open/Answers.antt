@@ -2,7 +2,7 @@ use Rattle.std.proofs.Common.{ap, length, ◌∙◌, arith}
 use Rattle.std.proofs.lemmas.List.{length-replicate}
 use Rattle.wasm_values.specs.declared.outcome.Val.TheVariants.{I32}
 use Rattle.wasm_machine.specs.Room.{Room}
-use Rattle.module_limits.specs.declared.over.TheConstants.{MOST_GLOBALS}
+use Rattle.pool_limits.specs.declared.over.TheConstants.{MOST_GLOBALS}
 use Rattle.pool_limits.specs.declared.numbers.Numbers.{Numbers}
 use Rattle.instance_slots.proofs.ticket.Ticket.open.Goals as goal
 

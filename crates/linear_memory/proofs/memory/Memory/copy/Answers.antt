@@ -3,7 +3,7 @@ use Rattle.wasm_spec.specs.Store.{written}
 use Rattle.linear_memory.specs.declared.memory.Memory.{Memory}
 use Rattle.linear_memory.specs.Bytes.{shown, size_of}
 use Rattle.linear_memory.proofs.WrittenBytes.{part-length, part-of_first}
-use Rattle.linear_memory.proofs.MarkedBlocks.{changes_in_row, memory_written, row_length, shown_written}
+use Rattle.linear_memory.proofs.MarkedBlocks.{marks_part, memory_written, row_length, shown_written}
 use Rattle.linear_memory.proofs.memory.Memory.copy.Goals as goal
 
 pub returns-clause-after : goal.returns-clause-after
@@ -38,4 +38,4 @@ returns-clause-marks c =
     let new : Memory = record { bytes = c.copy_over.new.bytes; pages = old.pages; marks = c.mark_touched.new.marks } in
     let piece : List ℕ = take c.args.count (drop c.args.from c.args.self.now.bytes.items) in
     let long : length piece ≡ c.args.count = part-length c.args.from c.args.count c.args.self.now.bytes.items (omega arith) in
-    changes_in_row old new c.args.to piece (omega arith) c.copy_over.ensures most c.args.count is long c.mark_touched.ensures
+    marks_part old new c.args.to piece (omega arith) c.copy_over.ensures most c.args.count is long c.mark_touched.ensures

@@ -1,7 +1,7 @@
 use Rattle.std.proofs.Common.{◌≡◌, List, ℕ, length, replicate, refl, ap, ◌∙◌, arith}
 use Rattle.std.proofs.lemmas.List.{length-replicate}
 use Rattle.linear_memory.specs.declared.memory.Memory.{Memory}
-use Rattle.linear_memory.proofs.MarkedBlocks.{changes_in_row, memory_written, row_length, shown_written}
+use Rattle.linear_memory.proofs.MarkedBlocks.{marks_part, memory_written, row_length, shown_written}
 use Rattle.linear_memory.proofs.memory.Memory.fill.Goals as goal
 
 pub returns-clause-after : goal.returns-clause-after
@@ -35,4 +35,4 @@ returns-clause-marks c =
     let new : Memory = record { bytes = c.fill_over.new.bytes; pages = old.pages; marks = c.mark_touched.new.marks } in
     let piece : List ℕ = replicate c.args.count c.args.value in
     let long : length piece ≡ c.args.count = length-replicate c.args.count c.args.value in
-    changes_in_row old new c.args.to piece (omega arith) c.fill_over.ensures most c.args.count is long c.mark_touched.ensures
+    marks_part old new c.args.to piece (omega arith) c.fill_over.ensures most c.args.count is long c.mark_touched.ensures

@@ -2,7 +2,7 @@ use Rattle.std.proofs.Common.{length, refl, ap, ◌∙◌, arith}
 use Rattle.std.proofs.lemmas.List.{length-take}
 use Rattle.linear_memory.specs.declared.memory.Memory.{Memory}
 use Rattle.linear_memory.specs.Bytes.{size_of}
-use Rattle.linear_memory.proofs.MarkedBlocks.{changes_in_row, memory_written, row_length, shown_written}
+use Rattle.linear_memory.proofs.MarkedBlocks.{marks_part, memory_written, row_length, shown_written}
 use Rattle.linear_memory.proofs.memory.Memory.place.Goals as goal
 
 pub returns-clause-after : goal.returns-clause-after
@@ -31,4 +31,4 @@ returns-clause-marks c =
     let long = length-take (size_of c.args.self.now) c.args.self.now.bytes.items in
     let old : Memory = c.args.self.now in
     let new : Memory = record { bytes = c.put.new.bytes; pages = old.pages; marks = c.mark_touched.new.marks } in
-    changes_in_row old new c.args.to c.args.piece.now (omega arith) c.put.ensures most (length c.args.piece.now) is refl c.mark_touched.ensures
+    marks_part old new c.args.to c.args.piece.now (omega arith) c.put.ensures most (length c.args.piece.now) is refl c.mark_touched.ensures

@@ -1,7 +1,7 @@
 use Rattle.std.proofs.Common.{◌∙◌, length, refl, ap, arith}
 use Rattle.std.proofs.lemmas.List.{length-set}
 use Rattle.linear_memory.specs.declared.memory.Memory.{Memory}
-use Rattle.linear_memory.proofs.MarkedBlocks.{changes_written, shown_written, memory_written}
+use Rattle.linear_memory.proofs.MarkedBlocks.{marks_part, memory_written, pair_is_part, shown_written}
 use Rattle.linear_memory.proofs.memory.Memory.write.Goals as goal
 
 pub mark-requires-clause-first : goal.mark-requires-clause-first
@@ -34,6 +34,10 @@ returns-clause-memory c most is =
 pub returns-clause-marks : goal.returns-clause-marks
 returns-clause-marks c =
     let (most, is) = c.requires.memory in
+    let m = is.marks in
+    let s = is.size in
+    let n = length c.args.piece.now in
     let old : Memory = c.args.self.now in
     let new : Memory = record { bytes = c.put.new.bytes; pages = old.pages; marks = c.mark.new.marks } in
-    changes_written old new c.args.at c.args.piece.now (omega arith) c.put.ensures most is c.requires.some c.requires.short c.mark.ensures
+    marks_part old new c.args.at c.args.piece.now (omega arith) c.put.ensures most n is refl
+    (c.mark.ensures ∙ pair_is_part old.marks.items c.args.at n c.requires.some c.requires.short (omega arith))

@@ -1,5 +1,5 @@
 use Rattle.std.proofs.Common.{◌≡◌, ◌+◌, ℕ, List, ◌∷◌, Option, take, drop, refl, sym, ap, ◌∙◌, subst}
-use Rattle.std.specs.Prelude.{◌&&◌, nat_le, length, Bool, if◌then◌else◌}
+use Rattle.std.specs.Prelude.{◌&&◌, nat_le, length, Bool, if◌then◌else◌, is_none}
 use Rattle.wasm_values.specs.declared.outcome.TrapKind.{TrapKind}
 use Rattle.wasm_values.specs.declared.outcome.Val.{Val}
 use Rattle.wasm_values.specs.declared.outcome.Val.TheVariants as val
@@ -7,12 +7,13 @@ use Rattle.wasm_types.specs.declared.instr.Instr.TheVariants as instr
 use Rattle.wasm_spec.specs.Store.{Store, written}
 use Rattle.wasm_spec.specs.Execution.{lies_within, write_where}
 use Rattle.linear_memory.specs.Bytes.{shown}
-use Rattle.linear_memory.specs.Marks.{touched}
 use Rattle.machine_steps.specs.Configuration.{state}
 use Rattle.machine_steps.specs.Lent.{store_of}
 use Rattle.machine_steps.specs.PlainSteps.{EndsAs, trap_unless}
 use Rattle.machine_steps.proofs.KindLemmas.{after_as}
-use Rattle.machine_steps.proofs.BulkLemmas.{copy_of, copy_means, marks_within, written_after}
+use Rattle.machine_steps.proofs.BulkLemmas.{copy_of, copy_means, written_after}
+use Rattle.machine_steps.proofs.PartLemmas.{count_if, marks_if}
+use Rattle.machine_steps.specs.WrittenParts.{part_written}
 use Rattle.machine_steps.proofs.machine.Machine.memory_copy.Goals as goal
 
 abbrev stored : List ℕ → List (Option ℕ) → List Val → List ℕ → Store
@@ -66,4 +67,11 @@ returns-clause-does c m limits table globals answer k sh fine =
     (written_after fits k t.rest c.pop32-to.new.self store after t.first piece (ap (λ (l : List ℕ). stored l table globals answer) (sym is)) r.1))
 
 pub returns-clause-marks : goal.returns-clause-marks
-returns-clause-marks c = marks_within c.args.memory.now c.copy.new.self (touched c.pop32-to.result c.pop32-count.result) c.copy.ensures.marks
+returns-clause-marks c can =
+    let k = can.configuration in
+    let t = copy_of can.defined can.limits k can.store can.fine in
+    let p = c.pop32-count.ensures.represents k t.third (val.I32 t.second ∷ val.I32 t.first ∷ t.rest) can.represents t.are in
+    let q = c.pop32-from.ensures.represents (record k { operands = val.I32 t.second ∷ val.I32 t.first ∷ t.rest }) t.second (val.I32 t.first ∷ t.rest) p.1 refl in
+    let r = c.pop32-to.ensures.represents (record k { operands = val.I32 t.first ∷ t.rest }) t.first t.rest q.1 refl in
+    marks_if (is_none c.unless_within.result) (part_written instr.MemoryCopy k.operands) t.first t.third c.pop32-to.result (if c.copy.result then c.pop32-count.result else 0)
+    c.args.memory.now c.copy.new.self (ap (part_written instr.MemoryCopy) t.are) r.0 (count_if c.copy.result c.unless_within.result c.pop32-count.result t.third c.unless_within.ensures p.0) c.copy.ensures.marks

@@ -12,6 +12,8 @@ use Rattle.machine_steps.specs.Lent.{store_of}
 use Rattle.machine_steps.specs.PlainSteps.{Executes, effect_unless, trap_of}
 use Rattle.machine_steps.specs.declared.plain.Effect.{Effect}
 use Rattle.machine_steps.proofs.KindLemmas.{top_there, drop_means, after_as}
+use Rattle.machine_steps.specs.WrittenParts.{MarksWritten}
+use Rattle.machine_steps.proofs.PartLemmas.{as_written}
 use Rattle.machine_steps.proofs.machine.Machine.plain.Goals as goal
 
 as_instr : (m : ModuleTree) (limits : Terms) (i j : Instr) (old new : Machine) (before after : Store) (o : Option TrapKind) → i ≡ j → Executes m limits j old before o new after → Executes m limits i old before o new after
@@ -97,3 +99,27 @@ returns-in-Binary-clause-does c m limits table answer most stays =
     let i : Instr = instr.Binary c.in-Binary.width c.in-Binary.op in
     as_instr m limits c.args.instr.now i c.args.self.now c.on_two-in-Binary.new.self store store (trap_of c.unless_trapped-in-Binary.result) c.in-Binary.is
     (subst (λ (o : Option TrapKind). Executes m limits i c.args.self.now store o c.on_two-in-Binary.new.self store) (said c.on_two-in-Binary.result c.unless_trapped-in-Binary.result c.unless_trapped-in-Binary.ensures) (c.on_two-in-Binary.ensures.does m limits store))
+
+pub returns-in-MemoryCopy-clause-memory : goal.returns-in-MemoryCopy-clause-memory
+returns-in-MemoryCopy-clause-memory c limit le is = c.memory_copy.ensures.memory limit is
+
+pub returns-in-MemoryCopy-clause-marks : goal.returns-in-MemoryCopy-clause-marks
+returns-in-MemoryCopy-clause-marks c =
+    as_written c.args.instr.now instr.MemoryCopy c.args.self.now (trap_of c.unless_trapped.result) c.args.memory.now c.memory_copy.new.memory c.in-MemoryCopy.is
+    (subst (λ (o : Option TrapKind). MarksWritten instr.MemoryCopy c.args.self.now o c.args.memory.now c.memory_copy.new.memory) (said c.memory_copy.result c.unless_trapped.result c.unless_trapped.ensures) c.memory_copy.ensures.marks)
+
+pub returns-in-MemoryFill-clause-memory : goal.returns-in-MemoryFill-clause-memory
+returns-in-MemoryFill-clause-memory c limit le is = c.memory_fill.ensures.memory limit is
+
+pub returns-in-MemoryFill-clause-marks : goal.returns-in-MemoryFill-clause-marks
+returns-in-MemoryFill-clause-marks c =
+    as_written c.args.instr.now instr.MemoryFill c.args.self.now (trap_of c.unless_trapped-in-MemoryFill.result) c.args.memory.now c.memory_fill.new.memory c.in-MemoryFill.is
+    (subst (λ (o : Option TrapKind). MarksWritten instr.MemoryFill c.args.self.now o c.args.memory.now c.memory_fill.new.memory) (said c.memory_fill.result c.unless_trapped-in-MemoryFill.result c.unless_trapped-in-MemoryFill.ensures) c.memory_fill.ensures.marks)
+
+pub returns-in-Store-clause-memory : goal.returns-in-Store-clause-memory
+returns-in-Store-clause-memory c limit le is = c.store.ensures.memory limit is
+
+pub returns-in-Store-clause-marks : goal.returns-in-Store-clause-marks
+returns-in-Store-clause-marks c =
+    subst (λ (o : Option TrapKind). MarksWritten c.args.instr.now c.args.self.now o c.args.memory.now c.store.new.memory)
+    (said c.store.result c.unless_trapped-in-Store.result c.unless_trapped-in-Store.ensures) c.store.ensures.marks

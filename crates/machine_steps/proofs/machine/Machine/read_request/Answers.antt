@@ -1,4 +1,4 @@
-use Rattle.std.proofs.Common.{◌≡◌, ℕ, ◌+◌, List, ◌∷◌, length, Some, None, refl, sym, ap, ◌∙◌, subst}
+use Rattle.std.proofs.Common.{◌≡◌, ℕ, ◌+◌, List, ◌∷◌, length, true, false, Some, None, refl, sym, ap, ◌∙◌, subst}
 use Rattle.std.specs.Prelude.{nat_le, if◌then◌else◌}
 use Rattle.wasm_values.specs.declared.outcome.Val.{Val}
 use Rattle.wasm_values.specs.declared.outcome.Val.TheVariants as val
@@ -10,6 +10,9 @@ use Rattle.machine_steps.specs.Configuration.{state}
 use Rattle.machine_steps.specs.Lent.{store_of}
 use Rattle.machine_steps.specs.PlainSteps.{EndsAs}
 use Rattle.machine_steps.proofs.HostLemmas.{three_there, at_three, read_ends, read_traps, memory_where}
+use Rattle.wasm_types.specs.declared.host.HostFunction.TheVariants as host
+use Rattle.machine_steps.specs.WrittenParts.{part_read}
+use Rattle.machine_steps.proofs.PartLemmas.{count_told, marks_if}
 use Rattle.machine_steps.proofs.machine.Machine.read_request.Goals as goal
 
 pub pop32-count-requires : goal.pop32-count-requires
@@ -73,3 +76,28 @@ returns-in-None-clause-does c table globals answer k sh fine =
     subst (λ (signal : Signal). EndsAs signal k (Some trap.Memory) c.pop32-to.new.self after) (sym (at_three k.operands go t))
     (read_traps (lies_within before t.a t.n) (length (part request t.b t.n)) bytes k t.rest c.pop32-to.new.self before after counted
     (ap (λ (l : List ℕ). memory_set l before) set ∙ memory_where (lies_within before t.a t.n) bytes before))
+
+pub returns-in-Some-clause-marks : goal.returns-in-Some-clause-marks
+returns-in-Some-clause-marks c can =
+    let request = c.args.request.now in
+    let old = c.args.memory.now in
+    let k = can.configuration in
+    let t = three_there k.operands (λ to from n vs. read_request request to from n vs (state k can.store)) can.fine in
+    let p = c.pop32-count.ensures.represents k t.n (val.I32 t.b ∷ val.I32 t.a ∷ t.rest) can.represents t.are in
+    let q = c.pop32-from.ensures.represents (record k { operands = val.I32 t.b ∷ val.I32 t.a ∷ t.rest }) t.b (val.I32 t.a ∷ t.rest) p.1 refl in
+    let r = c.pop32-to.ensures.represents (record k { operands = val.I32 t.a ∷ t.rest }) t.a t.rest q.1 refl in
+    let told : c.in-Some.n ≡ length (part request c.pop32-from.result c.pop32-count.result) =
+    count_told (nat_le (c.pop32-to.result + c.pop32-count.result) (length (shown old))) c.in-Some.n (length (part request c.pop32-from.result c.pop32-count.result)) c.in-Some.ensures.count in
+    marks_if true (part_read request host.Read k.operands) t.a (length (part request t.b t.n)) c.pop32-to.result c.in-Some.n old c.copy_request.new.memory
+    (ap (part_read request host.Read) t.are) r.0 (told ∙ (λ i. length (part request (q.0 i) (p.0 i)))) c.in-Some.ensures.marks
+
+pub returns-in-None-clause-marks : goal.returns-in-None-clause-marks
+returns-in-None-clause-marks c can =
+    let request = c.args.request.now in
+    let k = can.configuration in
+    let t = three_there k.operands (λ to from n vs. read_request request to from n vs (state k can.store)) can.fine in
+    let p = c.pop32-count.ensures.represents k t.n (val.I32 t.b ∷ val.I32 t.a ∷ t.rest) can.represents t.are in
+    let q = c.pop32-from.ensures.represents (record k { operands = val.I32 t.b ∷ val.I32 t.a ∷ t.rest }) t.b (val.I32 t.a ∷ t.rest) p.1 refl in
+    let r = c.pop32-to.ensures.represents (record k { operands = val.I32 t.a ∷ t.rest }) t.a t.rest q.1 refl in
+    marks_if false (part_read request host.Read k.operands) t.a (length (part request t.b t.n)) c.pop32-to.result 0 c.args.memory.now c.copy_request.new.memory
+    (ap (part_read request host.Read) t.are) r.0 refl c.in-None.ensures.marks

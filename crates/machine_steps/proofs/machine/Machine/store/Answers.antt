@@ -12,6 +12,8 @@ use Rattle.machine_steps.specs.Lent.{store_of}
 use Rattle.machine_steps.proofs.OperandLemmas.{is_number}
 use Rattle.machine_steps.proofs.KindLemmas.{after_as, has_top}
 use Rattle.machine_steps.proofs.AccessLemmas.{store_of_pair, store_means, store_after, store_traps}
+use Rattle.machine_steps.specs.WrittenParts.{part_written}
+use Rattle.machine_steps.proofs.PartLemmas.{marks_if, store_part}
 use Rattle.machine_steps.proofs.machine.Machine.store.Goals as goal
 
 abbrev stored : List ℕ → List (Option ℕ) → List Val → List ℕ → Store
@@ -70,3 +72,25 @@ returns-else-store_value-clause-does c m limits table globals answer k sh fine =
     after_as m limits i k store after _ (Some trap.Memory) c.pop32-base.new.self (store_means m limits i k store c.requires.kind t)
     (store_traps (nat_lt (length store.memory) (t.base + address_offset i + byte_len (access_width i))) k t.rest c.pop32-base.new.self store after (written store.memory (t.base + address_offset i) bytes) test
     (ap (λ (l : List ℕ). stored l table globals answer) (sym same)))
+
+pub returns-then-store_value-clause-marks : goal.returns-then-store_value-clause-marks
+returns-then-store_value-clause-marks c can =
+    let i = c.args.instr.now in
+    let k = can.configuration in
+    let t = store_of_pair can.defined can.limits i k can.store c.requires.kind can.fine in
+    let p = c.pop-value.ensures.represents k t.top (val.I32 t.base ∷ t.rest) can.represents t.are in
+    let q = c.pop32-base.ensures.represents (record k { operands = val.I32 t.base ∷ t.rest }) t.base t.rest p.1 refl in
+    let at : c.pop32-base.result + c.args.offset ≡ t.base + address_offset i = ap (λ (b : ℕ). b + c.args.offset) q.0 ∙ ap (λ (o : ℕ). t.base + o) c.requires.offset in
+    marks_if true (part_written i k.operands) (t.base + address_offset i) (byte_len (access_width i)) (c.pop32-base.result + c.args.offset) (byte_len (access_width i)) c.args.memory.now c.store_value.new.memory
+    (ap (part_written i) t.are ∙ store_part i t.top t.base t.rest c.requires.kind) at refl c.if-store_value.ensures.marks
+
+pub returns-else-store_value-clause-marks : goal.returns-else-store_value-clause-marks
+returns-else-store_value-clause-marks c can =
+    let i = c.args.instr.now in
+    let k = can.configuration in
+    let t = store_of_pair can.defined can.limits i k can.store c.requires.kind can.fine in
+    let p = c.pop-value.ensures.represents k t.top (val.I32 t.base ∷ t.rest) can.represents t.are in
+    let q = c.pop32-base.ensures.represents (record k { operands = val.I32 t.base ∷ t.rest }) t.base t.rest p.1 refl in
+    let at : c.pop32-base.result + c.args.offset ≡ t.base + address_offset i = ap (λ (b : ℕ). b + c.args.offset) q.0 ∙ ap (λ (o : ℕ). t.base + o) c.requires.offset in
+    marks_if false (part_written i k.operands) (t.base + address_offset i) (byte_len (access_width i)) (c.pop32-base.result + c.args.offset) (0) c.args.memory.now c.store_value.new.memory
+    (ap (part_written i) t.are ∙ store_part i t.top t.base t.rest c.requires.kind) at refl c.if-store_value.ensures.marks

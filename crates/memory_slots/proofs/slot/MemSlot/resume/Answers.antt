@@ -1,12 +1,11 @@
 use Rattle.std.proofs.Common.{◌≡◌, ℕ, ◌+◌, ◌-◌, ◌*◌, ◌≤◌, true, ◌∙◌, refl, sym, ap, subst, length, arith}
 use Rattle.std.proofs.lemmas.Option.{same_Some}
 use Rattle.wasm_types.specs.Tree.{module_tree}
-use Rattle.wasm_spec.specs.Execution.{terms}
 use Rattle.wasm_spec.specs.Instances.{room_for}
 use Rattle.wasm_spec.specs.Result.{CallResult}
 use Rattle.wasm_spec.specs.Store.{Store}
 use Rattle.memory_blocks.specs.Blocks.{KeepsUnmarked}
-use Rattle.wasm_machine.specs.Lent.{lent_store}
+use Rattle.wasm_machine.specs.Lent.{lent_store, run_terms}
 use Rattle.pool_worlds.specs.Contents as contents
 use Rattle.pool_worlds.specs.declared.kinds.Kind.{Kind}
 use Rattle.pool_worlds.specs.Contents.{MemoryContents, turned}
@@ -19,33 +18,33 @@ use Rattle.memory_slots.proofs.slot.MemSlot.resume.Goals as goal
 
 pub resume-requires-clause-stands : goal.resume-requires-clause-stands
 resume-requires-clause-stands g c =
-    let limits = terms c.args.limits c.args.request.now in
-    subst (λ (x : MemoryContents). CanResume c.args.valid.now limits c.args.args.now c.args.call.now c.args.stacks.now (store_in c.args.valid.now x c.args.table.now c.args.globals.now c.args.answer.now)) (sym c.self.view_is) c.requires.stands
+    let limits = run_terms c.args.inputs.now in
+    subst (λ (x : MemoryContents). CanResume c.args.inputs.now.valid.now limits c.args.args.now c.args.call.now c.args.stacks.now (store_in c.args.inputs.now.valid.now x c.args.inputs.now.table.now c.args.globals.now c.args.answer.now)) (sym c.self.view_is) c.requires.stands
 
 pub resume-requires-clause-memory : goal.resume-requires-clause-memory
 resume-requires-clause-memory g c =
     let config = g.N.Naming.config in
-    let most : ℕ = room_for c.args.valid.now.memories c.args.limits.pages in
-    is_memory config most c.self.inside.memory c.self.inside.holds c.self.invariant.kept (room_within c.args.valid.now.memories c.args.limits.pages config.pages c.requires.pages)
+    let most : ℕ = room_for c.args.inputs.now.valid.now.memories c.args.inputs.now.limits.pages in
+    is_memory config most c.self.inside.memory c.self.inside.holds c.self.invariant.kept (room_within c.args.inputs.now.valid.now.memories c.args.inputs.now.limits.pages config.pages c.requires.pages)
     (subst (IsReady most) (sym c.self.view_is) c.requires.ready)
 
 pub invariant_of-self : goal.invariant_of-self
 invariant_of-self g c =
     let config = g.N.Naming.config in
-    let m = c.args.valid.now in
-    let limits = terms c.args.limits c.args.request.now in
+    let m = c.args.inputs.now.valid.now in
+    let limits = run_terms c.args.inputs.now in
     let old = c.self.inside.memory in
     let new = c.resume.new.memory in
     let (begun, h) = c.requires.stands in
-    let inside = subst (λ (x : MemoryContents). Stands m limits begun c.args.args.now c.args.call.now c.args.stacks.now (store_in m x c.args.table.now c.args.globals.now c.args.answer.now)) (sym c.self.view_is) h in
+    let inside = subst (λ (x : MemoryContents). Stands m limits begun c.args.args.now c.args.call.now c.args.stacks.now (store_in m x c.args.inputs.now.table.now c.args.globals.now c.args.answer.now)) (sym c.self.view_is) h in
     let went = c.resume.ensures.went begun inside in
     let room = went.marks.changes.room in
     let within = h.within in
     let all : KeepsUnmarked old.bytes.items went.at.store.memory old.marks.items new.marks.items =
     went.marked (upto c.args.call.now c.args.slice) went.at (omega arith) (omega arith) went.gives in
     record {
-      kept = is_kept config (room_for m.memories c.args.limits.pages) old new c.self.inside.holds c.self.invariant.kept c.resume.ensures.memory room
-          (room_within m.memories c.args.limits.pages config.pages c.requires.pages)
+      kept = is_kept config (room_for m.memories c.args.inputs.now.limits.pages) old new c.self.inside.holds c.self.invariant.kept c.resume.ensures.memory room
+          (room_within m.memories c.args.inputs.now.limits.pages config.pages c.requires.pages)
           (subst (λ (s : Store). KeepsUnmarked old.bytes.items s.memory old.marks.items new.marks.items) went.shows all);
       blocks = c.self.invariant.blocks ∙ sym room.marks;
       zeros = λ i lt free. c.self.invariant.zeros i (omega (arith, lt, room.bytes)) free;
@@ -54,29 +53,29 @@ invariant_of-self g c =
 
 pub returns-clause-turned : goal.returns-clause-turned
 returns-clause-turned g c begun h =
-    let m = c.args.valid.now in
-    let limits = terms c.args.limits c.args.request.now in
-    c.resume.ensures.turned begun (subst (λ (x : MemoryContents). Stands m limits begun c.args.args.now c.args.call.now c.args.stacks.now (store_in m x c.args.table.now c.args.globals.now c.args.answer.now)) (sym c.self.view_is) h)
+    let m = c.args.inputs.now.valid.now in
+    let limits = run_terms c.args.inputs.now in
+    c.resume.ensures.turned begun (subst (λ (x : MemoryContents). Stands m limits begun c.args.args.now c.args.call.now c.args.stacks.now (store_in m x c.args.inputs.now.table.now c.args.globals.now c.args.answer.now)) (sym c.self.view_is) h)
 
 pub returns-clause-stands : goal.returns-clause-stands
 returns-clause-stands g c again begun h =
-    let m = c.args.valid.now in
-    let limits = terms c.args.limits c.args.request.now in
-    c.resume.ensures.stands again begun (subst (λ (x : MemoryContents). Stands m limits begun c.args.args.now c.args.call.now c.args.stacks.now (store_in m x c.args.table.now c.args.globals.now c.args.answer.now)) (sym c.self.view_is) h)
+    let m = c.args.inputs.now.valid.now in
+    let limits = run_terms c.args.inputs.now in
+    c.resume.ensures.stands again begun (subst (λ (x : MemoryContents). Stands m limits begun c.args.args.now c.args.call.now c.args.stacks.now (store_in m x c.args.inputs.now.table.now c.args.globals.now c.args.answer.now)) (sym c.self.view_is) h)
 
 pub returns-clause-ready : goal.returns-clause-ready
 returns-clause-ready g c =
-    let m = c.args.valid.now in
-    let limits = terms c.args.limits c.args.request.now in
+    let m = c.args.inputs.now.valid.now in
+    let limits = run_terms c.args.inputs.now in
     let (begun, h) = c.requires.stands in
-    let inside = subst (λ (x : MemoryContents). Stands m limits begun c.args.args.now c.args.call.now c.args.stacks.now (store_in m x c.args.table.now c.args.globals.now c.args.answer.now)) (sym c.self.view_is) h in
-    is_ready g.N.Naming.config (room_for m.memories c.args.limits.pages) c.self.inside.memory c.resume.new.memory c.self.inside.holds c.self.invariant.kept c.resume.ensures.memory (c.resume.ensures.went begun inside).marks.changes.room
+    let inside = subst (λ (x : MemoryContents). Stands m limits begun c.args.args.now c.args.call.now c.args.stacks.now (store_in m x c.args.inputs.now.table.now c.args.globals.now c.args.answer.now)) (sym c.self.view_is) h in
+    is_ready g.N.Naming.config (room_for m.memories c.args.inputs.now.limits.pages) c.self.inside.memory c.resume.new.memory c.self.inside.holds c.self.invariant.kept c.resume.ensures.memory (c.resume.ensures.went begun inside).marks.changes.room
 
 pub returns-clause-counted : goal.returns-clause-counted
 returns-clause-counted g c few begun h r is =
-    let m = c.args.valid.now in
-    let limits = terms c.args.limits c.args.request.now in
-    let inside = subst (λ (x : MemoryContents). Stands m limits begun c.args.args.now c.args.call.now c.args.stacks.now (store_in m x c.args.table.now c.args.globals.now c.args.answer.now)) (sym c.self.view_is) h in
+    let m = c.args.inputs.now.valid.now in
+    let limits = run_terms c.args.inputs.now in
+    let inside = subst (λ (x : MemoryContents). Stands m limits begun c.args.args.now c.args.call.now c.args.stacks.now (store_in m x c.args.inputs.now.table.now c.args.globals.now c.args.answer.now)) (sym c.self.view_is) h in
     let went = c.resume.ensures.went begun inside in
     let same : went.at.fuel ≡ r.fuel = ap (λ (x : CallResult). x.fuel) (same_Some went.at r (sym went.gives ∙ is)) in
     let most = went.marks.few few in
@@ -86,14 +85,14 @@ returns-clause-counted g c few begun h r is =
 pub returns-clause-leaves : goal.returns-clause-leaves
 returns-clause-leaves g c begun h owner =
     let config = g.N.Naming.config in
-    let m = c.args.valid.now in
-    let limits = terms c.args.limits c.args.request.now in
+    let m = c.args.inputs.now.valid.now in
+    let limits = run_terms c.args.inputs.now in
     let old = c.self.inside.memory in
     let new = c.resume.new.memory in
     let holds = c.self.inside.holds in
-    let table = c.args.table.now in
+    let table = c.args.inputs.now.table.now in
     let globals = c.args.globals.now in
-    let most : ℕ = room_for m.memories c.args.limits.pages in
+    let most : ℕ = room_for m.memories c.args.inputs.now.limits.pages in
     let store = lent_store m new table c.resume.new.globals c.resume.new.answer in
     let there = globals_there m (store_in m c.args.self.now table globals c.args.answer.now) globals refl h.typed in
     let inside = subst (λ (x : MemoryContents). Stands m limits begun c.args.args.now c.args.call.now c.args.stacks.now (store_in m x table globals c.args.answer.now)) (sym c.self.view_is) h in

@@ -1,7 +1,6 @@
 use Rattle.std.proofs.Common.{◌≡◌, ◌-◌, ◌*◌, ◌≤◌, ◌∙◌, true, true≢false, refl, sym, subst, arith}
-use Rattle.wasm_spec.specs.Execution.{terms}
 use Rattle.wasm_spec.specs.Result.{CallResult}
-use Rattle.wasm_machine.specs.Lent.{lent_store}
+use Rattle.wasm_machine.specs.Lent.{run_store, run_terms}
 use Rattle.wasm_machine.specs.Room.{Room}
 use Rattle.wasm_machine.proofs.RunLemmas.{within_more}
 use Rattle.paused_call.proofs.SliceLemmas.{both_give, both_marked, both_stand, is_done, not_done, one_gives, one_marked, one_stands}
@@ -11,27 +10,27 @@ use Rattle.paused_call.proofs.call.PausedCall.go_on.Goals as goal
 
 pub returns-then-not-self-clause-result : goal.returns-then-not-self-clause-result
 returns-then-not-self-clause-result c begun h =
-    let m = c.args.valid.now in
-    let limits = terms c.args.limits c.args.request.now in
-    let store = lent_store m c.args.memory.now c.args.table.now c.args.globals.now c.args.answer.now in
-    let end : CallResult = record { outcome = c.advance-end.result.outcome; store = lent_store m c.advance-end.new.memory c.args.table.now c.advance-end.new.globals c.advance-end.new.answer; fuel = c.advance-end.result.left } in
+    let m = c.args.inputs.now.valid.now in
+    let limits = run_terms c.args.inputs.now in
+    let store = run_store c.args.inputs.now c.args.memory.now c.args.globals.now c.args.answer.now in
+    let end : CallResult = record { outcome = c.advance-end.result.outcome; store = run_store c.args.inputs.now c.advance-end.new.memory c.advance-end.new.globals c.advance-end.new.answer; fuel = c.advance-end.result.left } in
     one_gives m limits begun c.args.args.now c.args.self.now c.args.stacks.now store h c.args.fuel c.args.memory.now c.advance-end.new.memory c.advance-end.new.stacks end (c.advance-end.ensures.ran begun h) (λ starts. absurd (true≢false (sym starts ∙ c.if-not-self.true)))
 
 pub returns-then-not-self-clause-stands : goal.returns-then-not-self-clause-stands
 returns-then-not-self-clause-stands c out begun h =
-    let m = c.args.valid.now in
-    let limits = terms c.args.limits c.args.request.now in
-    let store = lent_store m c.args.memory.now c.args.table.now c.args.globals.now c.args.answer.now in
-    let end : CallResult = record { outcome = c.advance-end.result.outcome; store = lent_store m c.advance-end.new.memory c.args.table.now c.advance-end.new.globals c.advance-end.new.answer; fuel = c.advance-end.result.left } in
+    let m = c.args.inputs.now.valid.now in
+    let limits = run_terms c.args.inputs.now in
+    let store = run_store c.args.inputs.now c.args.memory.now c.args.globals.now c.args.answer.now in
+    let end : CallResult = record { outcome = c.advance-end.result.outcome; store = run_store c.args.inputs.now c.advance-end.new.memory c.advance-end.new.globals c.advance-end.new.answer; fuel = c.advance-end.result.left } in
     one_stands m limits begun c.args.args.now c.args.self.now c.args.stacks.now store h c.args.fuel c.args.memory.now c.advance-end.new.memory c.advance-end.new.stacks end (c.advance-end.ensures.ran begun h) (λ starts. absurd (true≢false (sym starts ∙ c.if-not-self.true)))
     out c.requires.fuel c.advance-end.ensures.stacks
 
 pub returns-then-not-self-clause-marked : goal.returns-then-not-self-clause-marked
 returns-then-not-self-clause-marked c begun h =
-    let m = c.args.valid.now in
-    let limits = terms c.args.limits c.args.request.now in
-    let store = lent_store m c.args.memory.now c.args.table.now c.args.globals.now c.args.answer.now in
-    let end : CallResult = record { outcome = c.advance-end.result.outcome; store = lent_store m c.advance-end.new.memory c.args.table.now c.advance-end.new.globals c.advance-end.new.answer; fuel = c.advance-end.result.left } in
+    let m = c.args.inputs.now.valid.now in
+    let limits = run_terms c.args.inputs.now in
+    let store = run_store c.args.inputs.now c.args.memory.now c.args.globals.now c.args.answer.now in
+    let end : CallResult = record { outcome = c.advance-end.result.outcome; store = run_store c.args.inputs.now c.advance-end.new.memory c.advance-end.new.globals c.advance-end.new.answer; fuel = c.advance-end.result.left } in
     one_marked m limits begun c.args.args.now c.args.self.now c.args.stacks.now store h c.args.fuel c.args.memory.now c.advance-end.new.memory c.advance-end.new.stacks end (c.advance-end.ensures.ran begun h) (λ starts. absurd (true≢false (sym starts ∙ c.if-not-self.true)))
 
 pub returns-then-not-self-clause-still : goal.returns-then-not-self-clause-still
@@ -40,10 +39,10 @@ returns-then-not-self-clause-still c out none = c.advance-end.ensures.still out 
 pub returns-in_default : goal.returns-in_default
 returns-in_default c =
     let other = not_done c.advance-end.result.outcome c.in_default.not-Done in
-    let m = c.args.valid.now in
-    let limits = terms c.args.limits c.args.request.now in
-    let store = lent_store m c.args.memory.now c.args.table.now c.args.globals.now c.args.answer.now in
-    let end : CallResult = record { outcome = c.advance-end.result.outcome; store = lent_store m c.advance-end.new.memory c.args.table.now c.advance-end.new.globals c.advance-end.new.answer; fuel = c.advance-end.result.left } in
+    let m = c.args.inputs.now.valid.now in
+    let limits = run_terms c.args.inputs.now in
+    let store = run_store c.args.inputs.now c.args.memory.now c.args.globals.now c.args.answer.now in
+    let end : CallResult = record { outcome = c.advance-end.result.outcome; store = run_store c.args.inputs.now c.advance-end.new.memory c.advance-end.new.globals c.advance-end.new.answer; fuel = c.advance-end.result.left } in
     record {
       result = λ begun h. one_gives m limits begun c.args.args.now c.args.self.now c.args.stacks.now store h c.args.fuel c.args.memory.now c.advance-end.new.memory c.advance-end.new.stacks end (c.advance-end.ensures.ran begun h) (λ s. other);
       left = c.advance-end.ensures.left;
@@ -71,20 +70,20 @@ pub invoke-requires-clause-frames : goal.invoke-requires-clause-frames
 invoke-requires-clause-frames c =
     let (begun, h) = c.requires.stands in
     let frames = h.frames in
-    subst (λ (r : Room). c.args.limits.depth ≤ r.depth) (sym c.advance-end.ensures.stacks) frames
+    subst (λ (r : Room). c.args.inputs.now.limits.depth ≤ r.depth) (sym c.advance-end.ensures.stacks) frames
 
 pub invoke-requires-clause-store : goal.invoke-requires-clause-store
 invoke-requires-clause-store c = c.advance-end.ensures.store (is_done c.advance-end.result.outcome c.in-Done.field-0 c.in-Done.is)
 
 pub returns-clause-result : goal.returns-clause-result
 returns-clause-result c begun h =
-    let m = c.args.valid.now in
-    let limits = terms c.args.limits c.args.request.now in
-    let store = lent_store m c.args.memory.now c.args.table.now c.args.globals.now c.args.answer.now in
-    let end : CallResult = record { outcome = c.advance-end.result.outcome; store = lent_store m c.advance-end.new.memory c.args.table.now c.advance-end.new.globals c.advance-end.new.answer; fuel = c.advance-end.result.left } in
+    let m = c.args.inputs.now.valid.now in
+    let limits = run_terms c.args.inputs.now in
+    let store = run_store c.args.inputs.now c.args.memory.now c.args.globals.now c.args.answer.now in
+    let end : CallResult = record { outcome = c.advance-end.result.outcome; store = run_store c.args.inputs.now c.advance-end.new.memory c.advance-end.new.globals c.advance-end.new.answer; fuel = c.advance-end.result.left } in
     let done = is_done c.advance-end.result.outcome c.in-Done.field-0 c.in-Done.is in
     let starts : c.args.self.now.starts ≡ true = c.if-not-self.false in
-    let last : CallResult = record { outcome = c.invoke.result.outcome; store = lent_store m c.invoke.new.memory c.args.table.now c.invoke.new.globals c.invoke.new.answer; fuel = c.invoke.result.left } in
+    let last : CallResult = record { outcome = c.invoke.result.outcome; store = run_store c.args.inputs.now c.invoke.new.memory c.invoke.new.globals c.invoke.new.answer; fuel = c.invoke.result.left } in
     both_give m limits begun c.args.args.now c.args.self.now c.args.stacks.now store h c.args.fuel c.args.memory.now c.advance-end.new.memory c.advance-end.new.stacks end (c.advance-end.ensures.ran begun h) starts done c.advance-end.ensures.left
     last c.invoke.ensures.result
 
@@ -93,22 +92,22 @@ returns-clause-left c = omega (arith, c.advance-end.ensures.left, c.invoke.ensur
 
 pub returns-clause-stands : goal.returns-clause-stands
 returns-clause-stands c out begun h =
-    let m = c.args.valid.now in
-    let limits = terms c.args.limits c.args.request.now in
-    let store = lent_store m c.args.memory.now c.args.table.now c.args.globals.now c.args.answer.now in
-    let end : CallResult = record { outcome = c.advance-end.result.outcome; store = lent_store m c.advance-end.new.memory c.args.table.now c.advance-end.new.globals c.advance-end.new.answer; fuel = c.advance-end.result.left } in
+    let m = c.args.inputs.now.valid.now in
+    let limits = run_terms c.args.inputs.now in
+    let store = run_store c.args.inputs.now c.args.memory.now c.args.globals.now c.args.answer.now in
+    let end : CallResult = record { outcome = c.advance-end.result.outcome; store = run_store c.args.inputs.now c.advance-end.new.memory c.advance-end.new.globals c.advance-end.new.answer; fuel = c.advance-end.result.left } in
     let done = is_done c.advance-end.result.outcome c.in-Done.field-0 c.in-Done.is in
     let starts : c.args.self.now.starts ≡ true = c.if-not-self.false in
-    let last : CallResult = record { outcome = c.invoke.result.outcome; store = lent_store m c.invoke.new.memory c.args.table.now c.invoke.new.globals c.invoke.new.answer; fuel = c.invoke.result.left } in
+    let last : CallResult = record { outcome = c.invoke.result.outcome; store = run_store c.args.inputs.now c.invoke.new.memory c.invoke.new.globals c.invoke.new.answer; fuel = c.invoke.result.left } in
     both_stand m limits begun c.args.args.now c.args.self.now c.args.stacks.now store h c.args.fuel c.args.memory.now c.advance-end.new.memory c.advance-end.new.stacks end (c.advance-end.ensures.ran begun h) starts done c.advance-end.ensures.left
     last c.invoke.new.self out c.invoke.ensures.result c.requires.fuel (c.invoke.ensures.stacks ∙ c.advance-end.ensures.stacks) (c.invoke.ensures.stands out)
 
 pub returns-clause-marked : goal.returns-clause-marked
 returns-clause-marked c begun h =
-    let m = c.args.valid.now in
-    let limits = terms c.args.limits c.args.request.now in
-    let store = lent_store m c.args.memory.now c.args.table.now c.args.globals.now c.args.answer.now in
-    let end : CallResult = record { outcome = c.advance-end.result.outcome; store = lent_store m c.advance-end.new.memory c.args.table.now c.advance-end.new.globals c.advance-end.new.answer; fuel = c.advance-end.result.left } in
+    let m = c.args.inputs.now.valid.now in
+    let limits = run_terms c.args.inputs.now in
+    let store = run_store c.args.inputs.now c.args.memory.now c.args.globals.now c.args.answer.now in
+    let end : CallResult = record { outcome = c.advance-end.result.outcome; store = run_store c.args.inputs.now c.advance-end.new.memory c.advance-end.new.globals c.advance-end.new.answer; fuel = c.advance-end.result.left } in
     let done = is_done c.advance-end.result.outcome c.in-Done.field-0 c.in-Done.is in
     let starts : c.args.self.now.starts ≡ true = c.if-not-self.false in
     both_marked m limits begun c.args.args.now c.args.self.now c.args.stacks.now store h c.args.fuel c.args.memory.now c.advance-end.new.memory c.advance-end.new.stacks end (c.advance-end.ensures.ran begun h) starts done c.advance-end.ensures.left
@@ -124,5 +123,5 @@ pub returns-clause-marks : goal.returns-clause-marks
 returns-clause-marks c =
     let one = c.advance-end.ensures.left in
     let two = c.invoke.ensures.left in
-    within_more c.args.valid.now c.args.memory.now c.advance-end.new.memory c.invoke.new.memory (2 * (c.args.fuel - c.advance-end.result.left)) (2 * (c.advance-end.result.left - c.invoke.result.left)) (2 * (c.args.fuel - c.invoke.result.left))
+    within_more c.args.inputs.now.valid.now c.args.memory.now c.advance-end.new.memory c.invoke.new.memory (2 * (c.args.fuel - c.advance-end.result.left)) (2 * (c.advance-end.result.left - c.invoke.result.left)) (2 * (c.args.fuel - c.invoke.result.left))
     c.advance-end.ensures.marks c.invoke.ensures.marks (omega arith)

@@ -1,9 +1,8 @@
 use Rattle.std.proofs.Common.{ℕ, ◌+◌, ◌-◌, sym, ap, subst, arith}
 use Rattle.wasm_values.specs.declared.outcome.Outcome.{Outcome}
-use Rattle.wasm_spec.specs.Execution.{terms}
 use Rattle.wasm_spec.specs.MoreFuel.{is_fuel}
 use Rattle.wasm_spec.specs.Result.{CallResult}
-use Rattle.wasm_machine.specs.Lent.{lent_store}
+use Rattle.wasm_machine.specs.Lent.{run_store, run_terms}
 use Rattle.wasm_machine.specs.Resuming.{IsOutOfFuel}
 use Rattle.paused_call.specs.declared.call.PausedCall.{PausedCall}
 use Rattle.paused_call.specs.Standing.{Stands, upto, whole}
@@ -14,32 +13,32 @@ use Rattle.paused_call.proofs.call.PausedCall.resume.Goals as goal
 
 pub returns-in-Fuel-clause-turned : goal.returns-in-Fuel-clause-turned
 returns-in-Fuel-clause-turned c begun h =
-    let m = c.args.valid.now in
-    let limits = terms c.args.limits c.args.request.now in
+    let m = c.args.inputs.now.valid.now in
+    let limits = run_terms c.args.inputs.now in
     let args = c.args.args.now in
     let call = c.args.self.now in
-    let end : CallResult = record { outcome = c.go_on-end.result.outcome; store = lent_store m c.go_on-end.new.memory c.args.table.now c.go_on-end.new.globals c.go_on-end.new.answer; fuel = c.go_on-end.result.left } in
+    let end : CallResult = record { outcome = c.go_on-end.result.outcome; store = run_store c.args.inputs.now c.go_on-end.new.memory c.go_on-end.new.globals c.go_on-end.new.answer; fuel = c.go_on-end.result.left } in
     let lt = c.if-slice-most.true in
     let le = h.within in
     turned_again m limits begun args call c.args.slice end (omega arith) (c.go_on-end.ensures.result begun h) (ap (λ (o : Outcome). is_fuel o) c.in-Fuel.is)
 
 pub returns-in-Fuel-clause-stands : goal.returns-in-Fuel-clause-stands
 returns-in-Fuel-clause-stands c again begun h =
-    let m = c.args.valid.now in
-    let limits = terms c.args.limits c.args.request.now in
+    let m = c.args.inputs.now.valid.now in
+    let limits = run_terms c.args.inputs.now in
     let args = c.args.args.now in
     let out : IsOutOfFuel c.go_on-end.result.outcome = subst IsOutOfFuel (sym c.in-Fuel.is) tt in
     let turns = ap (λ (p : PausedCall). p.turns) c.go_on-end.ensures.call in
     let there = c.go_on-end.ensures.stands out begun h in
-    subst (λ (k : ℕ). Stands m limits begun args (record c.go_on-end.new.self { turns = k + c.args.slice }) c.go_on-end.new.stacks (lent_store m c.go_on-end.new.memory c.args.table.now c.go_on-end.new.globals c.go_on-end.new.answer)) (sym turns) there
+    subst (λ (k : ℕ). Stands m limits begun args (record c.go_on-end.new.self { turns = k + c.args.slice }) c.go_on-end.new.stacks (run_store c.args.inputs.now c.go_on-end.new.memory c.go_on-end.new.globals c.go_on-end.new.answer)) (sym turns) there
 
 pub returns-in-Fuel-clause-went : goal.returns-in-Fuel-clause-went
 returns-in-Fuel-clause-went c begun h =
-    let m = c.args.valid.now in
-    let limits = terms c.args.limits c.args.request.now in
+    let m = c.args.inputs.now.valid.now in
+    let limits = run_terms c.args.inputs.now in
     let args = c.args.args.now in
     let call = c.args.self.now in
-    let end : CallResult = record { outcome = c.go_on-end.result.outcome; store = lent_store m c.go_on-end.new.memory c.args.table.now c.go_on-end.new.globals c.go_on-end.new.answer; fuel = c.go_on-end.result.left } in
+    let end : CallResult = record { outcome = c.go_on-end.result.outcome; store = run_store c.args.inputs.now c.go_on-end.new.memory c.go_on-end.new.globals c.go_on-end.new.answer; fuel = c.go_on-end.result.left } in
     let lt = c.if-slice-most.true in
     let le = h.within in
     went_to m (whole m limits call args begun) call.turns c.args.slice (upto call c.args.slice) c.args.memory.now c.go_on-end.new.memory end (omega arith) (c.go_on-end.ensures.result begun h)
@@ -49,22 +48,22 @@ returns-in-Fuel-clause-went c begun h =
 
 pub returns-in_default-clause-turned : goal.returns-in_default-clause-turned
 returns-in_default-clause-turned c begun h =
-    let m = c.args.valid.now in
-    let limits = terms c.args.limits c.args.request.now in
+    let m = c.args.inputs.now.valid.now in
+    let limits = run_terms c.args.inputs.now in
     let args = c.args.args.now in
     let call = c.args.self.now in
-    let end : CallResult = record { outcome = c.go_on-end.result.outcome; store = lent_store m c.go_on-end.new.memory c.args.table.now c.go_on-end.new.globals c.go_on-end.new.answer; fuel = c.go_on-end.result.left } in
+    let end : CallResult = record { outcome = c.go_on-end.result.outcome; store = run_store c.args.inputs.now c.go_on-end.new.memory c.go_on-end.new.globals c.go_on-end.new.answer; fuel = c.go_on-end.result.left } in
     let lt = c.if-slice-most.true in
     let le = h.within in
     turned_early m limits begun args call c.args.slice end (omega arith) (c.go_on-end.ensures.result begun h) (not_fuel c.go_on-end.result.outcome c.in_default.not-Fuel)
 
 pub returns-in_default-clause-went : goal.returns-in_default-clause-went
 returns-in_default-clause-went c begun h =
-    let m = c.args.valid.now in
-    let limits = terms c.args.limits c.args.request.now in
+    let m = c.args.inputs.now.valid.now in
+    let limits = run_terms c.args.inputs.now in
     let args = c.args.args.now in
     let call = c.args.self.now in
-    let end : CallResult = record { outcome = c.go_on-end.result.outcome; store = lent_store m c.go_on-end.new.memory c.args.table.now c.go_on-end.new.globals c.go_on-end.new.answer; fuel = c.go_on-end.result.left } in
+    let end : CallResult = record { outcome = c.go_on-end.result.outcome; store = run_store c.args.inputs.now c.go_on-end.new.memory c.go_on-end.new.globals c.go_on-end.new.answer; fuel = c.go_on-end.result.left } in
     let lt = c.if-slice-most.true in
     let le = h.within in
     went_to m (whole m limits call args begun) call.turns c.args.slice (upto call c.args.slice) c.args.memory.now c.go_on-end.new.memory end (omega arith) (c.go_on-end.ensures.result begun h)
@@ -74,22 +73,22 @@ returns-in_default-clause-went c begun h =
 
 pub returns-else-slice-most-clause-turned : goal.returns-else-slice-most-clause-turned
 returns-else-slice-most-clause-turned c begun h =
-    let m = c.args.valid.now in
-    let limits = terms c.args.limits c.args.request.now in
+    let m = c.args.inputs.now.valid.now in
+    let limits = run_terms c.args.inputs.now in
     let args = c.args.args.now in
     let call = c.args.self.now in
-    let end : CallResult = record { outcome = c.go_on-end-else-slice-most.result.outcome; store = lent_store m c.go_on-end-else-slice-most.new.memory c.args.table.now c.go_on-end-else-slice-most.new.globals c.go_on-end-else-slice-most.new.answer; fuel = c.go_on-end-else-slice-most.result.left } in
+    let end : CallResult = record { outcome = c.go_on-end-else-slice-most.result.outcome; store = run_store c.args.inputs.now c.go_on-end-else-slice-most.new.memory c.go_on-end-else-slice-most.new.globals c.go_on-end-else-slice-most.new.answer; fuel = c.go_on-end-else-slice-most.result.left } in
     let lt = c.if-slice-most.false in
     let le = h.within in
     turned_late m limits begun args call c.args.slice end le (omega arith) (c.go_on-end-else-slice-most.ensures.result begun h)
 
 pub returns-else-slice-most-clause-went : goal.returns-else-slice-most-clause-went
 returns-else-slice-most-clause-went c begun h =
-    let m = c.args.valid.now in
-    let limits = terms c.args.limits c.args.request.now in
+    let m = c.args.inputs.now.valid.now in
+    let limits = run_terms c.args.inputs.now in
     let args = c.args.args.now in
     let call = c.args.self.now in
-    let end : CallResult = record { outcome = c.go_on-end-else-slice-most.result.outcome; store = lent_store m c.go_on-end-else-slice-most.new.memory c.args.table.now c.go_on-end-else-slice-most.new.globals c.go_on-end-else-slice-most.new.answer; fuel = c.go_on-end-else-slice-most.result.left } in
+    let end : CallResult = record { outcome = c.go_on-end-else-slice-most.result.outcome; store = run_store c.args.inputs.now c.go_on-end-else-slice-most.new.memory c.go_on-end-else-slice-most.new.globals c.go_on-end-else-slice-most.new.answer; fuel = c.go_on-end-else-slice-most.result.left } in
     let lt = c.if-slice-most.false in
     let le = h.within in
     went_to m (whole m limits call args begun) call.turns (call.fuel - call.turns) (upto call c.args.slice) c.args.memory.now c.go_on-end-else-slice-most.new.memory end (omega arith) (c.go_on-end-else-slice-most.ensures.result begun h)

@@ -3,9 +3,9 @@ use Rattle.pool_host.proofs.StartLemmas.{look_is, refused_cause, refused_so, ref
 use Rattle.instance_calls.proofs.CallLemmas.{ends_with}
 use Rattle.pool_host.proofs.host.Host.answer.Goals as goal
 
-pub give_slots-requires-clause-have : goal.give_slots-requires-clause-have
-give_slots-requires-clause-have g c =
-    (c.args.module.now, still_have g.N.Naming.config c.args.self.now c.args.module.now c.in-Ok.instance c.run-outcome.new.self c.run-outcome.ensures.slots c.start.new.passes c.in-Ok.ensures.have)
+pub give-requires-clause-have : goal.give-requires-clause-have
+give-requires-clause-have g c =
+    (c.args.module.now, still_have g.N.Naming.config c.args.self.now c.args.module.now c.in-Ok.instance c.run-outcome.result.1.instance c.run-outcome.ensures.slots c.start.new.passes c.in-Ok.ensures.have)
 
 pub returns-in-Ok-clause-trails : goal.returns-in-Ok-clause-trails
 returns-in-Ok-clause-trails g c =
@@ -13,16 +13,16 @@ returns-in-Ok-clause-trails g c =
     let host = c.args.self.now in
     let m = c.args.module.now in
     let x = c.in-Ok.instance in
-    let y = c.run-outcome.new.self in
+    let y = c.run-outcome.result.1.instance in
     let keeps = c.run-outcome.ensures.slots in
     let have = still_have config host m x y keeps c.start.new.passes c.in-Ok.ensures.have in
-    let gave = gave_those config host m x y keeps c.start.new.passes c.give_slots.new.passes (c.give_slots.ensures.gave m have) in
-    all_served config host m x c.args.passes.now c.start.new.passes c.give_slots.new.passes c.in-Ok.ensures.fresh c.in-Ok.ensures.took gave c.run-outcome.result
+    let gave = gave_those config host m x y keeps c.start.new.passes c.give.new.passes (c.give.ensures.gave m have) in
+    all_served config host m x c.args.passes.now c.start.new.passes c.give.new.passes c.in-Ok.ensures.fresh c.in-Ok.ensures.took gave c.run-outcome.result.0
 
 pub returns-in-Ok-clause-answer : goal.returns-in-Ok-clause-answer
 returns-in-Ok-clause-answer g c =
     let asked = c.args.asked.now in
-    ends_with g.N.Naming.config c.args.module.now.tree asked.export.now c.in-Ok.function asked.args.now asked.request.now asked.fuel c.run-outcome.result c.run-outcome.new.answer c.in-Ok.ensures.may c.run-outcome.ensures.ends
+    ends_with g.N.Naming.config c.args.module.now.tree asked.export.now c.in-Ok.function asked.args.now asked.request.now asked.fuel c.run-outcome.result.0 c.run-outcome.new.said c.in-Ok.ensures.may c.run-outcome.ensures.ends
 
 pub returns-in-Err-clause-answer : goal.returns-in-Err-clause-answer
 returns-in-Err-clause-answer g c =

@@ -1,10 +1,9 @@
 use Rattle.std.proofs.Common.{List, Some, drop, refl, ap, sym, ◌∙◌, subst}
 use Rattle.wasm_types.specs.declared.module.Module.{Module}
 use Rattle.wasm_values.specs.declared.outcome.Val.{Val}
-use Rattle.wasm_spec.specs.Execution.{terms}
 use Rattle.machine_steps.specs.Lent.{store_of}
 use Rattle.wasm_machine.specs.Calls.{FitsFrame}
-use Rattle.wasm_machine.specs.Lent.{lent_store}
+use Rattle.wasm_machine.specs.Lent.{run_store, run_terms}
 use Rattle.wasm_machine.specs.Resuming.{Resumes}
 use Rattle.wasm_machine.specs.Room.{StacksView}
 use Rattle.wasm_machine.specs.Simulation.{Simulates, after}
@@ -13,76 +12,76 @@ use Rattle.wasm_machine.proofs.stacks.Stacks.advance.Goals as goal
 
 pub go_on-requires-clause-runs : goal.go_on-requires-clause-runs
 go_on-requires-clause-runs c =
-    let m : Module = c.args.valid.now in
+    let m : Module = c.args.inputs.now.valid.now in
     let n : Module = c.module-m.result.now in
-    let limits = terms c.args.limits c.args.request.now in
+    let limits = run_terms c.args.inputs.now in
     let inside = c.self.inside in
     let globals = c.args.globals.now in
-    let before = lent_store m c.args.memory.now c.args.table.now globals c.args.answer.now in
+    let before = run_store c.args.inputs.now c.args.memory.now globals c.args.answer.now in
     let frame = ap (λ (s : StacksView). s.room.frame) (sym c.self.view_is) in
     let run = runnable_as n m inside.frame c.module-m.ensures.same c.module-m.ensures.supported c.module-m.ensures.valid (subst (FitsFrame m) frame c.requires.frame) c.module-m.ensures.locals in
     let opened : Simulates m limits inside.frame inside.machine before c.requires.resumes.to = subst (λ (s : StacksView). Resumes m limits s before c.requires.resumes.to) (sym c.self.view_is) c.requires.resumes.resumes in
-    (inside.frame, c.requires.resumes.to, run, stands_inside n m limits inside.frame inside.machine c.args.memory.now c.args.table.now globals c.args.answer.now c.len-count.result c.requires.resumes.to c.module-m.ensures.same c.len-count.ensures opened)
+    (inside.frame, c.requires.resumes.to, run, stands_inside n m limits inside.frame inside.machine c.args.memory.now c.args.inputs.now.table.now globals c.args.answer.now c.len-count.result c.requires.resumes.to c.module-m.ensures.same c.len-count.ensures opened)
 
 pub returns-clause-result : goal.returns-clause-result
 returns-clause-result c r resumes =
-    let m : Module = c.args.valid.now in
+    let m : Module = c.args.inputs.now.valid.now in
     let n : Module = c.module-m.result.now in
-    let limits = terms c.args.limits c.args.request.now in
+    let limits = run_terms c.args.inputs.now in
     let inside = c.self.inside in
     let globals = c.args.globals.now in
-    let before = lent_store m c.args.memory.now c.args.table.now globals c.args.answer.now in
+    let before = run_store c.args.inputs.now c.args.memory.now globals c.args.answer.now in
     let frame = ap (λ (s : StacksView). s.room.frame) (sym c.self.view_is) in
     let run = runnable_as n m inside.frame c.module-m.ensures.same c.module-m.ensures.supported c.module-m.ensures.valid (subst (FitsFrame m) frame c.requires.frame) c.module-m.ensures.locals in
     let opened : Simulates m limits inside.frame inside.machine before r = subst (λ (s : StacksView). Resumes m limits s before r) (sym c.self.view_is) resumes in
-    let simulates = stands_inside n m limits inside.frame inside.machine c.args.memory.now c.args.table.now globals c.args.answer.now c.len-count.result r c.module-m.ensures.same c.len-count.ensures opened in
+    let simulates = stands_inside n m limits inside.frame inside.machine c.args.memory.now c.args.inputs.now.table.now globals c.args.answer.now c.len-count.result r c.module-m.ensures.same c.len-count.ensures opened in
     let back = globals_back n m before globals c.go_on.new.globals (drop c.len-count.result globals) c.len-count.result c.module-m.ensures.same c.len-count.ensures refl resumes.stored c.go_on.ensures.globals in
     c.go_on.ensures.result inside.frame r run simulates
-    ∙ ap (λ (gs : List Val). Some (record { outcome = c.go_on.result.outcome; store = store_of c.go_on.new.memory c.args.table.now gs c.go_on.new.answer; fuel = c.go_on.result.left })) back
+    ∙ ap (λ (gs : List Val). Some (record { outcome = c.go_on.result.outcome; store = store_of c.go_on.new.memory c.args.inputs.now.table.now gs c.go_on.new.answer; fuel = c.go_on.result.left })) back
 
 pub returns-clause-ended : goal.returns-clause-ended
 returns-clause-ended c ended r resumes more =
-    let m : Module = c.args.valid.now in
+    let m : Module = c.args.inputs.now.valid.now in
     let n : Module = c.module-m.result.now in
-    let limits = terms c.args.limits c.args.request.now in
+    let limits = run_terms c.args.inputs.now in
     let inside = c.self.inside in
     let globals = c.args.globals.now in
-    let before = lent_store m c.args.memory.now c.args.table.now globals c.args.answer.now in
+    let before = run_store c.args.inputs.now c.args.memory.now globals c.args.answer.now in
     let frame = ap (λ (s : StacksView). s.room.frame) (sym c.self.view_is) in
     let run = runnable_as n m inside.frame c.module-m.ensures.same c.module-m.ensures.supported c.module-m.ensures.valid (subst (FitsFrame m) frame c.requires.frame) c.module-m.ensures.locals in
     let opened : Simulates m limits inside.frame inside.machine before r = subst (λ (s : StacksView). Resumes m limits s before r) (sym c.self.view_is) resumes in
-    let simulates = stands_inside n m limits inside.frame inside.machine c.args.memory.now c.args.table.now globals c.args.answer.now c.len-count.result r c.module-m.ensures.same c.len-count.ensures opened in
+    let simulates = stands_inside n m limits inside.frame inside.machine c.args.memory.now c.args.inputs.now.table.now globals c.args.answer.now c.len-count.result r c.module-m.ensures.same c.len-count.ensures opened in
     let back = globals_back n m before globals c.go_on.new.globals (drop c.len-count.result globals) c.len-count.result c.module-m.ensures.same c.len-count.ensures refl resumes.stored c.go_on.ensures.globals in
     c.go_on.ensures.ended ended inside.frame r run simulates more
-    ∙ ap (λ (gs : List Val). Some (record { outcome = c.go_on.result.outcome; store = store_of c.go_on.new.memory c.args.table.now gs c.go_on.new.answer; fuel = more })) back
+    ∙ ap (λ (gs : List Val). Some (record { outcome = c.go_on.result.outcome; store = store_of c.go_on.new.memory c.args.inputs.now.table.now gs c.go_on.new.answer; fuel = more })) back
 
 pub returns-clause-stands : goal.returns-clause-stands
 returns-clause-stands c out r resumes =
-    let m : Module = c.args.valid.now in
+    let m : Module = c.args.inputs.now.valid.now in
     let n : Module = c.module-m.result.now in
-    let limits = terms c.args.limits c.args.request.now in
+    let limits = run_terms c.args.inputs.now in
     let inside = c.self.inside in
     let globals = c.args.globals.now in
-    let before = lent_store m c.args.memory.now c.args.table.now globals c.args.answer.now in
+    let before = run_store c.args.inputs.now c.args.memory.now globals c.args.answer.now in
     let frame = ap (λ (s : StacksView). s.room.frame) (sym c.self.view_is) in
     let run = runnable_as n m inside.frame c.module-m.ensures.same c.module-m.ensures.supported c.module-m.ensures.valid (subst (FitsFrame m) frame c.requires.frame) c.module-m.ensures.locals in
     let opened : Simulates m limits inside.frame inside.machine before r = subst (λ (s : StacksView). Resumes m limits s before r) (sym c.self.view_is) resumes in
-    let simulates = stands_inside n m limits inside.frame inside.machine c.args.memory.now c.args.table.now globals c.args.answer.now c.len-count.result r c.module-m.ensures.same c.len-count.ensures opened in
+    let simulates = stands_inside n m limits inside.frame inside.machine c.args.memory.now c.args.inputs.now.table.now globals c.args.answer.now c.len-count.result r c.module-m.ensures.same c.len-count.ensures opened in
     let back = globals_back n m before globals c.go_on.new.globals (drop c.len-count.result globals) c.len-count.result c.module-m.ensures.same c.len-count.ensures refl resumes.stored c.go_on.ensures.globals in
-    let there : Simulates m limits inside.frame c.go_on.new.machine (store_of c.go_on.new.memory c.args.table.now c.go_on.new.globals c.go_on.new.answer) (after c.args.fuel r) =
-    subst (λ (k : Module). Simulates k limits inside.frame c.go_on.new.machine (store_of c.go_on.new.memory c.args.table.now c.go_on.new.globals c.go_on.new.answer) (after c.args.fuel r)) c.module-m.ensures.same
+    let there : Simulates m limits inside.frame c.go_on.new.machine (store_of c.go_on.new.memory c.args.inputs.now.table.now c.go_on.new.globals c.go_on.new.answer) (after c.args.fuel r) =
+    subst (λ (k : Module). Simulates k limits inside.frame c.go_on.new.machine (store_of c.go_on.new.memory c.args.inputs.now.table.now c.go_on.new.globals c.go_on.new.answer) (after c.args.fuel r)) c.module-m.ensures.same
     (c.go_on.ensures.stands out inside.frame r run simulates) in
-    subst (λ (gs : List Val). Simulates m limits inside.frame c.go_on.new.machine (store_of c.go_on.new.memory c.args.table.now gs c.go_on.new.answer) (after c.args.fuel r)) back there
+    subst (λ (gs : List Val). Simulates m limits inside.frame c.go_on.new.machine (store_of c.go_on.new.memory c.args.inputs.now.table.now gs c.go_on.new.answer) (after c.args.fuel r)) back there
 
 pub returns-clause-marked : goal.returns-clause-marked
 returns-clause-marked c r resumes =
-    let m : Module = c.args.valid.now in
+    let m : Module = c.args.inputs.now.valid.now in
     let n : Module = c.module-m.result.now in
-    let limits = terms c.args.limits c.args.request.now in
+    let limits = run_terms c.args.inputs.now in
     let inside = c.self.inside in
     let globals = c.args.globals.now in
-    let before = lent_store m c.args.memory.now c.args.table.now globals c.args.answer.now in
+    let before = run_store c.args.inputs.now c.args.memory.now globals c.args.answer.now in
     let frame = ap (λ (s : StacksView). s.room.frame) (sym c.self.view_is) in
     let run = runnable_as n m inside.frame c.module-m.ensures.same c.module-m.ensures.supported c.module-m.ensures.valid (subst (FitsFrame m) frame c.requires.frame) c.module-m.ensures.locals in
     let opened : Simulates m limits inside.frame inside.machine before r = subst (λ (s : StacksView). Resumes m limits s before r) (sym c.self.view_is) resumes in
-    c.go_on.ensures.marked inside.frame r run (stands_inside n m limits inside.frame inside.machine c.args.memory.now c.args.table.now globals c.args.answer.now c.len-count.result r c.module-m.ensures.same c.len-count.ensures opened)
+    c.go_on.ensures.marked inside.frame r run (stands_inside n m limits inside.frame inside.machine c.args.memory.now c.args.inputs.now.table.now globals c.args.answer.now c.len-count.result r c.module-m.ensures.same c.len-count.ensures opened)

@@ -1,0 +1,114 @@
+//! Calls that have made their last slice, and what they leave in their slots.
+ghost use Rattle.std.specs.Prelude.{◌≡◌, ◌≤◌, [], length};
+ghost use Rattle.pool_worlds.specs.Contents.{Named};
+ghost use Rattle.pool_worlds.specs.declared.kinds.Kind.{Kind};
+ghost use Rattle.instance_calls.specs.CallWords.{EndsAs, MayCall, comes_of};
+ghost use Rattle.instance_calls.specs.Instances.{IsFreshInstance, KeepsSlots, instance_contents};
+ghost use Rattle.instance_calls.specs.Paused.{WentOn};
+ghost use Rattle.instance_calls.specs.PausedViews.{contents_in};
+ghost use Rattle.instance_calls.specs.Resumed.{HasResumed, HasSlotsOf, SlotsBelong};
+ghost use Rattle.pool_host.specs.Ending.{resumed_of};
+ghost use Rattle.pool_host.specs.Hosts.{AreIdle, ArePassesOf, AreSamePasses};
+ghost use Rattle.pool_host.specs.Taking.{GaveSlots, HaveSlots};
+
+use crate::giving::{give_memory, give_table, give_ticket};
+use crate::host::{Asked, Host};
+use crate::passes::Passes;
+use call_payload::AnswerBuf;
+use instance_calls::{Instance, PausedInstance, Resumed};
+use module_store::{ModuleRef, ModuleStore, Naming};
+use wasm_values::Outcome;
+
+// The slots of a call that is over, as it left them. What lies in them is had by nobody else, and they can only be given back.
+#[derive(Drop)]
+pub(crate) struct Ended<N: Naming> {
+    instance: Instance<N>,
+}
+
+// What a slice of a call came to.
+#[derive(Drop)]
+pub(crate) enum Sliced<N: Naming> {
+    // The call has more turns to make, and fuel for one.
+    Again(PausedInstance<N>),
+    // It is over, and ended so.
+    Done(Outcome, Ended<N>, AnswerBuf),
+}
+
+impl<N: Naming> Ended<N> {
+    // Runs a function of the module on a fresh instance of it.
+    pub(crate) fn run(
+        mut instance: Instance<N>,
+        store: &ModuleStore<N>,
+        module: &ModuleRef<N>,
+        function: u32,
+        asked: &Asked<'_>,
+        said: &mut AnswerBuf,
+    ) -> (Outcome, Ended<N>)
+        requires call { MayCall «module».now.tree asked.now.export.now function asked.now.args.now }
+        requires fresh { IsFreshInstance N.config «module».now.tree instance }
+        requires request { length asked.now.request.now ≤ 65536 }
+        ensures went { WentOn N.config.pages «module».now.tree (comes_of N.config «module».now.tree asked.now.request.now function asked.now.args.now)
+            0 asked.now.fuel (instance_contents instance) (instance_contents result.1.instance) }
+        ensures ends { EndsAs (comes_of N.config «module».now.tree asked.now.request.now function asked.now.args.now) asked.now.fuel result.0 said.new }
+        ensures slots { KeepsSlots instance result.1.instance }
+    {
+        let outcome = instance.run(
+            store,
+            module,
+            function,
+            asked.args,
+            asked.fuel,
+            asked.request,
+            said,
+        );
+        (outcome, Ended { instance })
+    }
+
+    // Makes at most so many turns more of a call.
+    pub(crate) fn resume(
+        running: PausedInstance<N>,
+        store: &ModuleStore<N>,
+        slice: u64,
+    ) -> Sliced<N>
+        ensures { HasResumed N.config running slice (resumed_of result) }
+    {
+        match running.resume(store, slice) {
+            Resumed::Again(running) => Sliced::Again(running),
+            Resumed::Done(outcome, instance, answer) => {
+                Sliced::Done(outcome, Ended { instance }, answer)
+            }
+        }
+    }
+
+    // Gives a call up, where its last slice left it.
+    pub(crate) fn give_up(running: PausedInstance<N>) -> (Ended<N>, AnswerBuf)
+        ensures slots { HasSlotsOf result.0.instance running }
+        ensures belongs { SlotsBelong running }
+        ensures contents { (k : Kind) → instance_contents result.0.instance k ≡ contents_in running k }
+        ensures answer { result.1 ≡ [] }
+    {
+        let (instance, answer) = running.give_up();
+        (Ended { instance }, answer)
+    }
+
+    // Gives the slots back, as they are, in the reverse order of their takes.
+    pub(crate) fn give(self, host: &Host<N>, passes: &mut Passes<N>, store: &ModuleStore<N>)
+        requires own { ArePassesOf host.now passes.old }
+        requires have { (m : Named) × HaveSlots host.now m passes.old self.instance }
+        ensures same { AreSamePasses passes.old passes.new }
+        ensures idle { AreIdle passes.new }
+        ensures gave { (m : Named) → HaveSlots host.now m passes.old self.instance
+            → GaveSlots N.config host.now m passes.old passes.new self.instance }
+    {
+        let Ended {
+            instance: Instance {
+                ticket,
+                memory,
+                table,
+            },
+        } = self;
+        give_table(host, passes, store, table);
+        give_memory(host, passes, store, memory);
+        give_ticket(host, passes, store, ticket);
+    }
+}
