@@ -1,5 +1,7 @@
 #!/usr/bin/env python3
-"""Changes lines of the definitions, each in a copy of its own, and says which example or law refuses each: wrong_lines.py [CRATE | CRATE/NAME ..]
+"""Changes lines of the definitions, each in a copy of its own, and says which example or law refuses each.
+
+Usage: wrong_lines.py [--write-by] [CRATE | CRATE/NAME ..]
 
 With no names all wrong lines are tried: the files scripts/wrong_lines/CRATE/NAME.line, which hold, one line each,
 
@@ -8,7 +10,7 @@ With no names all wrong lines are tried: the files scripts/wrong_lines/CRATE/NAM
     new: TEXT           the wrong line; nothing for a line that goes (in both \\n is a line break)
     check: CRATE WHAT.. the files of examples or lemmas in CRATE/proofs (as TypingExamples) or its functions (as laws::shadow)
                         of which one is to refuse it; there may be several such lines
-    by: NAME            where there are several refusals, the example that is false where the line stands
+    by: NAME            the example that is false where the line stands, or the law
     types: CRATE..      the crates of which the types alone stand there, without their functions
     because: TEXT       what the line says wrongly, in plain words
 
@@ -19,6 +21,10 @@ changed must pass. One check begins with up to eight lines of the same `check:`,
 of its own, so that none sees another; a line whose copy is not refused there by an example that is named is tried once more,
 alone, and that counts. The status is 1 where a line passes, is refused by what `check:` does not name, or is a BAD LINE: one
 that cannot be applied or read, or that takes away a name. Such a line shows nothing of the definitions.
+
+A line is refused *in substance* by the example that `by:` names, or, where it names none, by one whose proof is `refl`: both of its
+sides are computed, and differ. Where only other proofs fail it is refused *in form alone*, since their statements may still be true:
+an example is missing, or `by:`. That is no refusal. With `--write-by` a line without `by:` that is refused in substance gets it.
 """
 import re
 import shutil
@@ -51,6 +57,7 @@ class WrongLine:
     def __init__(self, path):
         self.name = f"{path.parent.name}/{path.stem}"
         self.file, self.because, self.by, self.types, self.pairs, self.checks, old = None, "", None, (), [], [], None
+        self.path, self.refused_by = path, None
         for line in path.read_text(encoding="utf-8").splitlines():
             key, _, text = line.partition(":")
             text = text.removeprefix(" ")
@@ -77,6 +84,11 @@ class WrongLine:
     @property
     def crate(self):
         return Path(self.file).parts[1]
+
+    def write_by(self):
+        """Writes the example that refused the line into its file, above the reason."""
+        text = self.path.read_text(encoding="utf-8")
+        self.path.write_text(re.sub(r"^because:", f"by: {self.refused_by}\nbecause:", text, count=1, flags=re.M), encoding="utf-8")
 
     def changed(self):
         """The file's text with the line changed."""
@@ -292,6 +304,22 @@ def is_by(line, message):
     return line.by is None or message.startswith(f"`{line.by}`")
 
 
+def example_of(message):
+    """The name of the example whose proof an error is about, or none."""
+    found = re.match(r"`([^`]+)`: ", message)
+    return found[1] if found else None
+
+
+def is_computed(error):
+    """Whether an error is about an example whose proof is `refl`, so that what it states is false."""
+    crate, path = origin(error[0])
+    name = example_of(error[2])
+    if not (crate and name):
+        return False
+    file = TOP / "crates" / crate / "proofs" / Path(*path).with_suffix(".antt")
+    return file.is_file() and re.search(rf"^ *{re.escape(name)} = refl$", file.read_text(encoding="utf-8"), re.M) is not None
+
+
 def told(error):
     """An error in one line, with the repository's own names."""
     place, at, message = error
@@ -309,7 +337,7 @@ def judged(line, status, said):
     if status == 0:
         return False, f"PASSES: {line.because}"
     errors = [it for it in errors if not NAME_GONE.search(re.sub(r"^`[^`]*`: ", "", it[2]))] or errors
-    errors.sort(key=lambda it: (not is_named(it[0], line.checks), not is_by(line, it[2])))
+    errors.sort(key=lambda it: (not is_named(it[0], line.checks), not is_by(line, it[2]), not is_computed(it)))
     if not errors:
         return False, f"NO VERDICT, the check ended with status {status}: {said.strip().splitlines()[-1][:160] if said.strip() else 'nothing'}"
     if NAME_GONE.search(errors[0][2]):
@@ -318,7 +346,10 @@ def judged(line, status, said):
         return False, f"REFUSED ELSEWHERE, which may show only that a proof no longer fits: {told(errors[0])}"
     if not is_by(line, errors[0][2]):
         return False, f"NOT REFUSED BY {line.by}, and elsewhere a proof may no longer fit: {told(errors[0])}"
-    return True, f"refused by {told(errors[0])}"
+    if line.by is None and not is_computed(errors[0]):
+        return False, f"REFUSED IN FORM ALONE, an example or `by:` is missing: {told(errors[0])}"
+    line.refused_by = example_of(errors[0][2])
+    return True, f"refused in substance by {told(errors[0])}"
 
 
 class Scratch:
@@ -405,7 +436,8 @@ def chosen(names):
     return found
 
 
-def main(names):
+def main(words):
+    writes, names = "--write-by" in words, [it for it in words if it != "--write-by"]
     well, groups, files = 0, {}, chosen(names)
     for file in files:
         line = read(file)
@@ -417,9 +449,12 @@ def main(names):
         for at, ((checks, typed), lines) in enumerate(groups.items()):
             for line, (is_well, what) in tried_in_turn(Scratch(Path(room) / f"part{at}", checks, typed), lines):
                 well += is_well
+                if writes and is_well and line.by is None and line.refused_by:
+                    line.write_by()
                 print(f"{line.name}: {what}", flush=True)
     print(f"{well} of {len(files)} wrong lines are refused by the examples and laws that are to refuse them")
     sys.exit(0 if well == len(files) else 1)
 
 
-main(sys.argv[1:])
+if __name__ == "__main__":
+    main(sys.argv[1:])

@@ -1,9 +1,9 @@
 -- The least rank of what is left is that of the next in the order.
-use Rattle.std.proofs.Common.{◌≡◌, ◌⊎◌, inl, inr, ⊎_elim, ℕ, zero, suc, ◌+◌, ◌<◌, ◌≤◌, ◌==◌, Bool, true, false, cond, leb, Option, Some, None, is_some, unwrap_or, List, [], ◌∷◌, length, refl, ap, sym, ◌∙◌, arith}
+use Rattle.std.proofs.Common.{◌≡◌, ◌⊎◌, inl, inr, ⊎_elim, ℕ, zero, suc, ◌+◌, ◌<◌, ◌≤◌, ◌==◌, Bool, true, false, cond, leb, ltb, Option, Some, None, is_some, unwrap_or, List, [], ◌∷◌, length, refl, ap, sym, subst, ◌∙◌, arith, IfSome}
 use Rattle.std.specs.Prelude.{slice_index_or, slice_get}
 use Rattle.std.specs.List.{count_by}
 use Rattle.std.specs.Option.{option_map}
-use Rattle.std.proofs.lemmas.Bool.{eq-eqb}
+use Rattle.std.proofs.lemmas.Bool.{eq-eqb, ne_eqb}
 use Rattle.std.proofs.lemmas.Bool.Decides.{nat_tests}
 use Rattle.std.proofs.lemmas.List.Sums.{get_or-le-sum_by, sum_by-cons}
 use Rattle.std.proofs.lemmas.Option.{get_or_from_slice_get, slice_get-get_or, slice_get_past, slice_get_within}
@@ -11,8 +11,9 @@ use mathlib.Core.Logic.{dite}
 use native.Mathlib.Decide.{dec_le}
 use Rattle.pool_core.specs.StateWords.{bit}
 use Rattle.affinity_index.specs.declared.ranks.Ranked.{Ranked}
+use Rattle.affinity_index.specs.declared.ranks.TheConstants.{NO_RANK}
 use Rattle.affinity_index.specs.Orders.{IsOrder, seen_rank}
-use Rattle.affinity_index.specs.Rankings.{IsLeast, IsLeastBelow, behind, is_behind, lesser_of, number_of, rank_behind}
+use Rattle.affinity_index.specs.Rankings.{IsLeast, IsLeastBelow, behind, is_behind, if_ranked, lesser_of, number_of, rank_behind}
 use Rattle.affinity_index.proofs.Preferring.{has_rank, place_of}
 use Rattle.affinity_index.proofs.Sorting.{ranked_is_within}
 
@@ -60,6 +61,64 @@ module _ (rank_at : ℕ → Option ℕ) where
         (λ less. let z : None ≡ Some s = sym (so_far m (omega arith)) ∙ other in absurd (cc));
   }
   ranked_more k r (Some e) has so_far = one_more k r e (leb e.rank r) refl has so_far
+
+-- the first of the slots below k so far, by ranks in place of which NO_RANK may stand
+pub record IsFirstSoFar (rank_at : ℕ → Option ℕ) (k : ℕ) (e : Ranked) : Type 0 where
+  pub most : e.rank ≤ NO_RANK
+  pub below : IsLeastBelow rank_at k (if_ranked e)
+
+module _ (rank_at : ℕ → Option ℕ) where
+  lesser_new : (none : Bool) (least : Ranked) (e : Ranked) → leb least.rank e.rank ≡ false → lesser_of (cond none None (Some least)) e ≡ e
+  lesser_new true least e later = refl
+  lesser_new false least e later = rw later refl
+
+  lesser_old : (least : Ranked) (e : Ranked) → leb least.rank e.rank ≡ true → lesser_of (Some least) e ≡ least
+  lesser_old least e first = rw first refl
+
+  has_rank_too : (e : Ranked) → e.rank < NO_RANK → if_ranked e ≡ Some e
+  has_rank_too e small = let other : (e.rank == NO_RANK) ≡ false = ne_eqb e.rank NO_RANK (λ (same : e.rank ≡ NO_RANK). omega (arith, same, small)) in
+      ap (λ (b : Bool). cond b None (Some e)) other
+
+  at_most : (here : ℕ) (o : Option ℕ) → here ≡ unwrap_or o NO_RANK → IfSome o (λ r. r < NO_RANK) → here ≤ NO_RANK
+  at_most here None is small = omega (arith, is)
+  at_most here (Some r) is small = omega (arith, is, small)
+
+  less_first : (n here : ℕ) (least : Ranked) (o : Option ℕ) → rank_at n ≡ o → here ≡ unwrap_or o NO_RANK → IfSome o (λ r. r < NO_RANK) → here < least.rank
+      → IsFirstSoFar rank_at n least → IsLeastBelow rank_at (n + 1) (if_ranked (record { rank = here; number = n }))
+  less_first n here least None has is small less so_far = absurd (omega (arith, is, so_far.most, less))
+  less_first n here least (Some r) has is small less so_far =
+      let e : Ranked = record { rank = here; number = n } in
+      let below : here < NO_RANK = omega (arith, is, small) in
+      let later : leb least.rank here ≡ false = grind (arith, nat_tests) in
+      let at_here : rank_at n ≡ Some here = has ∙ ap Some (sym is) in
+      let all = ranked_more rank_at n here (if_ranked least) at_here so_far.below in
+      subst (IsLeastBelow rank_at (n + 1)) (ap Some (lesser_new (least.rank == NO_RANK) least e later) ∙ sym (has_rank_too e below)) all
+
+  same_first : (n here : ℕ) (least : Ranked) (o : Option ℕ) → rank_at n ≡ o → here ≡ unwrap_or o NO_RANK → IfSome o (λ r. r < NO_RANK) → least.rank ≤ here
+      → IsFirstSoFar rank_at n least → IsLeastBelow rank_at (n + 1) (if_ranked least)
+  same_first n here least None has is small first so_far = none_more rank_at n (if_ranked least) has so_far.below
+  same_first n here least (Some r) has is small first so_far =
+      let e : Ranked = record { rank = here; number = n } in
+      let below : least.rank < NO_RANK = omega (arith, is, small, first) in
+      let before : leb least.rank here ≡ true = grind (arith, nat_tests) in
+      let at_here : rank_at n ≡ Some here = has ∙ ap Some (sym is) in
+      let known : IsLeastBelow rank_at n (Some least) = subst (IsLeastBelow rank_at n) (has_rank_too least below) so_far.below in
+      let all = ranked_more rank_at n here (Some least) at_here known in
+      subst (IsLeastBelow rank_at (n + 1)) (ap Some (lesser_old least e before) ∙ sym (has_rank_too least below)) all
+
+  pub first_more : (n here : ℕ) (least : Ranked) (o : Option ℕ) → rank_at n ≡ o → here ≡ unwrap_or o NO_RANK → IfSome o (λ r. r < NO_RANK)
+      → IsFirstSoFar rank_at n least → IsFirstSoFar rank_at (n + 1) (cond (ltb here least.rank) (record { rank = here; number = n }) least)
+  first_more n here least o has is small so_far = split (ltb here least.rank) refl
+    where
+      split : (b : Bool) → ltb here least.rank ≡ b → IsFirstSoFar rank_at (n + 1) (cond b (record { rank = here; number = n }) least)
+      split true less = record {
+        most = at_most here o is small;
+        below = less_first n here least o has is small (grind (arith, nat_tests)) so_far;
+      }
+      split false not_less = record {
+        most = so_far.most;
+        below = same_first n here least o has is small (grind (arith, nat_tests)) so_far;
+      }
 
 least_is_first : (n x : ℕ) (r s : ℕ) → (r < s) ⊎ ((r ≡ s) × (n ≤ x)) → (s < r) ⊎ ((s ≡ r) × (x ≤ n)) → n ≡ x
 least_is_first n x r s = ⊎_elim

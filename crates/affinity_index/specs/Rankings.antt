@@ -1,6 +1,7 @@
 -- Slots with their ranks.
 use Rattle.std.specs.Prelude.{◌≡◌, ◌⊎◌, ℕ, ◌<◌, ◌≤◌, ◌==◌, ◌||◌, ◌&&◌, Bool, Option, Some, None, List, MatchOption, leb, ltb, cond}
 use Rattle.affinity_index.specs.declared.ranks.Ranked.{Ranked}
+use Rattle.affinity_index.specs.declared.ranks.TheConstants.{NO_RANK}
 use Rattle.affinity_index.specs.Orders.{seen_rank}
 
 abbrev pub number_of : Ranked → ℕ
@@ -8,6 +9,10 @@ number_of e = e.number
 
 abbrev pub is_of : ℕ → Ranked → Bool
 is_of n e = e.number == n
+
+-- the slot, where it has a rank
+abbrev pub if_ranked : Ranked → Option Ranked
+if_ranked e = cond (e.rank == NO_RANK) None (Some e)
 
 -- the first where it has no greater rank
 abbrev pub lesser_of : Option Ranked → Ranked → Ranked

@@ -1,12 +1,12 @@
 //! Which slot is claimed first, and which one next.
-ghost use Rattle.std.specs.Prelude.{◌≡◌, ◌+◌, ◌<◌, ◌≤◌, ℕ, List, Some, None, IfSome, leb, length, slice_get};
+ghost use Rattle.std.specs.Prelude.{◌≡◌, ◌+◌, ◌<◌, ◌≤◌, ℕ, List, Some, None, IfSome, cond, leb, ltb, length, slice_get};
 ghost use Rattle.std.specs.List.{All};
 ghost use Rattle.pool_core.specs.declared.words.StateWord.{StateWord};
 ghost use Rattle.pool_core.specs.StateWords.{IsWordOf, unpacked};
 ghost use Rattle.affinity_index.specs.Orders.{IsOrder, rank_of, seen_rank};
-ghost use Rattle.affinity_index.specs.Rankings.{IsLeastBelow, behind, is_behind, lesser_of, rank_behind};
+ghost use Rattle.affinity_index.specs.Rankings.{IsLeastBelow, behind, is_behind, if_ranked, lesser_of, rank_behind};
 
-use crate::ranks::{Ranked, rank};
+use crate::ranks::{NO_RANK, Ranked, rank, rank_or_none};
 use pool_core::MOST_SLOTS;
 
 // Which of two comes first, where the second has the greater number.
@@ -38,6 +38,46 @@ fn rank_of_next(word: u64, tag: u32, full: bool, number: u32, last: Option<Ranke
     }
 }
 
+// Which of two comes first, where the second has the greater number and either may have no rank.
+fn earlier(least: Ranked, entry: Ranked) -> Ranked
+    ensures { result ≡ cond (ltb entry.rank least.rank) entry least }
+{
+    if entry.rank < least.rank {
+        entry
+    } else {
+        least
+    }
+}
+
+// The slot itself, or none where it has no rank.
+fn if_ranked(least: Ranked) -> Option<Ranked>
+    ensures { result ≡ if_ranked least }
+{
+    if least.rank == NO_RANK {
+        None
+    } else {
+        Some(least)
+    }
+}
+
+// Of all slots the one of the least rank, and of equal ranks the one of the least number. One comparison a slot finds it.
+fn least_of_all(seen: &[u64], tag: u32, full: bool) -> Option<Ranked>
+    requires few { length seen.now ≤ MOST_SLOTS }
+    requires words { All (λ r. (w : StateWord) × IsWordOf r w) seen.now }
+    ensures { IsLeastBelow (seen_rank seen.now tag full) (length seen.now) result }
+{
+    let mut least = Ranked {
+        rank: NO_RANK,
+        number: 0,
+    };
+    for n in 0..seen.len() {
+        let rank = rank_or_none(seen[n], tag, full);
+        let number = n as u32;
+        least = earlier(least, Ranked { rank, number });
+    }
+    if_ranked(least)
+}
+
 // Of the slots that are claimed behind `last` the one of the least rank, and of equal ranks the one of the least number.
 fn least(seen: &[u64], tag: u32, full: bool, last: Option<Ranked>) -> Option<Ranked>
     requires few { length seen.now ≤ MOST_SLOTS }
@@ -61,7 +101,7 @@ pub fn first_in_order(seen: &[u64], tag: u32, warm: u64, limit: u64) -> Option<u
     ensures first { (order : List ℕ) → IsOrder seen.now tag (leb limit warm) order → result ≡ slice_get order 0 }
     ensures number { IfSome result (λ n. n < length seen.now) }
 {
-    match least(seen, tag, warm >= limit, None) {
+    match least_of_all(seen, tag, warm >= limit) {
         Some(entry) => Some(entry.number),
         None => None,
     }

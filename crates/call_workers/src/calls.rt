@@ -8,7 +8,7 @@ use due_calls::{Due, Item, Worked, due_at};
 use host_edge::Gate;
 use module_store::{ModuleRef, ModuleStore, Naming};
 use std::alloc::Global;
-use tenant_share::{Asked, Caller, ShareHost};
+use tenant_share::{Caller, ShareHost};
 use wasm_values::NoMemory;
 
 // What a worker made of a call of this module, on the slots of the call's tenant.
@@ -29,14 +29,9 @@ fn made<N: Naming, G: Gate>(
     ensures call { IfOk result (λ worked. CallerMade N.config share.now due.now.tenant (Some called.now) worked.answer caller.old caller.new) }
 {
     let invocation = &due.invocation;
-    let asked = Asked {
-        export: invocation.export.as_slice(),
-        args: invocation.args.as_slice(),
-        request: invocation.sent(),
-        fuel: invocation.fuel as u64,
-    };
+    let call = invocation.call();
     let number = due.number as u64;
-    let answer = share.send_for(caller, due.tenant, store, called, &asked, number, gate);
+    let answer = share.invoke_for(caller, due.tenant, store, called, &call, number, gate);
     Ok(Worked {
         number: due.number,
         answer: Some(answer),

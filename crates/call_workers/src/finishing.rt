@@ -30,7 +30,8 @@ fn join_all<N: Naming>(
     requires callers { All (IsCaller shared.now.share) callers.old.items }
     requires done { All (HasEnded N.config shared.now jobs.now) done.items }
     ensures callers { All (IsCaller shared.now.share) callers.new.items }
-    ensures known { IfOk result (λ _. (tag : ℕ) → All (CallerKnows tag) callers.old.items → All (DoneKnows tag) done.items → All (CallerKnows tag) callers.new.items) }
+    ensures known { IfOk result (λ _. (tag : ℕ) → All (CallerKnows tag) callers.old.items → All (DoneKnows tag) done.items
+        → All (CallerKnows tag) callers.new.items) }
     ensures back { IfOk result (λ _. length callers.new.items ≡ length callers.old.items + length done.items) }
     ensures entries { IfOk result (λ entries. HasJoined N.config jobs.now shared.now.calls.items own.old own.new (length done.items) entries.items) }
 {
@@ -70,7 +71,8 @@ pub fn finish<N: Naming, R: Wait>(
     requires done { All (HasEnded N.config shared.now jobs.now) done.items }
     requires callers { All (IsCaller shared.now.share) callers.old.items }
     ensures callers { All (IsCaller shared.now.share) callers.new.items }
-    ensures known { IfOk result (λ _. (tag : ℕ) → All (CallerKnows tag) callers.old.items → All (DoneKnows tag) done.items → All (CallerKnows tag) callers.new.items) }
+    ensures known { IfOk result (λ _. (tag : ℕ) → All (CallerKnows tag) callers.old.items → All (DoneKnows tag) done.items
+        → All (CallerKnows tag) callers.new.items) }
     ensures back { IfOk result (λ _. length callers.new.items ≡ length callers.old.items + length done.items) }
     ensures entries { IfOk result (λ entries. AnswersAll N.config shared.now.calls.items (put_by own) entries.items) }
 {

@@ -1,9 +1,10 @@
 -- Bytes that were written from an image.
-use Rattle.std.specs.Prelude.{◌≡◌, ℕ, ◌+◌, ◌/◌, ◌<◌, Bool, true, false, List, Option, Some, None, count_by, length, slice_index, slice_index_or}
+use Rattle.std.specs.Prelude.{◌≡◌, ℕ, ◌+◌, ◌*◌, ◌<◌, ◌≤◌, Bool, true, false, List, Option, Some, None, count_by, length, slice_index, slice_index_or}
 use Rattle.std.specs.Borrow.{Bor}
 use Rattle.std.specs.List.{range_with_len}
 use Rattle.sparse_bytes.specs.declared.bytes.SparseBytes.{SparseBytes}
-use Rattle.sparse_bytes.specs.SparseBytes.{HasCell, byte_at}
+use Rattle.sparse_bytes.specs.SparseBytes as sparse
+use Rattle.sparse_bytes.specs.SparseBytes.{byte_at}
 use Rattle.memory_blocks.specs.Blocks.{is_marked}
 
 -- the byte of an image at a place; without an image all are zero
@@ -23,10 +24,17 @@ KeepsImage bytes marks image = (i : ℕ) → i < length bytes → is_marked mark
 abbrev pub IsZeroOutside : ℕ → List Bool → (ℕ → ℕ) → Type 0
 IsZeroOutside room marks image = (i : ℕ) → i < room → is_marked marks i ≡ false → image i ≡ 0
 
--- the image has a cell in the block of this number
-abbrev pub HasCellIn : Option (Bor SparseBytes) → ℕ → Type 0
-HasCellIn None block = ⊥
-HasCellIn (Some image) block = (cell : ℕ) × HasCell image.now cell × (cell / 64 ≡ block)
+-- The block of this number has the image's bytes, and every other byte is as it was.
+pub record IsWrittenBlock (from : ℕ → ℕ) (block : ℕ) (old new : List ℕ) : Type 0 where
+  pub image : (i : ℕ) → 4096 * block ≤ i → i < 4096 * block + 4096 → slice_index new i ≡ from i
+  pub before : (i : ℕ) → i < 4096 * block → slice_index new i ≡ slice_index old i
+  pub after : (i : ℕ) → 4096 * block + 4096 ≤ i → slice_index new i ≡ slice_index old i
+  pub room : length new ≡ length old
+
+-- the image was written to in the block of this number
+abbrev pub HasBlockOf : Option (Bor SparseBytes) → ℕ → Type 0
+HasBlockOf None block = ⊥
+HasBlockOf (Some image) block = sparse.HasBlock image.now block
 
 -- a set of blocks has all that are marked
 abbrev pub HasMarked : (ℕ → Bool) → List Bool → Type 0

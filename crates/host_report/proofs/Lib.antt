@@ -1,12 +1,3 @@
-pub mod BoardLemmas
-pub mod CallLemmas
-pub mod DueLemmas
-pub mod EntryLemmas
-pub mod LaneLemmas
-pub mod LeftLemmas
+pub mod AnswerLemmas
 pub mod LineLemmas
-pub mod PlaceLemmas
-pub mod PutLemmas
 pub mod ReportLemmas
-pub mod RunLemmas
-pub mod WorkedLemmas

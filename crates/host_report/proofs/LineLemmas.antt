@@ -20,8 +20,9 @@ use Rattle.report_text.specs.declared.report.ReportLine.{ReportLine}
 use Rattle.report_text.specs.declared.report.ReportLine.TheVariants as report
 use Rattle.request_text.specs.Invocations.{sent_by, shown_of}
 use Rattle.request_text.specs.Text.{call_count}
-use Rattle.host_report.specs.Report.{AreLines, IsCallLine, IsLine, IsModuleLine, Limits, ShowsCall, answer_line, load_limits, loading_line, next_number, run_limits}
-use Rattle.host_report.proofs.PlaceLemmas.{call_count-call, call_count-module, call_count-retire}
+use Rattle.host_report.specs.Report.{AreLines, IsLine, IsModuleLine, next_number}
+use Rattle.run_books.specs.Lines.{IsCallLine, Limits, ShowsCall, answer_line, load_limits, loading_line, run_limits}
+use Rattle.run_books.proofs.PlaceLemmas.{call_count-call, call_count-module, call_count-retire}
 
 -- the laws of the layers below: bytes load to one answer, what loads is within its limits, and a call of a valid module has one answer
 abbrev pub LoadsOnce : Type 0

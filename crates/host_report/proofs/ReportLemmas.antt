@@ -1,5 +1,5 @@
 -- The lines of a report, one after the other.
-use Rattle.std.proofs.Common.{◌≡◌, ℕ, zero, suc, ◌+◌, ◌<◌, ◌≤◌, Bool, List, [], ◌∷◌, ◌++◌, Option, None, Some, length, map, drop, refl, sym, ap, ◌∙◌, subst, arith, append_assoc, append-nil, length-drop}
+use Rattle.std.proofs.Common.{◌≡◌, ℕ, zero, suc, ◌+◌, ◌<◌, ◌≤◌, Bool, List, [], ◌∷◌, ◌++◌, Option, None, Some, Ok, Err, length, map, drop, refl, sym, ap, ◌∙◌, subst, arith, append_assoc, append-nil, length-drop}
 use Rattle.std.specs.Prelude.{slice_get}
 use Rattle.request_text.specs.declared.invocation.Invocation.{Invocation}
 use Rattle.request_text.specs.declared.request.Directive.{Directive}
@@ -8,16 +8,20 @@ use Rattle.request_text.specs.declared.request.TheConstants.{MOST_CALLS}
 use Rattle.report_text.specs.declared.report.CallLine.{CallLine}
 use Rattle.report_text.specs.declared.report.ReportLine.{ReportLine}
 use Rattle.request_text.specs.Text.{call_count, modules_of}
-use Rattle.host_report.specs.Answers.{AreAnswers}
-use Rattle.host_report.specs.Collected.{AreCollected}
-use Rattle.host_report.specs.Report.{AreLines, Limits}
-use Rattle.host_report.specs.Entries.{AreEntries, Entry, entry_line}
-use Rattle.host_report.specs.Lines.{HasSource, ShowsNext, board_after, counts_after}
+use Rattle.host_report.specs.Answers.{AreAnswers, AreCollected}
+use Rattle.host_report.specs.Report.{AreLines, IsModuleLine}
+use Rattle.run_books.specs.Lines.{Limits}
+use Rattle.run_books.specs.Entries.{AreEntries, Entry, IsEntry, entry_line}
+use Rattle.host_report.specs.NextLine.{HasSource, ShowsNext, board_after, counts_after}
 use Rattle.host_report.specs.declared.reporting.Counts.{Counts}
 use Rattle.report_text.specs.declared.report.ReportLine.TheVariants as report
-use Rattle.host_report.proofs.BoardLemmas.{got_set_other}
-use Rattle.host_report.proofs.PlaceLemmas.{call_count-call, call_count-module, call_count-retire, drop_got}
-use Rattle.host_report.proofs.EntryLemmas.{entry_told}
+use Rattle.run_books.proofs.BoardLemmas.{got_set_other}
+use Rattle.run_books.proofs.PlaceLemmas.{call_count-call, call_count-module, call_count-retire, drop_got}
+
+-- the line that an entry shows is that of its module line
+pub entry_told : (limits : Limits) (bytes : List ℕ) (e : Entry) → IsEntry limits bytes e → IsModuleLine limits bytes (entry_line e)
+entry_told limits bytes (Ok named) h = record { loaded = Ok named.tree; loads = h; shows = refl }
+entry_told limits bytes (Err line) h = record { loaded = Err h.0; loads = h.1; shows = h.2 }
 
 within : {A : Type 0} (xs : List A) (n : ℕ) → 0 < length (drop n xs) → n < length xs
 within xs n some = omega (arith, length-drop n xs)

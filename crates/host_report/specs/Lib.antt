@@ -1,11 +1,3 @@
 pub mod Answers
-pub mod Collected
-pub mod Due
-pub mod Entries
-pub mod Left
-pub mod Lines
-pub mod Put
+pub mod NextLine
 pub mod Report
-pub mod Rounds
-pub mod Runs
-pub mod Worked

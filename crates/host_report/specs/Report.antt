@@ -1,95 +1,22 @@
 -- The report on a request file: one line for each directive, in file order.
-use Rattle.wasm_types.specs.declared.limits.RunLimits.{RunLimits}
-use Rattle.wasm_types.specs.declared.limits.LoadLimits.{LoadLimits}
-use Rattle.std.specs.Prelude.{◌≡◌, ℕ, ◌+◌, Bool, true, false, List, [], ◌∷◌, Option, Some, Result, Ok, Err, slice_get}
-use Rattle.wasm_values.specs.declared.outcome.Outcome.TheVariants as outcome
-use Rattle.request_text.specs.declared.invocation.Invocation.{Invocation}
-use Rattle.wasm_values.specs.declared.profile.Profile.{Profile}
+use Rattle.std.specs.Prelude.{◌≡◌, ℕ, ◌+◌, List, [], ◌∷◌, Result}
 use Rattle.wasm_types.specs.Tree.{ModuleTree}
-use Rattle.wasm_spec.specs.Loading as loading
 use Rattle.wasm_spec.specs.Loading.{Loads, Refusal}
-use Rattle.pool_host.specs.declared.lane.LaneAnswer.{LaneAnswer}
-use Rattle.pool_host.specs.declared.lane.LaneAnswer.TheVariants as answer
-use Rattle.pool_host.specs.CallWords.{IsAnswer, is_retired}
 use Rattle.pool_limits.specs.declared.numbers.Numbers.{Numbers}
 use Rattle.request_text.specs.declared.request.Directive.{Directive}
 use Rattle.request_text.specs.declared.request.Directive.TheVariants.{Module, Call, Retire}
 use Rattle.report_text.specs.declared.report.ModuleLine.{ModuleLine}
-use Rattle.report_text.specs.declared.report.ModuleLine.TheVariants as module_line
 use Rattle.report_text.specs.declared.report.CallLine.{CallLine}
-use Rattle.report_text.specs.declared.report.CallLine.TheVariants as call_line
 use Rattle.report_text.specs.declared.report.ReportLine.{ReportLine}
 use Rattle.report_text.specs.declared.report.ReportLine.TheVariants as report
-use Rattle.request_text.specs.Invocations.{sent_by, shown_of}
 use Rattle.request_text.specs.Text.{Asked, modules_of}
-
--- the profile of WebAssembly in which a module is read, and what bounds it and its calls: nothing else of a configuration does
-pub record Limits : Type 0 where
-  pub profile : Profile
-  pub pages : ℕ
-  pub elements : ℕ
-  pub depth : ℕ
-  pub frame : ℕ
-
-abbrev pub limits_in : Profile → Numbers → Limits
-limits_in profile n = record { profile = profile; pages = n.pages; elements = n.elements; depth = n.depth; frame = n.frame }
-
-abbrev pub load_limits : Limits → LoadLimits
-load_limits l = record { pages = l.pages; elements = l.elements; frame = l.frame }
-
-abbrev pub run_limits : Limits → RunLimits
-run_limits l = record { pages = l.pages; depth = l.depth }
-
--- ---- the line of a module
-
-abbrev pub loading_line : Result ModuleTree Refusal → ModuleLine
-loading_line (Ok m) = module_line.Accepted
-loading_line (Err loading.Malformed) = module_line.Malformed
-loading_line (Err loading.Unsupported) = module_line.Unsupported
-loading_line (Err loading.Invalid) = module_line.Invalid
-loading_line (Err (loading.OverLimit demand)) = module_line.Limit
-loading_line (Err (loading.Segment extent)) = module_line.Segment
+use Rattle.run_books.specs.Lines.{GoesAs, Limits, limits_in, load_limits, loading_line}
 
 -- how the loading of these bytes goes
 pub record IsModuleLine (limits : Limits) (bytes : List ℕ) (line : ModuleLine) : Type 0 where
   pub loaded : Result ModuleTree Refusal
   pub loads : Loads limits.profile bytes (load_limits limits) loaded
   pub shows : line ≡ loading_line loaded
-
--- ---- the line of a call
-
--- the line of a call that is answered so, where this is shown of its bytes
-abbrev pub answer_line : LaneAnswer → (shown : Option (List ℕ)) → CallLine
-answer_line (answer.Done (outcome.Done value)) (Some bytes) = call_line.Sent value bytes
-answer_line (answer.Done end) shown = call_line.Done end
-answer_line answer.NoExport shown = call_line.NoExport
-answer_line answer.BadArgs shown = call_line.BadArgs
-answer_line answer.Retired shown = call_line.Retired
-
--- How a call goes whose module was loaded so. Where the module is retired it is refused, whatever is asked of it, and else it is answered as
--- a module that isn't retired answers.
-abbrev pub ShowsCall : Limits → (retired : Bool) → Result ModuleTree Refusal → Invocation → CallLine → Type 0
-ShowsCall limits retired (Err refusal) invocation line = line ≡ call_line.NoModule
-ShowsCall limits true (Ok m) invocation line = line ≡ call_line.Retired
-ShowsCall limits false (Ok m) invocation line =
-    (a : LaneAnswer) × (bytes : List ℕ)
-    × IsAnswer m (run_limits limits) invocation.export invocation.args (sent_by invocation) invocation.fuel a bytes
-    × (is_retired a ≡ false) × (line ≡ answer_line a (shown_of invocation bytes))
-
--- How a call goes: this is fixed by the limits, its profile of WebAssembly, the bytes of its module, whether the module is retired before it, and
--- what is asked of it.
-pub record IsCallLine (limits : Limits) (bytes : List ℕ) (retired : Bool) (invocation : Invocation) (line : CallLine) : Type 0 where
-  pub loaded : Result ModuleTree Refusal
-  pub loads : Loads limits.profile bytes (load_limits limits) loaded
-  pub shows : ShowsCall limits retired loaded invocation line
-
--- ---- all lines
-
--- how the call of the module at this place among the module lines goes, where it is retired or not
-pub record GoesAs (limits : Limits) (modules : List (List ℕ)) (place : ℕ) (retired : Bool) (invocation : Invocation) (how : CallLine) : Type 0 where
-  pub bytes : List ℕ
-  pub there : slice_get modules place ≡ Some bytes
-  pub goes : IsCallLine limits bytes retired invocation how
 
 -- the line of a directive, which has this number if it is a call
 abbrev pub IsLine : Limits → (modules : List (List ℕ)) → (number : ℕ) → Directive → ReportLine → Type 0

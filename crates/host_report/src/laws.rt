@@ -8,7 +8,8 @@ ghost use Rattle.report_text.specs.declared.report.ReportLine.{ReportLine};
 ghost use Rattle.report_text.specs.declared.report.ReportLine.TheVariants.{Call as LineOfCall};
 ghost use Rattle.request_text.specs.declared.request.Directive.TheVariants.{Call};
 ghost use Rattle.request_text.specs.Text.{Asked, call_count, modules_of};
-ghost use Rattle.host_report.specs.Report.{IsCallLine, IsModuleLine, IsReport, Limits, limits_in};
+ghost use Rattle.run_books.specs.Lines.{IsCallLine, Limits, limits_in};
+ghost use Rattle.host_report.specs.Report.{IsModuleLine, IsReport};
 
 use loaded_modules::laws::a_loaded_module_is_within_its_limits;
 use pool_host::laws::a_call_has_one_answer;

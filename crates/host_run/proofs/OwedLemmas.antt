@@ -17,7 +17,7 @@ file_status : (numbers : Numbers) (summary : Bool) (bytes : List ℕ) (answer : 
 file_status numbers summary bytes answer (Ok requests) asks is = let report = rw asks at is in inl report.status
 file_status numbers summary bytes answer (Err why) asks is = let refusal = rw asks at is in inr (ap (λ a. a.status) refusal)
 
--- a file of 16 MiB at most is read to its end
+-- a file of 64 MiB at most is read to its end
 all_read : (before after : Option (List ℕ)) (bytes : List ℕ) → ReadsInput before after bytes → IfSome before (λ all. length all ≤ 67108864 → IsAtEnd after)
 all_read None after bytes read = tt
 all_read (Some all) after bytes read = λ few. let fewer = no_longer all bytes after read.taken in read.end (omega arith)

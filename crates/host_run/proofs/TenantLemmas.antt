@@ -9,7 +9,8 @@ use Rattle.report_text.specs.declared.report.CallLine.{CallLine}
 use Rattle.report_text.specs.declared.report.ReportLine.{ReportLine}
 use Rattle.report_text.specs.Lines.{call_line, call_text, line_text}
 use Rattle.request_text.specs.Text.{Asked, modules_of}
-use Rattle.host_report.specs.Report.{IsCallLine, IsReport, Limits, limits_in}
+use Rattle.run_books.specs.Lines.{IsCallLine, Limits, limits_in}
+use Rattle.host_report.specs.Report.{IsReport}
 use Rattle.host_run.specs.Tenants.{CallsAt, HasReport, TellsAt, WritesAt}
 
 -- a call has its line in a report, and one line only

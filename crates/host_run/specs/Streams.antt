@@ -3,7 +3,7 @@ use Rattle.std.specs.Prelude.{◌≤◌, ◌<◌, ℕ, List, length, take}
 use Rattle.std.specs.declared.option.Option.{Option}
 use Rattle.std.specs.Io.KnownBytes.{Appends, Consumes, IsAtEnd}
 
--- these bytes were taken: all that were left, or one more than the 16 MiB of the longest file
+-- these bytes were taken: all that were left, or one more than the 64 MiB of the longest file
 pub record ReadsInput (left_before left_after : Option (List ℕ)) (bytes : List ℕ) : Type 0 where
   pub taken : Consumes left_before left_after bytes
   pub size : length bytes ≤ 67108865

@@ -22,13 +22,13 @@ use wasm_values::NoMemory;
 // What is written where the file is too long.
 const FILE_TOO_LONG: &[u8] = b"file too long\n";
 
-// What a run writes on the lines of a report.
-fn lines_text(alloc: Global, lines: &[ReportLine], summary: bool) -> Result<Vec<u8>, NoMemory>
-    ensures { IfOk result (λ text. text.items ≡ lines_text summary lines.now) }
+// What a run writes on the lines of a report, each of which is freed once it is written.
+fn lines_text(alloc: Global, lines: Vec<ReportLine>, summary: bool) -> Result<Vec<u8>, NoMemory>
+    ensures { IfOk result (λ text. text.items ≡ lines_text summary lines.items) }
 {
     if summary {
         let mut text = Vec::new(alloc);
-        write_summary(alloc, &mut text, lines)?;
+        write_summary(alloc, &mut text, &lines)?;
         Ok(text)
     } else {
         report_text(alloc, lines)
@@ -49,7 +49,7 @@ fn reported<R: Threads + Wait + Sync, G: Gate>(
     ensures { IfOk result (λ due. IsReported config summary requests.now (due_answer due)) }
 {
     let lines = report(rt, alloc, config, slice, requests, gate)?;
-    let text = lines_text(alloc, &lines, summary)?;
+    let text = lines_text(alloc, lines, summary)?;
     Ok(Due {
         status: Status::Reported.code(),
         text: Text::Made(text),

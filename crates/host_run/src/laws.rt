@@ -5,7 +5,7 @@ ghost use Rattle.report_text.specs.declared.report.CallLine.{CallLine};
 ghost use Rattle.report_text.specs.declared.report.ReportLine.{ReportLine};
 ghost use Rattle.request_text.specs.Text.{Asked};
 ghost use Rattle.pool_limits.specs.declared.numbers.Numbers.{Numbers};
-ghost use Rattle.host_report.specs.Report.{limits_in};
+ghost use Rattle.run_books.specs.Lines.{limits_in};
 ghost use Rattle.host_run.specs.Tenants.{CallsAt, HasReport, TellsAt, WritesAt};
 ghost use Rattle.host_run.specs.Serving.{Answer, IsDue};
 

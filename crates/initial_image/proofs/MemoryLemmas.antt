@@ -31,9 +31,9 @@ module _ (at : ℕ) (items bytes : List ℕ) (fits : at + length items ≤ lengt
   -- what shows a list shows it after the same bytes were written into both
   pub shows-written : (old new : SparseBytes) → ShowsBytes old bytes → IsWritten at items old new → ShowsBytes new (written bytes at items)
   shows-written old new shows is i = elim (cases_lt i at) [
-    | inl lt ↦ is.before i lt ∙ shows i ∙ sym (before i lt)
+    | inl lt ↦ is.bytes.before i lt ∙ shows i ∙ sym (before i lt)
     | inr le ↦ elim (cases_lt i (at + length items)) [
-      | inl lt ↦ is.within i le lt ∙ sym (within i le lt)
-      | inr past ↦ is.after i past ∙ shows i ∙ sym (after i past)
+      | inl lt ↦ is.bytes.within i le lt ∙ sym (within i le lt)
+      | inr past ↦ is.bytes.after i past ∙ shows i ∙ sym (after i past)
     ]
   ]

@@ -1,13 +1,13 @@
 -- Where the segments of a module end, and which is the first past its table or memory (WebAssembly Core Specification
 -- 1.0, section 4.5.4).
-use Rattle.std.specs.Prelude.{◌≡◌, Bool, Option, Some, map, find, nat_lt, unwrap_or}
+use Rattle.std.specs.Prelude.{◌≡◌, ℕ, List, Bool, Option, Some, map, find, nat_lt, unwrap_or}
 use Rattle.std.specs.List.{enumerate_from}
 use Rattle.wasm_values.specs.declared.outcome.Val.{Val}
 use Rattle.wasm_values.specs.declared.outcome.Val.TheVariants as val
-use Rattle.wasm_types.specs.Tree.{GlobalTree, ModuleTree}
+use Rattle.wasm_types.specs.Tree.{GlobalTree, ElementTree, DataTree, ModuleTree}
 use Rattle.wasm_spec.specs.Validity.{initial_value}
 use Rattle.wasm_spec.specs.Store as store
-use Rattle.wasm_spec.specs.Store.{Extent, element_extent, data_extent, offset_of}
+use Rattle.wasm_spec.specs.Store.{Extent, element_extent, data_extent, offset_of, written}
 use Rattle.initial_image.specs.declared.image.ImageFault.{ImageFault}
 use Rattle.initial_image.specs.declared.image.ImageFault.TheVariants.{Segment, NoMemory}
 use Rattle.initial_image.specs.declared.segments.Misfit.{Misfit}
@@ -37,6 +37,14 @@ first_element_misfit m = find is_past (map (element_extent m) (enumerate_from 0 
 
 abbrev pub first_data_misfit : ModuleTree → Option Extent
 first_data_misfit m = find is_past (map (data_extent m) (enumerate_from 0 m.data_segments))
+
+-- ---- what a segment writes
+
+abbrev pub write_elements : ModuleTree → List (Option ℕ) → ElementTree → List (Option ℕ)
+write_elements m table s = written table (offset_of m s.offset) (map (λ f. Some f) s.functions)
+
+abbrev pub write_data : ModuleTree → List ℕ → DataTree → List ℕ
+write_data m bytes s = written bytes (offset_of m s.offset) s.bytes
 
 -- ---- globals
 

@@ -1,10 +1,10 @@
 //! A table and a memory with their segments written, and the first values of the globals.
 ghost use Rattle.std.specs.Prelude.{◌≡◌, ℕ, ◌≤◌, ◌++◌, None, Some, IfOk, OnOk, [], drop, fold, length, map};
 ghost use Rattle.wasm_types.specs.Tree.{global_tree, module_tree};
-ghost use Rattle.wasm_spec.specs.Store.{first_misfit, fresh_store, table_size, write_elements};
-ghost use Rattle.sparse_bytes.specs.SparseBytes.{HasCell};
+ghost use Rattle.wasm_spec.specs.Store.{first_misfit, fresh_store, table_size};
+ghost use Rattle.sparse_bytes.specs.SparseBytes.{HasBlock};
 ghost use Rattle.initial_image.specs.Image.{IsNeeded, ShowsBytes};
-ghost use Rattle.initial_image.specs.Segments.{first_data_misfit, first_element_misfit, first_value};
+ghost use Rattle.initial_image.specs.Segments.{first_data_misfit, first_element_misfit, first_value, write_elements};
 
 use crate::segments::{minimum, offset_of};
 use sparse_bytes::SparseBytes;
@@ -36,6 +36,13 @@ fn write_elements(m: &Module, table: &mut [Option<u32>])
     }
 }
 
+/// How many entries the table of a new instance has.
+pub fn table_length(valid: &Valid) -> usize
+    ensures { result ≡ table_size (module_tree valid.now) }
+{
+    minimum(valid.module().tables.as_slice()) as usize
+}
+
 /// Writes the table of a new instance over the first entries, and says how many it has. The others stay. Takes no memory.
 pub fn write_table(valid: &Valid, entries: &mut [Option<u32>]) -> usize
     requires fit { first_misfit (module_tree valid.now) ≡ None }
@@ -52,16 +59,16 @@ pub fn write_table(valid: &Valid, entries: &mut [Option<u32>]) -> usize
 }
 
 // Writes the data segments over zeros, in order.
-fn write_data(m: &Module, memory: &mut SparseBytes) -> Result<(), NoMemory>
+fn write_data(alloc: Global, m: &Module, memory: &mut SparseBytes) -> Result<(), NoMemory>
     requires fit { first_data_misfit (module_tree m.now) ≡ None }
     requires zeros { ShowsBytes memory.old [] }
-    requires cells { (number : ℕ) → HasCell memory.old number → ⊥ }
+    requires blocks { (number : ℕ) → HasBlock memory.old number → ⊥ }
     ensures memory { OnOk result (ShowsBytes memory.new (fresh_store (module_tree m.now)).memory) }
-    ensures cells { OnOk result ((number : ℕ) → HasCell memory.new number → IsNeeded (module_tree m.now) number) }
+    ensures blocks { OnOk result ((number : ℕ) → HasBlock memory.new number → IsNeeded (module_tree m.now) number) }
 {
     for segment in m.data_segments.as_slice() {
         let start = offset_of(m, &segment.offset);
-        memory.write(start, segment.bytes.as_slice())?;
+        memory.write(alloc, start, segment.bytes.as_slice())?;
     }
     Ok(())
 }
@@ -70,10 +77,10 @@ fn write_data(m: &Module, memory: &mut SparseBytes) -> Result<(), NoMemory>
 pub(crate) fn filled_memory(alloc: Global, m: &Module) -> Result<SparseBytes, NoMemory>
     requires fit { first_data_misfit (module_tree m.now) ≡ None }
     ensures memory { IfOk result (λ b. ShowsBytes b (fresh_store (module_tree m.now)).memory) }
-    ensures cells { IfOk result (λ b. (number : ℕ) → HasCell b number → IsNeeded (module_tree m.now) number) }
+    ensures blocks { IfOk result (λ b. (number : ℕ) → HasBlock b number → IsNeeded (module_tree m.now) number) }
 {
     let mut memory = SparseBytes::zeros(alloc);
-    write_data(m, &mut memory)?;
+    write_data(alloc, m, &mut memory)?;
     Ok(memory)
 }
 

@@ -7,6 +7,6 @@ mod fill;
 mod image;
 mod segments;
 
-pub use fill::write_table;
+pub use fill::{table_length, write_table};
 pub use image::{Image, ImageFault, build};
 pub use segments::{Misfit, SegmentIndex};

@@ -1,12 +1,13 @@
 -- What an exported function of a valid module is called as, and what the call gives.
 use Rattle.std.proofs.Common.{◌≡◌, ℕ, ◌+◌, List, Option, Some, map, refl, sym, ap, ◌∙◌, subst}
-use Rattle.std.specs.Prelude.{◌-◌, IsSome, length, option_and_then}
+use Rattle.std.specs.Prelude.{[], ◌-◌, IsSome, length, option_and_then, if◌then◌else◌}
 use Rattle.std.proofs.lemmas.Option.{get_or_from_slice_get, slice_get_within}
 use Rattle.wasm_types.specs.declared.types.FuncType.{FuncType}
 use Rattle.wasm_values.specs.declared.outcome.Outcome.{Outcome}
 use Rattle.wasm_values.specs.declared.outcome.Outcome.TheVariants as outcome
 use Rattle.wasm_values.specs.declared.outcome.Val.{Val}
 use Rattle.wasm_types.specs.declared.module.Export.{Export}
+use Rattle.wasm_types.specs.declared.module.ExportDesc.TheVariants as desc
 use Rattle.wasm_types.specs.declared.module.Module.{Module}
 use Rattle.wasm_types.proofs.Found.{some_found}
 use Rattle.wasm_types.specs.Tree.{ModuleTree, module_tree}
@@ -16,7 +17,7 @@ use Rattle.wasm_spec.proofs.FunctionNumbers.{imported_there, own_there}
 use Rattle.wasm_spec.specs.Typing.{IsTypedFunction, type_of}
 use Rattle.wasm_spec.specs.Validity.{Exports, IsDefined, IsValid}
 use Rattle.wasm_spec.specs.Store.{Store}
-use Rattle.wasm_spec.specs.Result.{CallResult, answer_by}
+use Rattle.wasm_spec.specs.Result.{CallResult, is_done}
 use Rattle.wasm_machine.specs.Calls.{IsCall}
 use Rattle.pool_limits.specs.declared.numbers.Numbers.{Numbers}
 use Rattle.paused_call.specs.declared.call.PausedCall.{PausedCall}
@@ -42,10 +43,10 @@ callee_typed m x (Own f) valid there =
 
 pub exported_function : (m : ModuleTree) (export : List ℕ) (x : ℕ) → IsValid m → Exports m.exports export x → HasFunction m x
 exported_function m export x valid exports =
-    let e = exports.export in
+    let e : Export = record { name = export; desc = desc.Func x } in
     let defined : IsDefined m e.desc = subst (λ (e : Export). IsDefined m e.desc) (get_or_from_slice_get m.exports exports.place e e exports.there)
     (valid.exports exports.place e (slice_get_within m.exports exports.place e exports.there)) in
-    let (c, there) = some_found (callee_at m x) (subst (IsDefined m) exports.function defined) in
+    let (c, there) = some_found (callee_at m x) defined in
     let (t, type) = some_found (callee_type m c) (callee_typed m x c valid there) in
     record { type = t; typed = ap (option_and_then (callee_type m)) there ∙ type }
 
@@ -70,7 +71,7 @@ called v export x args valid may =
     let same : may.type ≡ h.type = cc in
     is_call v x args h (may.fit ∙ ap (λ (t : FuncType). t.params) same)
 
-kept_is : (o : Outcome) (s : Store) (t : Turned) → t ≡ turned.Done o → kept_after t s.answer ≡ answer_by o s
+kept_is : (o : Outcome) (s : Store) (t : Turned) → t ≡ turned.Done o → kept_after t s.answer ≡ (if is_done o then s.answer else [])
 kept_is (outcome.Done v) s t is = ap (λ (u : Turned). kept_after u s.answer) is
 kept_is (outcome.Trap k) s t is = ap (λ (u : Turned). kept_after u s.answer) is
 kept_is outcome.Fuel s t is = ap (λ (u : Turned). kept_after u s.answer) is

@@ -8,7 +8,7 @@ use Rattle.wasm_values.specs.declared.outcome.Val.{Val}
 use Rattle.wasm_types.specs.declared.module.Module.{Module}
 use Rattle.wasm_types.specs.Tree.{ModuleTree, global_tree, module_tree}
 use Rattle.wasm_spec.specs.Store.{Store, fresh_store, memory_size, minimum_of, page_size, table_size}
-use Rattle.wasm_spec.specs.Execution.{answer_set}
+use Rattle.machine_steps.specs.Lent.{answer_set}
 use Rattle.wasm_spec.specs.Result.{CallResult}
 use Rattle.linear_memory.specs.declared.memory.Memory.{Memory as LinearMemory}
 use Rattle.wasm_machine.specs.Lent.{lent_store, own, others}

@@ -3,6 +3,7 @@ use Rattle.std.proofs.Common.{◌≡◌, ◌≢◌, ℕ, ◌+◌, ◌-◌, ◌<�
 use Rattle.std.specs.Prelude.{is_some}
 use Rattle.std.proofs.lemmas.Bool.{cases_lt}
 use Rattle.std.proofs.lemmas.List.{length-map}
+use Rattle.wasm_types.specs.declared.types.FuncType.{FuncType}
 use Rattle.wasm_types.specs.declared.host.HostFunction.{HostFunction}
 use Rattle.wasm_types.specs.declared.host.HostFunction.TheVariants as host
 use Rattle.wasm_types.specs.declared.limits.RunLimits.{RunLimits}
@@ -11,8 +12,9 @@ use Rattle.wasm_values.specs.declared.outcome.Outcome.{Outcome}
 use Rattle.wasm_values.specs.declared.outcome.Val.{Val}
 use Rattle.wasm_types.specs.Tree.{ModuleTree, module_tree}
 use Rattle.wasm_spec.specs.Functions.{host_type}
-use Rattle.wasm_spec.specs.Typing.{params_of, params_or_none, type_of}
-use Rattle.wasm_spec.specs.Execution.{Terms, answer_set, terms}
+use Rattle.wasm_spec.specs.Typing.{own_type, type_or_empty, type_of}
+use Rattle.wasm_spec.specs.Execution.{Terms, terms_of}
+use Rattle.machine_steps.specs.Lent.{answer_set}
 use Rattle.wasm_spec.specs.Instances.{room_for}
 use Rattle.wasm_spec.specs.Result.{CallResult, result_from}
 use Rattle.wasm_spec.specs.Store.{Store, fresh_store}
@@ -77,9 +79,9 @@ args_within m frame x args room run call le three = ⊎_elim imported own (cases
       let o = own_call m x args call past in
       let f = o.function in
       let there = run.needs (x - length m.imports) f o.there in
-      let params : params_of (module_tree m) f ≡ o.type.params = ap params_or_none o.typed in
-      let counted : length args ≡ length (params_of (module_tree m) f) = sym (length-map args type_of) ∙ ap length o.args_fit ∙ ap length (sym params) in
-      omega (arith, there, counted, length-append (params_of (module_tree m) f) f.locals)
+      let params : (own_type (module_tree m) f).params ≡ o.type.params = ap (λ (o : Option FuncType). (type_or_empty o).params) o.typed in
+      let counted : length args ≡ length (own_type (module_tree m) f).params = sym (length-map args type_of) ∙ ap length o.args_fit ∙ ap length (sym params) in
+      omega (arith, there, counted, length-append (own_type (module_tree m) f).params f.locals)
 
 -- ---- a call that is paused on an instance, and on what is lent of it
 
@@ -106,72 +108,72 @@ module _ {N : Type 0} {config : Numbers} {m : Named} {request : List ℕ} {call 
   had_table = h.paused.parts.table ∙ ap (needs Table) (sym tree_is)
 
   -- in the words of what runs it
-  stands_lent : Stands valid (terms limits request) begun x.ticket.value.args call x.ticket.value.stacks (answer_set said (shown_store (module_tree valid) (instance_contents x)))
+  stands_lent : Stands valid (terms_of limits request) begun x.ticket.value.args call x.ticket.value.stacks (answer_set said (shown_store (module_tree valid) (instance_contents x)))
   stands_lent =
-      subst (λ (t : ModuleTree). Stands valid (terms limits request) begun x.ticket.value.args call x.ticket.value.stacks (answer_set said (shown_store t (instance_contents x)))) (sym tree_is)
-      (subst (λ (k : Module). Stands k (terms limits request) begun x.ticket.value.args call x.ticket.value.stacks (answer_set said (shown_store m.tree (instance_contents x)))) (sym h.code)
-      (subst (λ (l : RunLimits). Stands m.code (terms l request) begun x.ticket.value.args call x.ticket.value.stacks (answer_set said (shown_store m.tree (instance_contents x)))) (sym h.limits_are) h.paused.stands))
+      subst (λ (t : ModuleTree). Stands valid (terms_of limits request) begun x.ticket.value.args call x.ticket.value.stacks (answer_set said (shown_store t (instance_contents x)))) (sym tree_is)
+      (subst (λ (k : Module). Stands k (terms_of limits request) begun x.ticket.value.args call x.ticket.value.stacks (answer_set said (shown_store m.tree (instance_contents x)))) (sym h.code)
+      (subst (λ (l : RunLimits). Stands m.code (terms_of l request) begun x.ticket.value.args call x.ticket.value.stacks (answer_set said (shown_store m.tree (instance_contents x)))) (sym h.limits_are) h.paused.stands))
 
-  pub stands_with_memory : (l : Lease MemoryContents) → x.memory ≡ Some l → Stands valid (terms limits request) begun x.ticket.value.args call x.ticket.value.stacks (store_in valid l.value entries x.ticket.value.globals said)
+  pub stands_with_memory : (l : Lease MemoryContents) → x.memory ≡ Some l → Stands valid (terms_of limits request) begun x.ticket.value.args call x.ticket.value.stacks (store_in valid l.value entries x.ticket.value.globals said)
   stands_with_memory l is =
       let needed : needs Memory (module_tree valid) ≡ true = sym had_memory ∙ ap is_some is in
       let shows : answer_set said (shown_store (module_tree valid) (instance_contents x)) ≡ store_in valid l.value entries x.ticket.value.globals said =
       ap (λ (o : Option (Lease MemoryContents)). answer_set said (shown_store (module_tree valid) (parts (memory_in o) (table_in x.table).holds (table_in x.table).entries x.ticket.value.globals))) is
       ∙ with_memory valid x.ticket.value.globals l.value x.table had_table said needed
       ∙ ap (λ (es : List (Option ℕ)). store_in valid l.value es x.ticket.value.globals said) (sym h.entries_are) in
-      subst (λ (s : Store). Stands valid (terms limits request) begun x.ticket.value.args call x.ticket.value.stacks s) shows stands_lent
+      subst (λ (s : Store). Stands valid (terms_of limits request) begun x.ticket.value.args call x.ticket.value.stacks s) shows stands_lent
 
-  pub stands_without_memory : x.memory ≡ None → Stands valid (terms limits request) begun x.ticket.value.args call x.ticket.value.stacks (bare_store valid entries x.ticket.value.globals said)
+  pub stands_without_memory : x.memory ≡ None → Stands valid (terms_of limits request) begun x.ticket.value.args call x.ticket.value.stacks (bare_store valid entries x.ticket.value.globals said)
   stands_without_memory is =
       let unneeded : needs Memory (module_tree valid) ≡ false = sym had_memory ∙ ap is_some is in
       let shows : answer_set said (shown_store (module_tree valid) (instance_contents x)) ≡ bare_store valid entries x.ticket.value.globals said =
       without_memory valid x.ticket.value.globals (memory_in x.memory) x.table had_table said unneeded
       ∙ ap (λ (es : List (Option ℕ)). bare_store valid es x.ticket.value.globals said) (sym h.entries_are) in
-      subst (λ (s : Store). Stands valid (terms limits request) begun x.ticket.value.args call x.ticket.value.stacks s) shows stands_lent
+      subst (λ (s : Store). Stands valid (terms_of limits request) begun x.ticket.value.args call x.ticket.value.stacks s) shows stands_lent
 
   -- what a slice on what is lent comes to, it comes to for the call
   pub turned_there : (slice : ℕ) (t : Turned) (s : Store) (says : List ℕ) (y : (k : Kind) → Contents k) → s ≡ answer_set says (shown_store (module_tree valid) y)
-      → HasTurned (whole valid (terms limits request) call x.ticket.value.args begun) call slice s t
+      → HasTurned (whole valid (terms_of limits request) call x.ticket.value.args begun) call slice s t
       → HasTurned (comes_of config m.tree request call.function x.ticket.value.args) call slice (answer_set says (shown_store m.tree y)) t
   turned_there slice t s says y shows was =
-      subst (λ (tree : ModuleTree). HasTurned (result_from tree (terms (run_limits config) request) call.function x.ticket.value.args begun) call slice (answer_set says (shown_store m.tree y)) t) h.paused.code
-      (subst (λ (tree : ModuleTree). HasTurned (whole m.code (terms (run_limits config) request) call x.ticket.value.args begun) call slice (answer_set says (shown_store tree y)) t) tree_is
-      (subst (λ (l : RunLimits). HasTurned (whole m.code (terms l request) call x.ticket.value.args begun) call slice (answer_set says (shown_store (module_tree valid) y)) t) h.limits_are
-      (subst (λ (k : Module). HasTurned (whole k (terms limits request) call x.ticket.value.args begun) call slice (answer_set says (shown_store (module_tree valid) y)) t) h.code
-      (subst (λ (u : Store). HasTurned (whole valid (terms limits request) call x.ticket.value.args begun) call slice u t) shows was))))
+      subst (λ (tree : ModuleTree). HasTurned (result_from tree (terms_of (run_limits config) request) call.function x.ticket.value.args begun) call slice (answer_set says (shown_store m.tree y)) t) h.paused.code
+      (subst (λ (tree : ModuleTree). HasTurned (whole m.code (terms_of (run_limits config) request) call x.ticket.value.args begun) call slice (answer_set says (shown_store tree y)) t) tree_is
+      (subst (λ (l : RunLimits). HasTurned (whole m.code (terms_of l request) call x.ticket.value.args begun) call slice (answer_set says (shown_store (module_tree valid) y)) t) h.limits_are
+      (subst (λ (k : Module). HasTurned (whole k (terms_of limits request) call x.ticket.value.args begun) call slice (answer_set says (shown_store (module_tree valid) y)) t) h.code
+      (subst (λ (u : Store). HasTurned (whole valid (terms_of limits request) call x.ticket.value.args begun) call slice u t) shows was))))
 
   -- a slice on what is lent is one on the instance
   pub went_there : (slice : ℕ) (y : MemoryContents) (globals : List Val) (marks : List Bool) (r : CallResult)
-      → LeavesFrom config.pages (module_tree valid) (whole valid (terms limits request) call x.ticket.value.args begun) call.turns (upto call slice)
+      → LeavesFrom config.pages (module_tree valid) (whole valid (terms_of limits request) call x.ticket.value.args begun) call.turns (upto call slice)
       (parts (memory_in x.memory) (table_in x.table).holds entries x.ticket.value.globals) (parts y (table_in x.table).holds entries globals) marks r
       → WentOn config.pages m.tree (comes_of config m.tree request call.function x.ticket.value.args) call.turns (upto call slice) (instance_contents x) (parts y (table_in x.table).holds (table_in x.table).entries globals)
   went_there slice y globals marks r leaves = record {
     marks = marks;
     at = r;
-    leaves = subst (λ (tree : ModuleTree). LeavesFrom config.pages m.tree (result_from tree (terms (run_limits config) request) call.function x.ticket.value.args begun) call.turns (upto call slice)
+    leaves = subst (λ (tree : ModuleTree). LeavesFrom config.pages m.tree (result_from tree (terms_of (run_limits config) request) call.function x.ticket.value.args begun) call.turns (upto call slice)
         (instance_contents x) (parts y (table_in x.table).holds (table_in x.table).entries globals) marks r) h.paused.code
-        (subst (λ (es : List (Option ℕ)). LeavesFrom config.pages m.tree (whole m.code (terms (run_limits config) request) call x.ticket.value.args begun) call.turns (upto call slice)
+        (subst (λ (es : List (Option ℕ)). LeavesFrom config.pages m.tree (whole m.code (terms_of (run_limits config) request) call x.ticket.value.args begun) call.turns (upto call slice)
         (parts (memory_in x.memory) (table_in x.table).holds es x.ticket.value.globals) (parts y (table_in x.table).holds es globals) marks r) h.entries_are
-        (subst (λ (l : RunLimits). LeavesFrom config.pages m.tree (whole m.code (terms l request) call x.ticket.value.args begun) call.turns (upto call slice)
+        (subst (λ (l : RunLimits). LeavesFrom config.pages m.tree (whole m.code (terms_of l request) call x.ticket.value.args begun) call.turns (upto call slice)
         (parts (memory_in x.memory) (table_in x.table).holds entries x.ticket.value.globals) (parts y (table_in x.table).holds entries globals) marks r) h.limits_are
-        (subst (λ (k : Module). LeavesFrom config.pages m.tree (whole k (terms limits request) call x.ticket.value.args begun) call.turns (upto call slice)
+        (subst (λ (k : Module). LeavesFrom config.pages m.tree (whole k (terms_of limits request) call x.ticket.value.args begun) call.turns (upto call slice)
         (parts (memory_in x.memory) (table_in x.table).holds entries x.ticket.value.globals) (parts y (table_in x.table).holds entries globals) marks r) h.code
-        (subst (λ (t : ModuleTree). LeavesFrom config.pages t (whole valid (terms limits request) call x.ticket.value.args begun) call.turns (upto call slice)
+        (subst (λ (t : ModuleTree). LeavesFrom config.pages t (whole valid (terms_of limits request) call x.ticket.value.args begun) call.turns (upto call slice)
         (parts (memory_in x.memory) (table_in x.table).holds entries x.ticket.value.globals) (parts y (table_in x.table).holds entries globals) marks r) tree_is leaves))));
   }
 
   -- the call that comes of it is paused on the instance that comes of it
   pub paused_there : (next : PausedCall) (says : List ℕ) (y : Instance N) → y.table ≡ x.table → is_some y.memory ≡ is_some x.memory
       → (m.code.memories ≢ [] → IsReady (room_for m.code.memories config.pages) (memory_in y.memory))
-      → Stands valid (terms limits request) begun y.ticket.value.args next y.ticket.value.stacks (answer_set says (shown_store (module_tree valid) (instance_contents y))) → IsPausedOn config m request next says y
+      → Stands valid (terms_of limits request) begun y.ticket.value.args next y.ticket.value.stacks (answer_set says (shown_store (module_tree valid) (instance_contents y))) → IsPausedOn config m request next says y
   paused_there next says y table memory ready stands = record {
     code = h.paused.code;
     parts = record { memory = memory ∙ h.paused.parts.memory; table = ap is_some table ∙ h.paused.parts.table };
     frame = h.paused.frame;
     memory = ready;
-    stands = subst (λ (t : ModuleTree). Stands m.code (terms (run_limits config) request) begun y.ticket.value.args next y.ticket.value.stacks (answer_set says (shown_store t (instance_contents y)))) tree_is
-        (subst (λ (l : RunLimits). Stands m.code (terms l request) begun y.ticket.value.args next y.ticket.value.stacks (answer_set says (shown_store (module_tree valid) (instance_contents y)))) h.limits_are
-        (subst (λ (k : Module). Stands k (terms limits request) begun y.ticket.value.args next y.ticket.value.stacks (answer_set says (shown_store (module_tree valid) (instance_contents y)))) h.code stands));
+    stands = subst (λ (t : ModuleTree). Stands m.code (terms_of (run_limits config) request) begun y.ticket.value.args next y.ticket.value.stacks (answer_set says (shown_store t (instance_contents y)))) tree_is
+        (subst (λ (l : RunLimits). Stands m.code (terms_of l request) begun y.ticket.value.args next y.ticket.value.stacks (answer_set says (shown_store (module_tree valid) (instance_contents y)))) h.limits_are
+        (subst (λ (k : Module). Stands k (terms_of limits request) begun y.ticket.value.args next y.ticket.value.stacks (answer_set says (shown_store (module_tree valid) (instance_contents y)))) h.code stands));
   }
 
   pub shown_with : (l : Lease MemoryContents) (y : MemoryContents) (globals : List Val) (says : List ℕ) → x.memory ≡ Some l

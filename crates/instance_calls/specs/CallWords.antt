@@ -7,16 +7,17 @@ use Rattle.wasm_values.specs.declared.outcome.Val.{Val}
 use Rattle.wasm_types.specs.declared.limits.RunLimits.{RunLimits}
 use Rattle.wasm_types.specs.Tree.{ModuleTree}
 use Rattle.wasm_spec.specs.Functions.{function_type}
-use Rattle.wasm_spec.specs.Execution.{terms}
+use Rattle.wasm_spec.specs.Execution.{terms_of}
 use Rattle.wasm_spec.specs.Typing.{type_of}
 use Rattle.wasm_spec.specs.Validity.{Exports}
 use Rattle.wasm_spec.specs.Result.{CallResult, answer_of, call_result}
+use Rattle.call_payload.specs.declared.call.Call.{Call}
 use Rattle.pool_limits.specs.declared.numbers.Numbers.{Numbers}
 use Rattle.paused_call.specs.declared.call.Turned.{Turned}
 use Rattle.paused_call.specs.declared.call.Turned.TheVariants as turned
 use Rattle.paused_call.specs.Standing.{Waits}
-use Rattle.instance_calls.specs.declared.finding.Refusal.{Refusal}
-use Rattle.instance_calls.specs.declared.finding.Refusal.TheVariants.{NoExport, BadArgs}
+use Rattle.instance_calls.specs.declared.refusal.Refusal.{Refusal}
+use Rattle.instance_calls.specs.declared.refusal.Refusal.TheVariants.{NoExport, BadArgs}
 
 -- the export is a function of this type
 pub record IsExported (m : ModuleTree) (export : List ℕ) (function : ℕ) (type : FuncType) : Type 0 where
@@ -48,7 +49,7 @@ pub record EndsWith (m : ModuleTree) (limits : RunLimits) (export : List ℕ) (a
   pub exported : IsExported m export function type
   pub fit : map type_of args ≡ type.params
   pub result : CallResult
-  pub ends : call_result m (terms limits request) function args fuel ≡ Some result
+  pub ends : call_result m (terms_of limits request) function args fuel ≡ Some result
   pub shows : outcome ≡ result.outcome
   pub answers : answer ≡ answer_of result
 
@@ -63,7 +64,11 @@ run_limits n = record { pages = n.pages; depth = n.depth }
 
 -- what a call comes to on each fuel: what it gives a fresh instance
 abbrev pub comes_of : Numbers → ModuleTree → (request : List ℕ) → (function : ℕ) → (args : List Val) → ℕ → Option CallResult
-comes_of config m request function args = call_result m (terms (run_limits config) request) function args
+comes_of config m request function args = call_result m (terms_of (run_limits config) request) function args
+
+-- the same of a function's call that asks this
+abbrev pub gives_of : Numbers → ModuleTree → (function : ℕ) → Call → ℕ → Option CallResult
+gives_of config m function call = comes_of config m call.request.now function call.args.now
 
 -- on all its fuel it ends so, and answers these bytes
 pub record EndsAs (result : ℕ → Option CallResult) (fuel : ℕ) (outcome : Outcome) (bytes : List ℕ) : Type 0 where

@@ -3,7 +3,7 @@ use Rattle.std.specs.Prelude.{◌≡◌, ◌≢◌, ℕ, List, [], Option, is_so
 use Rattle.wasm_values.specs.declared.outcome.Val.{Val}
 use Rattle.wasm_types.specs.declared.module.Module.{Module}
 use Rattle.wasm_types.specs.Tree.{ModuleTree}
-use Rattle.wasm_spec.specs.Execution.{answer_set}
+use Rattle.machine_steps.specs.Lent.{answer_set}
 use Rattle.wasm_spec.specs.Instances.{room_for}
 use Rattle.wasm_spec.specs.Store.{Store, fresh_store}
 use Rattle.wasm_machine.specs.Lent.{own}

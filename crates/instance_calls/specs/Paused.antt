@@ -2,7 +2,7 @@
 use Rattle.std.specs.Prelude.{◌≡◌, ◌≢◌, ℕ, Bool, List, [], Option}
 use Rattle.wasm_types.specs.declared.module.Module.{Module}
 use Rattle.wasm_types.specs.Tree.{ModuleTree, module_tree}
-use Rattle.wasm_spec.specs.Execution.{Terms, terms}
+use Rattle.wasm_spec.specs.Execution.{Terms, terms_of}
 use Rattle.wasm_spec.specs.Instances.{room_for}
 use Rattle.wasm_spec.specs.Result.{CallResult}
 use Rattle.wasm_spec.specs.Store.{Store, fresh_store}
@@ -28,7 +28,7 @@ module _ {N : Type 0} where
     pub parts : HasParts m.tree x
     pub frame : FitsFrame m.code config.frame
     pub memory : m.code.memories ≢ [] → IsReady (room_for m.code.memories config.pages) (memory_in x.memory)
-    pub stands : Stands m.code (terms (run_limits config) request) (fresh_store m.tree) x.ticket.value.args call x.ticket.value.stacks (instance_store m.tree answer x)
+    pub stands : Stands m.code (terms_of (run_limits config) request) (fresh_store m.tree) x.ticket.value.args call x.ticket.value.stacks (instance_store m.tree answer x)
 
 -- Turns of a call that comes to `result` on each fuel, from this number of them to that, went from these contents to those.
 pub record WentOn (pages : ℕ) (m : ModuleTree) (result : ℕ → Option CallResult) (from to : ℕ) (old new : (k : Kind) → Contents k) : Type 0 where

@@ -2,24 +2,20 @@
 ghost use Rattle.std.specs.Prelude.{◌≡◌, ◌+◌, ◌≤◌, ℕ, List, [], length};
 ghost use Rattle.pool_worlds.specs.declared.kinds.Kind.{Kind};
 ghost use Rattle.paused_call.specs.Standing.{upto};
-ghost use Rattle.instance_calls.specs.CallWords.{EndsAs, HasSliced, MayCall, comes_of, kept_after};
+ghost use Rattle.instance_calls.specs.CallWords.{EndsAs, HasSliced, MayCall, comes_of, gives_of, kept_after};
 ghost use Rattle.instance_calls.specs.Instances.{IsFreshInstance, KeepsSlots, instance_contents};
 ghost use Rattle.instance_calls.specs.Paused.{IsPausedOn, WentOn};
 
-use crate::running::{
-    begin_call, entries_of, limits_of, resume_with_memory, resume_without_memory,
-};
-use call_payload::AnswerBuf;
+use crate::parts::{begin_call, entries_of, limits_of, resume_with_memory, resume_without_memory};
+use call_payload::{AnswerBuf, Call};
 use instance_slots::Ticket;
-use instance_slots::laws::the_machine_may_run_it;
-use loaded_modules::laws::a_loaded_module_is_within_its_limits;
 use memory_slots::MemSlot;
-use module_store::{ModuleRef, ModuleStore, Naming};
+use module_store::{LoadedModule, Naming};
 use paused_call::{PausedCall, Turned};
 use slot_words::Lease;
 use table_slots::TableSlot;
 use wasm_machine::RunInputs;
-use wasm_values::{Outcome, Val};
+use wasm_values::Outcome;
 
 /// What a call runs on: a ticket, and a memory and a table where its module has them. Each is a slot that was taken, and is given
 /// back; one that is dropped stays held.
@@ -41,30 +37,26 @@ fn keep(turned: Turned, answer: &mut AnswerBuf)
 }
 
 impl<N: Naming> Instance<N> {
-    /// Runs a function of the module on this instance of it, which is fresh: first the start function, if there is one, and if
-    /// that ended well the function, on so much fuel in all. Both read the request, and append to one answer, which has bytes
-    /// afterwards only where the call is done. It keeps its slots. Takes no memory.
+    /// Makes a call of a function of the module on this instance of it, which is fresh: first the start function runs, if there is
+    /// one, and if that ended well the function, on the call's fuel in all. Both read its request, and append to one answer, which has
+    /// bytes afterwards only where the call is done. It keeps its slots. Takes no memory.
     pub fn run(
         &mut self,
-        store: &ModuleStore<N>,
-        module: &ModuleRef<N>,
+        loaded: &LoadedModule<'_, N>,
         function: u32,
-        args: &[Val],
-        fuel: u64,
-        request: &[u8],
+        call: &Call<'_>,
         answer: &mut AnswerBuf,
     ) -> Outcome
-        requires call { (export : List ℕ) × MayCall «module».now.tree export function args.now }
-        requires fresh { IsFreshInstance N.config «module».now.tree self.old }
-        requires request { length request.now ≤ 65536 }
-        ensures went { WentOn N.config.pages «module».now.tree (comes_of N.config «module».now.tree request.now function args.now) 0 fuel
+        requires call { MayCall loaded.now.module.now.tree call.now.export.now function call.now.args.now }
+        requires fresh { IsFreshInstance N.config loaded.now.module.now.tree self.old }
+        ensures went { WentOn N.config.pages loaded.now.module.now.tree (gives_of N.config loaded.now.module.now.tree function call.now) 0 call.now.fuel
             (instance_contents self.old) (instance_contents self.new) }
-        ensures ends { EndsAs (comes_of N.config «module».now.tree request.now function args.now) fuel result answer.new }
+        ensures ends { EndsAs (gives_of N.config loaded.now.module.now.tree function call.now) call.now.fuel result answer.new }
         ensures slots { KeepsSlots self.old self.new }
     {
         answer.clear();
-        let mut call = self.begin(store, module, function, args, fuel);
-        match self.resume(&mut call, store, module, fuel, request, answer) {
+        let mut paused = self.begin(loaded, function, call);
+        match self.resume(&mut paused, loaded, call.fuel, call.request, answer) {
             Turned::Again => unreachable!(),
             Turned::Done(outcome) => outcome,
         }
@@ -74,28 +66,22 @@ impl<N: Naming> Instance<N> {
     /// It keeps its slots. Takes no memory.
     pub fn begin(
         &mut self,
-        store: &ModuleStore<N>,
-        module: &ModuleRef<N>,
+        loaded: &LoadedModule<'_, N>,
         function: u32,
-        args: &[Val],
-        fuel: u64,
+        call: &Call<'_>,
     ) -> PausedCall
-        requires call { (export : List ℕ) × MayCall «module».now.tree export function args.now }
-        requires fresh { IsFreshInstance N.config «module».now.tree self.old }
-        ensures paused { (request : List ℕ) → IsPausedOn N.config «module».now request result [] self.new }
+        requires call { MayCall loaded.now.module.now.tree call.now.export.now function call.now.args.now }
+        requires fresh { IsFreshInstance N.config loaded.now.module.now.tree self.old }
+        ensures paused { (request : List ℕ) → IsPausedOn N.config loaded.now.module.now request result [] self.new }
         ensures function { result.function ≡ function }
-        ensures fuel { result.fuel ≡ fuel }
+        ensures fuel { result.fuel ≡ call.now.fuel }
         ensures turns { result.turns ≡ 0 }
-        ensures args { self.new.ticket.value.args ≡ args.now }
+        ensures args { self.new.ticket.value.args ≡ call.now.args.now }
         ensures contents { (k : Kind) → instance_contents self.new k ≡ instance_contents self.old k }
         ensures slots { KeepsSlots self.old self.new }
     {
-        a_loaded_module_is_within_its_limits();
-        the_machine_may_run_it();
-        let _ = limits_of(store);
-        let valid = store.valid(module);
         let ticket = &mut self.ticket.value;
-        begin_call(ticket, valid, function, args, fuel)
+        begin_call(ticket, loaded.valid(), function, call)
     }
 
     /// Makes at most so many turns more of a call of the module that is paused on this instance. It reads the request that it was sent
@@ -103,26 +89,27 @@ impl<N: Naming> Instance<N> {
     pub fn resume(
         &mut self,
         call: &mut PausedCall,
-        store: &ModuleStore<N>,
-        module: &ModuleRef<N>,
+        loaded: &LoadedModule<'_, N>,
         slice: u64,
         request: &[u8],
         answer: &mut AnswerBuf,
     ) -> Turned
-        requires paused { IsPausedOn N.config «module».now request.now call.old answer.old self.old }
+        requires paused { IsPausedOn N.config loaded.now.module.now request.now call.old answer.old self.old }
         requires request { length request.now ≤ 65536 }
-        ensures sliced { HasSliced (comes_of N.config «module».now.tree request.now call.old.function self.old.ticket.value.args) call.old.fuel
-            (call.old.turns + slice) result answer.new }
-        ensures paused { result ≡ Turned.Again → IsPausedOn N.config «module».now request.now call.new answer.new self.new }
-        ensures went { WentOn N.config.pages «module».now.tree (comes_of N.config «module».now.tree request.now call.old.function self.old.ticket.value.args)
+        ensures sliced { HasSliced
+            (comes_of N.config loaded.now.module.now.tree request.now call.old.function self.old.ticket.value.args)
+            call.old.fuel (call.old.turns + slice) result answer.new }
+        ensures paused { result ≡ Turned.Again → IsPausedOn N.config loaded.now.module.now request.now call.new answer.new self.new }
+        ensures went { WentOn N.config.pages loaded.now.module.now.tree
+            (comes_of N.config loaded.now.module.now.tree request.now call.old.function self.old.ticket.value.args)
             call.old.turns (upto call.old slice) (instance_contents self.old) (instance_contents self.new) }
         ensures args { self.new.ticket.value.args ≡ self.old.ticket.value.args }
         ensures same { (call.new.function ≡ call.old.function) × (call.new.fuel ≡ call.old.fuel) }
         ensures turns { result ≡ Turned.Again → call.new.turns ≡ call.old.turns + slice }
         ensures slots { KeepsSlots self.old self.new }
     {
-        let limits = limits_of(store);
-        let valid = store.valid(module);
+        let limits = limits_of(loaded.store);
+        let valid = loaded.valid();
         let table = entries_of(&self.table);
         let inputs = RunInputs {
             valid,

@@ -2,13 +2,13 @@
 #![tactic(auto)]
 
 mod arguments;
-mod finding;
 mod instance;
 mod needs;
+mod parts;
 mod paused_instance;
-mod running;
+mod refusal;
 
-pub use finding::{Refusal, find_function};
 pub use instance::Instance;
 pub use needs::{needs_memory, needs_table};
 pub use paused_instance::{PausedInstance, Resumed};
+pub use refusal::{Refusal, find_function};

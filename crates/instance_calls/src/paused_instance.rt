@@ -1,5 +1,5 @@
 //! A call that is paused on an instance, with its module.
-ghost use Rattle.std.specs.Prelude.{◌≡◌, ℕ, List, []};
+ghost use Rattle.std.specs.Prelude.{◌≡◌, []};
 ghost use Rattle.pool_worlds.specs.declared.kinds.Kind.{Kind};
 ghost use Rattle.instance_calls.specs.CallWords.{MayCall};
 ghost use Rattle.instance_calls.specs.Instances.{IsFreshInstance, instance_contents};
@@ -8,11 +8,11 @@ ghost use Rattle.instance_calls.specs.PausedViews.{contents_in};
 ghost use Rattle.instance_calls.specs.Resumed.{HasResumed, HasSlotsOf, IsBegun, SlotsBelong};
 
 use crate::instance::Instance;
-use call_payload::AnswerBuf;
-use module_store::{ModuleRef, ModuleStore, Naming};
+use call_payload::{AnswerBuf, Call};
+use module_store::{LoadedModule, ModuleRef, ModuleStore, Naming};
 use paused_call::{PausedCall, Turned};
 use std::marker::Model;
-use wasm_values::{Outcome, Val};
+use wasm_values::Outcome;
 
 /// A call of a module that is paused on an instance of it, with what it has answered so far. It was sent no bytes. Its slots and that
 /// answer show what a fresh instance has after as many turns, by its type.
@@ -51,27 +51,26 @@ impl<N: Naming> PausedInstance<N> {
     /// A call of a function of the module on an instance of it, which is fresh, that has not begun. Takes no memory.
     pub fn begin(
         mut instance: Instance<N>,
-        store: &ModuleStore<N>,
-        module: &ModuleRef<N>,
+        loaded: &LoadedModule<'_, N>,
         function: u32,
-        args: &[Val],
-        fuel: u64,
+        call: &Call<'_>,
         answer: AnswerBuf,
     ) -> PausedInstance<N>
-        requires call { (export : List ℕ) × MayCall «module».now.tree export function args.now }
-        requires fresh { IsFreshInstance N.config «module».now.tree instance }
-        requires memory { BelongsTo «module».now (memory_slot instance.memory) }
-        requires table { BelongsTo «module».now (table_slot instance.table) }
+        requires call { MayCall loaded.now.module.now.tree call.now.export.now function call.now.args.now }
+        requires unsent { call.now.request.now ≡ [] }
+        requires fresh { IsFreshInstance N.config loaded.now.module.now.tree instance }
+        requires memory { BelongsTo loaded.now.module.now (memory_slot instance.memory) }
+        requires table { BelongsTo loaded.now.module.now (table_slot instance.table) }
         requires none { answer ≡ [] }
-        ensures begun { IsBegun «module».now function args.now fuel result }
+        ensures begun { IsBegun loaded.now.module.now function call.now.args.now call.now.fuel result }
         ensures belongs { SlotsBelong result }
         ensures slots { HasSlotsOf instance result }
         ensures contents { (k : Kind) → contents_in result k ≡ instance_contents instance k }
     {
-        let call = instance.begin(store, module, function, args, fuel);
+        let call = instance.begin(loaded, function, call);
         PausedInstance {
             instance,
-            module: module.again(),
+            module: loaded.module.again(),
             call,
             answer,
         }
@@ -87,7 +86,16 @@ impl<N: Naming> PausedInstance<N> {
             mut call,
             mut answer,
         } = self;
-        match instance.resume(&mut call, store, &module, slice, &[], &mut answer) {
+        let turned = {
+            let found = store.find(&module);
+            let loaded = LoadedModule {
+                store,
+                module: &module,
+                found,
+            };
+            instance.resume(&mut call, &loaded, slice, &[], &mut answer)
+        };
+        match turned {
             Turned::Again => Resumed::Again(PausedInstance {
                 instance,
                 module,

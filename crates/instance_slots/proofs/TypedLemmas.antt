@@ -14,7 +14,7 @@ use Rattle.wasm_spec.specs.Typing.{type_of}
 use Rattle.wasm_spec.specs.Functions.{Callee, Imported, Own, callees, callee_at}
 use Rattle.wasm_spec.specs.Need.{need}
 use Rattle.wasm_spec.specs.Validity.{IsInitialised, IsElementSegment, initial_value}
-use Rattle.wasm_spec.specs.Store.{fresh_store, write_elements, offset_of, table_size}
+use Rattle.wasm_spec.specs.Store.{fresh_store, written, offset_of, table_size}
 use Rattle.wasm_machine.specs.Calls.{FitsFrame}
 use Rattle.wasm_machine.specs.TypedConfiguration.{IsTypedStore}
 use Rattle.loaded_modules.specs.Within.{IsWithin}
@@ -54,6 +54,9 @@ there m x some = inside (callee_at m x) refl some where
   inside : (c : Option Callee) → callee_at m x ≡ c → IsSome c → x < numbers m
   inside None is h = absurd (cc)
   inside (Some c) is h = let lt = slice_get_within (callees m) x c is in omega (arith, lt, long)
+
+abbrev write_elements : ModuleTree → List (Option ℕ) → ElementTree → List (Option ℕ)
+write_elements m table s = written table (offset_of m s.offset) (map (λ f. Some f) s.functions)
 
 segment_named : (m : ModuleTree) (table : List (Option ℕ)) (s : ElementTree) → All (Names (numbers m)) table → IsElementSegment m s
     → All (Names (numbers m)) (write_elements m table s)

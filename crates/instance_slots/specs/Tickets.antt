@@ -1,5 +1,5 @@
 -- What contracts see of a ticket, and what every ticket keeps.
-use Rattle.std.specs.Prelude.{◌≡◌, ◌≤◌, ℕ, List, length}
+use Rattle.std.specs.Prelude.{◌≡◌, ◌<◌, ◌≤◌, ℕ, List, length}
 use Rattle.wasm_values.specs.declared.outcome.Val.{Val}
 use Rattle.linear_memory.specs.declared.memory.Memory.{Memory}
 use Rattle.linear_memory.specs.Bytes.{IsMemory}
@@ -21,5 +21,6 @@ pub record IsTicket (config : Numbers) (globals : List Val) (args_room : ℕ) (s
   pub args_fit : config.frame ≤ args_room
   pub imports_fit : 3 ≤ args_room
   pub stacks_are : stacks.room ≡ record { depth = config.depth; frame = config.frame }
+  pub deep : 0 < config.depth
   pub memory_is : IsMemory 0 memory
   pub no_bytes : length memory.bytes.items ≡ 0

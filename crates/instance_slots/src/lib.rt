@@ -1,7 +1,6 @@
 //! Tickets of instances: what a call needs beside its memory and its table. Threads share pools of them.
 #![tactic(auto)]
 
-pub mod laws;
 mod pool;
 mod ticket;
 

@@ -7,13 +7,14 @@ ghost use Rattle.slot_words.specs.Leases.{lease_number};
 ghost use Rattle.slot_words.specs.Owned.{IsNewPassOf, IsPassOf, limit_of, passes_of, slots_of};
 ghost use Rattle.slot_words.specs.Passes.{Holds, IsIdle, IsSamePass, joined_trails, operations, seat_number, share_of, trail, trails};
 ghost use Rattle.slot_pools.specs.Gives.{GivesCold};
-ghost use Rattle.slot_pools.specs.Takes.{TakesAny, MeetsFullAny};
+ghost use Rattle.slot_pools.specs.declared.policy.Policy.TheVariants.{Any};
+ghost use Rattle.slot_pools.specs.Takes.{Takes, MeetsFull};
 ghost use Rattle.wasm_spec.specs.Store.{fresh_store};
 ghost use Rattle.pool_worlds.specs.declared.kinds.Kind.TheVariants as kind;
 
 use crate::ticket::Ticket;
-use module_store::{ModuleRef, ModuleStore, Naming};
-use slot_pools::{Full, give_cold, take_any};
+use module_store::{LoadedModule, ModuleRef, ModuleStore, Naming};
+use slot_pools::{Full, Policy, give_cold};
 use slot_words::{KindCounts, Lease, Pass, Words};
 use std::alloc::Global;
 use std::marker::Model;
@@ -73,11 +74,11 @@ impl<N: Naming> TicketPool<N> {
     ///
     /// [`Full`] exactly where no claim was won: other passes held the tickets. The pass holds nothing then. One that stands for
     /// all passes never meets it.
-    pub fn take(
+    pub fn take<'a>(
         &self,
         pass: &mut Pass<Ticket<N>>,
-        store: &ModuleStore<N>,
-        module: &ModuleRef<N>,
+        store: &'a ModuleStore<N>,
+        module: &'a ModuleRef<N>,
     ) -> Result<Lease<Ticket<N>>, Full>
         requires own { IsPassOf self.now pass.old }
         requires idle { IsIdle pass.old }
@@ -87,14 +88,44 @@ impl<N: Naming> TicketPool<N> {
         ensures number { IfOk result (λ l. lease_number l < slots_of self.now) }
         ensures holds { IfOk result (λ l. Holds pass.new (lease_number l) false false false) }
         ensures globals { IfOk result (λ l. take (length «module».now.tree.globals) l.value.globals ≡ (fresh_store «module».now.tree).globals) }
-        ensures trail { IfOk result (TakesAny self.now pass.old pass.new) }
+        ensures trail { IfOk result (Takes self.now Any pass.old pass.new) }
 
         // it won nothing
-        ensures full { OnErr result (MeetsFullAny self.now pass.old pass.new) }
+        ensures full { OnErr result (MeetsFull self.now Any pass.old pass.new) }
         ensures another { OnErr result (share_of pass.old < passes_of self.now) }
     {
-        let mut lease = take_any(&self.words, pass)?;
-        lease.value.prepare(store, module);
+        let found = store.find(module);
+        let loaded = LoadedModule {
+            store,
+            module,
+            found,
+        };
+        self.take_for(pass, &loaded)
+    }
+
+    /// The same for a module that was looked up.
+    ///
+    /// # Errors
+    ///
+    /// [`Full`] as above.
+    pub fn take_for(
+        &self,
+        pass: &mut Pass<Ticket<N>>,
+        loaded: &LoadedModule<'_, N>,
+    ) -> Result<Lease<Ticket<N>>, Full>
+        requires own { IsPassOf self.now pass.old }
+        requires idle { IsIdle pass.old }
+        ensures same { IsSamePass pass.old pass.new }
+        ensures number { IfOk result (λ l. lease_number l < slots_of self.now) }
+        ensures holds { IfOk result (λ l. Holds pass.new (lease_number l) false false false) }
+        ensures globals { IfOk result (λ l. take (length loaded.now.module.now.tree.globals) l.value.globals
+            ≡ (fresh_store loaded.now.module.now.tree).globals) }
+        ensures trail { IfOk result (Takes self.now Any pass.old pass.new) }
+        ensures full { OnErr result (MeetsFull self.now Any pass.old pass.new) }
+        ensures another { OnErr result (share_of pass.old < passes_of self.now) }
+    {
+        let mut lease = slot_pools::take(&self.words, pass, loaded.store, Policy::Any)?;
+        lease.value.prepare(loaded);
         Ok(lease)
     }
 

@@ -6,7 +6,7 @@ ghost use Rattle.pool_worlds.specs.declared.kinds.Kind.TheVariants as kind;
 ghost use Rattle.pool_worlds.specs.Contents.{prepared, Matches};
 ghost use Rattle.pool_worlds.specs.OwnTags.{own_tag, fits-own_tag};
 
-use module_store::{ModuleRef, ModuleStore, Naming};
+use module_store::{LoadedModule, ModuleStore, Naming};
 use pool_limits::MOST_GLOBALS;
 use slot_pools::OpenSlot;
 use slot_words::{NoMemory as Refused, Pooled};
@@ -112,13 +112,11 @@ impl<N: Naming> Ticket<N> {
     }
 
     /// Writes the first values of the module's globals. Takes no memory.
-    pub fn prepare(&mut self, store: &ModuleStore<N>, module: &ModuleRef<N>)
-        ensures prepared { self.new.globals ≡ prepared N.config.pages «module».now kind.Instance self.old.globals }
-        ensures globals { take (length «module».now.tree.globals) self.new.globals ≡ (fresh_store «module».now.tree).globals }
+    pub fn prepare(&mut self, loaded: &LoadedModule<'_, N>)
+        ensures prepared { self.new.globals ≡ prepared N.config.pages loaded.now.module.now kind.Instance self.old.globals }
+        ensures globals { take (length loaded.now.module.now.tree.globals) self.new.globals ≡ (fresh_store loaded.now.module.now.tree).globals }
     {
-        // A module of the store has no more globals than are there.
-        let _valid = store.valid(module);
-        let first = store.image(module).globals.as_slice();
+        let first = loaded.image().globals.as_slice();
         put(&mut self.globals, first);
     }
 }

@@ -8,7 +8,7 @@ use Rattle.std.proofs.lemmas.List.{get_or-replicate}
 use Rattle.std.proofs.lemmas.Bool.Decides.{nat_tests}
 use Rattle.wasm_values.specs.declared.profile.Profile.{Profile}
 use Rattle.wasm_values.specs.declared.profile.Profile.TheVariants.{One, Two}
-use Rattle.wasm_spec.specs.InstrGrammar.{Shape, NotPlain, added, control, memory, numeric, opcodes, parametric, shape, variable}
+use Rattle.wasm_spec.specs.InstrGrammar.{Shape, NotPlain, added, first_opcodes, numeric, opcodes, shape}
 
 -- the shapes of so many opcodes in a row
 abbrev pub shapes : Profile → ℕ → ℕ → List Shape
@@ -71,6 +71,6 @@ none_added n low prefix = grind (arith, nat_tests)
 pub same-outside : (n : ℕ) → (0xC0 ≤ n → n ≤ 0xC4 → ⊥) → (n ≡ 0xFC → ⊥) → shape Two n ≡ shape One n
 unfolding shape
 same-outside n low prefix =
-    let rows : List (ℕ × Shape) = control ++ parametric ++ variable ++ memory ++ numeric in
+    let rows : List (ℕ × Shape) = first_opcodes ++ numeric in
     ap (λ (o : Option (ℕ × Shape)). option_map_or (λ row. row.1) o NotPlain)
     (find-none rows (added Two) n (none_added n low prefix) ∙ sym (find-none rows [] n refl))

@@ -1,3 +1,4 @@
 pub mod WrittenBytes
+pub mod AccessibleBytes
 pub mod GrownBytes
 pub mod MarkedBlocks

@@ -213,14 +213,16 @@ module _ (old new : Memory) (at : ℕ) (p : List ℕ) (fits : at + length p ≤ 
       let s = is.size in
       rw (bytes, pages) (take-written at p old.bytes.items (size_of old) fits (omega arith))
 
-  pub memory_written : (most : ℕ) → IsMemory most old → new.pages ≡ old.pages → length new.marks.items ≡ length old.marks.items → IsMemory most new
-  memory_written most is pages marks =
+  pub memory_written : (most : ℕ) → IsMemory most old → new.pages ≡ old.pages → length new.marks.items ≡ length old.marks.items → new.bytes.accessible ≡ old.bytes.accessible → IsMemory most new
+  memory_written most is pages marks accessible =
       let r = is.bytes in
       let s = is.size in
+      let first = is.accessible in
       let long : length new.bytes.items ≡ length old.bytes.items = ap length bytes ∙ length-written old.bytes.items at p (within most is) in
       record {
         bytes = rw long is.bytes;
         marks = rw marks is.marks;
         size = rw pages is.size;
         zeros = rw (long, bytes, pages) (drop-written at p old.bytes.items (size_of old) fits (omega arith) ∙ is.zeros);
+        accessible = omega arith;
       }

@@ -1,6 +1,6 @@
 -- Bytes that are written over others.
 use Rattle.std.proofs.Common.{◌≡◌, ℕ, zero, suc, ◌+◌, ◌-◌, ◌<◌, ◌≤◌, ◌⊎◌, ⊎_elim, inl, inr, List, [], ◌∷◌, ◌++◌, length, take, drop, get_or, refl, sym, ap, ◌∙◌, arith}
-use Rattle.std.proofs.lemmas.List.{drop-take, length-drop, length-take, take-take}
+use Rattle.std.proofs.lemmas.List.{append_assoc, drop-append-le, drop-drop, drop-take, get_or-append_right, get_or_append_left, length-drop, length-take, length-take-le, take-append-drop, take-append-le, take-take}
 use Rattle.wasm_spec.specs.Store.{written}
 
 -- the list after p was written over what lies from `at` to k
@@ -54,6 +54,12 @@ drop-written at p xs n h l = drop-over at (at + length p) p xs n refl h l
 pub outside_written : (at : ℕ) (p xs : List ℕ) (i : ℕ) → at + length p ≤ length xs → (i < at) ⊎ (at + length p ≤ i) → get_or (written xs at p) i 0 ≡ get_or xs i 0
 outside_written at p xs i h w = outside_over at (at + length p) p xs i refl h w
 
+-- a place within what was written
+pub inside_written : (at : ℕ) (p xs : List ℕ) (i : ℕ) → at + length p ≤ length xs → at ≤ i → i < at + length p → get_or (written xs at p) i 0 ≡ get_or p (i - at) 0
+inside_written at p xs i h l u =
+    get_or-append_right (take at xs) (p ++ drop (at + length p) xs) at i 0 (length-take-le at xs (omega arith)) l
+    ∙ get_or_append_left p (drop (at + length p) xs) 0 (i - at) (omega arith)
+
 -- ---- a part of the bytes
 
 pub part-length : (from n : ℕ) (xs : List ℕ) → from + n ≤ length xs → length (take n (drop from xs)) ≡ n
@@ -65,3 +71,28 @@ part-of_first from n size xs h =
     let m : ℕ = size - from in
     let whole : from + m ≡ size = omega arith in
     ap (λ (k : ℕ). take n (drop from (take k xs))) (sym whole) ∙ ap (take n) (drop-take from m xs) ∙ take-take n m (drop from xs) (omega arith)
+
+-- what is written over itself stays
+pub written-same : (at n : ℕ) (xs : List ℕ) → at + n ≤ length xs → written xs at (take n (drop at xs)) ≡ xs
+written-same at n xs h =
+    let long = part-length at n xs h in
+    ap (λ (k : ℕ). take at xs ++ (take n (drop at xs) ++ drop (at + k) xs)) long
+    ∙ ap (λ (l : List ℕ). take at xs ++ (take n (drop at xs) ++ l)) (sym (drop-drop n at xs))
+    ∙ ap (λ (l : List ℕ). take at xs ++ l) (take-append-drop n (drop at xs))
+    ∙ take-append-drop at xs
+
+-- ---- bytes, and others after them
+
+-- a part of the first is that part of all
+pub part-of_front : (from n : ℕ) (xs ys : List ℕ) → from + n ≤ length xs → take n (drop from (xs ++ ys)) ≡ take n (drop from xs)
+part-of_front from n xs ys h =
+    ap (take n) (drop-append-le from xs ys (omega arith)) ∙ take-append-le n (drop from xs) ys (omega (arith, length-drop from xs))
+
+-- what is written over the first leaves the others
+pub written-front : (at : ℕ) (p xs ys : List ℕ) → at + length p ≤ length xs → written (xs ++ ys) at p ≡ written xs at p ++ ys
+written-front at p xs ys h =
+    let k : ℕ = at + length p in
+    ap (λ (l : List ℕ). l ++ (p ++ drop k (xs ++ ys))) (take-append-le at xs ys (omega arith))
+    ∙ ap (λ (l : List ℕ). take at xs ++ (p ++ l)) (drop-append-le k xs ys h)
+    ∙ ap (λ (l : List ℕ). take at xs ++ l) (sym (append_assoc p (drop k xs) ys))
+    ∙ sym (append_assoc (take at xs) (p ++ drop k xs) ys)

@@ -13,12 +13,13 @@ abbrev pub shown : Memory → List ℕ
 shown memory = take (size_of memory) memory.bytes.items
 
 -- A memory with bytes for so many pages and a mark for each block of these, which has at most so many pages now. All bytes
--- past its size are zero.
+-- past its size are zero, and those up to it are accessible.
 pub record IsMemory (most : ℕ) (memory : Memory) : Type 0 where
   pub bytes : most * page_size ≤ length memory.bytes.items
   pub marks : most * page_size ≤ length memory.marks.items * block_size
   pub size : memory.pages ≤ most
   pub zeros : drop (size_of memory) memory.bytes.items ≡ replicate (length memory.bytes.items - size_of memory) 0
+  pub accessible : size_of memory ≤ memory.bytes.accessible
 
 -- a memory of size 0 with room for so many pages, in which all is zero and no block is marked
 pub record IsZeroed (pages : ℕ) (memory : Memory) : Type 0 where

@@ -2,5 +2,7 @@
 #![tactic(auto)]
 
 mod memory;
+mod zeroed;
 
 pub use memory::{BLOCK_SIZE, Memory};
+pub use zeroed::ZeroedBytes;

@@ -6,6 +6,7 @@ ghost use Rattle.linear_memory.specs.Bytes.{Grows, IsMemory, IsZeroed, shown};
 ghost use Rattle.memory_blocks.specs.Blocks.{block_size};
 ghost use Rattle.linear_memory.specs.Marks.{MarksPart, with_part};
 
+use crate::zeroed::ZeroedBytes;
 use std::alloc::{AllocError, Global};
 use wasm_types::PAGE_SIZE;
 use wasm_values::NoMemory;
@@ -13,10 +14,10 @@ use wasm_values::NoMemory;
 /// How many bytes a block has, for which one mark is kept.
 pub const BLOCK_SIZE: u64 = 4096;
 
-/// A memory: bytes to its largest size, of which those past its size are zero, its size in pages, and for each block of
-/// bytes whether it was written to.
+/// A memory: bytes to its largest size, of which those past its size are zero and those up to it accessible, its size in pages, and for
+/// each block of bytes whether it was written to.
 pub struct Memory {
-    pub bytes: Vec<u8>,
+    pub bytes: ZeroedBytes,
     pub pages: u32,
     pub marks: Vec<bool>,
 }
@@ -31,22 +32,6 @@ impl Drop for Memory {
     }
 }
 
-// Writes bytes over those from a place on.
-fn put(bytes: &mut Vec<u8>, start: usize, piece: &[u8])
-    requires { start + length piece.now ≤ length bytes.old.items }
-    ensures { bytes.new.items ≡ written bytes.old.items start piece.now }
-{
-    bytes[start..start + piece.len()].copy_from_slice(piece);
-}
-
-// So many bytes from a place on.
-fn part_of(bytes: &[u8], from: usize, count: usize) -> &[u8]
-    requires { from + count ≤ length bytes.now }
-    ensures { result.now ≡ take count (drop from bytes.now) }
-{
-    &bytes[from..from + count]
-}
-
 // Marks two blocks.
 fn mark(marks: &mut Vec<bool>, first: u64, last: u64)
     requires first { first < length marks.old.items }
@@ -55,23 +40,6 @@ fn mark(marks: &mut Vec<bool>, first: u64, last: u64)
 {
     marks[first as usize] = true;
     marks[last as usize] = true;
-}
-
-// Writes so many bytes from one place on over those from another on, as they were before.
-fn copy_over(bytes: &mut Vec<u8>, to: usize, from: usize, count: usize)
-    requires to { to + count ≤ length bytes.old.items }
-    requires from { from + count ≤ length bytes.old.items }
-    ensures { bytes.new.items ≡ written bytes.old.items to (take count (drop from bytes.old.items)) }
-{
-    bytes.copy_within(from..from + count, to);
-}
-
-// Writes a byte so many times over those from a place on.
-fn fill_over(bytes: &mut Vec<u8>, to: usize, value: u8, count: usize)
-    requires { to + count ≤ length bytes.old.items }
-    ensures { bytes.new.items ≡ written bytes.old.items to (replicate count value) }
-{
-    bytes[to..to + count].fill(value);
 }
 
 // Marks so many blocks from one on.
@@ -97,10 +65,11 @@ fn mark_touched(marks: &mut Vec<bool>, at: u64, count: u64)
 }
 
 // So many bytes of zero, and so many marks that are not set.
-fn zeros(alloc: Global, bytes: usize, marks: usize) -> Result<(Vec<u8>, Vec<bool>), AllocError>
+fn zeros(alloc: Global, bytes: usize, marks: usize) -> Result<(ZeroedBytes, Vec<bool>), AllocError>
     ensures { IfOk result (λ pair. (pair.0.items ≡ replicate bytes 0) × (pair.1.items ≡ replicate marks false)) }
 {
-    Ok((vec![in alloc; 0; bytes]?, vec![in alloc; false; marks]?))
+    let bytes = ZeroedBytes::zeros(alloc, bytes)?;
+    Ok((bytes, vec![in alloc; false; marks]?))
 }
 
 impl Memory {
@@ -139,7 +108,7 @@ impl Memory {
         if size < count || at > size - count {
             return false;
         }
-        put(&mut self.bytes, at as usize, piece);
+        self.bytes.put(at as usize, piece);
         mark(
             &mut self.marks,
             at / BLOCK_SIZE,
@@ -161,7 +130,7 @@ impl Memory {
         if size < count || to > size - count || from > size - count {
             return false;
         }
-        copy_over(&mut self.bytes, to as usize, from as usize, count as usize);
+        self.bytes.copy(to as usize, from as usize, count as usize);
         mark_touched(&mut self.marks, to, count);
         true
     }
@@ -179,7 +148,7 @@ impl Memory {
         if size < count || to > size - count {
             return false;
         }
-        fill_over(&mut self.bytes, to as usize, value, count as usize);
+        self.bytes.fill(to as usize, value, count as usize);
         mark_touched(&mut self.marks, to, count);
         true
     }
@@ -199,7 +168,7 @@ impl Memory {
         requires fits { from + count ≤ length (shown self.now) }
         ensures { result.now ≡ take count (drop from (shown self.now)) }
     {
-        part_of(&self.bytes, from as usize, count as usize)
+        self.bytes.part(from as usize, count as usize)
     }
 
     /// Writes bytes of any number to an address, and marks the blocks that they lie in.
@@ -210,7 +179,8 @@ impl Memory {
         ensures memory { (most : ℕ) → IsMemory most self.old → IsMemory most self.new }
         ensures marks { MarksPart self.old self.new to (length piece.now) }
     {
-        put(&mut self.bytes, to as usize, piece);
+        let _pages = self.pages;
+        self.bytes.put(to as usize, piece);
         mark_touched(&mut self.marks, to, piece.len() as u64);
     }
 
@@ -225,6 +195,8 @@ impl Memory {
         if pages > most || before > most - pages {
             return None;
         }
+        let size = u64::from(before + pages) * PAGE_SIZE;
+        self.bytes.make_accessible(size as usize);
         self.pages = before + pages;
         Some(before)
     }
@@ -238,7 +210,7 @@ impl Memory {
         if at >= size {
             return None;
         }
-        Some(u8::from_le_bytes([self.bytes[at as usize]]))
+        Some(u8::from_le_bytes([self.bytes.at(at as usize)]))
     }
 
     /// The two bytes at an address as a number, if they lie within the size.
@@ -251,7 +223,7 @@ impl Memory {
             return None;
         }
         let at = at as usize;
-        Some(u16::from_le_bytes([self.bytes[at], self.bytes[at + 1]]))
+        Some(u16::from_le_bytes([self.bytes.at(at), self.bytes.at(at + 1)]))
     }
 
     /// The four bytes at an address as a number, if they lie within the size.
@@ -265,10 +237,10 @@ impl Memory {
         }
         let at = at as usize;
         Some(u32::from_le_bytes([
-            self.bytes[at],
-            self.bytes[at + 1],
-            self.bytes[at + 2],
-            self.bytes[at + 3],
+            self.bytes.at(at),
+            self.bytes.at(at + 1),
+            self.bytes.at(at + 2),
+            self.bytes.at(at + 3),
         ]))
     }
 
@@ -283,14 +255,14 @@ impl Memory {
         }
         let at = at as usize;
         Some(u64::from_le_bytes([
-            self.bytes[at],
-            self.bytes[at + 1],
-            self.bytes[at + 2],
-            self.bytes[at + 3],
-            self.bytes[at + 4],
-            self.bytes[at + 5],
-            self.bytes[at + 6],
-            self.bytes[at + 7],
+            self.bytes.at(at),
+            self.bytes.at(at + 1),
+            self.bytes.at(at + 2),
+            self.bytes.at(at + 3),
+            self.bytes.at(at + 4),
+            self.bytes.at(at + 5),
+            self.bytes.at(at + 6),
+            self.bytes.at(at + 7),
         ]))
     }
 }

@@ -1,7 +1,7 @@
 -- Loads and stores.
 use Rattle.wasm_spec.specs.Execution.{Terms}
 use Rattle.std.proofs.Common.{◌≡◌, ◌≢◌, ℕ, ◌+◌, ◌*◌, ◌/◌, ◌^◌, ◌-◌, ◌≤◌, List, [], ◌∷◌, length, Bool, true, false, Option, Some, None, refl, sym, ap, ◌∙◌, subst, arith, length-take-le, mul-le-mul_right}
-use Rattle.std.specs.Prelude.{nat_lt, not, if◌then◌else◌, unwrap_or}
+use Rattle.std.specs.Prelude.{nat_lt, nat_le, not, if◌then◌else◌, unwrap_or}
 use Rattle.std.proofs.lemmas.Bool.Decides.{nat_tests}
 use Rattle.wasm_values.specs.declared.outcome.Val.{Val}
 use Rattle.wasm_values.specs.declared.outcome.Val.TheVariants as val
@@ -11,9 +11,9 @@ use Rattle.wasm_types.specs.declared.instr.Width.TheVariants.{W32}
 use Rattle.wasm_types.specs.declared.instr.Instr.{Instr}
 use Rattle.wasm_types.specs.declared.instr.Instr.TheVariants as instr
 use Rattle.wasm_types.specs.Tree.{ModuleTree}
-use Rattle.wasm_spec.specs.Store.{Store, page_size}
+use Rattle.wasm_spec.specs.Store.{Store, page_size, written}
 use Rattle.wasm_spec.specs.Typing.{number}
-use Rattle.wasm_spec.specs.Execution.{State, Signal, Next, Trapped, Stuck, value, given, pop, pop_two, at_address, load_number, store_number, memory_set, most_pages, plain}
+use Rattle.wasm_spec.specs.Execution.{State, Signal, Next, Trapped, Stuck, value, pop_number, pop_address, load_number, store_number, write_where, most_pages, plain}
 use Rattle.wasm_spec.specs.Execution as execution
 use Rattle.machine_steps.specs.declared.machine.Machine.{Machine}
 use Rattle.linear_memory.specs.declared.memory.Memory.{Memory}
@@ -21,7 +21,7 @@ use Rattle.machine_steps.specs.Configuration.{Configuration, state}
 use Rattle.machine_steps.specs.StackLayout.{Represents}
 use Rattle.machine_steps.specs.InstructionKinds.{takes_width, gives_width, IsLoad, IsStoring, address_offset, access_width, loaded_as, stored_as}
 use Rattle.linear_memory.specs.Bytes.{IsMemory, Grows, shown}
-use Rattle.machine_steps.specs.Lent.{store_of}
+use Rattle.machine_steps.specs.Lent.{memory_set, store_of}
 use Rattle.machine_steps.specs.PlainSteps.{EndsAs}
 use Rattle.machine_steps.proofs.OperandLemmas.{given_there, given_at}
 use Rattle.machine_steps.proofs.KindLemmas.{Single, single_there, at_single}
@@ -33,7 +33,7 @@ pub record One (vs : List Val) : Type 0 where
   pub are : vs ≡ val.I32 n ∷ rest
 
 abbrev on_address : ℕ → List Val → (ℕ → List Val → Signal) → Signal
-on_address offset vs go = pop vs (λ b rest. at_address b offset (λ at. go at rest))
+on_address offset vs go = pop_address offset vs go
 
 address_there : (offset : ℕ) (vs : List Val) (go : ℕ → List Val → Signal) → on_address offset vs go ≢ Stuck → One vs
 address_there offset [] go n = absurd (n refl)
@@ -53,12 +53,12 @@ pub record Pair (w : Width) (vs : List Val) : Type 0 where
   pub is : number w top ≡ Some n
 
 abbrev on_pair : Width → ℕ → List Val → (ℕ → ℕ → List Val → Signal) → Signal
-on_pair w offset vs go = pop_two vs (λ b v rest. at_address b offset (λ at. given (number w v) (λ n. go n at rest)))
+on_pair w offset vs go = pop_number w vs (λ n xs. pop_address offset xs (λ at rest. go n at rest))
 
 pair_there : (w : Width) (offset : ℕ) (vs : List Val) (go : ℕ → ℕ → List Val → Signal) → on_pair w offset vs go ≢ Stuck → Pair w vs
 pair_there w offset [] go n = absurd (n refl)
-pair_there w offset (v ∷ []) go n = absurd (n refl)
-pair_there w offset (v ∷ val.I64 b ∷ rest) go n = absurd (n refl)
+pair_there w offset (v ∷ []) go n = let (a, is) = given_there (number w v) (λ a. Stuck) n in absurd (n (given_at (number w v) a (λ a. Stuck) is))
+pair_there w offset (v ∷ val.I64 b ∷ rest) go n = let (a, is) = given_there (number w v) (λ a. Stuck) n in absurd (n (given_at (number w v) a (λ a. Stuck) is))
 pair_there w offset (v ∷ val.I32 b ∷ rest) go n =
     let (a, is) = given_there (number w v) (λ a. go a (b + offset) rest) n in
     record { top = v; base = b; rest = rest; are = refl; n = a; is = is }
@@ -113,27 +113,34 @@ number_is (val.I64 a) n e = absurd (cc)
 pub single_number : (vs : List Val) (t : Single W32 vs) → vs ≡ val.I32 t.n ∷ t.rest
 single_number vs t = t.are ∙ ap (λ (v : Val). v ∷ t.rest) (number_is t.top t.n t.is)
 
--- what a load leaves, by the test of its address
-pub load_after : (b : Bool) (v : Val) (o : Option Val) (k : Configuration) (vs : List Val) (new : Machine) (store : Store) → Some v ≡ (if b then None else o) → Represents (record k { operands = v ∷ vs }) new
-    → (u : Val) → o ≡ Some u → EndsAs (if b then Trapped trap.Memory store else Next (record (state k store) { operands = u ∷ vs })) k None new store
-load_after true v o k vs new store e sh u is = absurd (cc)
-load_after false v o k vs new store e sh u is = (subst (λ (x : Val). Represents (record k { operands = x ∷ vs }) new) (cc) sh, refl)
+-- what lies within does not reach past the end
+pub fits_unless : (past : Bool) (at n : ℕ) → nat_lt n at ≡ past → nat_le at n ≡ not past
+fits_unless true at n e = grind (arith, nat_tests)
+fits_unless false at n e = grind (arith, nat_tests)
 
-pub load_traps : (b : Bool) (o : Option Val) (k : Configuration) (vs : List Val) (new : Machine) (store : Store) → None ≡ (if b then None else o)
-    → (u : Val) → o ≡ Some u → EndsAs (if b then Trapped trap.Memory store else Next (record (state k store) { operands = u ∷ vs })) k (Some trap.Memory) new store
-load_traps true o k vs new store e u is = (refl, refl)
-load_traps false o k vs new store e u is = absurd (cc)
+-- what a load leaves, by the test of its address
+pub load_after : (past fits : Bool) (v : Val) (o : Option Val) (k : Configuration) (vs : List Val) (new : Machine) (store : Store) → fits ≡ not past → Some v ≡ (if past then None else o) → Represents (record k { operands = v ∷ vs }) new
+    → (u : Val) → o ≡ Some u → EndsAs (if fits then Next (record (state k store) { operands = u ∷ vs }) else Trapped trap.Memory store) k None new store
+load_after true fits v o k vs new store f e sh u is = absurd (cc)
+load_after false true v o k vs new store f e sh u is = (subst (λ (x : Val). Represents (record k { operands = x ∷ vs }) new) (cc) sh, refl)
+load_after false false v o k vs new store f e sh u is = let g : false ≡ true = f in absurd (cc (g))
+
+pub load_traps : (past fits : Bool) (o : Option Val) (k : Configuration) (vs : List Val) (new : Machine) (store : Store) → fits ≡ not past → None ≡ (if past then None else o)
+    → (u : Val) → o ≡ Some u → EndsAs (if fits then Next (record (state k store) { operands = u ∷ vs }) else Trapped trap.Memory store) k (Some trap.Memory) new store
+load_traps true false o k vs new store f e u is = (refl, refl)
+load_traps true true o k vs new store f e u is = let g : true ≡ false = f in absurd (cc (g))
+load_traps false fits o k vs new store f e u is = absurd (cc)
 
 -- what a store leaves
-pub store_after : (b : Bool) (k : Configuration) (vs : List Val) (new : Machine) (before after : Store) (bytes : List ℕ) → not b ≡ true → memory_set bytes before ≡ after → Represents (record k { operands = vs }) new
-    → EndsAs (if b then Trapped trap.Memory before else Next (record (state k before) { operands = vs; store = memory_set bytes before })) k None new after
-store_after true k vs new before after bytes e same sh = absurd (cc)
-store_after false k vs new before after bytes e same sh = (sh, same)
+pub store_after : (fits : Bool) (k : Configuration) (vs : List Val) (new : Machine) (before after : Store) (at : ℕ) (bytes : List ℕ) → fits ≡ true → memory_set (written before.memory at bytes) before ≡ after → Represents (record k { operands = vs }) new
+    → EndsAs (write_where fits at bytes vs (state k before)) k None new after
+store_after true k vs new before after at bytes e same sh = (sh, same)
+store_after false k vs new before after at bytes e same sh = absurd (cc)
 
-pub store_traps : (b : Bool) (k : Configuration) (vs : List Val) (new : Machine) (before after : Store) (bytes : List ℕ) → not b ≡ false → before ≡ after
-    → EndsAs (if b then Trapped trap.Memory before else Next (record (state k before) { operands = vs; store = memory_set bytes before })) k (Some trap.Memory) new after
-store_traps true k vs new before after bytes e same = (refl, same)
-store_traps false k vs new before after bytes e same = absurd (cc)
+pub store_traps : (fits : Bool) (k : Configuration) (vs : List Val) (new : Machine) (before after : Store) (at : ℕ) (bytes : List ℕ) → fits ≡ false → before ≡ after
+    → EndsAs (write_where fits at bytes vs (state k before)) k (Some trap.Memory) new after
+store_traps true k vs new before after at bytes e same = absurd (cc)
+store_traps false k vs new before after at bytes e same = (refl, same)
 
 -- ---- the memory's size
 

@@ -6,9 +6,10 @@ use Rattle.wasm_values.specs.declared.outcome.Val.TheVariants as val
 use Rattle.wasm_types.specs.declared.instr.Instr.TheVariants as instr
 use Rattle.wasm_types.specs.Tree.{ModuleTree}
 use Rattle.wasm_spec.specs.Store.{Store, written}
-use Rattle.wasm_spec.specs.Execution.{Terms, Signal, Stuck, pop_numbers, copy_bytes, fill_bytes, write_where, memory_set, plain}
+use Rattle.wasm_spec.specs.Execution.{Terms, Signal, Stuck, pop_numbers, copy_bytes, fill_bytes, write_where, plain}
 use Rattle.machine_steps.specs.declared.machine.Machine.{Machine}
 use Rattle.machine_steps.specs.Configuration.{Configuration, state}
+use Rattle.machine_steps.specs.Lent.{memory_set}
 use Rattle.machine_steps.specs.StackLayout.{Represents}
 use Rattle.machine_steps.specs.PlainSteps.{EndsAs, trap_unless}
 
@@ -22,11 +23,11 @@ pub record Three (vs : List Val) : Type 0 where
 
 three_there : (vs : List Val) (go : ℕ → ℕ → ℕ → List Val → Signal) → pop_numbers vs go ≢ Stuck → Three vs
 three_there [] go n = absurd (n refl)
-three_there (z ∷ []) go n = absurd (n refl)
-three_there (z ∷ y ∷ []) go n = absurd (n refl)
-three_there (z ∷ y ∷ val.I64 a ∷ rest) go n = absurd (n refl)
-three_there (z ∷ val.I64 b ∷ val.I32 a ∷ rest) go n = absurd (n refl)
-three_there (val.I64 c ∷ val.I32 b ∷ val.I32 a ∷ rest) go n = absurd (n refl)
+three_there (val.I64 c ∷ xs) go n = absurd (n refl)
+three_there (val.I32 c ∷ []) go n = absurd (n refl)
+three_there (val.I32 c ∷ val.I64 b ∷ xs) go n = absurd (n refl)
+three_there (val.I32 c ∷ val.I32 b ∷ []) go n = absurd (n refl)
+three_there (val.I32 c ∷ val.I32 b ∷ val.I64 a ∷ rest) go n = absurd (n refl)
 three_there (val.I32 c ∷ val.I32 b ∷ val.I32 a ∷ rest) go n = record { first = a; second = b; third = c; rest = rest; are = refl }
 
 at_three : (vs : List Val) (go : ℕ → ℕ → ℕ → List Val → Signal) (t : Three vs) → pop_numbers vs go ≡ go t.first t.second t.third t.rest

@@ -5,9 +5,10 @@ use Rattle.wasm_values.specs.declared.outcome.Val.{Val}
 use Rattle.wasm_values.specs.declared.outcome.Val.TheVariants as val
 use Rattle.wasm_values.specs.declared.outcome.TrapKind.TheVariants as trap
 use Rattle.wasm_spec.specs.Store.{Store}
-use Rattle.wasm_spec.specs.Execution.{State, Signal, Next, Trapped, Stuck, pop_numbers, pop_pair, memory_set, answer_set, with_operands}
+use Rattle.wasm_spec.specs.Execution.{State, Signal, Next, Trapped, Stuck, pop_numbers, pop_pair, with_operands}
 use Rattle.machine_steps.specs.declared.machine.Machine.{Machine}
 use Rattle.machine_steps.specs.Configuration.{Configuration, state}
+use Rattle.machine_steps.specs.Lent.{memory_set, answer_set}
 use Rattle.machine_steps.specs.StackLayout.{Represents}
 use Rattle.machine_steps.specs.PlainSteps.{EndsAs}
 
@@ -21,11 +22,11 @@ pub record ThreeNumbers (vs : List Val) : Type 0 where
 
 pub three_there : (vs : List Val) (go : ℕ → ℕ → ℕ → List Val → Signal) → pop_numbers vs go ≢ Stuck → ThreeNumbers vs
 three_there [] go f = absurd (f refl)
-three_there (z ∷ []) go f = absurd (f refl)
-three_there (z ∷ y ∷ []) go f = absurd (f refl)
-three_there (z ∷ y ∷ val.I64 x ∷ rest) go f = absurd (f refl)
-three_there (z ∷ val.I64 y ∷ val.I32 x ∷ rest) go f = absurd (f refl)
-three_there (val.I64 z ∷ val.I32 y ∷ val.I32 x ∷ rest) go f = absurd (f refl)
+three_there (val.I64 z ∷ xs) go f = absurd (f refl)
+three_there (val.I32 z ∷ []) go f = absurd (f refl)
+three_there (val.I32 z ∷ val.I64 y ∷ xs) go f = absurd (f refl)
+three_there (val.I32 z ∷ val.I32 y ∷ []) go f = absurd (f refl)
+three_there (val.I32 z ∷ val.I32 y ∷ val.I64 x ∷ rest) go f = absurd (f refl)
 three_there (val.I32 z ∷ val.I32 y ∷ val.I32 x ∷ rest) go f = record { a = x; b = y; n = z; rest = rest; are = refl }
 
 pub at_three : (vs : List Val) (go : ℕ → ℕ → ℕ → List Val → Signal) (t : ThreeNumbers vs) → pop_numbers vs go ≡ go t.a t.b t.n t.rest
@@ -40,9 +41,9 @@ pub record TwoNumbers (vs : List Val) : Type 0 where
 
 pub two_there : (vs : List Val) (go : ℕ → ℕ → List Val → Signal) → pop_pair vs go ≢ Stuck → TwoNumbers vs
 two_there [] go f = absurd (f refl)
-two_there (y ∷ []) go f = absurd (f refl)
-two_there (y ∷ val.I64 x ∷ rest) go f = absurd (f refl)
-two_there (val.I64 y ∷ val.I32 x ∷ rest) go f = absurd (f refl)
+two_there (val.I64 y ∷ xs) go f = absurd (f refl)
+two_there (val.I32 y ∷ []) go f = absurd (f refl)
+two_there (val.I32 y ∷ val.I64 x ∷ rest) go f = absurd (f refl)
 two_there (val.I32 y ∷ val.I32 x ∷ rest) go f = record { a = x; n = y; rest = rest; are = refl }
 
 pub at_two : (vs : List Val) (go : ℕ → ℕ → List Val → Signal) (t : TwoNumbers vs) → pop_pair vs go ≡ go t.a t.n t.rest

@@ -12,7 +12,7 @@ use Rattle.wasm_types.specs.declared.instr.Instr.TheVariants as instr
 use Rattle.wasm_types.specs.Tree.{ModuleTree}
 use Rattle.wasm_spec.specs.Store.{Store}
 use Rattle.wasm_spec.specs.Typing.{number}
-use Rattle.wasm_spec.specs.Execution.{State, Signal, Next, Stuck, value, given, pop, pop_three, if_zero, or_trap, with_operands, plain}
+use Rattle.wasm_spec.specs.Execution.{State, Signal, Next, Stuck, value, given, pop, pop_number, chosen, or_trap, with_operands, plain}
 use Rattle.machine_steps.specs.declared.machine.Machine.{Machine}
 use Rattle.machine_steps.specs.Configuration.{Configuration, state}
 use Rattle.machine_steps.specs.StackLayout.{Represents}
@@ -30,7 +30,7 @@ pub record Single (w : Width) (vs : List Val) : Type 0 where
   pub is : number w top ≡ Some n
 
 abbrev pub on_one : Width → List Val → (ℕ → List Val → Signal) → Signal
-on_one w vs go = pop vs (λ x vs. given (number w x) (λ a. go a vs))
+on_one w vs go = pop_number w vs go
 
 pub single_there : (w : Width) (vs : List Val) (go : ℕ → List Val → Signal) → on_one w vs go ≢ Stuck → Single w vs
 single_there w [] go n = absurd (n refl)
@@ -63,13 +63,13 @@ pub record Chosen (vs : List Val) : Type 0 where
   pub are : vs ≡ val.I32 condition ∷ second ∷ first ∷ rest
 
 abbrev pub on_chosen : List Val → (ℕ → Val → Val → List Val → Signal) → Signal
-on_chosen vs go = pop_three vs (λ x y c vs. given (number W32 c) (λ n. go n x y vs))
+on_chosen vs go = pop_number W32 vs (λ n xs. pop xs (λ y ys. pop ys (λ x rest. go n x y rest)))
 
 pub chosen_there : (vs : List Val) (go : ℕ → Val → Val → List Val → Signal) → on_chosen vs go ≢ Stuck → Chosen vs
 chosen_there [] go n = absurd (n refl)
-chosen_there (c ∷ []) go n = absurd (n refl)
-chosen_there (c ∷ y ∷ []) go n = absurd (n refl)
-chosen_there (val.I64 c ∷ y ∷ x ∷ rest) go n = absurd (n refl)
+chosen_there (val.I64 c ∷ xs) go n = absurd (n refl)
+chosen_there (val.I32 c ∷ []) go n = absurd (n refl)
+chosen_there (val.I32 c ∷ y ∷ []) go n = absurd (n refl)
 chosen_there (val.I32 c ∷ y ∷ x ∷ rest) go n = record { condition = c; first = x; second = y; rest = rest; are = refl }
 
 module _ (m : ModuleTree) (limits : Terms) where
@@ -115,15 +115,15 @@ module _ (m : ModuleTree) (limits : Terms) where
   drop_means k store x rest are = ap (λ (l : List Val). pop l (λ x vs. with_operands vs (state k store))) are
 
   pub select_of : (k : Configuration) (store : Store) → plain m limits instr.Select (state k store) ≢ Stuck → Chosen k.operands
-  select_of k store fine = chosen_there k.operands (λ n x y vs. if_zero n (with_operands (y ∷ vs) (state k store)) (with_operands (x ∷ vs) (state k store))) fine
+  select_of k store fine = chosen_there k.operands (λ n x y vs. chosen n (with_operands (x ∷ vs) (state k store)) (with_operands (y ∷ vs) (state k store))) fine
 
   pub select_means : (k : Configuration) (store : Store) (t : Chosen k.operands)
-      → plain m limits instr.Select (state k store) ≡ if_zero t.condition (with_operands (t.second ∷ t.rest) (state k store)) (with_operands (t.first ∷ t.rest) (state k store))
-  select_means k store t = ap (λ (l : List Val). on_chosen l (λ n x y vs. if_zero n (with_operands (y ∷ vs) (state k store)) (with_operands (x ∷ vs) (state k store)))) t.are
+      → plain m limits instr.Select (state k store) ≡ chosen t.condition (with_operands (t.first ∷ t.rest) (state k store)) (with_operands (t.second ∷ t.rest) (state k store))
+  select_means k store t = ap (λ (l : List Val). on_chosen l (λ n x y vs. chosen n (with_operands (x ∷ vs) (state k store)) (with_operands (y ∷ vs) (state k store)))) t.are
 
 -- what select leaves
 pub select_after : (c : ℕ) (x y v : Val) (vs : List Val) (k : Configuration) (new : Machine) (store : Store) → (c ≡ 0 → v ≡ y) → (c ≢ 0 → v ≡ x) → Represents (record k { operands = v ∷ vs }) new
-    → EndsAs (if_zero c (with_operands (y ∷ vs) (state k store)) (with_operands (x ∷ vs) (state k store))) k None new store
+    → EndsAs (chosen c (with_operands (x ∷ vs) (state k store)) (with_operands (y ∷ vs) (state k store))) k None new store
 select_after zero x y v vs k new store is other sh = (subst (λ (u : Val). Represents (record k { operands = u ∷ vs }) new) (is refl) sh, refl)
 select_after (suc c) x y v vs k new store is other sh = (subst (λ (u : Val). Represents (record k { operands = u ∷ vs }) new) (other (λ e. absurd (cc (e)))) sh, refl)
 

@@ -6,7 +6,7 @@ use Rattle.wasm_values.specs.declared.outcome.TrapKind.{TrapKind}
 use Rattle.wasm_types.specs.declared.instr.Width.{Width}
 use Rattle.wasm_spec.specs.Store.{Store}
 use Rattle.wasm_spec.specs.Typing.{number}
-use Rattle.wasm_spec.specs.Execution.{Signal, Stuck, value, given, pop_two, or_trap, with_operands}
+use Rattle.wasm_spec.specs.Execution.{Signal, Stuck, value, given, pop_number, or_trap, with_operands}
 use Rattle.machine_steps.specs.declared.machine.Machine.{Machine}
 use Rattle.machine_steps.specs.Configuration.{Configuration, state}
 use Rattle.machine_steps.specs.StackLayout.{Represents, operands_under, bottom_of}
@@ -47,21 +47,21 @@ pub record Two (w : Width) (vs : List Val) : Type 0 where
   pub second : number w y ≡ Some b
 
 abbrev pub on_two : Width → List Val → (ℕ → ℕ → List Val → Signal) → Signal
-on_two w vs go = pop_two vs (λ x y vs. given (number w x) (λ a. given (number w y) (λ b. go a b vs)))
+on_two w vs go = pop_number w vs (λ b xs. pop_number w xs (λ a rest. go a b rest))
 
 pub two_there : (w : Width) (vs : List Val) (go : ℕ → ℕ → List Val → Signal) → on_two w vs go ≢ Stuck → Two w vs
 two_there w [] go n = absurd (n refl)
-two_there w (y ∷ []) go n = absurd (n refl)
+two_there w (y ∷ []) go n = let (b, second) = given_there (number w y) (λ b. Stuck) n in absurd (n (given_at (number w y) b (λ b. Stuck) second))
 two_there w (y ∷ x ∷ rest) go n =
-    let (a, first) = given_there (number w x) (λ a. given (number w y) (λ b. go a b rest)) n in
-    let (b, second) = given_there (number w y) (λ b. go a b rest) (λ e. n (given_at (number w x) a (λ a. given (number w y) (λ b. go a b rest)) first ∙ e)) in
+    let (b, second) = given_there (number w y) (λ b. given (number w x) (λ a. go a b rest)) n in
+    let (a, first) = given_there (number w x) (λ a. go a b rest) (λ e. n (given_at (number w y) b (λ b. given (number w x) (λ a. go a b rest)) second ∙ e)) in
     record { x = x; y = y; rest = rest; are = refl; a = a; b = b; first = first; second = second }
 
 pub at_two : (w : Width) (vs : List Val) (go : ℕ → ℕ → List Val → Signal) (t : Two w vs) → on_two w vs go ≡ go t.a t.b t.rest
 at_two w vs go t =
     ap (λ (l : List Val). on_two w l go) t.are
-    ∙ given_at (number w t.x) t.a (λ a. given (number w t.y) (λ b. go a b t.rest)) t.first
-    ∙ given_at (number w t.y) t.b (λ b. go t.a b t.rest) t.second
+    ∙ given_at (number w t.y) t.b (λ b. given (number w t.x) (λ a. go a b t.rest)) t.second
+    ∙ given_at (number w t.x) t.a (λ a. go a t.b t.rest) t.first
 
 -- the topmost operand, of which nothing is taken off
 abbrev pub Tells : Machine → Val → Type 0

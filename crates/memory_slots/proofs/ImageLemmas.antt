@@ -9,7 +9,7 @@ use Rattle.wasm_spec.proofs.StoreSizes.{minimum_within}
 use Rattle.pool_worlds.specs.Contents.{Named, filled, HasImageOutside}
 use Rattle.pool_worlds.proofs.Images.{from_bytes, filled-at}
 use Rattle.loaded_modules.specs.Within.{IsWithin}
-use Rattle.sparse_bytes.specs.SparseBytes.{HasCell, byte_at}
+use Rattle.sparse_bytes.specs.SparseBytes.{HasBlock, byte_at}
 use Rattle.initial_image.specs.declared.image.Image.{Image}
 use Rattle.initial_image.specs.Image.{IsImageOf}
 use Rattle.counted_blocks.specs.Images.{HasImage, KeepsImage, IsZeroOutside}
@@ -32,6 +32,6 @@ module _ (limits : LoadLimits) (m : ModuleTree) (image : Image) (within : IsWith
   pub image_zeros : (room : ℕ) (written : List Bool) → IsZeroOutside room written (byte_at image.memory) → IsZeroOutside room written (slice_index (filled limits.pages (fresh_store m).memory))
   image_zeros room written zeros i lt free = filled_image i ∙ zeros i lt free
 
--- a block in which the image of a module has a cell has data of that module
-pub image_least : (m : Named) (image : Image) → IsImageOf m.tree image → (k : ℕ) → (cell : ℕ) × HasCell image.memory cell × (cell / 64 ≡ k) → HasDataIn (Some m) k
-image_least m image is k (cell, has, in_block) = (cell, is.cells cell has, in_block)
+-- a block in which the image of a module was written to has data of that module
+pub image_least : (m : Named) (image : Image) → IsImageOf m.tree image → (k : ℕ) → HasBlock image.memory k → HasDataIn (Some m) k
+image_least m image is k has = is.blocks k has

@@ -47,13 +47,14 @@ room_within [] pages most le = omega arith
 room_within (l ∷ ms) pages most le = le
 
 pub is_memory : (config : Numbers) (most : ℕ) (memory : Memory) (holds : Option Named) → IsKeptMemory config (contents_of memory holds) → most ≤ config.pages
-    → IsReady most (contents_of memory holds) → IsMemory most memory
-is_memory config most memory holds kept le ready =
-    let room = kept.room in let marked = kept.marked in record {
+    → IsReady most (contents_of memory holds) → size_of memory ≤ memory.bytes.accessible → IsMemory most memory
+is_memory config most memory holds kept le ready there =
+    let room = kept.room in let marked = kept.marked in let size = ready.size in record {
       bytes = omega arith;
       marks = omega arith;
       size = ready.size;
       zeros = zeros_from (size_of memory) memory.bytes.items ready.zeros;
+      accessible = there;
     }
 
 -- ---- after it

@@ -2,6 +2,7 @@
 use Rattle.std.specs.Prelude.{◌≡◌, ℕ, ◌*◌, ◌≤◌, Bool, true, false, List, Option, length, slice_index, slice_index_or}
 use Rattle.wasm_spec.specs.Store.{page_size}
 use Rattle.linear_memory.specs.declared.memory.Memory.{Memory}
+use Rattle.linear_memory.specs.Bytes.{size_of}
 use Rattle.memory_blocks.specs.Blocks.{block_size}
 use Rattle.pool_limits.specs.declared.numbers.Numbers.{Numbers}
 use Rattle.pool_worlds.specs.Contents.{Named, MemoryContents, memory_image, HasImageOutside}
@@ -26,3 +27,8 @@ pub record IsWrittenTo (config : Numbers) (written : List Bool) (x : MemoryConte
 -- a memory of the machine, which belongs to a module or to none, as a slot's contents
 abbrev pub contents_of : Memory → Option Named → MemoryContents
 contents_of memory holds = record { bytes = memory.bytes.items; pages = memory.pages; marks = memory.marks.items; holds = holds }
+
+-- a memory of the machine in a slot, whose bytes up to its size are accessible
+pub record IsInSlot (config : Numbers) (written : List Bool) (memory : Memory) (holds : Option Named) : Type 0 where
+  pub image : IsWrittenTo config written (contents_of memory holds)
+  pub accessible : size_of memory ≤ memory.bytes.accessible

@@ -4,10 +4,10 @@ use Rattle.initial_image.specs.Image.{IsNeeded}
 use Rattle.pool_worlds.specs.Contents.{Named, MemoryContents}
 use Rattle.counted_blocks.specs.Images.{count_in}
 
--- a data segment of the module has bytes in one of the 64 cells of this block; without a module none has
+-- a data segment of the module has bytes in the block of this number; without a module none has
 abbrev pub HasDataIn : Option Named → ℕ → Type 0
 HasDataIn None block = ⊥
-HasDataIn (Some m) block = (cell : ℕ) × IsNeeded m.tree cell × (cell / 64 ≡ block)
+HasDataIn (Some m) block = IsNeeded m.tree block
 
 -- A set of blocks has all that may differ from those of the fresh memory of a module, or of none: the marked ones, those in which the
 -- module that the memory belongs to has data, and those in which that one has.

@@ -1,7 +1,8 @@
 //! Memories that are made those of a module of the store.
-ghost use Rattle.std.specs.Prelude.{◌≡◌, ◌+◌, false, Some, Option, map};
+ghost use Rattle.std.specs.Prelude.{◌≡◌, ◌+◌, ◌*◌, ◌≤◌, false, Some, Option, length, map};
 ghost use Rattle.wasm_types.specs.Tree.{module_tree};
-ghost use Rattle.wasm_spec.specs.Store.{minimum_of};
+ghost use Rattle.wasm_spec.specs.Store.{minimum_of, page_size};
+ghost use Rattle.linear_memory.specs.Bytes.{size_of};
 ghost use Rattle.linear_memory.specs.Marks.{count_marks};
 ghost use Rattle.pool_worlds.specs.Contents.{Named, IsFreshMemory};
 ghost use Rattle.memory_slots.specs.Kept.{IsKeptMemory, IsWrittenTo, contents_of};
@@ -9,8 +10,9 @@ ghost use Rattle.memory_slots.specs.Written.{WritesAtMost};
 
 use counted_blocks::{Steps, restore_marked, write_all};
 use linear_memory::Memory;
-use module_store::{ModuleRef, ModuleStore, Naming};
+use module_store::{LoadedModule, Naming};
 use std::sync::ledger::Ledger;
+use wasm_types::PAGE_SIZE;
 use wasm_validate::Valid;
 
 // The pages that the module's memory begins with; 0 where it has none.
@@ -23,28 +25,42 @@ fn least_pages(valid: &Valid) -> u32
     }
 }
 
+// Makes the memory one of so many pages, whose bytes are accessible.
+fn set_size(memory: &mut Memory, pages: u32)
+    requires fits { pages * page_size ≤ length memory.old.bytes.items }
+    requires few { pages ≤ 65536 }
+    ensures bytes { memory.new.bytes.items ≡ memory.old.bytes.items }
+    ensures accessible { pages * page_size ≤ memory.new.bytes.accessible }
+    ensures size { memory.new.pages ≡ pages }
+    ensures marks { memory.new.marks.items ≡ memory.old.marks.items }
+{
+    let size = u64::from(pages) * PAGE_SIZE;
+    memory.bytes.make_accessible(size as usize);
+    memory.pages = pages;
+}
+
 // Writes the marked blocks of a memory that belongs to the module over from its image, in one step each.
 pub(crate) fn restore_memory<N: Naming, L: Ledger>(
     memory: &mut Memory,
-    store: &ModuleStore<N>,
-    own: &ModuleRef<N>,
+    own: &LoadedModule<'_, N>,
     steps: &mut Steps<L>,
 )
-    requires { IsKeptMemory N.config (contents_of memory.old (Some own.now)) }
-    ensures fresh { IsFreshMemory N.config.pages (contents_of memory.new (Some own.now)) own.now }
-    ensures kept { IsKeptMemory N.config (contents_of memory.new (Some own.now)) }
+    requires { IsKeptMemory N.config (contents_of memory.old (Some own.now.module.now)) }
+    ensures fresh { IsFreshMemory N.config.pages (contents_of memory.new (Some own.now.module.now)) own.now.module.now }
+    ensures kept { IsKeptMemory N.config (contents_of memory.new (Some own.now.module.now)) }
     ensures marks { memory.new.marks.items ≡ map (λ marked. false) memory.old.marks.items }
+    ensures accessible { size_of memory.new ≤ memory.new.bytes.accessible }
     ensures steps { steps.new ≡ steps.old + count_marks memory.old }
 {
-    let image = store.image(own);
-    let pages = least_pages(store.valid(own));
+    let image = own.image();
+    let pages = least_pages(own.valid());
     restore_marked(
         &mut memory.bytes,
         &mut memory.marks,
         Some(&image.memory),
         steps,
     );
-    memory.pages = pages;
+    set_size(memory, pages);
 }
 
 // Makes a memory the module's fresh one. Before, it belonged to another module or to none, whose image is zero outside the blocks
@@ -53,19 +69,19 @@ pub(crate) fn restore_memory<N: Naming, L: Ledger>(
 pub(crate) fn write_memory<N: Naming, L: Ledger>(
     memory: &mut Memory,
     written: &mut [bool],
-    store: &ModuleStore<N>,
-    module: &ModuleRef<N>,
+    loaded: &LoadedModule<'_, N>,
     steps: &mut Steps<L>,
 )
     requires { (holds : Option Named) × IsWrittenTo N.config written.old (contents_of memory.old holds) }
-    ensures fresh { IsFreshMemory N.config.pages (contents_of memory.new (Some «module».now)) «module».now }
-    ensures written { IsWrittenTo N.config written.new (contents_of memory.new (Some «module».now)) }
+    ensures fresh { IsFreshMemory N.config.pages (contents_of memory.new (Some loaded.now.module.now)) loaded.now.module.now }
+    ensures written { IsWrittenTo N.config written.new (contents_of memory.new (Some loaded.now.module.now)) }
     ensures marks { memory.new.marks.items ≡ map (λ marked. false) memory.old.marks.items }
+    ensures accessible { size_of memory.new ≤ memory.new.bytes.accessible }
     ensures steps { (holds : Option Named) → IsWrittenTo N.config written.old (contents_of memory.old holds)
-        → WritesAtMost (contents_of memory.old holds) (Some «module».now) steps.old steps.new }
+        → WritesAtMost (contents_of memory.old holds) (Some loaded.now.module.now) steps.old steps.new }
 {
-    let image = store.image(module);
-    let pages = least_pages(store.valid(module));
+    let image = loaded.image();
+    let pages = least_pages(loaded.valid());
     write_all(
         &mut memory.bytes,
         &mut memory.marks,
@@ -73,5 +89,5 @@ pub(crate) fn write_memory<N: Naming, L: Ledger>(
         Some(&image.memory),
         steps,
     );
-    memory.pages = pages;
+    set_size(memory, pages);
 }

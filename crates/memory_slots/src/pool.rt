@@ -7,7 +7,8 @@ ghost use Rattle.slot_words.specs.Leases.{lease_number};
 ghost use Rattle.slot_words.specs.Owned.{IsNewPassOf, IsPassOf, limit_of, passes_of, slots_of};
 ghost use Rattle.slot_words.specs.Passes.{Holds, IsIdle, IsSamePass, joined_trails, operations, seat_number, share_of, trail, trails};
 ghost use Rattle.decommit_batch.specs.HandIn.{HandsIn};
-ghost use Rattle.slot_pools.specs.Takes.{TakesBatched, MeetsFullBatched};
+ghost use Rattle.slot_pools.specs.declared.policy.Policy.TheVariants.{Batched};
+ghost use Rattle.slot_pools.specs.Takes.{Takes, MeetsFull};
 ghost use Rattle.wasm_spec.specs.Instances.{room_for};
 ghost use Rattle.wasm_spec.specs.Store.{fresh_store};
 ghost use Rattle.pool_worlds.specs.declared.kinds.Kind.TheVariants as kind;
@@ -17,8 +18,8 @@ ghost use Rattle.memory_slots.specs.Lent.{IsReady};
 
 use crate::slot::MemSlot;
 use decommit_batch::hand_in;
-use module_store::{ModuleRef, ModuleStore, Naming};
-use slot_pools::{Full, take_batched};
+use module_store::{LoadedModule, ModuleRef, ModuleStore, Naming};
+use slot_pools::{Full, Policy};
 use slot_words::{KindCounts, Lease, Pass, Words};
 use std::alloc::Global;
 use std::marker::Model;
@@ -78,11 +79,11 @@ impl<N: Naming> MemoryPool<N> {
     ///
     /// [`Full`] exactly where no claim was won, but for those of its flush: other passes held the memories. The pass holds nothing
     /// then. One that stands for all passes never meets it.
-    pub fn take(
+    pub fn take<'a>(
         &self,
         pass: &mut Pass<MemSlot<N>>,
-        store: &ModuleStore<N>,
-        module: &ModuleRef<N>,
+        store: &'a ModuleStore<N>,
+        module: &'a ModuleRef<N>,
     ) -> Result<Lease<MemSlot<N>>, Full>
         requires own { IsPassOf self.now pass.old }
         requires idle { IsIdle pass.old }
@@ -94,14 +95,46 @@ impl<N: Naming> MemoryPool<N> {
         ensures fresh { IfOk result (λ l. IsFreshMemory N.config.pages l.value «module».now) }
         ensures shown { IfOk result (λ l. shown_memory true l.value ≡ (fresh_store «module».now.tree).memory) }
         ensures ready { IfOk result (λ l. IsReady (room_for «module».now.tree.memories N.config.pages) l.value) }
-        ensures trail { IfOk result (TakesBatched self.now «module».now.tag pass.old pass.new) }
+        ensures trail { IfOk result (Takes self.now (Batched «module».now.tag) pass.old pass.new) }
 
         // it won nothing
-        ensures full { OnErr result (MeetsFullBatched self.now «module».now.tag pass.old pass.new) }
+        ensures full { OnErr result (MeetsFull self.now (Batched «module».now.tag) pass.old pass.new) }
         ensures another { OnErr result (share_of pass.old < passes_of self.now) }
     {
-        let mut lease = take_batched(&self.words, pass, store, module.tag())?;
-        lease.value.prepare(store, module);
+        let found = store.find(module);
+        let loaded = LoadedModule {
+            store,
+            module,
+            found,
+        };
+        self.take_for(pass, &loaded)
+    }
+
+    /// The same for a module that was looked up.
+    ///
+    /// # Errors
+    ///
+    /// [`Full`] as above.
+    pub fn take_for(
+        &self,
+        pass: &mut Pass<MemSlot<N>>,
+        loaded: &LoadedModule<'_, N>,
+    ) -> Result<Lease<MemSlot<N>>, Full>
+        requires own { IsPassOf self.now pass.old }
+        requires idle { IsIdle pass.old }
+        ensures same { IsSamePass pass.old pass.new }
+        ensures number { IfOk result (λ l. lease_number l < slots_of self.now) }
+        ensures holds { IfOk result (λ l. Holds pass.new (lease_number l) false false false) }
+        ensures fresh { IfOk result (λ l. IsFreshMemory N.config.pages l.value loaded.now.module.now) }
+        ensures shown { IfOk result (λ l. shown_memory true l.value ≡ (fresh_store loaded.now.module.now.tree).memory) }
+        ensures ready { IfOk result (λ l. IsReady (room_for loaded.now.module.now.tree.memories N.config.pages) l.value) }
+        ensures trail { IfOk result (Takes self.now (Batched loaded.now.module.now.tag) pass.old pass.new) }
+        ensures full { OnErr result (MeetsFull self.now (Batched loaded.now.module.now.tag) pass.old pass.new) }
+        ensures another { OnErr result (share_of pass.old < passes_of self.now) }
+    {
+        let policy = Policy::Batched(loaded.module.tag());
+        let mut lease = slot_pools::take(&self.words, pass, loaded.store, policy)?;
+        lease.value.prepare_for(loaded);
         Ok(lease)
     }
 

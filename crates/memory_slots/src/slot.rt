@@ -4,7 +4,7 @@ ghost use Rattle.pool_core.specs.declared.words.State.TheVariants.{Awaiting};
 ghost use Rattle.wasm_types.specs.Tree.{module_tree};
 ghost use Rattle.wasm_spec.specs.Instances.{room_for};
 ghost use Rattle.wasm_spec.specs.Store.{Store, fresh_store};
-ghost use Rattle.wasm_spec.specs.Execution.{terms};
+ghost use Rattle.wasm_spec.specs.Execution.{terms_of};
 ghost use Rattle.wasm_spec.specs.Result.{CallResult};
 ghost use Rattle.wasm_spec.specs.Bulk.{HasFewMarks};
 ghost use Rattle.memory_blocks.specs.Blocks.{KeepsUnmarked};
@@ -24,7 +24,7 @@ use crate::images::{restore_memory, write_memory};
 use call_payload::AnswerBuf;
 use counted_blocks::{Steps, write_all};
 use linear_memory::Memory;
-use module_store::{ModuleRef, ModuleStore, Naming};
+use module_store::{LoadedModule, ModuleRef, ModuleStore, Naming};
 use paused_call::{PausedCall, Turned};
 use slot_pools::OpenSlot;
 use slot_words::{NoMemory as Refused, Pooled};
@@ -48,7 +48,7 @@ pub struct MemSlot<N: Naming> {
 impl<N: Naming> Model for MemSlot<N> {
     ghost use Rattle.pool_worlds.specs.Contents.{MemoryContents};
     ghost use Rattle.pool_worlds.specs.Codes.{coded_memory};
-    ghost use Rattle.memory_slots.specs.Kept.{IsWrittenTo, contents_of};
+    ghost use Rattle.memory_slots.specs.Kept.{IsInSlot, contents_of};
 
     ghost Value = { MemoryContents };
 
@@ -56,7 +56,7 @@ impl<N: Naming> Model for MemSlot<N> {
 
     ghost view = { λ s. contents_of s.memory s.holds };
 
-    ghost invariant = { λ s. IsWrittenTo N.config s.written.items (contents_of s.memory s.holds) };
+    ghost invariant = { λ s. IsInSlot N.config s.written.items s.memory s.holds };
 }
 
 impl<N: Naming> Drop for MemSlot<N> {
@@ -90,66 +90,67 @@ impl<N: Naming> MemSlot<N> {
 
     /// Makes it the module's fresh memory. Where it belongs to that module already, the marked blocks alone are written. Takes
     /// no memory.
-    pub fn prepare(&mut self, store: &ModuleStore<N>, module: &ModuleRef<N>)
+    pub fn prepare<'a>(&mut self, store: &'a ModuleStore<N>, module: &'a ModuleRef<N>)
         ensures prepared { self.new ≡ prepared N.config.pages «module».now kind.Memory self.old }
         ensures fresh { IsFreshMemory N.config.pages self.new «module».now }
         ensures shown { shown_memory true self.new ≡ (fresh_store «module».now.tree).memory }
         ensures ready { IsReady (room_for «module».now.tree.memories N.config.pages) self.new }
     {
-        // A module of the store has no larger memory than the configuration allows.
-        let _valid = store.valid(module);
-        self.prepare_uncounted::<Brand>(store, module, Blank::new(1));
+        let found = store.find(module);
+        self.prepare_for(&LoadedModule {
+            store,
+            module,
+            found,
+        });
     }
 
-    fn prepare_uncounted<L: Ledger>(
-        &mut self,
-        store: &ModuleStore<N>,
-        module: &ModuleRef<N>,
-        blank: Blank,
-    )
+    /// The same of a module that was looked up.
+    pub fn prepare_for(&mut self, loaded: &LoadedModule<'_, N>)
+        ensures prepared { self.new ≡ prepared N.config.pages loaded.now.module.now kind.Memory self.old }
+        ensures fresh { IsFreshMemory N.config.pages self.new loaded.now.module.now }
+        ensures shown { shown_memory true self.new ≡ (fresh_store loaded.now.module.now.tree).memory }
+        ensures ready { IsReady (room_for loaded.now.module.now.tree.memories N.config.pages) self.new }
+    {
+        // A module of the store has no larger memory than the configuration allows.
+        let _valid = loaded.valid();
+        self.prepare_uncounted::<Brand>(loaded, Blank::new(1));
+    }
+
+    fn prepare_uncounted<L: Ledger>(&mut self, loaded: &LoadedModule<'_, N>, blank: Blank)
         requires name { (blank.name ≡ L.name) × (blank.parts ≡ L.parts) × (0 < blank.parts) }
-        ensures prepared { self.new ≡ prepared N.config.pages «module».now kind.Memory self.old }
-        ensures fresh { IsFreshMemory N.config.pages self.new «module».now }
+        ensures prepared { self.new ≡ prepared N.config.pages loaded.now.module.now kind.Memory self.old }
+        ensures fresh { IsFreshMemory N.config.pages self.new loaded.now.module.now }
     {
         let mut steps = Steps::<L>::new(blank);
-        self.prepare_counted(store, module, &mut steps);
+        self.prepare_counted(loaded, &mut steps);
     }
 
-    /// [`MemSlot::prepare`] with one step for each block that is written. Where it belongs to that module already, they are as many as are
-    /// marked. Else they are at most those that are marked or in which the old module or the new one has data.
-    pub fn prepare_counted<L: Ledger>(
-        &mut self,
-        store: &ModuleStore<N>,
-        module: &ModuleRef<N>,
-        steps: &mut Steps<L>,
-    )
-        ensures prepared { self.new ≡ prepared N.config.pages «module».now kind.Memory self.old }
-        ensures fresh { IsFreshMemory N.config.pages self.new «module».now }
-        ensures own { belongs_to «module».now self.old.holds ≡ true → steps.new ≡ steps.old + dirty_blocks self.old }
-        ensures steps { WritesAtMost self.old (Some «module».now) steps.old steps.new }
+    /// [`MemSlot::prepare_for`] with one step for each block that is written. Where it belongs to that module already, they are as many
+    /// as are marked. Else they are at most those that are marked or in which the old module or the new one has data. Zeros that no
+    /// module had before in this slot are written without a step: each of its bytes is so once.
+    pub fn prepare_counted<L: Ledger>(&mut self, loaded: &LoadedModule<'_, N>, steps: &mut Steps<L>)
+        ensures prepared { self.new ≡ prepared N.config.pages loaded.now.module.now kind.Memory self.old }
+        ensures fresh { IsFreshMemory N.config.pages self.new loaded.now.module.now }
+        ensures own { belongs_to loaded.now.module.now self.old.holds ≡ true → steps.new ≡ steps.old + dirty_blocks self.old }
+        ensures steps { WritesAtMost self.old (Some loaded.now.module.now) steps.old steps.new }
     {
         if let Some(own) = &self.holds {
-            if store.same(own, module) {
-                self.restore_counted(store, steps);
+            if loaded.store.same(own, loaded.module) {
+                self.restore_counted(loaded.store, steps);
                 return;
             }
         }
-        self.write(store, module, steps);
+        self.write(loaded, steps);
     }
 
     // Writes the module's memory over what is there.
-    fn write<L: Ledger>(
-        &mut self,
-        store: &ModuleStore<N>,
-        module: &ModuleRef<N>,
-        steps: &mut Steps<L>,
-    )
-        ensures fresh { IsFreshMemory N.config.pages self.new «module».now }
+    fn write<L: Ledger>(&mut self, loaded: &LoadedModule<'_, N>, steps: &mut Steps<L>)
+        ensures fresh { IsFreshMemory N.config.pages self.new loaded.now.module.now }
         ensures marks { self.new.marks ≡ map (λ marked. false) self.old.marks }
-        ensures steps { WritesAtMost self.old (Some «module».now) steps.old steps.new }
+        ensures steps { WritesAtMost self.old (Some loaded.now.module.now) steps.old steps.new }
     {
-        write_memory(&mut self.memory, &mut self.written, store, module, steps);
-        self.holds = Some(module.again());
+        write_memory(&mut self.memory, &mut self.written, loaded, steps);
+        self.holds = Some(loaded.module.again());
     }
 
     /// Makes it the fresh memory of its own module, if it has one: the marked blocks alone are written. Takes no memory.
@@ -180,7 +181,15 @@ impl<N: Naming> MemSlot<N> {
         ensures steps { steps.new ≡ steps.old + dirty_blocks self.old }
     {
         match &self.holds {
-            Some(own) => restore_memory(&mut self.memory, store, own, steps),
+            Some(own) => {
+                let found = store.find(own);
+                let own = LoadedModule {
+                    store,
+                    module: own,
+                    found,
+                };
+                restore_memory(&mut self.memory, &own, steps);
+            }
             None => unreachable!(),
         }
     }
@@ -246,10 +255,10 @@ impl<N: Naming> MemSlot<N> {
         requires request { length request.now ≤ 65536 }
         requires frames { limits.depth ≤ stacks.old.room.depth }
         requires frame { FitsFrame valid.now stacks.old.room.frame }
-        ensures result { result_on valid.now (terms limits request.now) function args.now (lent self.old table.now globals.old answer.old) fuel
+        ensures result { result_on valid.now (terms_of limits request.now) function args.now (lent self.old table.now globals.old answer.old) fuel
             ≡ Some (end_on valid.now (lent self.new table.now globals.new answer.new) result) }
         ensures marked { (turns : ℕ) (r : CallResult) → turns ≤ fuel
-            → result_on valid.now (terms limits request.now) function args.now (lent self.old table.now globals.old answer.old) turns ≡ Some r
+            → result_on valid.now (terms_of limits request.now) function args.now (lent self.old table.now globals.old answer.old) turns ≡ Some r
             → KeepsUnmarked self.old.bytes (filled N.config.pages r.store.memory) self.old.marks self.new.marks }
         ensures left { result.left ≤ fuel }
         ensures ready { IsReady (room_for valid.now.memories limits.pages) self.new }
@@ -291,7 +300,6 @@ impl<N: Naming> MemSlot<N> {
             (lent self.old inputs.now.table.now globals.old answer.old) }
         requires pages { inputs.now.limits.pages ≤ N.config.pages }
         requires ready { IsReady (room_for inputs.now.valid.now.memories inputs.now.limits.pages) self.old }
-        requires request { length inputs.now.request.now ≤ 65536 }
         requires frame { FitsFrame inputs.now.valid.now stacks.old.room.frame }
         ensures turned { (begun : Store)
             → StandsOn inputs.now.valid.now (run_terms inputs.now) begun args.now call.old stacks.old

@@ -3,6 +3,7 @@
 
 mod desk;
 mod fault;
+mod loaded;
 mod loading;
 mod naming;
 mod opened;
@@ -11,6 +12,7 @@ mod store;
 
 pub use desk::{Desk, DeskCounts, MOST_MODULES};
 pub use fault::LoadFault;
+pub use loaded::{Found, LoadedModule};
 pub use naming::Naming;
 pub use opened::Opened;
 pub use reference::ModuleRef;

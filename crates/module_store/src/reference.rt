@@ -9,15 +9,15 @@ use std::marker::{Model, PhantomData};
 use wasm_validate::Valid;
 
 // A module as it lies in the store.
-pub(crate) struct Loaded {
+pub(crate) struct Stored {
     pub tag: u32,
     pub valid: Valid,
     pub image: Image,
 }
 
-impl Drop for Loaded {
+impl Drop for Stored {
     fn drop(self) {
-        let Loaded {
+        let Stored {
             tag: _,
             valid: _,
             image: _,
@@ -28,7 +28,7 @@ impl Drop for Loaded {
 /// A module of the store. Contracts see its number, its tag, its tree and the code by which it is run.
 pub struct ModuleRef<N: Naming> {
     pub(crate) tag: u32,
-    pub(crate) seen: Pushed<Box<Loaded>>,
+    pub(crate) seen: Pushed<Box<Stored>>,
     pub(crate) of: PhantomData<N>,
 }
 

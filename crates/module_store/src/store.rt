@@ -6,29 +6,28 @@ ghost use Rattle.initial_image.specs.Image.{IsImageOf};
 ghost use Rattle.pool_limits.specs.Limits.{load_limits};
 ghost use Rattle.module_store.specs.Faults.{IsRefusal};
 ghost use Rattle.module_store.specs.Modules.{IsLoaded};
-ghost use Rattle.module_store.specs.Names.{Bears};
 
-use crate::desk::{Desk, DeskCounts, MOST_MODULES};
+use crate::desk::{Desk, MOST_MODULES};
 use crate::fault::LoadFault;
+use crate::loaded::Found;
 use crate::loading::load;
 use crate::naming::Naming;
-use crate::opened::Opened;
-use crate::reference::{Loaded, ModuleRef};
+use crate::reference::{ModuleRef, Stored};
 use boxcar::Vec;
 use initial_image::Image;
 use pool_limits::PoolConfig;
-use std::alloc::{AllocError, Global};
+use std::alloc::Global;
 use std::marker::{Model, PhantomData};
 use std::sync::Wait;
 use wasm_validate::Valid;
-use wasm_values::{NoMemory, Profile};
+use wasm_values::Profile;
 
 /// Modules that threads share. Contracts see its configuration's numbers, which are those of its name.
 pub struct ModuleStore<N: Naming> {
-    modules: Vec<Box<Loaded>>,
-    config: PoolConfig,
-    most: u32,
-    of: PhantomData<N>,
+    pub(crate) modules: Vec<Box<Stored>>,
+    pub(crate) config: PoolConfig,
+    pub(crate) most: u32,
+    pub(crate) of: PhantomData<N>,
 }
 
 impl<N: Naming> Model for ModuleStore<N> {
@@ -54,70 +53,12 @@ impl<N: Naming> Drop for ModuleStore<N> {
     }
 }
 
-impl Opened {
-    /// A store without a module, for [`MOST_MODULES`] modules at most.
-    ///
-    /// # Errors
-    ///
-    /// `NoMemory` where memory is refused.
-    pub fn open(alloc: Global, config: PoolConfig) -> Result<Opened, NoMemory>
-        ensures config { IfOk result (λ s. s.config ≡ config) }
-        ensures most { IfOk result (λ s. s.most ≡ MOST_MODULES) }
-    {
-        Opened::open_for(alloc, config, MOST_MODULES)
-    }
-
-    /// A store without a module, for so many modules at most. What is kept for each module that a store may have is as large.
-    ///
-    /// # Errors
-    ///
-    /// `NoMemory` where memory is refused.
-    pub fn open_for(alloc: Global, config: PoolConfig, most: u32) -> Result<Opened, NoMemory>
-        requires { most ≤ MOST_MODULES }
-        ensures config { IfOk result (λ s. s.config ≡ config) }
-        ensures most { IfOk result (λ s. s.most ≡ most) }
-    {
-        let modules = Vec::new(alloc).map_err(|_| NoMemory)?;
-        Ok(Opened {
-            modules,
-            config,
-            most,
-        })
-    }
-
-    /// The store under a name, and its desk. The name is picked by the caller's proof. Takes no memory.
-    pub fn named<N: Naming>(self) -> (ModuleStore<N>, Desk<N>)
-        requires { Bears self N.shelves N.config N.most }
-        ensures store { result.0 ≡ N.config }
-        ensures desk { result.1.registered ≡ 0 }
-        ensures most { result.1.most ≡ N.most }
-    {
-        let Opened {
-            modules,
-            config,
-            most,
-        } = self;
-        let registered = 0;
-        let desk = Desk {
-            counts: DeskCounts { registered, most },
-            of: PhantomData,
-        };
-        let store = ModuleStore {
-            modules,
-            config,
-            most,
-            of: PhantomData,
-        };
-        (store, desk)
-    }
-}
-
 // A module in a box of its own.
-fn boxed(alloc: Global, loaded: Loaded) -> Result<Box<Loaded>, LoadFault>
-    ensures same { IfOk result (λ b. b.value ≡ loaded) }
+fn boxed(alloc: Global, stored: Stored) -> Result<Box<Stored>, LoadFault>
+    ensures same { IfOk result (λ b. b.value ≡ stored) }
     ensures memory { IfErr result (λ fault. fault ≡ LoadFault.NoMemory) }
 {
-    Box::new(alloc, loaded).map_err(|_| LoadFault::NoMemory)
+    Box::new(alloc, stored).map_err(|_| LoadFault::NoMemory)
 }
 
 impl<N: Naming> ModuleStore<N> {
@@ -149,8 +90,8 @@ impl<N: Naming> ModuleStore<N> {
         }
         let (valid, image) = load(alloc, &self.config, profile, bytes)?;
         let tag = desk.counts.registered;
-        let loaded = boxed(alloc, Loaded { tag, valid, image })?;
-        let Ok(seen) = self.modules.push_shown(rt, loaded) else {
+        let stored = boxed(alloc, Stored { tag, valid, image })?;
+        let Ok(seen) = self.modules.push_shown(rt, stored) else {
             return Err(LoadFault::NoMemory);
         };
         desk.counts.registered += 1;
@@ -159,6 +100,14 @@ impl<N: Naming> ModuleStore<N> {
             seen,
             of: PhantomData,
         })
+    }
+
+    /// What lies here for a reference. Takes no memory.
+    pub fn find<'a>(&'a self, module: &'a ModuleRef<N>) -> Found<'a, N>
+        ensures { result ≡ «module».now }
+    {
+        let stored: &Stored = self.modules.value(&module.seen);
+        Found { module, stored }
     }
 
     /// The valid module of a reference. Takes no memory.

@@ -8,9 +8,9 @@ use Rattle.wasm_values.specs.declared.outcome.Val.{Val}
 use Rattle.wasm_types.specs.Tree.{ModuleTree, module_tree}
 use Rattle.wasm_spec.specs.MoreFuel.{is_fuel, is_fuel_end, with_more}
 use Rattle.wasm_spec.specs.Execution.{Ended, Terms}
-use Rattle.wasm_spec.specs.Result.{CallResult, after_start, function_result, if_done, if_done_by, result_from, result_of, run_function}
+use Rattle.wasm_spec.specs.Result.{CallResult, after_start, function_result, if_done, result_from, result_of, run_function}
 use Rattle.wasm_spec.specs.Store.{Store}
-use Rattle.wasm_spec.proofs.MoreFuel.{function-more, result-more}
+use Rattle.wasm_spec.proofs.MoreFuel.{if_done_by, function-more, result-more}
 use Rattle.wasm_spec.proofs.ResultLaws.{result-unfinished}
 use Rattle.linear_memory.specs.declared.memory.Memory.{Memory}
 use Rattle.memory_blocks.specs.Blocks.{KeepsUnmarked}

@@ -76,7 +76,6 @@ impl PausedCall {
             (run_store inputs.now memory.old globals.old answer.old) }
         requires frame { FitsFrame inputs.now.valid.now stacks.old.room.frame }
         requires memory { IsMemory (room_for inputs.now.valid.now.memories inputs.now.limits.pages) memory.old }
-        requires request { length inputs.now.request.now ≤ 65536 }
         ensures ran { (begun : Store)
             → Stands inputs.now.valid.now (run_terms inputs.now) begun args.now self.now stacks.old (run_store inputs.now memory.old globals.old answer.old)
             → Ran inputs.now.valid.now (run_terms inputs.now) begun args.now self.now fuel memory.old memory.new stacks.new
@@ -116,7 +115,6 @@ impl PausedCall {
         requires fuel { self.old.turns + fuel ≤ self.old.fuel }
         requires frame { FitsFrame inputs.now.valid.now stacks.old.room.frame }
         requires memory { IsMemory (room_for inputs.now.valid.now.memories inputs.now.limits.pages) memory.old }
-        requires request { length inputs.now.request.now ≤ 65536 }
         ensures result { (begun : Store)
             → Stands inputs.now.valid.now (run_terms inputs.now) begun args.now self.old stacks.old (run_store inputs.now memory.old globals.old answer.old)
             → whole inputs.now.valid.now (run_terms inputs.now) self.old args.now begun (self.old.turns + fuel)
@@ -178,7 +176,6 @@ impl PausedCall {
             (run_store inputs.now memory.old globals.old answer.old) }
         requires frame { FitsFrame inputs.now.valid.now stacks.old.room.frame }
         requires memory { IsMemory (room_for inputs.now.valid.now.memories inputs.now.limits.pages) memory.old }
-        requires request { length inputs.now.request.now ≤ 65536 }
         ensures turned { (begun : Store)
             → Stands inputs.now.valid.now (run_terms inputs.now) begun args.now self.old stacks.old (run_store inputs.now memory.old globals.old answer.old)
             → HasTurned (whole inputs.now.valid.now (run_terms inputs.now) self.old args.now begun) self.old slice

@@ -32,11 +32,13 @@ one_place m name i j e f valid at at' is is' = elim (cases_lt i j) [
 
 pub one_export : (m : ModuleTree) (name : List ℕ) (x y : ℕ) → IsValid m → Exports m.exports name x → Exports m.exports name y → x ≡ y
 one_export m name x y valid h g =
-    let same : h.place ≡ g.place = one_place m name h.place g.place h.export g.export valid h.there g.there h.named g.named in
-    let there : slice_get m.exports g.place ≡ Some h.export = subst (λ (k : ℕ). slice_get m.exports k ≡ Some h.export) same h.there in
-    let both : Some h.export ≡ Some g.export = sym there ∙ g.there in
-    let one : h.export ≡ g.export = cc in
-    let d : desc.Func x ≡ desc.Func y = sym h.function ∙ ap (λ (k : Export). k.desc) one ∙ g.function in cc
+    let e : Export = record { name = name; desc = desc.Func x } in
+    let f : Export = record { name = name; desc = desc.Func y } in
+    let same : h.place ≡ g.place = one_place m name h.place g.place e f valid h.there g.there refl refl in
+    let there : slice_get m.exports g.place ≡ Some e = subst (λ (k : ℕ). slice_get m.exports k ≡ Some e) same h.there in
+    let both : Some e ≡ Some f = sym there ∙ g.there in
+    let one : e ≡ f = cc in
+    let d : desc.Func x ≡ desc.Func y = ap (λ (k : Export). k.desc) one in cc
 
 module _ (m : ModuleTree) (limits : RunLimits) (export : List ℕ) (args : List Val) (request : List ℕ) (fuel : ℕ) (valid : IsValid m) where
   one_type : (x y : ℕ) (t u : FuncType) → IsExported m export x t → IsExported m export y u → (x ≡ y) × (t ≡ u)

@@ -5,7 +5,7 @@ use Rattle.retired_tags.specs.declared.views.TagStep.{TagStep}
 use Rattle.retired_tags.specs.declared.views.TagStep.TheVariants.{RetireLoad, RetireOr}
 use Rattle.retired_tags.specs.Passes.{IsSameTagPass, TagPass, passes_of}
 use Rattle.retired_tags.specs.Views.{new_view, view_after}
-use Rattle.pool_host.specs.declared.retiring.Retire.TheVariants.{Already, First}
+use Rattle.pool_host.specs.declared.answers.Retire.TheVariants.{Already, First}
 use Rattle.pool_host.specs.Looks.{Looked, SetsBit}
 use Rattle.pool_host.specs.Retirements.{Calls, MakeAll, PassCall, Retires}
 

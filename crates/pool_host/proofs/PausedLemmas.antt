@@ -4,6 +4,7 @@ use Rattle.slot_words.specs.Owned.{slots_of}
 use Rattle.slot_words.specs.Parts.{Grew}
 use Rattle.slot_words.specs.Passes.{trail}
 use Rattle.pool_limits.specs.declared.numbers.Numbers.{Numbers}
+use Rattle.pool_worlds.specs.declared.kinds.Kind.TheVariants as kind
 use Rattle.instance_calls.specs.declared.instance.Instance.{Instance}
 use Rattle.instance_calls.specs.Parts.{BelongsTo, Slot}
 use Rattle.instance_calls.specs.PausedViews.{PausedView}
@@ -13,9 +14,9 @@ use Rattle.pool_host.specs.declared.passes.Passes.{Passes}
 use Rattle.pool_host.specs.Hosts.{ArePassesOf, AreSamePasses}
 use Rattle.pool_host.specs.Leases.{Gave, HoldsSlot}
 use Rattle.pool_host.specs.Outs.{HasOut}
-use Rattle.pool_host.specs.Pausing.{AreOfHost, GaveThose}
-use Rattle.pool_host.specs.Taking.{GaveSlots, HaveSlots}
-use Rattle.pool_host.specs.Trails.{IsMemoryGive, IsTableGive, IsTicketGive}
+use Rattle.pool_host.specs.Kinds.{IsGiveOf}
+use Rattle.pool_host.specs.Pausing.{AreOfHost}
+use Rattle.pool_host.specs.Taking.{GaveSlots, GaveThose, HaveSlots}
 use Rattle.pool_host.proofs.OutLemmas.{out_has}
 
 module _ {N : Type 0} (host : Host N) (p q : Passes N) (v : PausedView) (x : Instance N) (slots : HasSlotsOf x v) where
@@ -28,11 +29,11 @@ module _ {N : Type 0} (host : Host N) (p q : Passes N) (v : PausedView) (x : Ins
     table_belongs = subst (BelongsTo v.named) slots.table belongs.table;
   }
 
-  pub those_given : (config : Numbers) → GaveSlots config host v.named p q x → GaveThose config host v.named p q v
+  pub those_given : (config : Numbers) → GaveSlots config host v.named p q x → GaveThose config host v.named p q v.ticket v.memory v.table
   those_given config gave = record {
-    ticket = subst (λ (s : Slot). Grew (Gave (IsTicketGive config host v.named) (Some s)) (trail p.ticket) (trail q.ticket)) (sym slots.ticket) gave.ticket;
-    memory = subst (λ (o : Option Slot). Grew (Gave (IsMemoryGive config host v.named) o) (trail p.memory) (trail q.memory)) (sym slots.memory) gave.memory;
-    table = subst (λ (o : Option Slot). Grew (Gave (IsTableGive config host v.named) o) (trail p.table) (trail q.table)) (sym slots.table) gave.table;
+    ticket = subst (λ (s : Slot). Grew (Gave (IsGiveOf kind.Instance host.tickets v.named config.batch) (Some s)) (trail p.ticket) (trail q.ticket)) (sym slots.ticket) gave.ticket;
+    memory = subst (λ (o : Option Slot). Grew (Gave (IsGiveOf kind.Memory host.memories v.named config.batch) o) (trail p.memory) (trail q.memory)) (sym slots.memory) gave.memory;
+    table = subst (λ (o : Option Slot). Grew (Gave (IsGiveOf kind.Table host.tables v.named config.batch) o) (trail p.table) (trail q.table)) (sym slots.table) gave.table;
   }
 
 pub still_of : {N : Type 0} (host : Host N) (p q : Passes N) → ArePassesOf host p → AreSamePasses p q → ArePassesOf host q

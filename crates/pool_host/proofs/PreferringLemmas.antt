@@ -1,11 +1,11 @@
 -- A call prefers the slots of its module, and found the slots of a full kind held.
 use Rattle.std.proofs.Common.{◌≡◌, ℕ, List, subst}
 use Rattle.slot_words.specs.declared.views.Operation.{Operation}
-use Rattle.slot_words.specs.Parts.{Grew}
+use Rattle.slot_words.specs.Parts.{Grew, Then}
 use Rattle.slot_pools.specs.LastClaims.{EndsWithClaim}
 use Rattle.slot_pools.specs.Preferring.{PrefersOwn}
 use Rattle.pool_host.specs.Preferring.{IsServedOwn}
-use Rattle.pool_host.specs.Visits.{Adds, IsServed, Served, Visit}
+use Rattle.pool_host.specs.Visits.{Adds, Served, Visit}
 
 module _ (IsTake : ℕ → ℕ → List Operation → Type 0) (IsGive : ℕ → List Operation → Type 0) (IsFullTake : List Operation → Type 0) (slots tag : ℕ)
     (prefers : (n read : ℕ) (done : List Operation) → IsTake n read done → PrefersOwn slots tag n done)
@@ -13,7 +13,7 @@ module _ (IsTake : ℕ → ℕ → List Operation → Type 0) (IsGive : ℕ → 
   pub served_own : (v : Visit) (t u : List Operation) → Grew (Adds IsTake IsGive IsFullTake v) t u → v ≡ Served → Grew (IsServedOwn slots tag IsGive) t u
   served_own v t u grew is =
       let P : Visit → Type 0 = λ w. Adds IsTake IsGive IsFullTake w grew.done in
-      let adds : (number : ℕ) × (read : ℕ) × IsServed IsTake IsGive number read grew.done = subst P is grew.is in
+      let adds : (number : ℕ) × (read : ℕ) × Then (IsTake number read) (IsGive number) grew.done = subst P is grew.is in
       let both = adds.2 in record {
         done = grew.done;
         grown = grew.grown;

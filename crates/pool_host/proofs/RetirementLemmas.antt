@@ -9,13 +9,9 @@ use Rattle.retired_tags.specs.declared.views.TagStep.{TagStep}
 use Rattle.retired_tags.specs.declared.views.TagStep.TheVariants.{RetireOr}
 use Rattle.retired_tags.specs.Passes.{IsSameTagPass, TagPass, steps, trail}
 use Rattle.retired_tags.specs.Steps.{Knows, tells}
-use Rattle.pool_host.specs.declared.answers.Answer.{Answer}
-use Rattle.pool_host.specs.declared.answers.Answer.TheVariants as answer
-use Rattle.pool_host.specs.declared.pausing.Begun.{Begun}
-use Rattle.pool_host.specs.declared.pausing.Begun.TheVariants as begun
-use Rattle.pool_host.specs.declared.retiring.Retire.{Retire}
+use Rattle.pool_host.specs.declared.answers.Retire.{Retire}
 use Rattle.pool_host.specs.Looks.{begun_look, look_of, look_steps}
-use Rattle.pool_host.specs.Retirements.{Calls, HasNotBegun, IsNotMade, MakeAll, Makes, NeverBegunAgain, NeverCalledAgain, PassCall, Retires, with_later}
+use Rattle.pool_host.specs.Retirements.{Calls, IsNotMade, MakeAll, Makes, NeverBegunAgain, NeverCalledAgain, PassCall, Retires, with_later}
 use Rattle.pool_host.specs.Retiring.{is_already}
 
 module _ (tag : ℕ) where
@@ -64,23 +60,11 @@ module _ (tag : ℕ) where
         let one = one_told (is_already how) in
         called.2.1.known (know_all between retired.0 called.0 called.1 (omega arith))
 
-not_made : (a : Answer) → IfSome (look_of a) (λ (read : Bool). read ≡ true) → IsNotMade a
-not_made answer.NoExport read = tt
-not_made answer.BadArgs read = tt
-not_made answer.Retired read = tt
-not_made (answer.Done outcome) read = true≢false (sym read)
-not_made (answer.Full kind) read = true≢false (sym read)
+not_made : (look : Option Bool) → IfSome look (λ (read : Bool). read ≡ true) → IsNotMade look
+not_made look read is = let P : Option Bool → Type 0 = λ l. IfSome l (λ (b : Bool). b ≡ true) in true≢false (sym (subst P is read))
 
 pub never_called_again : NeverCalledAgain
-never_called_again tags tag how a first between last p q make = not_made a (reads_set tag tags how (look_of a) first between last p q make)
+never_called_again tags tag how a first between last p q make = not_made (look_of a) (reads_set tag tags how (look_of a) first between last p q make)
 
-module _ {N : Type 0} (G : Ghosts N) where
-  not_begun : (b : Begun N G) → IfSome (begun_look b) (λ (read : Bool). read ≡ true) → HasNotBegun b
-  not_begun (begun.NoExport pass) read = tt
-  not_begun (begun.BadArgs pass) read = tt
-  not_begun (begun.Retired pass) read = tt
-  not_begun (begun.Ready paused) read = true≢false (sym read)
-  not_begun (begun.Full pass kind) read = true≢false (sym read)
-
-  pub never_begun_again : NeverBegunAgain G
-  never_begun_again tags tag how b first between last p q make = not_begun b (reads_set tag tags how (begun_look b) first between last p q make)
+pub never_begun_again : {N : Type 0} (G : Ghosts N) → NeverBegunAgain G
+never_begun_again G tags tag how b first between last p q make = not_made (begun_look b) (reads_set tag tags how (begun_look b) first between last p q make)

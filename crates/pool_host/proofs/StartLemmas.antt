@@ -12,14 +12,15 @@ use Rattle.pool_host.specs.declared.answers.Answer.TheVariants as answer
 use Rattle.pool_host.specs.declared.host.Host.{Host}
 use Rattle.pool_host.specs.declared.passes.HostPass.{HostPass}
 use Rattle.pool_host.specs.declared.passes.Passes.{Passes}
-use Rattle.pool_host.specs.declared.starting.Refused.{Refused}
-use Rattle.pool_host.specs.declared.starting.Refused.TheVariants.{BadArgs, Full, NoExport, Retired}
+use Rattle.pool_host.specs.declared.refusals.Refused.{Refused}
+use Rattle.pool_host.specs.declared.refusals.Refused.TheVariants.{BadArgs, Full, NoExport, Retired}
 use Rattle.pool_host.specs.CallWords.{IfFull, IsHostAnswer}
 use Rattle.pool_host.specs.Hosts.{ArePassesOf, AreSamePasses}
 use Rattle.pool_host.specs.Looks.{look_of, refused_look}
 use Rattle.pool_host.specs.Pausing.{HasBegun}
 use Rattle.pool_host.specs.Starting.{HasRefused, refused_answer, refused_begun}
-use Rattle.pool_host.specs.Trails.{AddsTrails, HasCause, IsFullMemoryTake, IsFullTableTake, IsFullTicketTake, IsMemoryGive, IsMemoryTake, IsTableGive, IsTableTake, IsTicketGive, IsTicketTake}
+use Rattle.pool_host.specs.Kinds.{IsFullTakeOf, IsGiveOf, IsTakeOf}
+use Rattle.pool_host.specs.Trails.{AddsTrails, HasCause}
 use Rattle.pool_host.proofs.VisitLemmas.{nothing, nothing_if}
 
 pub look_is : (why : Refused) → look_of (refused_answer why) ≡ refused_look why
@@ -31,9 +32,9 @@ look_is (Full kind) = refl
 module _ {N : Type 0} (config : Numbers) (host : Host N) (m : Named) (export : List ℕ) (args : List Val) (before : Passes N) where
   untouched : (after : Passes N) → after ≡ before → AddsTrails config host m answer.Retired before after
   untouched after same = record {
-    ticket = nothing (IsTicketTake config host m) (IsTicketGive config host m) (IsFullTicketTake config host m) _ _ (ap (λ p. trail p.ticket) same);
-    memory = nothing_if (IsMemoryTake config host m) (IsMemoryGive config host m) (IsFullMemoryTake config host m) (needs kind.Memory m.tree) _ _ (ap (λ p. trail p.memory) same);
-    table = nothing_if (IsTableTake config host m) (IsTableGive config host m) (IsFullTableTake config host m) (needs kind.Table m.tree) _ _ (ap (λ p. trail p.table) same);
+    ticket = nothing (IsTakeOf kind.Instance host.tickets m) (IsGiveOf kind.Instance host.tickets m config.batch) (IsFullTakeOf kind.Instance host.tickets m) _ _ (ap (λ p. trail p.ticket) same);
+    memory = nothing_if (IsTakeOf kind.Memory host.memories m) (IsGiveOf kind.Memory host.memories m config.batch) (IsFullTakeOf kind.Memory host.memories m) (needs kind.Memory m.tree) _ _ (ap (λ p. trail p.memory) same);
+    table = nothing_if (IsTakeOf kind.Table host.tables m) (IsGiveOf kind.Table host.tables m config.batch) (IsFullTakeOf kind.Table host.tables m) (needs kind.Table m.tree) _ _ (ap (λ p. trail p.table) same);
   }
 
   pub refused_so : (request : List ℕ) (fuel : ℕ) (after : Passes N) (said : List ℕ) (why : Refused) → said ≡ [] → HasRefused config host m export args before after why
@@ -57,7 +58,7 @@ module _ {N : Type 0} (config : Numbers) (host : Host N) (m : Named) (export : L
 
   pub not_begun : {G : Ghosts N} (fuel number : ℕ) (pass : HostPass N G) (why : Refused) → ArePassesOf host pass.passes → IsTagPass host.retired.tags pass.retired → AreSamePasses before pass.passes → pass.answer ≡ []
       → HasRefused config host m export args before pass.passes why → HasBegun config host m export args fuel number before (refused_begun why pass)
-  not_begun fuel number pass NoExport pools tags same none h = (record { own = record { pools = pools; tags = tags }; passes_are = h.1; no_answer = none }, h.0)
-  not_begun fuel number pass BadArgs pools tags same none h = (record { own = record { pools = pools; tags = tags }; passes_are = h.1; no_answer = none }, h.0)
-  not_begun fuel number pass Retired pools tags same none h = record { untouched = record { own = record { pools = pools; tags = tags }; passes_are = h.1; no_answer = none }; function = h.0.0; may = h.0.1 }
-  not_begun fuel number pass (Full kind) pools tags same none h = record { own = record { pools = pools; tags = tags }; same = same; function = h.0.0; may = h.0.1; trails = h.1; full = h.2; no_answer = none }
+  not_begun fuel number pass NoExport pools tags same none h = record { own = record { pools = pools; tags = tags }; same = same; cause = h; no_answer = none }
+  not_begun fuel number pass BadArgs pools tags same none h = record { own = record { pools = pools; tags = tags }; same = same; cause = h; no_answer = none }
+  not_begun fuel number pass Retired pools tags same none h = record { own = record { pools = pools; tags = tags }; same = same; cause = h; no_answer = none }
+  not_begun fuel number pass (Full kind) pools tags same none h = record { own = record { pools = pools; tags = tags }; same = same; cause = h; no_answer = none }

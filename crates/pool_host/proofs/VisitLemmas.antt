@@ -9,7 +9,7 @@ use Rattle.pool_worlds.specs.Contents.{MemoryContents, TableContents}
 use Rattle.instance_calls.specs.Parts.{Slot, memory_slot, table_slot}
 use Rattle.pool_host.specs.Leases.{Gave, Took}
 use Rattle.pool_host.specs.Visits as visit
-use Rattle.pool_host.specs.Visits.{Adds, IsServed, Served, TurnedAway, Visit}
+use Rattle.pool_host.specs.Visits.{Adds, Served, TurnedAway, Visit}
 
 module _ (IsTake : ℕ → ℕ → List Operation → Type 0) (IsGive : ℕ → List Operation → Type 0) (IsFullTake : List Operation → Type 0) where
   abbrev AddsThere : Visit → List Operation → List Operation → Type 0

@@ -3,11 +3,11 @@ use Rattle.std.specs.Prelude.{◌≡◌, ℕ, Bool, true, false, List, []}
 use Rattle.wasm_values.specs.declared.outcome.Val.{Val}
 use Rattle.wasm_types.specs.declared.limits.RunLimits.{RunLimits}
 use Rattle.wasm_types.specs.Tree.{ModuleTree}
+use Rattle.call_payload.specs.declared.call.Call.{Call}
 use Rattle.instance_calls.specs.CallWords.{EndsWith, LacksExport, LacksTypes, MayCall}
 use Rattle.pool_worlds.specs.declared.kinds.Kind.{Kind}
 use Rattle.pool_host.specs.declared.answers.Answer.{Answer}
 use Rattle.pool_host.specs.declared.answers.Answer.TheVariants as answer
-use Rattle.pool_host.specs.declared.host.Asked.{Asked}
 use Rattle.pool_host.specs.declared.lane.LaneAnswer.{LaneAnswer}
 use Rattle.pool_host.specs.declared.lane.LaneAnswer.TheVariants.{Done, NoExport, BadArgs, Retired}
 
@@ -26,9 +26,12 @@ IsHostAnswer m limits export args request fuel answer.Retired bytes = (function 
 IsHostAnswer m limits export args request fuel (answer.Done outcome) bytes = EndsWith m limits export args request fuel outcome bytes
 IsHostAnswer m limits export args request fuel (answer.Full kind) bytes = (function : ℕ) × MayCall m export function args × (bytes ≡ [])
 
--- the same of one that asked this
-abbrev pub IsAnswerTo : Asked → ModuleTree → RunLimits → Answer → (bytes : List ℕ) → Type 0
-IsAnswerTo asked m limits answer bytes = IsHostAnswer m limits asked.export.now asked.args.now asked.request.now asked.fuel answer bytes
+-- what one of several callers is answered that asks this, and what one of one caller
+abbrev pub IsAnswerTo : Call → ModuleTree → RunLimits → Answer → (bytes : List ℕ) → Type 0
+IsAnswerTo call m limits answer bytes = IsHostAnswer m limits call.export.now call.args.now call.request.now call.fuel answer bytes
+
+abbrev pub IsLaneAnswerTo : Call → ModuleTree → RunLimits → LaneAnswer → (bytes : List ℕ) → Type 0
+IsLaneAnswerTo call m limits answer bytes = IsAnswer m limits call.export.now call.args.now call.request.now call.fuel answer bytes
 
 -- the module was retired
 abbrev pub is_retired : LaneAnswer → Bool

@@ -8,7 +8,7 @@ use Rattle.slot_words.specs.Owned.{limit_of, passes_of, slots_of}
 use Rattle.slot_words.specs.Passes.{Pass, share_of, trails}
 use Rattle.slot_words.specs.Views.{in_one}
 use Rattle.module_store.specs.declared.naming.Naming.{Ghosts}
-use Rattle.pool_host.specs.declared.closing.PoolCounts.{PoolCounts}
+use Rattle.pool_host.specs.declared.counts.PoolCounts.{PoolCounts}
 use Rattle.pool_host.specs.declared.host.Host.{Host}
 use Rattle.pool_host.specs.declared.passes.HostPass.{HostPass}
 use Rattle.pool_host.specs.declared.passes.Passes.{Passes}

@@ -8,33 +8,30 @@ use Rattle.retired_tags.specs.Passes.{IsSameTagPass, StandsForAll, TagPass, step
 use Rattle.retired_tags.specs.Steps.{HasSet, Knows}
 use Rattle.pool_host.specs.declared.answers.Answer.{Answer}
 use Rattle.pool_host.specs.declared.answers.Answer.TheVariants as answer
-use Rattle.pool_host.specs.declared.starting.Refused.{Refused}
-use Rattle.pool_host.specs.declared.starting.Refused.TheVariants as refused
-use Rattle.pool_host.specs.declared.pausing.Begun.{Begun}
-use Rattle.pool_host.specs.declared.pausing.Begun.TheVariants as begun
+use Rattle.pool_host.specs.declared.refusals.Refused.{Refused}
+use Rattle.pool_host.specs.declared.refusals.Refused.TheVariants as refused
+use Rattle.pool_host.specs.declared.answers.Begun.{Begun}
+use Rattle.pool_host.specs.declared.answers.Begun.TheVariants as begun
 
 -- What a call so answered read at its one look: the bit of its module, or nothing where it could not be made.
 abbrev pub look_of : Answer → Option Bool
-look_of answer.NoExport = None
-look_of answer.BadArgs = None
 look_of answer.Retired = Some true
 look_of (answer.Done outcome) = Some false
 look_of (answer.Full kind) = Some false
+look_of _ = None
 
 -- the same of a call that begins
 abbrev pub begun_look : {N : Type 0} {G : Ghosts N} → Begun N G → Option Bool
-begun_look (begun.NoExport pass) = None
-begun_look (begun.BadArgs pass) = None
 begun_look (begun.Retired pass) = Some true
 begun_look (begun.Ready paused) = Some false
 begun_look (begun.Full pass kind) = Some false
+begun_look _ = None
 
 -- of one that is refused so
 abbrev pub refused_look : Refused → Option Bool
-refused_look refused.NoExport = None
-refused_look refused.BadArgs = None
 refused_look refused.Retired = Some true
 refused_look (refused.Full kind) = Some false
+refused_look _ = None
 
 -- and of one that starts
 abbrev pub started_look : {A : Type 0} → Result A Refused → Option Bool

@@ -1,49 +1,33 @@
 -- Calls that are paused on a host, how they begin and how they go on.
-use Rattle.std.specs.Prelude.{◌≡◌, ℕ, ◌+◌, ◌<◌, List, [], Some}
+use Rattle.std.specs.Prelude.{◌≡◌, ℕ, ◌+◌, ◌<◌, List, []}
 use Rattle.wasm_values.specs.declared.outcome.Outcome.{Outcome}
 use Rattle.wasm_values.specs.declared.outcome.Val.{Val}
 use Rattle.slot_words.specs.Owned.{slots_of}
-use Rattle.slot_words.specs.Parts.{Grew}
-use Rattle.slot_words.specs.Passes.{trail}
 use Rattle.retired_tags.specs.Passes.{IsTagPass, TagPass}
 use Rattle.module_store.specs.declared.naming.Naming.{Ghosts}
 use Rattle.pool_limits.specs.declared.numbers.Numbers.{Numbers}
 use Rattle.pool_worlds.specs.Contents.{Named}
-use Rattle.pool_worlds.specs.declared.kinds.Kind.{Kind}
-use Rattle.pool_worlds.specs.declared.kinds.Kind.TheVariants.{Memory, Table, Instance}
 use Rattle.paused_call.specs.Standing.{Waits}
-use Rattle.instance_calls.specs.CallWords.{EndsAs, LacksExport, LacksTypes, MayCall}
+use Rattle.instance_calls.specs.CallWords.{EndsAs, MayCall}
 use Rattle.instance_calls.specs.PausedInstances.{comes_to}
 use Rattle.instance_calls.specs.PausedViews.{PausedView}
 use Rattle.instance_calls.specs.Resumed.{HasMore, IsBegun}
-use Rattle.pool_host.specs.declared.answers.Answer.TheVariants as answer
 use Rattle.pool_host.specs.declared.host.Host.{Host}
 use Rattle.pool_host.specs.declared.passes.HostPass.{HostPass}
 use Rattle.pool_host.specs.declared.passes.Passes.{Passes}
 use Rattle.pool_host.specs.declared.paused.Paused.{Paused}
-use Rattle.pool_host.specs.declared.pausing.Begun.{Begun}
-use Rattle.pool_host.specs.declared.pausing.Begun.TheVariants as begun
-use Rattle.pool_host.specs.declared.pausing.Turned.{Turned}
-use Rattle.pool_host.specs.declared.pausing.Turned.TheVariants.{Again, Done}
+use Rattle.pool_host.specs.declared.answers.Begun.{Begun}
+use Rattle.pool_host.specs.declared.answers.Begun.TheVariants as begun
+use Rattle.pool_host.specs.declared.answers.Turned.{Turned}
+use Rattle.pool_host.specs.declared.answers.Turned.TheVariants.{Again, Done}
+use Rattle.pool_host.specs.declared.refusals.Refused.{Refused}
+use Rattle.pool_host.specs.declared.refusals.Refused.TheVariants.{BadArgs, Full, NoExport, Retired}
 use Rattle.pool_host.specs.Hosts.{ArePassesOf, AreSamePasses, IsHostPass}
-use Rattle.pool_host.specs.Kinds.{TookSlot}
-use Rattle.pool_host.specs.Leases.{Gave}
 use Rattle.pool_host.specs.Outs.{IsWithin}
-use Rattle.pool_host.specs.Trails.{AddsTrails, HasCause, IsMemoryGive, IsTableGive, IsTicketGive}
+use Rattle.pool_host.specs.Starting.{HasRefused}
+use Rattle.pool_host.specs.Taking.{GaveThose, TookThose}
 
 module _ {N : Type 0} where
-  -- the trails grew by the takes of a call's slots
-  pub record TookThose (config : Numbers) (host : Host N) (m : Named) (before after : Passes N) (v : PausedView) : Type 0 where
-    pub ticket : TookSlot Instance host.tickets m before.ticket after.ticket (Some v.ticket)
-    pub memory : TookSlot Memory host.memories m before.memory after.memory v.memory
-    pub table : TookSlot Table host.tables m before.table after.table v.table
-
-  -- and by their gives
-  pub record GaveThose (config : Numbers) (host : Host N) (m : Named) (before after : Passes N) (v : PausedView) : Type 0 where
-    pub ticket : Grew (Gave (IsTicketGive config host m) (Some v.ticket)) (trail before.ticket) (trail after.ticket)
-    pub memory : Grew (Gave (IsMemoryGive config host m) v.memory) (trail before.memory) (trail after.memory)
-    pub table : Grew (Gave (IsTableGive config host m) v.table) (trail before.table) (trail after.table)
-
   -- these are passes of the host, and slots of its pools
   pub record AreOfHost (host : Host N) (p : Passes N) (v : PausedView) : Type 0 where
     pub own : ArePassesOf host p
@@ -65,36 +49,21 @@ module _ {N : Type 0} {G : Ghosts N} where
     pub function : ℕ
     pub may : MayCall m.tree export function args
     pub begun : IsBegun m function args fuel paused.running
-    pub took : TookThose config host m before paused.passes paused.running
+    pub took : TookThose host m before paused.passes paused.running.ticket paused.running.memory paused.running.table
 
-  -- it was refused, and the pass did nothing at the pools; it keeps no answer
-  pub record IsUntouched (host : Host N) (before : Passes N) (pass : HostPass N G) : Type 0 where
-    pub own : IsHostPass host pass
-    pub passes_are : pass.passes ≡ before
-    pub no_answer : pass.answer ≡ []
-
-  -- its module was retired, and it could have been made
-  pub record WasRetired (host : Host N) (m : Named) (export : List ℕ) (args : List Val) (before : Passes N) (pass : HostPass N G) : Type 0 where
-    pub untouched : IsUntouched host before pass
-    pub function : ℕ
-    pub may : MayCall m.tree export function args
-
-  -- a kind was full; it keeps no answer
-  pub record WasFull (config : Numbers) (host : Host N) (m : Named) (export : List ℕ) (args : List Val) (before : Passes N) (pass : HostPass N G) (kind : Kind) : Type 0 where
+  -- it was refused for this, and its pass keeps no answer
+  pub record WasRefused (config : Numbers) (host : Host N) (m : Named) (export : List ℕ) (args : List Val) (before : Passes N) (pass : HostPass N G) (why : Refused) : Type 0 where
     pub own : IsHostPass host pass
     pub same : AreSamePasses before pass.passes
-    pub function : ℕ
-    pub may : MayCall m.tree export function args
-    pub trails : AddsTrails config host m (answer.Full kind) before pass.passes
-    pub full : HasCause config host m before pass.passes kind
+    pub cause : HasRefused config host m export args before pass.passes why
     pub no_answer : pass.answer ≡ []
 
   abbrev pub HasBegun : Numbers → Host N → Named → (export : List ℕ) → (args : List Val) → (fuel number : ℕ) → Passes N → Begun N G → Type 0
   HasBegun config host m export args fuel number before (begun.Ready paused) = IsReady config host m export args fuel number before paused
-  HasBegun config host m export args fuel number before (begun.NoExport pass) = IsUntouched host before pass × LacksExport m.tree export
-  HasBegun config host m export args fuel number before (begun.BadArgs pass) = IsUntouched host before pass × LacksTypes m.tree export args
-  HasBegun config host m export args fuel number before (begun.Retired pass) = WasRetired host m export args before pass
-  HasBegun config host m export args fuel number before (begun.Full pass kind) = WasFull config host m export args before pass kind
+  HasBegun config host m export args fuel number before (begun.NoExport pass) = WasRefused config host m export args before pass NoExport
+  HasBegun config host m export args fuel number before (begun.BadArgs pass) = WasRefused config host m export args before pass BadArgs
+  HasBegun config host m export args fuel number before (begun.Retired pass) = WasRefused config host m export args before pass Retired
+  HasBegun config host m export args fuel number before (begun.Full pass kind) = WasRefused config host m export args before pass (Full kind)
 
   -- its pass at the retired tags, with whom it is now
   abbrev pub begun_tags : Begun N G → TagPass
@@ -117,7 +86,7 @@ module _ {N : Type 0} {G : Ghosts N} where
     pub own : IsHostPass host pass
     pub same : AreSamePasses before.passes pass.passes
     pub tags_are : pass.retired ≡ before.retired
-    pub gave : GaveThose config host before.running.named before.passes pass.passes before.running
+    pub gave : GaveThose config host before.running.named before.passes pass.passes before.running.ticket before.running.memory before.running.table
 
   -- it is given up, and keeps no answer
   pub record IsGivenUp (config : Numbers) (host : Host N) (before : Paused N G) (pass : HostPass N G) : Type 0 where

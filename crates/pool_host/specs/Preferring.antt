@@ -14,7 +14,8 @@ use Rattle.pool_worlds.specs.declared.kinds.Kind.TheVariants.{Memory, Table, Ins
 use Rattle.pool_host.specs.declared.answers.Answer.{Answer}
 use Rattle.pool_host.specs.declared.host.Host.{Host}
 use Rattle.pool_host.specs.declared.passes.Passes.{Passes}
-use Rattle.pool_host.specs.Trails.{AddsTrails, HasCause, IsMemoryGive, IsTableGive, visit_if}
+use Rattle.pool_host.specs.Kinds.{IsGiveOf}
+use Rattle.pool_host.specs.Trails.{AddsTrails, HasCause, visit_if}
 use Rattle.pool_host.specs.Visits.{Served}
 
 -- A take won a slot that it had seen free and warm for the module of this tag, or else lost the claim of each such slot. Its last claim
@@ -25,8 +26,8 @@ IsServedOwn slots tag IsGive done = (number : ℕ) × (read : ℕ) × Then (λ t
 module _ {N : Type 0} (config : Numbers) (host : Host N) (m : Named) (before after : Passes N) where
   -- where a call that was answered so was served with a memory, it was served so; likewise with a table
   pub record IsServedOwnFirst (answer : Answer) : Type 0 where
-    pub memory : visit_if (needs Memory m.tree) answer Memory ≡ Served → Grew (IsServedOwn (slots_of host.memories) m.tag (IsMemoryGive config host m)) (trail before.memory) (trail after.memory)
-    pub table : visit_if (needs Table m.tree) answer Table ≡ Served → Grew (IsServedOwn (slots_of host.tables) m.tag (IsTableGive config host m)) (trail before.table) (trail after.table)
+    pub memory : visit_if (needs Memory m.tree) answer Memory ≡ Served → Grew (IsServedOwn (slots_of host.memories) m.tag (IsGiveOf Memory host.memories m config.batch)) (trail before.memory) (trail after.memory)
+    pub table : visit_if (needs Table m.tree) answer Table ≡ Served → Grew (IsServedOwn (slots_of host.tables) m.tag (IsGiveOf Table host.tables m config.batch)) (trail before.table) (trail after.table)
 
 module _ {N : Type 0} (host : Host N) (m : Named) (before after : Passes N) where
   -- each slot of the kind was claimed and found held: a memory after the flush mark, a table after the look, a ticket after the scan

@@ -1,13 +1,11 @@
 -- The calls that one pass makes one after another, as far as they go at its host's retired tags.
-use Rattle.std.specs.Prelude.{◌≡◌, ℕ, Bool, List, [], ◌∷◌, ◌++◌, Option}
+use Rattle.std.specs.Prelude.{◌≡◌, ◌≢◌, ℕ, Bool, false, List, [], ◌∷◌, ◌++◌, Option, Some}
 use Rattle.module_store.specs.declared.naming.Naming.{Ghosts}
 use Rattle.retired_tags.specs.declared.tags.RetiredTags.{RetiredTags}
 use Rattle.retired_tags.specs.Passes.{TagPass}
 use Rattle.pool_host.specs.declared.answers.Answer.{Answer}
-use Rattle.pool_host.specs.declared.answers.Answer.TheVariants as answer
-use Rattle.pool_host.specs.declared.pausing.Begun.{Begun}
-use Rattle.pool_host.specs.declared.pausing.Begun.TheVariants as begun
-use Rattle.pool_host.specs.declared.retiring.Retire.{Retire}
+use Rattle.pool_host.specs.declared.answers.Begun.{Begun}
+use Rattle.pool_host.specs.declared.answers.Retire.{Retire}
 use Rattle.pool_host.specs.Looks.{begun_look, look_of, Looked, SetsBit}
 use Rattle.pool_host.specs.Retiring.{is_already}
 
@@ -30,28 +28,16 @@ MakeAll tags (call ∷ calls) before after = (between : TagPass) × Makes tags c
 abbrev pub with_later : ℕ → Retire → (look : Option Bool) → (first between last : List PassCall) → List PassCall
 with_later tag how look first between last = first ++ (Retires tag how ∷ (between ++ (Calls tag look ∷ last)))
 
--- it was not made: the module is retired, or the call could not be made anyway
-abbrev pub IsNotMade : Answer → Type 0
-IsNotMade answer.NoExport = Unit {0}
-IsNotMade answer.BadArgs = Unit {0}
-IsNotMade answer.Retired = Unit {0}
-IsNotMade (answer.Done outcome) = ⊥
-IsNotMade (answer.Full kind) = ⊥
-
--- the same of a call that was to begin
-abbrev pub HasNotBegun : {N : Type 0} {G : Ghosts N} → Begun N G → Type 0
-HasNotBegun (begun.NoExport pass) = Unit {0}
-HasNotBegun (begun.BadArgs pass) = Unit {0}
-HasNotBegun (begun.Retired pass) = Unit {0}
-HasNotBegun (begun.Ready paused) = ⊥
-HasNotBegun (begun.Full pass kind) = ⊥
+-- A call that looked so was not made: its module is retired, or the call could not be made anyway.
+abbrev pub IsNotMade : Option Bool → Type 0
+IsNotMade look = look ≢ Some false
 
 -- Whatever calls a pass makes one after another: a call of a module after its retirement is not made.
 abbrev pub NeverCalledAgain : Type 0
 NeverCalledAgain = (tags : RetiredTags) (tag : ℕ) (how : Retire) (a : Answer) (first between last : List PassCall) (before after : TagPass)
-    → MakeAll tags (with_later tag how (look_of a) first between last) before after → IsNotMade a
+    → MakeAll tags (with_later tag how (look_of a) first between last) before after → IsNotMade (look_of a)
 
--- nor does one begin
+-- and none begins
 abbrev pub NeverBegunAgain : {N : Type 0} → Ghosts N → Type 0
 NeverBegunAgain {N} G = (tags : RetiredTags) (tag : ℕ) (how : Retire) (b : Begun N G) (first between last : List PassCall) (before after : TagPass)
-    → MakeAll tags (with_later tag how (begun_look b) first between last) before after → HasNotBegun b
+    → MakeAll tags (with_later tag how (begun_look b) first between last) before after → IsNotMade (begun_look b)

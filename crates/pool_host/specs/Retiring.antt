@@ -7,8 +7,8 @@ use Rattle.decommit_batch.specs.Sweep.{IsSweep}
 use Rattle.pool_worlds.specs.Contents.{Named}
 use Rattle.pool_host.specs.declared.host.Host.{Host}
 use Rattle.pool_host.specs.declared.passes.Passes.{Passes}
-use Rattle.pool_host.specs.declared.retiring.Retire.{Retire}
-use Rattle.pool_host.specs.declared.retiring.Retire.TheVariants.{First, Already}
+use Rattle.pool_host.specs.declared.answers.Retire.{Retire}
+use Rattle.pool_host.specs.declared.answers.Retire.TheVariants.{First, Already}
 
 -- its step read the bit set
 abbrev pub is_already : Retire → Bool

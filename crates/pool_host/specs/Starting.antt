@@ -10,10 +10,10 @@ use Rattle.pool_host.specs.declared.answers.Answer.TheVariants as answer
 use Rattle.pool_host.specs.declared.host.Host.{Host}
 use Rattle.pool_host.specs.declared.passes.HostPass.{HostPass}
 use Rattle.pool_host.specs.declared.passes.Passes.{Passes}
-use Rattle.pool_host.specs.declared.pausing.Begun.{Begun}
-use Rattle.pool_host.specs.declared.pausing.Begun.TheVariants as begun
-use Rattle.pool_host.specs.declared.starting.Refused.{Refused}
-use Rattle.pool_host.specs.declared.starting.Refused.TheVariants.{BadArgs, Full, NoExport, Retired}
+use Rattle.pool_host.specs.declared.answers.Begun.{Begun}
+use Rattle.pool_host.specs.declared.answers.Begun.TheVariants as begun
+use Rattle.pool_host.specs.declared.refusals.Refused.{Refused}
+use Rattle.pool_host.specs.declared.refusals.Refused.TheVariants.{BadArgs, Full, NoExport, Retired}
 use Rattle.pool_host.specs.Trails.{AddsTrails, HasCause}
 
 -- why it was refused, and what its passes did: nothing, but where a kind was full

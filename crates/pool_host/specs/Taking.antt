@@ -1,19 +1,15 @@
--- The slots of an instance, between their takes and their gives.
-use Rattle.std.specs.Prelude.{Some}
+-- The slots of a call, between their takes and their gives.
+use Rattle.std.specs.Prelude.{Option, Some}
 use Rattle.slot_words.specs.Owned.{slots_of}
-use Rattle.slot_words.specs.Parts.{Grew}
-use Rattle.slot_words.specs.Passes.{trail}
 use Rattle.pool_limits.specs.declared.numbers.Numbers.{Numbers}
 use Rattle.pool_worlds.specs.Contents.{Named}
 use Rattle.pool_worlds.specs.declared.kinds.Kind.TheVariants as kind
-use Rattle.pool_worlds.specs.declared.kinds.Kind.TheVariants.{Memory, Table}
 use Rattle.instance_calls.specs.declared.instance.Instance.{Instance}
-use Rattle.instance_calls.specs.Parts.{BelongsTo, memory_slot, table_slot, ticket_slot}
+use Rattle.instance_calls.specs.Parts.{BelongsTo, Slot, memory_slot, table_slot, ticket_slot}
 use Rattle.pool_host.specs.declared.host.Host.{Host}
 use Rattle.pool_host.specs.declared.passes.Passes.{Passes}
-use Rattle.pool_host.specs.Kinds.{TookSlot}
-use Rattle.pool_host.specs.Leases.{Gave, HoldsSlot}
-use Rattle.pool_host.specs.Trails.{IsMemoryGive, IsTableGive, IsTicketGive}
+use Rattle.pool_host.specs.Kinds.{GaveSlot, TookSlot}
+use Rattle.pool_host.specs.Leases.{HoldsSlot}
 
 module _ {N : Type 0} where
   -- the passes have the slots of an instance, whose contents belong to the module
@@ -24,14 +20,21 @@ module _ {N : Type 0} where
     pub memory_belongs : BelongsTo m (memory_slot x.memory)
     pub table_belongs : BelongsTo m (table_slot x.table)
 
-  -- the trails grew by the takes of its slots
-  pub record TookSlots (config : Numbers) (host : Host N) (m : Named) (before after : Passes N) (x : Instance N) : Type 0 where
-    pub ticket : TookSlot kind.Instance host.tickets m before.ticket after.ticket (Some (ticket_slot x.ticket))
-    pub memory : TookSlot Memory host.memories m before.memory after.memory (memory_slot x.memory)
-    pub table : TookSlot Table host.tables m before.table after.table (table_slot x.table)
+  -- the trails grew by the takes of these slots
+  pub record TookThose (host : Host N) (m : Named) (before after : Passes N) (of_tickets : Slot) (of_memories of_tables : Option Slot) : Type 0 where
+    pub ticket : TookSlot kind.Instance host.tickets m before.ticket after.ticket (Some of_tickets)
+    pub memory : TookSlot kind.Memory host.memories m before.memory after.memory of_memories
+    pub table : TookSlot kind.Table host.tables m before.table after.table of_tables
 
   -- and by their gives
-  pub record GaveSlots (config : Numbers) (host : Host N) (m : Named) (before after : Passes N) (x : Instance N) : Type 0 where
-    pub ticket : Grew (Gave (IsTicketGive config host m) (Some (ticket_slot x.ticket))) (trail before.ticket) (trail after.ticket)
-    pub memory : Grew (Gave (IsMemoryGive config host m) (memory_slot x.memory)) (trail before.memory) (trail after.memory)
-    pub table : Grew (Gave (IsTableGive config host m) (table_slot x.table)) (trail before.table) (trail after.table)
+  pub record GaveThose (config : Numbers) (host : Host N) (m : Named) (before after : Passes N) (of_tickets : Slot) (of_memories of_tables : Option Slot) : Type 0 where
+    pub ticket : GaveSlot kind.Instance host.tickets m config.batch before.ticket after.ticket (Some of_tickets)
+    pub memory : GaveSlot kind.Memory host.memories m config.batch before.memory after.memory of_memories
+    pub table : GaveSlot kind.Table host.tables m config.batch before.table after.table of_tables
+
+  -- those of an instance
+  abbrev pub TookSlots : Numbers → Host N → Named → (before after : Passes N) → Instance N → Type 0
+  TookSlots config host m before after x = TookThose host m before after (ticket_slot x.ticket) (memory_slot x.memory) (table_slot x.table)
+
+  abbrev pub GaveSlots : Numbers → Host N → Named → (before after : Passes N) → Instance N → Type 0
+  GaveSlots config host m before after x = GaveThose config host m before after (ticket_slot x.ticket) (memory_slot x.memory) (table_slot x.table)

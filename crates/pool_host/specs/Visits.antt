@@ -10,14 +10,10 @@ pub data Visit : Type 0 where
   Served : Visit
   TurnedAway : Visit
 
--- a take that won this slot, where this was read, and the give of it
-abbrev pub IsServed : (IsTake : ℕ → ℕ → List Operation → Type 0) → (IsGive : ℕ → List Operation → Type 0) → (number read : ℕ) → List Operation → Type 0
-IsServed IsTake IsGive number read done = Then (IsTake number read) (IsGive number) done
-
--- what it adds to the trail there
+-- What it adds to the trail there: where it is served, a take that won a slot, where this was read, and the give of that slot.
 abbrev pub Adds : (IsTake : ℕ → ℕ → List Operation → Type 0) → (IsGive : ℕ → List Operation → Type 0) → (IsFullTake : List Operation → Type 0) → Visit → List Operation → Type 0
 Adds IsTake IsGive IsFullTake None done = done ≡ []
-Adds IsTake IsGive IsFullTake Served done = (number : ℕ) × (read : ℕ) × IsServed IsTake IsGive number read done
+Adds IsTake IsGive IsFullTake Served done = (number : ℕ) × (read : ℕ) × Then (IsTake number read) (IsGive number) done
 Adds IsTake IsGive IsFullTake TurnedAway done = IsFullTake done
 
 -- Why it was turned away: its module needs a slot of the kind, its take won nothing, and the pass does not stand for all of the pool's.

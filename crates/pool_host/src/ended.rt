@@ -1,8 +1,8 @@
 //! Calls that have made their last slice, and what they leave in their slots.
-ghost use Rattle.std.specs.Prelude.{◌≡◌, ◌≤◌, [], length};
+ghost use Rattle.std.specs.Prelude.{◌≡◌, []};
 ghost use Rattle.pool_worlds.specs.Contents.{Named};
 ghost use Rattle.pool_worlds.specs.declared.kinds.Kind.{Kind};
-ghost use Rattle.instance_calls.specs.CallWords.{EndsAs, MayCall, comes_of};
+ghost use Rattle.instance_calls.specs.CallWords.{EndsAs, MayCall, gives_of};
 ghost use Rattle.instance_calls.specs.Instances.{IsFreshInstance, KeepsSlots, instance_contents};
 ghost use Rattle.instance_calls.specs.Paused.{WentOn};
 ghost use Rattle.instance_calls.specs.PausedViews.{contents_in};
@@ -11,12 +11,12 @@ ghost use Rattle.pool_host.specs.Ending.{resumed_of};
 ghost use Rattle.pool_host.specs.Hosts.{AreIdle, ArePassesOf, AreSamePasses};
 ghost use Rattle.pool_host.specs.Taking.{GaveSlots, HaveSlots};
 
-use crate::giving::{give_memory, give_table, give_ticket};
-use crate::host::{Asked, Host};
+use crate::host::Host;
 use crate::passes::Passes;
-use call_payload::AnswerBuf;
+use crate::slots::{give_memory, give_table, give_ticket};
+use call_payload::{AnswerBuf, Call};
 use instance_calls::{Instance, PausedInstance, Resumed};
-use module_store::{ModuleRef, ModuleStore, Naming};
+use module_store::{LoadedModule, ModuleStore, Naming};
 use wasm_values::Outcome;
 
 // The slots of a call that is over, as it left them. What lies in them is had by nobody else, and they can only be given back.
@@ -35,32 +35,22 @@ pub(crate) enum Sliced<N: Naming> {
 }
 
 impl<N: Naming> Ended<N> {
-    // Runs a function of the module on a fresh instance of it.
+    // Makes a call of a function of the module on a fresh instance of it.
     pub(crate) fn run(
         mut instance: Instance<N>,
-        store: &ModuleStore<N>,
-        module: &ModuleRef<N>,
+        loaded: &LoadedModule<'_, N>,
         function: u32,
-        asked: &Asked<'_>,
+        call: &Call<'_>,
         said: &mut AnswerBuf,
     ) -> (Outcome, Ended<N>)
-        requires call { MayCall «module».now.tree asked.now.export.now function asked.now.args.now }
-        requires fresh { IsFreshInstance N.config «module».now.tree instance }
-        requires request { length asked.now.request.now ≤ 65536 }
-        ensures went { WentOn N.config.pages «module».now.tree (comes_of N.config «module».now.tree asked.now.request.now function asked.now.args.now)
-            0 asked.now.fuel (instance_contents instance) (instance_contents result.1.instance) }
-        ensures ends { EndsAs (comes_of N.config «module».now.tree asked.now.request.now function asked.now.args.now) asked.now.fuel result.0 said.new }
+        requires call { MayCall loaded.now.module.now.tree call.now.export.now function call.now.args.now }
+        requires fresh { IsFreshInstance N.config loaded.now.module.now.tree instance }
+        ensures went { WentOn N.config.pages loaded.now.module.now.tree (gives_of N.config loaded.now.module.now.tree function call.now)
+            0 call.now.fuel (instance_contents instance) (instance_contents result.1.instance) }
+        ensures ends { EndsAs (gives_of N.config loaded.now.module.now.tree function call.now) call.now.fuel result.0 said.new }
         ensures slots { KeepsSlots instance result.1.instance }
     {
-        let outcome = instance.run(
-            store,
-            module,
-            function,
-            asked.args,
-            asked.fuel,
-            asked.request,
-            said,
-        );
+        let outcome = instance.run(loaded, function, call, said);
         (outcome, Ended { instance })
     }
 

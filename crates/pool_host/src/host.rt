@@ -5,24 +5,30 @@ ghost use Rattle.instance_calls.specs.CallWords.{run_limits};
 ghost use Rattle.pool_host.specs.CallWords.{IfFull, IsAnswerTo, IsHostAnswer};
 ghost use Rattle.pool_host.specs.Closing.{ArePoolCounts};
 ghost use Rattle.pool_host.specs.Hosts.{AreIdle, ArePassesOf, AreSamePasses, HandedOut, HasShare, IsHostPass, IsNewHostPass, IsSameHostPass, IsShare};
-ghost use Rattle.pool_host.specs.Looks.{look_of, Looked};
+ghost use Rattle.pool_host.specs.Looks.{begun_look, look_of, Looked, SetsBit};
+ghost use Rattle.pool_host.specs.Pausing.{begun_tags, HasBegun};
+ghost use Rattle.pool_host.specs.Retiring.{is_already, Sweeps, SweptAll};
 ghost use Rattle.pool_host.specs.Trails.{AddsTrails, HasCause};
-ghost use Rattle.retired_tags.specs.Passes.{IsTagPass};
+ghost use Rattle.retired_tags.specs.Passes.{IsTagPass, steps};
+ghost use Rattle.retired_tags.specs.Steps.{Knows};
 
-use crate::answers::Answer;
-use crate::closing::{PoolCounts, join_all};
-use crate::dealing::deal;
+use crate::answers::{Answer, Begun, Retire};
+use crate::counts::{PoolCounts, join_all};
 use crate::ended::Ended;
+use crate::new_passes::deal;
 use crate::passes::{HostPass, Passes};
+use crate::paused::Paused;
+use crate::refusals::start;
 use crate::retired::Retired;
-use crate::starting::start;
-use call_payload::AnswerBuf;
+use call_payload::{AnswerBuf, Call};
 use host_edge::Gate;
+use instance_calls::PausedInstance;
 use instance_slots::TicketPool;
 use memory_slots::MemoryPool;
-use module_store::{ModuleRef, ModuleStore, Naming};
+use module_store::{LoadedModule, ModuleRef, ModuleStore, Naming};
 use pool_limits::Share;
 use retired_tags::TagPass;
+use slot_pools::sweep;
 use std::alloc::Global;
 use table_slots::TablePool;
 use wasm_values::{NoMemory, Val};
@@ -48,15 +54,6 @@ impl<N: Naming> Drop for Host<N> {
             retired: _,
         } = self;
     }
-}
-
-// What is asked of a module: an export with its arguments, a request that it may read, and the fuel.
-#[derive(Clone, Copy, Debug)]
-pub(crate) struct Asked<'a> {
-    pub export: &'a [u8],
-    pub args: &'a [Val],
-    pub request: &'a [u8],
-    pub fuel: u64,
 }
 
 impl<N: Naming> Host<N> {
@@ -125,56 +122,82 @@ impl<N: Naming> Host<N> {
         &self,
         passes: &mut Passes<N>,
         retired: &mut TagPass,
-        store: &ModuleStore<N>,
-        module: &ModuleRef<N>,
-        asked: &Asked<'_>,
+        loaded: &LoadedModule<'_, N>,
+        call: &Call<'_>,
         number: u64,
         gate: &G,
         said: &mut AnswerBuf,
     ) -> Answer
         requires own { ArePassesOf self.now passes.old }
         requires tags { IsTagPass self.now.retired.tags retired.old }
-        requires request { length asked.now.request.now ≤ 65536 }
         requires idle { AreIdle passes.old }
         ensures same { AreSamePasses passes.old passes.new }
         ensures idle { AreIdle passes.new }
         ensures tags { IsTagPass self.now.retired.tags retired.new }
-        ensures answer { IsAnswerTo asked.now «module».now.tree (run_limits N.config) result said.new }
-        ensures trails { AddsTrails N.config self.now «module».now result passes.old passes.new }
-        ensures full { IfFull result (HasCause N.config self.now «module».now passes.old passes.new) }
-        ensures looked { Looked self.now.retired.tags «module».now.tag retired.old retired.new (look_of result) }
+        ensures answer { IsAnswerTo call.now loaded.now.module.now.tree (run_limits N.config) result said.new }
+        ensures trails { AddsTrails N.config self.now loaded.now.module.now result passes.old passes.new }
+        ensures full { IfFull result (HasCause N.config self.now loaded.now.module.now passes.old passes.new) }
+        ensures looked { Looked self.now.retired.tags loaded.now.module.now.tag retired.old retired.new (look_of result) }
     {
-        match start(
-            self,
-            passes,
-            retired,
-            store,
-            module,
-            asked.export,
-            asked.args,
-            said,
-        ) {
+        match start(self, passes, retired, loaded, call, said) {
             Ok((instance, function)) => {
                 gate.entered(number);
-                let (outcome, ended) = Ended::run(instance, store, module, function, asked, said);
-                ended.give(self, passes, store);
+                let (outcome, ended) = Ended::run(instance, loaded, function, call, said);
+                ended.give(self, passes, loaded.store);
                 Answer::Done(outcome)
             }
             Err(refused) => refused.answer(),
         }
     }
 
-    /// Calls a module's export on a fresh instance, whose start function runs first, on so much fuel in all: one for each
-    /// plain instruction. Its memory has at most the configured pages, and its calls are at most the configured depth deep.
-    /// It takes no memory of the program's.
-    ///
-    /// The module may read the request and append to an answer, which [`HostPass::answer`] shows afterwards where the call is done.
+    /// Makes a call of a module's export on a fresh instance, whose start function runs first, on the call's fuel in all. Its memory has
+    /// at most the configured pages, and its calls are at most the configured depth deep. It takes no memory of the program's. The module
+    /// may read the request and append to an answer, which [`HostPass::answer`] shows afterwards where the call is done.
     ///
     /// The call takes a ticket, then a memory and a table where the module has them, and gives all back. The first kind of which
     /// other calls have every slot is its answer. Where the module is retired on this host it takes none. Whatever others do, it is
-    /// otherwise answered as if it were alone.
-    ///
-    /// The gate is told of the call by its number: when all is taken and nothing has run, and after every answer.
+    /// otherwise answered as if it were alone. The gate is told of the call by its number: when all is taken and nothing has run, and
+    /// after every answer.
+    pub fn invoke<'a, G: Gate>(
+        &self,
+        pass: &mut HostPass<N>,
+        store: &'a ModuleStore<N>,
+        module: &'a ModuleRef<N>,
+        call: &Call<'_>,
+        number: u64,
+        gate: &G,
+    ) -> Answer
+        requires { IsHostPass self.now pass.old }
+        ensures own { IsHostPass self.now pass.new }
+        ensures same { IsSameHostPass pass.old pass.new }
+        ensures answer { IsAnswerTo call.now «module».now.tree (run_limits N.config) result pass.new.answer }
+
+        // to each pass of the kinds that it asked: one take and its give, or a take that won nothing
+        ensures trails { AddsTrails N.config self.now «module».now result pass.old.passes pass.new.passes }
+        ensures full { IfFull result (HasCause N.config self.now «module».now pass.old.passes pass.new.passes) }
+        // one look at the retired tags, after the checks and before any slot: retired is exactly what it read
+        ensures looked { Looked self.now.retired.tags «module».now.tag pass.old.retired pass.new.retired (look_of result) }
+    {
+        let found = store.find(module);
+        let loaded = LoadedModule {
+            store,
+            module,
+            found,
+        };
+        let answer = self.answer(
+            &mut pass.passes,
+            &mut pass.retired,
+            &loaded,
+            call,
+            number,
+            gate,
+            &mut pass.answer,
+        );
+        gate.answered(number);
+        answer
+    }
+
+    /// Makes a call as [`Host::invoke`] does.
     pub fn send<G: Gate>(
         &self,
         pass: &mut HostPass<N>,
@@ -192,35 +215,20 @@ impl<N: Naming> Host<N> {
         ensures own { IsHostPass self.now pass.new }
         ensures same { IsSameHostPass pass.old pass.new }
         ensures answer { IsHostAnswer «module».now.tree (run_limits N.config) export.now args.now request.now fuel result pass.new.answer }
-
-        // to each pass of the kinds that it asked: one take and its give, or a take that won nothing
         ensures trails { AddsTrails N.config self.now «module».now result pass.old.passes pass.new.passes }
         ensures full { IfFull result (HasCause N.config self.now «module».now pass.old.passes pass.new.passes) }
-
-        // one look at the retired tags, after the checks and before any slot: retired is exactly what it read
         ensures looked { Looked self.now.retired.tags «module».now.tag pass.old.retired pass.new.retired (look_of result) }
     {
-        let asked = Asked {
+        let call = Call {
             export,
             args,
             request,
             fuel,
         };
-        let answer = self.answer(
-            &mut pass.passes,
-            &mut pass.retired,
-            store,
-            module,
-            &asked,
-            number,
-            gate,
-            &mut pass.answer,
-        );
-        gate.answered(number);
-        answer
+        self.invoke(pass, store, module, &call, number, gate)
     }
 
-    /// Calls as [`Host::send`] does, with a request of no bytes.
+    /// Makes a call as [`Host::invoke`] does, with a request of no bytes.
     pub fn call<G: Gate>(
         &self,
         pass: &mut HostPass<N>,
@@ -236,15 +244,130 @@ impl<N: Naming> Host<N> {
         ensures own { IsHostPass self.now pass.new }
         ensures same { IsSameHostPass pass.old pass.new }
         ensures answer { IsHostAnswer «module».now.tree (run_limits N.config) export.now args.now [] fuel result pass.new.answer }
-
-        // to each pass of the kinds that it asked: one take and its give, or a take that won nothing
         ensures trails { AddsTrails N.config self.now «module».now result pass.old.passes pass.new.passes }
         ensures full { IfFull result (HasCause N.config self.now «module».now pass.old.passes pass.new.passes) }
-
-        // one look at the retired tags, after the checks and before any slot: retired is exactly what it read
         ensures looked { Looked self.now.retired.tags «module».now.tag pass.old.retired pass.new.retired (look_of result) }
     {
         self.send(pass, store, module, export, args, &[], fuel, number, gate)
+    }
+
+    /// Begins a call that is sent no bytes, as [`Host::invoke`] does: the slots are taken, and no instruction has run. It takes no memory.
+    ///
+    /// The gate is told of the call by its number: when all is taken, and after a refusal.
+    pub fn begin_call<'a, G: Gate>(
+        &self,
+        pass: HostPass<N>,
+        store: &'a ModuleStore<N>,
+        module: &'a ModuleRef<N>,
+        call: &Call<'_>,
+        number: u64,
+        gate: &G,
+    ) -> Begun<N>
+        requires own { IsHostPass self.now pass }
+        requires unsent { call.now.request.now ≡ [] }
+        ensures begun { HasBegun N.config self.now «module».now call.now.export.now call.now.args.now call.now.fuel number pass.passes result }
+
+        // one look at the retired tags, after the checks and before any slot: retired is exactly what it read
+        ensures looked { Looked self.now.retired.tags «module».now.tag pass.retired (begun_tags result) (begun_look result) }
+    {
+        let found = store.find(module);
+        let loaded = LoadedModule {
+            store,
+            module,
+            found,
+        };
+        let HostPass {
+            mut passes,
+            mut retired,
+            mut answer,
+        } = pass;
+        match start(self, &mut passes, &mut retired, &loaded, call, &mut answer) {
+            Ok((instance, function)) => {
+                let running = PausedInstance::begin(instance, &loaded, function, call, answer);
+                gate.entered(number);
+                Begun::Ready(Paused {
+                    passes,
+                    retired,
+                    running,
+                    number,
+                })
+            }
+            Err(refused) => {
+                gate.answered(number);
+                refused.begun(HostPass {
+                    passes,
+                    retired,
+                    answer,
+                })
+            }
+        }
+    }
+
+    /// Begins a call of no bytes as [`Host::begin_call`] does, with its pass. It takes no memory.
+    pub fn begin<G: Gate>(
+        &self,
+        pass: HostPass<N>,
+        store: &ModuleStore<N>,
+        module: &ModuleRef<N>,
+        export: &[u8],
+        args: &[Val],
+        fuel: u64,
+        number: u64,
+        gate: &G,
+    ) -> Begun<N>
+        requires own { IsHostPass self.now pass }
+        ensures begun { HasBegun N.config self.now «module».now export.now args.now fuel number pass.passes result }
+        ensures looked { Looked self.now.retired.tags «module».now.tag pass.retired (begun_tags result) (begun_look result) }
+    {
+        let call = Call {
+            export,
+            args,
+            request: &[],
+            fuel,
+        };
+        self.begin_call(pass, store, module, &call, number, gate)
+    }
+
+    // Makes the memories and the tables of a module cold that no call has, and tells how many there were.
+    fn sweep(&self, passes: &mut Passes<N>, module: &ModuleRef<N>) -> u32
+        requires own { ArePassesOf self.now passes.old }
+        requires idle { AreIdle passes.old }
+        ensures same { AreSamePasses passes.old passes.new }
+        ensures idle { AreIdle passes.new }
+        ensures swept { SweptAll self.now «module».now result passes.old passes.new }
+    {
+        let memories = sweep(self.memories.words(), &mut passes.memory, module.tag());
+        let tables = sweep(self.tables.words(), &mut passes.table, module.tag());
+        memories + tables
+    }
+
+    /// Retires a module on this host: no later call of it is made with this pass, nor with any other that read it retired, and those
+    /// that have begun are finished. The first time, each memory and table of the host that is still the module's while no call has it
+    /// is made cold; one that a call has is not. The store is not read. It takes no memory.
+    pub fn retire(
+        &self,
+        pass: &mut HostPass<N>,
+        _store: &ModuleStore<N>,
+        module: &ModuleRef<N>,
+    ) -> Retire
+        requires { IsHostPass self.now pass.old }
+        ensures own { IsHostPass self.now pass.new }
+        ensures same { IsSameHostPass pass.old pass.new }
+        ensures bytes { pass.new.answer ≡ pass.old.answer }
+
+        // one step at the retired tags, which the answer is by: after it the pass knows that the module is retired
+        ensures bit { SetsBit self.now.retired.tags «module».now.tag pass.old.retired pass.new.retired (is_already result) }
+        ensures known { Knows «module».now.tag (steps pass.new.retired) }
+        ensures before { Knows «module».now.tag (steps pass.old.retired) → result ≡ Retire.Already }
+
+        // the first time a sweep of the memories and one of the tables, else nothing
+        ensures sweeps { Sweeps self.now «module».now result pass.old.passes pass.new.passes }
+    {
+        if self.retired.retire(&mut pass.retired, module) {
+            return Retire::Already;
+        }
+        let cleaned = self.sweep(&mut pass.passes, module);
+        Retire::First { cleaned }
     }
 
     /// Ends all passes and counts the slots as they stand. With all passes in the list, none is held.

@@ -1,7 +1,7 @@
 //! Calls of one caller.
 ghost use Rattle.std.specs.Prelude.{◌≡◌, ◌↔◌, ◌≤◌, [], length, IfOk};
 ghost use Rattle.instance_calls.specs.CallWords.{run_limits};
-ghost use Rattle.pool_host.specs.CallWords.{IsAnswer, host_answer};
+ghost use Rattle.pool_host.specs.CallWords.{IsAnswer, IsLaneAnswerTo, host_answer};
 ghost use Rattle.pool_host.specs.Hosts.{HandedOut, HasShare, IsHostPass, IsNewHostPass, IsSameHostPass, IsShare};
 ghost use Rattle.pool_host.specs.Looks.{look_of, IsDecidedBy, Looked, SetsBit};
 ghost use Rattle.pool_host.specs.Retiring.{is_already, Sweeps};
@@ -9,10 +9,10 @@ ghost use Rattle.pool_host.specs.Trails.{AddsTrails};
 ghost use Rattle.retired_tags.specs.Passes.{steps};
 ghost use Rattle.retired_tags.specs.Steps.{HasSet, Knows};
 
-use crate::answers::Answer;
+use crate::answers::{Answer, Retire};
 use crate::host::Host;
 use crate::passes::HostPass;
-use crate::retiring::Retire;
+use call_payload::Call;
 use host_edge::Gate;
 use module_store::{ModuleRef, ModuleStore, Naming};
 use pool_limits::Share;
@@ -61,13 +61,39 @@ impl<N: Naming> LaneHost<N> {
         Ok(LaneHost { host, pass })
     }
 
-    /// Calls a module's export on a fresh instance, whose start function runs first, on so much fuel in all: one for each
-    /// plain instruction. Its memory has at most the configured pages, and its calls are at most the configured depth deep.
-    /// It takes no memory of the program's, and always has its slots. Where the module is retired on this lane it takes none.
-    ///
-    /// The module may read the request and append to an answer, which [`LaneHost::answer`] shows afterwards where the call is done.
+    /// Makes a call of a module's export on a fresh instance, whose start function runs first, on the call's fuel in all. Its memory has
+    /// at most the configured pages, and its calls are at most the configured depth deep. It takes no memory of the program's, and
+    /// always has its slots. Where the module is retired on this lane it takes none. The module may read the request and append to an
+    /// answer, which [`LaneHost::answer`] shows afterwards where the call is done.
     ///
     /// The gate is told of the call by its number: when all is taken and nothing has run, and after every answer.
+    pub fn invoke<G: Gate>(
+        &mut self,
+        store: &ModuleStore<N>,
+        module: &ModuleRef<N>,
+        call: &Call<'_>,
+        number: u64,
+        gate: &G,
+    ) -> LaneAnswer
+        ensures same { (self.new.host ≡ self.old.host) × IsSameHostPass self.old.pass self.new.pass }
+        ensures answer { IsLaneAnswerTo call.now «module».now.tree (run_limits N.config) result self.new.pass.answer }
+        ensures trails { AddsTrails N.config self.old.host «module».now (host_answer result) self.old.pass.passes self.new.pass.passes }
+
+        // one look at the retired tags, after the checks and before any slot: retired is exactly what this lane retired
+        ensures looked { Looked self.old.host.retired.tags «module».now.tag self.old.pass.retired self.new.pass.retired (look_of (host_answer result)) }
+        ensures own_steps { IsDecidedBy «module».now.tag (steps self.old.pass.retired) (look_of (host_answer result)) }
+    {
+        let pass = &mut self.pass;
+        match self.host.invoke(pass, store, module, call, number, gate) {
+            Answer::Done(outcome) => LaneAnswer::Done(outcome),
+            Answer::NoExport => LaneAnswer::NoExport,
+            Answer::BadArgs => LaneAnswer::BadArgs,
+            Answer::Retired => LaneAnswer::Retired,
+            Answer::Full(_) => unreachable!(),
+        }
+    }
+
+    /// Makes a call as [`LaneHost::invoke`] does.
     pub fn send<G: Gate>(
         &mut self,
         store: &ModuleStore<N>,
@@ -83,24 +109,19 @@ impl<N: Naming> LaneHost<N> {
         ensures same { (self.new.host ≡ self.old.host) × IsSameHostPass self.old.pass self.new.pass }
         ensures answer { IsAnswer «module».now.tree (run_limits N.config) export.now args.now request.now fuel result self.new.pass.answer }
         ensures trails { AddsTrails N.config self.old.host «module».now (host_answer result) self.old.pass.passes self.new.pass.passes }
-
-        // one look at the retired tags, after the checks and before any slot: retired is exactly what this lane retired
         ensures looked { Looked self.old.host.retired.tags «module».now.tag self.old.pass.retired self.new.pass.retired (look_of (host_answer result)) }
         ensures own_steps { IsDecidedBy «module».now.tag (steps self.old.pass.retired) (look_of (host_answer result)) }
     {
-        let pass = &mut self.pass;
-        match self.host.send(
-            pass, store, module, export, args, request, fuel, number, gate,
-        ) {
-            Answer::Done(outcome) => LaneAnswer::Done(outcome),
-            Answer::NoExport => LaneAnswer::NoExport,
-            Answer::BadArgs => LaneAnswer::BadArgs,
-            Answer::Retired => LaneAnswer::Retired,
-            Answer::Full(_) => unreachable!(),
-        }
+        let call = Call {
+            export,
+            args,
+            request,
+            fuel,
+        };
+        self.invoke(store, module, &call, number, gate)
     }
 
-    /// Calls as [`LaneHost::send`] does, with a request of no bytes.
+    /// Makes a call as [`LaneHost::invoke`] does, with a request of no bytes.
     pub fn call<G: Gate>(
         &mut self,
         store: &ModuleStore<N>,
@@ -114,8 +135,6 @@ impl<N: Naming> LaneHost<N> {
         ensures same { (self.new.host ≡ self.old.host) × IsSameHostPass self.old.pass self.new.pass }
         ensures answer { IsAnswer «module».now.tree (run_limits N.config) export.now args.now [] fuel result self.new.pass.answer }
         ensures trails { AddsTrails N.config self.old.host «module».now (host_answer result) self.old.pass.passes self.new.pass.passes }
-
-        // one look at the retired tags, after the checks and before any slot: retired is exactly what this lane retired
         ensures looked { Looked self.old.host.retired.tags «module».now.tag self.old.pass.retired self.new.pass.retired (look_of (host_answer result)) }
         ensures own_steps { IsDecidedBy «module».now.tag (steps self.old.pass.retired) (look_of (host_answer result)) }
     {

@@ -2,29 +2,22 @@
 #![tactic(auto)]
 
 mod answers;
-mod closing;
-mod dealing;
+mod counts;
 mod ended;
-mod giving;
 mod host;
-mod kinds;
 mod lane;
 pub mod laws;
-mod looking;
+mod new_passes;
 mod passes;
 mod paused;
-mod pausing;
+mod refusals;
 mod retired;
-mod retiring;
 mod slots;
-mod starting;
 
-pub use answers::Answer;
-pub use closing::PoolCounts;
+pub use answers::{Answer, Begun, Retire, Turned};
+pub use counts::PoolCounts;
 pub use host::{Host, MOST_PASSES};
 pub use lane::{LaneAnswer, LaneHost};
 pub use passes::HostPass;
 pub use paused::Paused;
-pub use pausing::{Begun, Turned};
 pub use pool_worlds::Kind;
-pub use retiring::Retire;

@@ -1,9 +1,11 @@
-//! The retired modules of a host.
-ghost use Rattle.std.specs.Prelude.{◌≡◌, ◌≤◌, IfOk, length};
+//! The retired modules of a host: the bit of a module is read and set.
+ghost use Rattle.std.specs.Prelude.{◌≡◌, ◌≤◌, IfOk, Some, length, true};
 ghost use Rattle.std.specs.List.{All};
-ghost use Rattle.retired_tags.specs.Passes.{IsNewTagPass, passes_of};
+ghost use Rattle.retired_tags.specs.Passes.{IsNewTagPass, IsTagPass, passes_of, steps};
+ghost use Rattle.retired_tags.specs.Steps.{Knows};
+ghost use Rattle.pool_host.specs.Looks.{Looked, SetsBit};
 
-use module_store::{ModuleStore, Naming};
+use module_store::{ModuleRef, ModuleStore, Naming};
 use retired_tags::{RetiredTags, TagPass};
 use std::alloc::Global;
 use std::marker::{Model, PhantomData};
@@ -60,5 +62,25 @@ impl<N: Naming> Retired<N> {
             of: PhantomData,
         };
         Ok((retired, all))
+    }
+
+    // Whether a module is retired, by one look.
+    pub(crate) fn look(&self, pass: &mut TagPass, module: &ModuleRef<N>) -> bool
+        requires { IsTagPass self.now.tags pass.old }
+        ensures own { IsTagPass self.now.tags pass.new }
+        ensures looked { Looked self.now.tags «module».now.tag pass.old pass.new (Some result) }
+    {
+        self.bits.tags.is_retired(pass, module.tag())
+    }
+
+    // Retires a module by one step, and tells whether it was retired before.
+    pub(crate) fn retire(&self, pass: &mut TagPass, module: &ModuleRef<N>) -> bool
+        requires { IsTagPass self.now.tags pass.old }
+        ensures own { IsTagPass self.now.tags pass.new }
+        ensures bit { SetsBit self.now.tags «module».now.tag pass.old pass.new result }
+        ensures known { Knows «module».now.tag (steps pass.new) }
+        ensures before { Knows «module».now.tag (steps pass.old) → result ≡ true }
+    {
+        self.bits.tags.retire(pass, module.tag())
     }
 }

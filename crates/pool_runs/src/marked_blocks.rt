@@ -9,11 +9,11 @@ ghost use Rattle.instance_calls.specs.Instances.{HasFreshMemory};
 ghost use Rattle.instance_calls.specs.Parts.{memory_slot};
 
 use crate::callers::{BUMP, ONE, open, register};
-use call_payload::AnswerBuf;
+use call_payload::{AnswerBuf, Call};
 use instance_calls::{Instance, find_function, needs_memory, needs_table};
 use instance_slots::{Ticket, TicketPool};
 use memory_slots::{MemSlot, MemoryPool};
-use module_store::{ModuleRef, ModuleStore, Naming, Opened};
+use module_store::{LoadedModule, ModuleRef, ModuleStore, Naming, Opened};
 use slot_words::{Lease, Pass};
 use std::alloc::Global;
 use std::marker::Brand;
@@ -66,28 +66,32 @@ fn take_ticket<N: Naming, R: Abort>(
 }
 
 // Makes a call of the module, which has no table, on its fresh memory. Tells how it ends, and gives the memory back.
-fn call_on<N: Naming, R: Abort>(
+fn call_on<'a, N: Naming, R: Abort>(
     rt: &R,
     alloc: Global,
-    store: &ModuleStore<N>,
-    module: &ModuleRef<N>,
+    store: &'a ModuleStore<N>,
+    module: &'a ModuleRef<N>,
     memory: Lease<MemSlot<N>>,
-    export: &[u8],
-    args: &[Val],
-    fuel: u64,
+    call: &Call<'_>,
 ) -> (Outcome, Lease<MemSlot<N>>)
     requires { needs Memory «module».now.tree ≡ true → HasFreshMemory N.config «module».now.tree (Some memory) }
     ensures { memory_slot (Some result.1) ≡ memory_slot (Some memory) }
 {
-    assert!(rt; needs_memory(store, module) && !needs_table(store, module));
+    let found = store.find(module);
+    let loaded = LoadedModule {
+        store,
+        module,
+        found,
+    };
+    assert!(rt; needs_memory(&loaded) && !needs_table(&loaded));
     let mut instance = Instance {
         ticket: take_ticket(rt, alloc, store, module),
         memory: Some(memory),
         table: None,
     };
     let mut answer = AnswerBuf::open(alloc).expect(rt, "opened");
-    let function = find_function(store, module, export, args).expect(rt, "found");
-    let outcome = instance.run(store, module, function, args, fuel, &[], &mut answer);
+    let function = find_function(&loaded, call).expect(rt, "found");
+    let outcome = instance.run(&loaded, function, call, &mut answer);
     let Instance {
         ticket: _,
         memory,
@@ -113,7 +117,13 @@ fn marked_by<N: Naming, R: Abort>(
     let Ok(memory) = pool.take(&mut pass, store, module) else {
         panic!(rt; "a new pool is full");
     };
-    let (outcome, memory) = call_on(rt, alloc, store, module, memory, export, args, fuel);
+    let call = Call {
+        export,
+        args,
+        request: &[],
+        fuel,
+    };
+    let (outcome, memory) = call_on(rt, alloc, store, module, memory, &call);
     let number = memory.number();
     let marked = memory.value.dirty();
     pool.give(&mut pass, memory, store);

@@ -8,7 +8,7 @@ use crate::noted_values::{Noted, opened};
 use crate::visits::Kind::{Affine, Any, Batched};
 use crate::visits::{Kind, claimed, give, take, visit};
 use pool_core::NoMemory;
-use slot_pools::{give_cold, take_any};
+use slot_pools::{Policy, give_cold};
 use slot_words::{KindCounts, Lease, Pass, Seen, Words};
 use std::alloc::Global;
 use std::process::Abort;
@@ -130,7 +130,7 @@ fn both_visit<R: Threads>(
 fn two_threads_never_have_one_slot_at_once(rt: HostRuntime) -> Result<(), Fail> {
     let (words, first, second) = opened(rt.alloc(), 1, 1)?;
     let (won, won_too, mut pass) = both_visit(&rt, &words, first, second);
-    let lease = take_any(&words, &mut pass)?;
+    let lease = slot_pools::take(&words, &mut pass, &(), Policy::Any)?;
     assert_eq!(rt; lease.value.visits, won.wrapping_add(won_too));
     Ok(())
 }

@@ -8,7 +8,7 @@ ghost use Rattle.slot_words.specs.Owned.{IsPassOf, slots_of};
 
 use crate::noted_values::Noted;
 use decommit_batch::{hand_in, settle};
-use slot_pools::{Full, give_cold, give_warm, take_affine, take_any, take_batched};
+use slot_pools::{Full, Policy, give_cold, give_warm};
 use slot_words::{Lease, Pass, Words};
 
 // Claims slot n, and settles it where it was not held.
@@ -49,11 +49,12 @@ pub(crate) fn take(
     ensures holds { IfOk result (λ l. Holds pass.new (lease_number l) false false false) }
     ensures full { OnErr result (IsIdle pass.new) }
 {
-    match kind {
-        Batched(_) => take_batched(words, pass, &(), u32::from(tag)),
-        Affine => take_affine(words, pass, u32::from(tag)),
-        Any => take_any(words, pass),
-    }
+    let policy = match kind {
+        Batched(_) => Policy::Batched(u32::from(tag)),
+        Affine => Policy::Affine(u32::from(tag)),
+        Any => Policy::Any,
+    };
+    slot_pools::take(words, pass, &(), policy)
 }
 
 // Uses the value for the module, and gives it back.

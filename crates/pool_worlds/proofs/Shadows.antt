@@ -10,7 +10,7 @@ use Rattle.pool_worlds.specs.Contents.{shown_store, needs}
 use Rattle.pool_worlds.specs.declared.kinds.Kind.TheVariants.{Memory}
 use Rattle.pool_worlds.specs.PoolMachine.{World, InstanceLimits, Request, Running, Machine, WorldEvent, caller_contents, answer, store_or, told, after, after_all, AllMayHappen, IsOpening, terms_of, Step, Prepare, Restore, Clear, Begin, Turn, End, Cancel, slot_of}
 use Rattle.pool_worlds.specs.FreshMachine.{FreshCall, FreshMachine, fresh_store_after, fresh_answer, fresh_after, fresh_after_all, nothing_runs}
-use Rattle.pool_worlds.specs.Worlds.{in_slots, ShadowsCall, AlwaysShadow, IsSameRequest, Reached, Calls, TwoWorldsAgree, answered_by, answered, answers, AnswersAgree}
+use Rattle.pool_worlds.specs.Worlds.{in_slots, OfBoth, Shadows, AlwaysShadow, IsSameRequest, Reached, Calls, TwoWorldsAgree, answered_by, answered, answers, AnswersAgree}
 use Rattle.pool_worlds.proofs.Parts.{cold-kept, size-shown}
 use Rattle.pool_worlds.proofs.Steps.{GoodCall, Good, found, after-good}
 
@@ -28,7 +28,7 @@ all-good w p f (e ∷ es) g may = all-good w (after w p e) (fresh_after w.limits
 pub answer-is : (w : World) (r : Running) → r.begun ≡ fresh_store r.request.named.tree → answer w r ≡ fresh_answer w.limits r.request
 answer-is w r e = let q : Request = r.request in ap (λ (s : Store). told (result_from q.named.tree (terms_of w.limits q.sent) q.function q.arguments s q.fuel)) e
 
-sound-shadows : (w : World) (p : Machine) (i : ℕ) (a : Option Running) (b : Option FreshCall) → GoodCall w p i a b → ShadowsCall w p i a b
+sound-shadows : (w : World) (p : Machine) (i : ℕ) (a : Option Running) (b : Option FreshCall) → GoodCall w p i a b → OfBoth (Shadows w p i) a b
 sound-shadows w p i None None g = tt
 sound-shadows w p i (Some r) (Some c) g = record {
   request = sym g.request;

@@ -18,7 +18,7 @@ use Rattle.pool_core.proofs.LawfulSteps.{lawful_after}
 use Rattle.pool_worlds.specs.Contents.{Named, Contents, prepared, restored, replaced, needs, shown_store, turned}
 use Rattle.pool_worlds.specs.declared.kinds.Kind.{Kind}
 use Rattle.pool_worlds.specs.declared.kinds.Kind.TheVariants.{Instance, Memory, Table}
-use Rattle.pool_worlds.specs.PoolMachine.{World, Request, Running, Machine, WorldEvent, Step, Prepare, Restore, Clear, Begin, Turn, End, Cancel, held_by, slot_of, caller_contents, same_kind, is_slot_of_seat, is_slot_of_call, with_contents, with_core, with_call, store_or, store_after, begun, after_turn, after, IsFree, HasOut, IsModule, MarksTurn, MarksEnd, MayHappen, terms_of, last_store, after_end}
+use Rattle.pool_worlds.specs.PoolMachine.{World, Request, Running, Machine, WorldEvent, Step, Prepare, Restore, Clear, Begin, Turn, End, Cancel, held_by, slot_of, caller_contents, same_kind, is_slot_of_seat, is_slot_of_call, with_contents, with_core, with_call, store_or, store_after, begun, after_turn, after, IsFree, HasOut, IsModule, MayHappen, terms_of, last_store, after_end, MarksStore}
 use Rattle.pool_worlds.specs.FreshMachine.{FreshCall, FreshMachine, fresh_store_on, fresh_store_after, fresh_turn, with_fresh_call, fresh_after}
 use Rattle.pool_worlds.specs.Worlds.{IsZeroPast, in_slots}
 use Rattle.pool_worlds.proofs.Parts.{IsKept, fits, shown-same, shows-store, shows-fresh, prepared-kept, prepared-past, restored-kept, replaced-kept, turned-kept, turned-past}
@@ -246,7 +246,7 @@ instance-at w q is turns = let m : ModuleTree = q.named.tree in let fresh : Stor
       | Some r ↦ λ e. result-keeps m (terms_of w.limits q.sent) (IsInstance m w.limits.pages fresh.table) (instance-kept m (terms_of w.limits q.sent) fresh.table) q.function q.arguments fresh turns r first e
     ] in split (result_from m (terms_of w.limits q.sent) q.function q.arguments fresh turns) refl
 
-turn-good : (w : World) (p : Machine) (f : FreshMachine) (i : ℕ) (marks : List Bool) (r : Running) (c : FreshCall) → Good w p f → IsSound w p i r c → MarksTurn w p i r marks
+turn-good : (w : World) (p : Machine) (f : FreshMachine) (i : ℕ) (marks : List Bool) (r : Running) (c : FreshCall) → Good w p f → IsSound w p i r c → MarksStore w p i r (store_after w r (r.turns + 1)) marks
     → Good w (after_turn w p i marks (Some r)) (with_fresh_call f i (fresh_turn w.limits (Some c)))
 turn-good w p f i marks r c g s marked =
     let q : Request = r.request in
@@ -285,7 +285,7 @@ turn-good w p f i marks r c g s marked =
 
 -- ---- an end
 
-end-good : (w : World) (p : Machine) (f : FreshMachine) (i : ℕ) (marks : List Bool) (r : Running) (c : FreshCall) → Good w p f → IsSound w p i r c → MarksEnd w p i r marks
+end-good : (w : World) (p : Machine) (f : FreshMachine) (i : ℕ) (marks : List Bool) (r : Running) (c : FreshCall) → Good w p f → IsSound w p i r c → MarksStore w p i r (last_store w r) marks
     → Good w (after_end w p i marks (Some r)) (with_fresh_call f i None)
 end-good w p f i marks r c g s marked =
     let q : Request = r.request in

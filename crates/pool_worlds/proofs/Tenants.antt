@@ -17,8 +17,8 @@ use Rattle.pool_worlds.specs.declared.kinds.Kind.{Kind}
 use Rattle.pool_worlds.specs.declared.kinds.Kind.TheVariants.{Memory}
 use Rattle.pool_worlds.specs.PoolMachine.{World, InstanceLimits, Request, Running, Machine, WorldEvent, Step, Prepare, Restore, Clear, Begin, Turn, End, Cancel, caller_contents, slot_of, same_kind, after, after_all, after_turn, after_end, MayHappen, AllMayHappen, IsOpening}
 use Rattle.pool_worlds.specs.FreshMachine.{FreshCall, FreshMachine, fresh_after, fresh_answer, fresh_store_after, nothing_runs}
-use Rattle.pool_worlds.specs.Worlds.{answered, answered_by, answers, in_slots}
-use Rattle.pool_worlds.specs.Tenants.{TenantEvent, Tenants, Pools, pools_after, pools_after_all, AllMayCome, own_events, claim_read, tenant_reads, tenant_answers, IsSameCall, AreSameCalls, LookSame, OwnEventsDecide, free_warm, WarmSlotsStayWithin}
+use Rattle.pool_worlds.specs.Worlds.{answered, answered_by, answers, in_slots, OfBoth}
+use Rattle.pool_worlds.specs.Tenants.{TenantEvent, Tenants, Pools, pools_after, pools_after_all, AllMayCome, own_events, claim_read, tenant_reads, tenant_answers, IsSameCall, LookSame, OwnEventsDecide, free_warm, WarmSlotsStayWithin}
 use Rattle.pool_worlds.proofs.Parts.{size-shown}
 use Rattle.pool_worlds.proofs.Steps.{Good, GoodCall, IsSound, after-good, same_kind-is}
 use Rattle.pool_worlds.proofs.Shadows.{all-good, answer-is, opening-good}
@@ -117,14 +117,16 @@ same-sound w v p q f i r c x limits good good' a b = let request : r.request ≡
     let stores : in_slots (fresh_store_after w.limits r.request r.turns) ≡ in_slots (fresh_store_after v.limits c.request c.turns) = λ j. in_slots (fresh_store_after (limits j) (request j) (turns j)) in record {
       request = request;
       turns = turns;
-      store = a.store ∙ stores ∙ sym b.store;
-      size = λ need. size-shown w r.request.named.tree (caller_contents w p i) (in_slots (fresh_store_after w.limits r.request r.turns)) need (good.kept Memory (slot_of w p i Memory)) a.store
-          ∙ ap (λ (s : Store). length s.memory / page_size) stores
-          ∙ sym (size-shown v c.request.named.tree (caller_contents v q i) (in_slots (fresh_store_after v.limits c.request c.turns)) (ap (λ (o : Request). needs Memory o.named.tree) (sym request) ∙ need) (good'.kept Memory (slot_of v q i Memory)) b.store);
-      answer = answer-is w r a.begun_is ∙ fresh-answers w.limits v.limits r.request c.request limits request ∙ sym (answer-is v c b.begun_is);
+      same = record {
+        stores = λ _. a.store ∙ stores ∙ sym b.store;
+        sizes = λ _ need. size-shown w r.request.named.tree (caller_contents w p i) (in_slots (fresh_store_after w.limits r.request r.turns)) need (good.kept Memory (slot_of w p i Memory)) a.store
+            ∙ ap (λ (s : Store). length s.memory / page_size) stores
+            ∙ sym (size-shown v c.request.named.tree (caller_contents v q i) (in_slots (fresh_store_after v.limits c.request c.turns)) (ap (λ (o : Request). needs Memory o.named.tree) (sym request) ∙ need) (good'.kept Memory (slot_of v q i Memory)) b.store);
+        answers = answer-is w r a.begun_is ∙ fresh-answers w.limits v.limits r.request c.request limits request ∙ sym (answer-is v c b.begun_is);
+      };
     }
 
-same-calls : (w v : World) (p q : Machine) (f : FreshMachine) (i : ℕ) (a b : Option Running) (x : Option FreshCall) → w.limits ≡ v.limits → Good w p f → Good v q f → GoodCall w p i a x → GoodCall v q i b x → AreSameCalls w v p q i a b
+same-calls : (w v : World) (p q : Machine) (f : FreshMachine) (i : ℕ) (a b : Option Running) (x : Option FreshCall) → w.limits ≡ v.limits → Good w p f → Good v q f → GoodCall w p i a x → GoodCall v q i b x → OfBoth (IsSameCall w v p q i) a b
 same-calls w v p q f i None None x limits good good' g h = tt
 same-calls w v p q f i (Some r) (Some c) (Some x) limits good good' g h = same-sound w v p q f i r c x limits good good' g h
 same-calls w v p q f i (Some r) (Some c) None limits good good' g h = absurd g
@@ -134,9 +136,9 @@ same-calls w v p q f i (Some r) None None limits good good' g h = absurd g
 same-calls w v p q f i (Some r) None (Some x) limits good good' g h = absurd h
 
 -- and so are their answers
-told-same : (w v : World) (p q : Machine) (i : ℕ) (a b : Option Running) → AreSameCalls w v p q i a b → answered_by w a ≡ answered_by v b
+told-same : (w v : World) (p q : Machine) (i : ℕ) (a b : Option Running) → OfBoth (IsSameCall w v p q i) a b → answered_by w a ≡ answered_by v b
 told-same w v p q i None None s = refl
-told-same w v p q i (Some r) (Some c) s = λ j. (s.request j, s.answer j) ∷ []
+told-same w v p q i (Some r) (Some c) s = λ j. (s.request j, s.same.answers j) ∷ []
 told-same w v p q i None (Some c) s = absurd s
 told-same w v p q i (Some r) None s = absurd s
 

@@ -215,24 +215,14 @@ MarksStore w p i r store marks = let old : MemoryContents = caller_contents w p 
     let new : MemoryContents = turned w.limits.pages store marks Memory old in
     needs Memory r.request.named.tree ≡ true → KeepsUnmarked old.bytes new.bytes old.marks marks
 
--- those of a turn, and of its end
-abbrev pub MarksTurn : World → Machine → ℕ → Running → List Bool → Type 0
-MarksTurn w p i r marks = MarksStore w p i r (store_after w r (r.turns + 1)) marks
-
-abbrev pub MarksEnd : World → Machine → ℕ → Running → List Bool → Type 0
-MarksEnd w p i r marks = MarksStore w p i r (last_store w r) marks
-
-abbrev pub MayTurn : World → Machine → ℕ → List Bool → Type 0
-MayTurn w p i marks = (r : Running) × (p.calls i ≡ Some r) × CanTurn w r × MarksTurn w p i r marks
-
 abbrev pub MayHappen : World → Machine → WorldEvent → Type 0
 MayHappen w p (Step k e) = (refusal_of (p.core k) e ≡ 0) × IsFree w p k (seat_of e)
 MayHappen w p (Prepare k s m) = HasOut p k s × IsFree w p k s × IsModule w m
 MayHappen w p (Restore k s) = HasOut p k s × IsFree w p k s × (is_some (owner k (p.contents k (held_by p k s))) ≡ true)
 MayHappen w p (Clear k s x) = HasOut p k s × IsFree w p k s × IsCold w.limits.pages k x
 MayHappen w p (Begin i q) = (p.calls i ≡ None) × ((k : Kind) → needs k q.named.tree ≡ true → HasOut p k (w.seats k i)) × IsModule w q.named × IsCallable q
-MayHappen w p (Turn i marks) = MayTurn w p i marks
-MayHappen w p (End i marks) = (r : Running) × (p.calls i ≡ Some r) × ¬ (CanTurn w r) × MarksEnd w p i r marks
+MayHappen w p (Turn i marks) = (r : Running) × (p.calls i ≡ Some r) × CanTurn w r × MarksStore w p i r (store_after w r (r.turns + 1)) marks
+MayHappen w p (End i marks) = (r : Running) × (p.calls i ≡ Some r) × ¬ (CanTurn w r) × MarksStore w p i r (last_store w r) marks
 MayHappen w p (Cancel i) = (r : Running) × (p.calls i ≡ Some r)
 
 -- ---- lists of events

@@ -1,16 +1,14 @@
 -- Pools of several tenants, each of whom has pools of its own: what its callers see is decided by its own events, and how much of it all is warm.
-use Rattle.std.specs.Prelude.{◌≡◌, ℕ, ◌<◌, ◌≤◌, ◌==◌, true, if◌then◌else◌, List, [], ◌∷◌, ◌++◌, length, slice_index, sum, Option, Some, None}
+use Rattle.std.specs.Prelude.{◌≡◌, ℕ, ◌<◌, ◌≤◌, ◌==◌, if◌then◌else◌, List, [], ◌∷◌, ◌++◌, length, slice_index, sum, Option}
 use Rattle.std.specs.List.{count_by, range_with_len, sum_by}
 use Rattle.wasm_values.specs.declared.outcome.Outcome.{Outcome}
 use Rattle.pool_core.specs.StateWords.{packed}
 use Rattle.pool_core.specs.Lawful.{is_free_warm}
 use Rattle.pool_core.specs.PoolCore.{PoolCore, word_at}
 use Rattle.pool_core.specs.declared.events.Event.TheVariants.{Claim}
-use Rattle.pool_worlds.specs.Contents.{needs, shown_store}
 use Rattle.pool_worlds.specs.declared.kinds.Kind.{Kind}
-use Rattle.pool_worlds.specs.declared.kinds.Kind.TheVariants.{Memory}
-use Rattle.pool_worlds.specs.PoolMachine.{World, Request, Running, Machine, WorldEvent, Step, caller_contents, answer, after, MayHappen, IsOpening}
-use Rattle.pool_worlds.specs.Worlds.{answered}
+use Rattle.pool_worlds.specs.PoolMachine.{World, Request, Running, Machine, WorldEvent, Step, after, MayHappen, IsOpening}
+use Rattle.pool_worlds.specs.Worlds.{answered, OfBoth, SameToCaller}
 
 -- an event of one tenant's passes
 pub record TenantEvent : Type 0 where
@@ -60,19 +58,12 @@ tenant_answers ws ps (e ∷ es) t i = (if t == e.tenant then answered (ws t) (ps
 pub record IsSameCall (w v : World) (p q : Machine) (i : ℕ) (r c : Running) : Type 0 where
   pub request : r.request ≡ c.request
   pub turns : r.turns ≡ c.turns
-  pub store : shown_store r.request.named.tree (caller_contents w p i) ≡ shown_store c.request.named.tree (caller_contents v q i)
-  pub size : needs Memory r.request.named.tree ≡ true → (caller_contents w p i Memory).pages ≡ (caller_contents v q i Memory).pages
-  pub answer : answer w r ≡ answer v c
-
-abbrev pub AreSameCalls : (w v : World) (p q : Machine) (i : ℕ) → Option Running → Option Running → Type 0
-AreSameCalls w v p q i None None = Unit {0}
-AreSameCalls w v p q i (Some r) (Some c) = IsSameCall w v p q i r c
-AreSameCalls w v p q i call other = ⊥
+  pub same : SameToCaller w v p q i i r c
 
 -- a tenant's pools in two worlds: the same words, counts and seats, and for each caller the same running call
 pub record LookSame (w v : World) (p q : Machine) : Type 0 where
   pub cores : (k : Kind) → p.core k ≡ q.core k
-  pub calls : (i : ℕ) → AreSameCalls w v p q i (p.calls i) (q.calls i)
+  pub calls : (i : ℕ) → OfBoth (IsSameCall w v p q i) (p.calls i) (q.calls i)
 
 -- two worlds in which pools of one tenant opened alike
 pub record OpenAlike (w v : World) (p q : Machine) : Type 0 where

@@ -26,14 +26,15 @@ pub record Shadows (w : World) (p : Machine) (i : ℕ) (r : Running) (c : FreshC
   pub past : needs Memory r.request.named.tree ≡ true → IsZeroPast (caller_contents w p i Memory)
   pub answer : answer w r ≡ fresh_answer w.limits c.request
 
-abbrev pub ShadowsCall : World → Machine → ℕ → Option Running → Option FreshCall → Type 0
-ShadowsCall w p i None None = Unit {0}
-ShadowsCall w p i (Some r) (Some c) = Shadows w p i r c
-ShadowsCall w p i call fresh = ⊥
+-- it is so of both, or there is neither
+abbrev pub OfBoth : {A B : Type 0} → (A → B → Type 0) → Option A → Option B → Type 0
+OfBoth IsSo None None = Unit {0}
+OfBoth IsSo (Some a) (Some b) = IsSo a b
+OfBoth IsSo a b = ⊥
 
 -- so does each caller's
 abbrev pub Shadow : World → Machine → FreshMachine → Type 0
-Shadow w p f = (i : ℕ) → ShadowsCall w p i (p.calls i) (f i)
+Shadow w p f = (i : ℕ) → OfBoth (Shadows w p i) (p.calls i) (f i)
 
 -- Whatever events came, each running call shows a fresh instance.
 abbrev pub AlwaysShadow : Type 0

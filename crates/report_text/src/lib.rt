@@ -1,6 +1,7 @@
 //! The report's lines: how loadings, retirements and calls went, as text and as a summary.
 #![tactic(auto)]
 
+mod digits;
 pub mod laws;
 mod report;
 mod summary;

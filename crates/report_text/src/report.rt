@@ -2,6 +2,7 @@
 ghost use Rattle.std.specs.Prelude.{◌≡◌, ◌++◌, OnOk, OnErr, IfOk, IsOk};
 ghost use Rattle.report_text.specs.Lines.{bytes_text, call_line, call_text, line_text, loading_text, module_line, outcome_text, report_text, retire_line, trap_text, value_text};
 
+use crate::digits::hex_digits;
 use itoa::Buffer;
 use std::alloc::{AllocError, Global};
 use wasm_values::{Items, NoMemory, Outcome, TrapKind, Val};
@@ -115,8 +116,8 @@ fn push_bytes(alloc: Global, line: &mut Vec<u8>, bytes: &[u8]) -> Result<(), All
     if bytes.is_empty() {
         return line.extend_from_slice(b"-");
     }
-    let digits = hex::encode(alloc, bytes)?;
-    line.extend_from_slice(digits.as_bytes())
+    let digits = hex_digits(alloc, bytes)?;
+    line.extend_from_slice(&digits)
 }
 
 // Appends how a call went.
@@ -247,17 +248,18 @@ pub fn write_call(alloc: Global, out: &mut Vec<u8>, k: u32, line: &CallLine) -> 
     append(out, &text, made)
 }
 
-/// The text of a report: its lines one after the other. Source: `specs/Lines.antt`, `report_text`.
+/// The text of a report: its lines one after the other. Each line is freed once it is written. Source: `specs/Lines.antt`,
+/// `report_text`.
 ///
 /// # Errors
 ///
 /// `NoMemory` where memory is refused.
-pub fn report_text(alloc: Global, lines: &[ReportLine]) -> Result<Vec<u8>, NoMemory>
-    ensures { IfOk result (λ text. text.items ≡ report_text lines.now) }
+pub fn report_text(alloc: Global, lines: Vec<ReportLine>) -> Result<Vec<u8>, NoMemory>
+    ensures { IfOk result (λ text. text.items ≡ report_text lines.items) }
 {
     let mut text = Vec::new(alloc);
     for line in lines {
-        push_line(alloc, &mut text, line).map_err(|_| NoMemory)?;
+        push_line(alloc, &mut text, &line).map_err(|_| NoMemory)?;
     }
     Ok(text)
 }

@@ -1,8 +1,11 @@
+pub mod InvocationLemmas
 pub mod LineLemmas
 pub mod ReadingLemmas
 pub mod PlaceLemmas
 pub mod TenantLemmas
+pub mod FileLemmas
 pub mod PlanLemmas
+pub mod SliceLemmas
 pub mod TextExamples
 pub mod ProfileExamples
 pub mod TenantExamples

@@ -1,8 +1,8 @@
 -- The tenants of a file that is read may have what they want.
 use Rattle.std.proofs.Common.{◌≡◌, ◌∙◌, ◌+◌, ◌≤◌, ◌&&◌, ◌++◌, ℕ, List, [], ◌∷◌, length, subst, sym, codes, arith, length-append}
-use Rattle.std.specs.Prelude.{Result, Ok, Err, None, IfOk, nat_lt}
+use Rattle.std.specs.Prelude.{Result, Ok, Err, None, IfOk}
 use Rattle.std.specs.Str.{bytes_eq}
-use Rattle.std.specs.List.{All, list_all}
+use Rattle.std.specs.List.{All}
 use Rattle.std.proofs.lemmas.Bool.{cond_both}
 use Rattle.std.proofs.lemmas.List.Elements.{All-push}
 use Rattle.pool_limits.specs.declared.numbers.Numbers.{Numbers}
@@ -13,10 +13,10 @@ use Rattle.request_text.specs.declared.request.Directive.{Directive}
 use Rattle.request_text.specs.declared.request.Reason.{Reason}
 use Rattle.request_text.specs.declared.request.Reason.TheVariants as why
 use Rattle.request_text.specs.Ladder.{◌>>=◌, demand}
-use Rattle.request_words.specs.Words.{is_comment, is_printable, line_words, text_lines}
 use Rattle.request_text.specs.Profiles.{has_tenants, profile_of}
 use Rattle.request_text.specs.Tenants.{Tenants, for_after, tenant_after}
-use Rattle.request_text.specs.Text.{Asked, FileRefusal, ReadLines, at_line, declared_by, directive_of, is_first, most_bytes, nothing_read, profile_after, profile_in, requests_after, requests_from, requests_of, with_directive, with_tenants, words_after}
+use Rattle.request_text.specs.Text.{Asked, ReadLines, declared_by, directive_of, is_first, profile_after, profile_in, requests_of, with_directive, with_tenants, words_after}
+use Rattle.request_text.proofs.FileLemmas.{file_has}
 use Rattle.request_text.proofs.TenantLemmas.{AddsTenant, any-IfOk, fault_is_over, for-keeps, step-IfOk, tenant-adds}
 
 -- the tenants so far may have what they want
@@ -59,25 +59,5 @@ plan_after_words n before (word ∷ words) plan =
     cond_both (has_tenants (profile_in before) && bytes_eq word (codes "for")) _ _ P (λ _. with_same n before (for_after before.tenants words) plan (for-keeps before.tenants words)) (λ _.
     with_any n before (directive_of (profile_in before) (declared_by before) word words) plan)))
 
-plan_after_line : (n : Numbers) (before : ReadLines) (line : List ℕ) → HasPlan n before → IfOk (requests_after n before line) (HasPlan n)
-unfolding requests_after
-plan_after_line n before line plan =
-    cond_both (is_comment line) _ _ (λ (read : Result ReadLines Reason). IfOk read (HasPlan n)) (λ _. plan) (λ _.
-    step-IfOk (demand (list_all is_printable line) why.BadByte) _ (λ _. Unit {0}) _ (any-IfOk (demand (list_all is_printable line) why.BadByte)) (λ _ _.
-    plan_after_words n before (line_words line) plan))
-
-plan_at_line : (n : Numbers) (line : ℕ) (read : Result ReadLines Reason) → IfOk read (HasPlan n) → IfOk (at_line line read) (HasPlan n)
-plan_at_line n line (Ok read) plan = plan
-plan_at_line n line (Err reason) plan = tt
-
-plan_from : (n : Numbers) (first : ℕ) (before : ReadLines) (lines : List (List ℕ)) → HasPlan n before → IfOk (requests_from n first before lines) (HasPlan n)
-plan_from n first before [] plan = plan
-plan_from n first before (line ∷ lines) plan =
-    step-IfOk (at_line first (requests_after n before line)) _ (HasPlan n) _ (plan_at_line n first (requests_after n before line) (plan_after_line n before line plan)) (λ read planned.
-    plan_from n (first + 1) read lines planned)
-
 pub accepted_plan : (n : Numbers) (text : List ℕ) → plan_fault n [] ≡ None → IfOk (requests_of n text) (λ asked. plan_fault n asked.wants ≡ None)
-unfolding requests_of
-accepted_plan n text plan =
-    cond_both (nat_lt most_bytes (length text)) _ _ (λ (asked : Result Asked FileRefusal). IfOk asked (λ a. plan_fault n a.wants ≡ None)) (λ _. tt) (λ _.
-    step-IfOk (requests_from n 1 nothing_read (text_lines text)) _ (HasPlan n) _ (plan_from n 1 nothing_read (text_lines text) plan) (λ read planned. planned))
+accepted_plan n text plan = file_has n (HasPlan n) (λ (asked : Asked). plan_fault n asked.wants ≡ None) (plan_after_words n) plan (λ read planned. planned) text

@@ -25,7 +25,7 @@ module_names-more before directive = filter_map-append module_name before (direc
 call_count-more : (before : List Directive) (directive : Directive) → call_count (before ++ directive ∷ []) ≡ call_count before + call_count (directive ∷ [])
 call_count-more before directive = sum_by-append (λ x. cond (is_call x) 1 0) before (directive ∷ [])
 
-retired_places-more : (before : List Directive) (directive : Directive) → retired_places (before ++ directive ∷ []) ≡ retired_places before ++ retired_places (directive ∷ [])
+pub retired_places-more : (before : List Directive) (directive : Directive) → retired_places (before ++ directive ∷ []) ≡ retired_places before ++ retired_places (directive ∷ [])
 retired_places-more before directive = filter_map-append retired_place before (directive ∷ [])
 
 abbrev declared : Tenants → List (List ℕ) → List ℕ → ℕ → Declared

@@ -5,8 +5,6 @@ use Rattle.std.specs.List.{All}
 use Rattle.request_text.specs.declared.request.Directive.{Directive}
 use Rattle.request_text.specs.declared.request.Directive.TheVariants.{Module, Call, Retire}
 use Rattle.request_text.specs.declared.request.Reason.{Reason}
-use Rattle.hex.specs.declared.error.FromHexError.{FromHexError}
-use Rattle.hex.specs.declared.error.FromHexError.TheVariants.{OutOfMemory}
 use Rattle.request_text.specs.declared.fault.LineFault.{LineFault}
 use Rattle.request_text.specs.declared.request.ParseFault.{ParseFault}
 use Rattle.request_text.specs.declared.request.ParseFault.TheVariants.{TextFault, TooLong, NoMemory}
@@ -28,11 +26,6 @@ Explains judged.NoMemory meaning = ⊤
 -- an answer is the definition's, but for want of memory
 abbrev pub Agrees : {A : Type 0} → Result A LineFault → Result A Reason → Type 0
 Agrees result meaning = MatchResult result (λ x. meaning ≡ Ok x) (λ fault. Explains fault meaning)
-
--- the fault of digits that are not decoded: want of memory stays want of memory, and every other error has this reason
-abbrev pub hex_fault : Reason → FromHexError → LineFault
-hex_fault reason OutOfMemory = judged.NoMemory
-hex_fault reason error = judged.Refused reason
 
 -- the parser's fault for that of the line with this number
 abbrev pub fault_at : ℕ → LineFault → ParseFault

@@ -177,6 +177,16 @@ pub record AreRequests (wants : List Want) (directives : List Directive) : Type 
   pub few_calls : call_count directives ≤ most_calls
   pub few_tenants : length wants ≤ 15
 
+-- where the calls of a file may be made in slices no tenant wants a share, and no module is retired
+pub record MayRunInSlices (wants : List Want) (directives : List Directive) : Type 0 where
+  pub no_tenants : wants ≡ []
+  pub none_retired : retired_places directives ≡ []
+
+-- what holds of each file that is read in this profile: its calls are made whole, or they may be made in slices
+pub record IsFile (profile : FileProfile) (wants : List Want) (directives : List Directive) : Type 0 where
+  pub lawful : AreRequests wants directives
+  pub slices : runs_whole profile ≡ false → MayRunInSlices wants directives
+
 -- ---- the lines in turn
 
 -- what the lines so far ask for: the profile, if one of them names it, tenants and directives

@@ -1,9 +1,9 @@
 //! One line of a request file is read.
 ghost use Rattle.std.specs.Prelude.{◌≡◌, ◌<◌, IfOk, length};
-ghost use Rattle.std.specs.Option.{ok_or};
+ghost use Rattle.std.specs.Option.{ok_or, option_map};
 ghost use Rattle.request_words.specs.Words.{arguments_of, hex_bytes, line_words};
 ghost use Rattle.request_text.specs.Text.{call_directive_of, call_of, directive_of, module_directive_of, request_of, retire_directive_of, send_directive_of};
-ghost use Rattle.request_text.specs.Reading.{Agrees, HasRoom, hex_fault};
+ghost use Rattle.request_text.specs.Reading.{Agrees, HasRoom};
 
 use crate::fault::LineFault;
 use crate::file_profile::FileProfile;
@@ -11,7 +11,6 @@ use crate::invocation::Invocation;
 use crate::request::{Directive, MOST_NAME_BYTES, Reason};
 use crate::scope::Scope;
 use call_payload::Payload;
-use hex::FromHexError;
 use request_words::{argument, fuel, next_word};
 use std::alloc::Global;
 use wasm_values::{Items, Val};
@@ -24,15 +23,13 @@ fn copied(alloc: Global, bytes: &[u8]) -> Result<Items<u8>, LineFault>
     Ok(Items::new(copy))
 }
 
-// The fault of digits that are not decoded: they are refused for this reason, and want of memory stays want of memory.
-fn hex_fault(reason: Reason, error: FromHexError) -> LineFault
-    ensures { result ≡ hex_fault reason error }
+// What was spelt, or this reason where nothing was.
+fn spelt(bytes: Option<Vec<u8>>, reason: Reason) -> Result<Items<u8>, Reason>
+    ensures { result ≡ ok_or (option_map (λ b. b.items) bytes) reason }
 {
-    match error {
-        FromHexError::OutOfMemory => LineFault::NoMemory,
-        FromHexError::InvalidHexCharacter { .. }
-        | FromHexError::OddLength
-        | FromHexError::InvalidStringLength => LineFault::Refused(reason),
+    match bytes {
+        Some(bytes) => Ok(Items::new(bytes)),
+        None => Err(reason),
     }
 }
 
@@ -40,10 +37,8 @@ fn hex_fault(reason: Reason, error: FromHexError) -> LineFault
 fn hex_bytes(alloc: Global, digits: &[u8], reason: Reason) -> Result<Items<u8>, LineFault>
     ensures { Agrees result (ok_or (hex_bytes digits.now) reason) }
 {
-    match hex::decode(alloc, digits) {
-        Ok(bytes) => Ok(Items::new(bytes)),
-        Err(error) => Err(hex_fault(reason, error)),
-    }
+    let bytes = request_words::hex_bytes(alloc, digits)?;
+    Ok(spelt(bytes, reason)?)
 }
 
 // What the words after `module` ask for.

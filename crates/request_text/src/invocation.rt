@@ -1,8 +1,8 @@
 //! What a line asks of a module.
 ghost use Rattle.std.specs.Prelude.{◌≡◌, ◌≤◌, IfOk, length};
-ghost use Rattle.request_text.specs.Invocations.{sent_by, shown_of};
+ghost use Rattle.request_text.specs.Invocations.{sent_by, shown_of, Asks};
 
-use call_payload::{MOST_REQUEST, Payload};
+use call_payload::{Call, MOST_REQUEST, Payload};
 use std::alloc::Global;
 use wasm_values::{Items, NoMemory, Val};
 
@@ -37,6 +37,18 @@ fn copied(alloc: Global, request: &Option<Payload>) -> Result<Option<Payload>, N
 }
 
 impl Invocation {
+    /// What is asked of the module. Takes no memory.
+    pub fn call(&self) -> Call<'_>
+        ensures { Asks self.now result }
+    {
+        Call {
+            export: self.export.as_slice(),
+            args: self.args.as_slice(),
+            request: self.sent(),
+            fuel: self.fuel as u64,
+        }
+    }
+
     /// The bytes that the call is sent. Takes no memory.
     pub fn sent(&self) -> &[u8]
         ensures bytes { result.now ≡ sent_by self.now }

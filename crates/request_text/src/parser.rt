@@ -9,6 +9,7 @@ use crate::fault::LineFault;
 use crate::reading::Reading;
 use crate::request::{MOST_BYTES, ParseFault, Requests};
 use pool_limits::PoolConfig;
+use request_words::next_line;
 use std::alloc::Global;
 
 // The fault of the line with this number.
@@ -29,12 +30,15 @@ fn read_lines(alloc: Global, config: &PoolConfig, text: &[u8]) -> Result<Reading
 {
     let mut reading = Reading::new(alloc);
     let mut number = 0u32;
-    for line in text.split(|byte| *byte == b'\n') {
+    let mut left = Some(text);
+    while let Some(rest) = left {
+        let (line, after) = next_line(rest);
         number += 1;
         reading = match reading.after(alloc, config, line) {
             Ok(reading) => reading,
             Err(fault) => return Err(at_line(number, fault)),
         };
+        left = after;
     }
     Ok(reading)
 }

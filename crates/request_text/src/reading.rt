@@ -1,8 +1,9 @@
 //! What was read so far.
-ghost use Rattle.std.specs.Prelude.{◌≡◌, IfOk, IfErr};
+ghost use Rattle.std.specs.Prelude.{◌≡◌, IfOk, IfErr, false};
 ghost use Rattle.request_words.specs.Words.{line_words};
+ghost use Rattle.request_text.specs.Profiles.{runs_whole};
 ghost use Rattle.request_text.specs.Tenants.{for_after, tenant_after};
-ghost use Rattle.request_text.specs.Text.{asked_by, declared_by, directive_of, nothing_read, profile_after, profile_in, requests_after, with_directive, with_tenants, words_after};
+ghost use Rattle.request_text.specs.Text.{MayRunInSlices, asked_by, declared_by, directive_of, nothing_read, profile_after, profile_in, requests_after, with_directive, with_tenants, words_after};
 ghost use Rattle.request_text.specs.Reading.{Agrees, HasRoom};
 
 use crate::directive::line_directive;
@@ -179,6 +180,7 @@ impl Reading {
 
     // What a file of the lines that were read asks for. Takes no memory.
     pub(crate) fn requests(self) -> Requests
+        requires { runs_whole (profile_in self) ≡ false → MayRunInSlices self.tenants.wants self.directives }
         ensures { result ≡ asked_by self }
     {
         let profile = self.profile();

@@ -1,8 +1,8 @@
 //! What a request file asks for, and why one is refused.
-ghost use Rattle.std.specs.Prelude.{◌≡◌, ◌≤◌, Some, length};
+ghost use Rattle.std.specs.Prelude.{◌≡◌, ◌≤◌, Some, false, length};
 ghost use Rattle.request_text.specs.Refusal.{reason_text};
 ghost use Rattle.request_text.specs.Profiles.{modules_profile, runs_whole};
-ghost use Rattle.request_text.specs.Text.{AreRequests};
+ghost use Rattle.request_text.specs.Text.{AreRequests, MayRunInSlices};
 
 use crate::file_profile::FileProfile;
 use crate::invocation::Invocation;
@@ -60,19 +60,20 @@ pub struct Requests {
 
 impl Model for Requests {
     ghost use Rattle.request_text.specs.Profiles.{modules_profile, runs_whole};
-    ghost use Rattle.request_text.specs.Text.{AreRequests, Asked};
+    ghost use Rattle.request_text.specs.Text.{Asked, IsFile};
 
     ghost Value = { Asked };
 
     ghost view = { λ r. record { profile = modules_profile r.profile; whole = runs_whole r.profile; wants = r.wants.items; directives = r.directives.items } };
 
-    ghost invariant = { λ r. AreRequests r.wants.items r.directives.items };
+    ghost invariant = { λ r. IsFile r.profile r.wants.items r.directives.items };
 }
 
 impl Requests {
     // The requests of these directives, in this profile, of tenants that want this. Takes no memory.
     pub(crate) fn new(profile: FileProfile, wants: Vec<Want>, directives: Vec<Directive>) -> Self
-        requires { AreRequests wants.items directives.items }
+        requires lawful { AreRequests wants.items directives.items }
+        requires slices { runs_whole profile ≡ false → MayRunInSlices wants.items directives.items }
         ensures profile { result.profile ≡ modules_profile profile }
         ensures whole { result.whole ≡ runs_whole profile }
         ensures wants { result.wants ≡ wants.items }
@@ -92,9 +93,11 @@ impl Requests {
         self.profile.of_modules()
     }
 
-    /// Whether each call is made whole, and not in slices, as those of a file are from profile 4 on.
+    /// Whether each call is made whole, and not in slices, as those of a file are from profile 4 on. Where they may be made in slices,
+    /// no tenant wants a share and no module is retired.
     pub fn runs_whole(&self) -> bool
-        ensures { result ≡ self.now.whole }
+        ensures whole { result ≡ self.now.whole }
+        ensures slices { self.now.whole ≡ false → MayRunInSlices self.now.wants self.now.directives }
     {
         self.profile.runs_whole()
     }

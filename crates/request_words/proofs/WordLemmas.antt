@@ -1,14 +1,65 @@
--- How the words of a line begin.
-use Rattle.std.proofs.Common.{◌≡◌, ◌==◌, ◌+◌, ◌≤◌, ℕ, suc, Bool, true, false, not, cond, List, [], ◌∷◌, length, take, drop, refl, ap, sym, ◌∙◌, Some, None, arith}
+-- How the lines of a text and the words of a line begin.
+use Rattle.std.proofs.Common.{◌≡◌, ◌==◌, ◌+◌, ◌<◌, ◌≤◌, ℕ, suc, Bool, true, false, not, cond, List, [], ◌∷◌, length, take, drop, refl, ap, sym, ◌∙◌, Some, None, arith}
 use Rattle.std.specs.List.{slice_split, onto_first, position_or_len, position, filter}
 use Rattle.std.proofs.Common.{subst}
-use Rattle.std.proofs.lemmas.Bool.{not-true}
+use Rattle.std.specs.Prelude.{IfSome, Option}
+use Rattle.std.proofs.lemmas.Bool.{cond-true, cond-false, false_from_ne_true, le-ltb, lt-ltb, ltb-true, not-true}
 use Rattle.std.proofs.lemmas.Bool.Decides.{nat_tests}
-use Rattle.std.proofs.lemmas.List.{drop_all}
+use Rattle.std.proofs.lemmas.List.{drop_all, get_or-take, length-take}
 use Rattle.std.proofs.lemmas.List.Quantifiers.{position-Some}
+use Rattle.std.proofs.lemmas.List.Splits.{slice_split_first, slice_split_none}
+use Rattle.std.proofs.lemmas.List.Sums.{fails_before_first, position_or_len_is}
 use Rattle.std.proofs.lemmas.Option.{cond_some}
 use Rattle.std.proofs.Math.Seq.{drop-cons}
-use Rattle.request_words.specs.Words.{line_words, is_empty}
+use Rattle.memchr.specs.Find.{IsFirstByte}
+use Rattle.request_words.specs.Words.{line_words, is_empty, text_lines}
+
+-- ---- the first place of a byte
+
+-- a search answers the first place that passes
+pub first_is_position : (p : ℕ → Bool) (xs : List ℕ) (r : Option ℕ) → IsFirstByte p xs r → r ≡ position p xs
+first_is_position p xs None none =
+    let last : position_or_len p xs ≡ length xs =
+    position_or_len_is p xs (length xs) 0 (omega arith) (λ k lt. false_from_ne_true _ (none k (omega arith) lt)) (λ lt. absurd (omega arith)) in
+    sym (cond-false _ _ _ (le-ltb (position_or_len p xs) (length xs) (omega (arith, last))))
+first_is_position p xs (Some k) (first, passes) =
+    let high = first.high in
+    let here : position_or_len p xs ≡ k = position_or_len_is p xs k 0 (omega arith) (λ j lt. false_from_ne_true _ (first.before j (omega arith) lt)) (λ lt. passes) in
+    sym (cond-true _ _ _ (lt-ltb (position_or_len p xs) (length xs) (omega (arith, here, high))) ∙ ap Some here)
+
+pub first_within : (p : ℕ → Bool) (xs : List ℕ) (r : Option ℕ) → IsFirstByte p xs r → IfSome r (λ k. k < length xs)
+first_within p xs None none = tt
+first_within p xs (Some k) (first, passes) = first.high
+
+-- what is found among the first elements is the first of all
+pub position-near : (p : ℕ → Bool) (n k : ℕ) (xs : List ℕ) → position p (take n xs) ≡ Some k → position p xs ≡ Some k
+position-near p n k xs found =
+    let at = position-Some p (take n xs) k 0 found in
+    let short = length-take n xs in
+    let here : position_or_len p xs ≡ k = position_or_len_is p xs k 0 (omega (arith, short, at.0))
+    (λ j lt. ap p (sym (get_or-take n xs j 0 (omega (arith, short, at.0)))) ∙ at.2 j lt)
+    (λ lt. ap p (sym (get_or-take n xs k 0 (omega (arith, short, at.0)))) ∙ at.1) in
+    cond-true _ _ _ (lt-ltb (position_or_len p xs) (length xs) (omega (arith, here, short, at.0))) ∙ ap Some here
+
+-- ---- lines
+
+abbrev pub is_feed : ℕ → Bool
+is_feed b = b == 10
+
+-- a text with a line feed begins with the line before it
+pub lines-first : (text : List ℕ) (end : ℕ) → position is_feed text ≡ Some end → text_lines text ≡ take end text ∷ text_lines (drop (end + 1) text)
+lines-first text end found =
+    let first = cond_some _ _ _ found in
+    slice_split_first is_feed text 0 (ltb-true _ _ first.0) ∙ ap (λ (n : ℕ). take n text ∷ text_lines (drop (n + 1) text)) first.1
+
+-- one without is a line
+pub lines-last : (text : List ℕ) → position is_feed text ≡ None → text_lines text ≡ text ∷ []
+lines-last text none =
+    let n = position_or_len is_feed text in
+    let short : length text ≤ n = grind (arith, nat_tests) in
+    slice_split_none is_feed text (λ k d lt. fails_before_first is_feed text k d (omega arith))
+
+-- ---- words
 
 abbrev pub is_space : ℕ → Bool
 is_space b = b == 32

@@ -1,5 +1,5 @@
 //! What a word stands for: a fuel, an argument.
-ghost use Rattle.std.specs.Prelude.{◌≡◌, ◌^◌, ◌<◌, ◌≤◌, ◌&&◌, true, not, length, IfSome, MatchOption};
+ghost use Rattle.std.specs.Prelude.{◌≡◌, ◌+◌, ◌-◌, ◌*◌, ◌^◌, ◌≤◌, ◌&&◌, true, not, IfSome, MatchOption};
 ghost use Rattle.std.specs.Char.{is_ascii_digit};
 ghost use Rattle.std.specs.List.{list_all};
 ghost use Rattle.std.specs.Str.Parse.{digits_value};
@@ -22,16 +22,24 @@ fn is_numeral(word: &[u8]) -> bool
     !word.is_empty() && are_digits(word)
 }
 
+// The number with one digit more behind it, if that is below 2^64.
+fn with_digit(number: u64, digit: u8) -> Option<u64>
+    requires { (48 ≤ digit) × (digit ≤ 57) }
+    ensures { MatchOption result (2 ^ 64 ≤ number * 10 + (digit - 48)) (λ n. n ≡ number * 10 + (digit - 48)) }
+{
+    number.checked_mul(10)?.checked_add(u64::from(digit - b'0'))
+}
+
 // The number that digits write, if it is below 2^64.
 fn number(digits: &[u8]) -> Option<u64>
-    requires some { 0 < length digits.now }
-    requires digits { list_all is_ascii_digit digits.now ≡ true }
+    requires { list_all is_ascii_digit digits.now ≡ true }
     ensures { MatchOption result (2 ^ 64 ≤ digits_value 10 digits.now) (λ n. n ≡ digits_value 10 digits.now) }
 {
-    match str::from_utf8(digits) {
-        Ok(text) => text.parse::<u64>().ok(),
-        Err(_) => None,
+    let mut number = 0;
+    for digit in digits {
+        number = with_digit(number, *digit)?;
     }
+    Some(number)
 }
 
 /// The number that a word of digits alone writes, if it is at most `most`.

@@ -1,7 +1,32 @@
 //! The words of a line.
-ghost use Rattle.std.specs.Prelude.{◌≡◌, ◌==◌, ◌≤◌, not, [], ◌∷◌, length, take, drop, position, MatchOption, IfSome};
+ghost use Rattle.std.specs.Prelude.{◌≡◌, ◌==◌, ◌<◌, ◌≤◌, not, [], ◌∷◌, length, take, drop, position, MatchOption, IfSome};
 ghost use Rattle.std.specs.List.{list_all, position_or_len};
-ghost use Rattle.request_words.specs.Words.{is_comment, is_printable, line_words};
+ghost use Rattle.request_words.specs.Words.{is_comment, is_printable, line_words, text_lines};
+
+use memchr::memchr;
+
+// How many bytes a short word has at most.
+const SHORT_WORD: usize = 16;
+
+// Where a byte first stands in a text, if it stands there.
+fn first_place(byte: u8, text: &[u8]) -> Option<usize>
+    ensures place { result ≡ position (λ b. b == byte) text.now }
+    ensures within { IfSome result (λ place. place < length text.now) }
+{
+    memchr(byte, text)
+}
+
+/// The first line of a text, and what follows its end, if it has one.
+pub fn next_line(text: &[u8]) -> (&[u8], Option<&[u8]>)
+    ensures lines { MatchOption result.1 (text_lines text.now ≡ result.0.now ∷ [])
+        (λ rest. text_lines text.now ≡ result.0.now ∷ text_lines rest.now) }
+    ensures shorter { IfSome result.1 (λ rest. length rest.now < length text.now) }
+{
+    match first_place(b'\n', text) {
+        Some(end) => (&text[..end], Some(&text[end + 1..])),
+        None => (text, None),
+    }
+}
 
 // Where the first word of a line begins, if the line has one.
 fn word_start(line: &[u8]) -> Option<usize>
@@ -11,12 +36,23 @@ fn word_start(line: &[u8]) -> Option<usize>
     line.iter().position(|byte| *byte != b' ')
 }
 
-// Where the first space of a text is, if it has one.
-fn first_space(text: &[u8]) -> Option<usize>
+// Where the first space of a text is, if it has one, looking at byte after byte.
+fn near_space(text: &[u8]) -> Option<usize>
     ensures place { result ≡ position (λ b. b == 32) text.now }
-    ensures within { IfSome result (λ end. end ≤ length text.now) }
 {
     text.iter().position(|byte| *byte == b' ')
+}
+
+// Where the first space of a text is, if it has one. Most words are short, so it looks at some bytes one by one first.
+fn first_space(text: &[u8]) -> Option<usize>
+    ensures place { result ≡ position (λ b. b == 32) text.now }
+    ensures within { IfSome result (λ place. place < length text.now) }
+{
+    let near = &text[..text.len().min(SHORT_WORD)];
+    if let Some(place) = near_space(near) {
+        return Some(place);
+    }
+    first_place(b' ', text)
 }
 
 // The word with which a text begins, and what follows it.
@@ -44,9 +80,13 @@ pub fn is_comment(line: &[u8]) -> bool
     line.first() == Some(&b'#')
 }
 
-/// Whether each byte is printable ASCII.
+/// Whether each byte is printable ASCII. No byte ends the loop early, so that it looks at many in one step.
 pub fn is_printable(line: &[u8]) -> bool
     ensures { result ≡ list_all is_printable line.now }
 {
-    line.iter().all(|byte| b' ' <= *byte && *byte <= b'~')
+    let mut all = true;
+    for byte in line {
+        all &= b' ' <= *byte && *byte <= b'~';
+    }
+    all
 }

@@ -1,6 +1,7 @@
 //! Whole runs over sources and sinks in memory.
+use crate::running::{Ends, Run, SOUND, check, ended, over, status_of};
 use host_edge::{Failed, Gate, MemSink, MemSource, OpenGate, Sink};
-use host_run::{refuse_words, serve};
+use host_run::refuse_words;
 use std::alloc::Global;
 use std::process::Abort;
 use std::sync::Wait;
@@ -8,18 +9,7 @@ use std::sync::atomic::{AtomicU64, Ordering};
 use std::test::Fail;
 use std::thread::Threads;
 
-// A run over a source and a sink in memory. Of each: the size of its pieces, and the calls that fail.
-#[derive(Clone, Copy)]
-struct Run {
-    words: &'static [&'static str],
-    bytes: &'static [u8],
-    source: (usize, &'static [u64]),
-    sink: (usize, &'static [u64]),
-    status: u8,
-    written: &'static [u8],
-}
-
-const RUN: &[&str] = &["poolhost", "run"];
+const RUN: &str = "poolhost run";
 
 // A module that exports the addition of two i32 under the name add, and a call of it.
 const ADDITION: &[u8] =
@@ -37,6 +27,9 @@ call add add 0 i32:2 i32:3
 call add add 100 i32:2
 call add sub 9 i32:1
 ";
+
+const CALLS_REPORT: &[u8] =
+    b"module add ok\n1 ok i32:-2147483648\n2 ok i32:0\n3 ok i32:5\n4 fuel\n5 fuel\n6 refused args\n7 refused export\n";
 
 const MODULES: &[u8] = b"module e 0061736d01000000
 call e x 1
@@ -163,56 +156,53 @@ call cnt c 18 i32:3
 const RUNS: [Run; 9] = [
     // a call of an addition
     Run {
-        words: RUN,
+        line: RUN,
         bytes: ADDITION,
-        source: (4096, &[]),
-        sink: (4096, &[]),
+        ends: SOUND,
         status: 0,
         written: b"module add ok\n1 ok i32:5\n",
     },
     // as many memories as there may be
     Run {
-        words: &["poolhost", "run", "--memories", "1024", "--pages", "1"],
+        line: "poolhost run --memories 1024 --pages 1",
         bytes: ADDITION,
-        source: (4096, &[]),
-        sink: (4096, &[]),
+        ends: SOUND,
         status: 0,
         written: b"module add ok\n1 ok i32:5\n",
     },
     // in small pieces
     Run {
-        words: RUN,
+        line: RUN,
         bytes: ADDITION,
-        source: (3, &[]),
-        sink: (1, &[]),
+        ends: Ends {
+            source: (3, &[]),
+            sink: (1, &[]),
+        },
         status: 0,
         written: b"module add ok\n1 ok i32:5\n",
     },
     // sums, fuel, exports and arguments
     Run {
-        words: RUN,
+        line: RUN,
         bytes: CALLS,
-        source: (4096, &[]),
-        sink: (4096, &[]),
+        ends: SOUND,
         status: 0,
-        written: b"module add ok\n1 ok i32:-2147483648\n2 ok i32:0\n3 ok i32:5\n4 fuel\n5 fuel\n6 refused args\n7 refused export\n",
+        written: CALLS_REPORT,
     },
     // an empty module, one that is cut off, and padded counts
     Run {
-        words: RUN,
+        line: RUN,
         bytes: MODULES,
-        source: (4096, &[]),
-        sink: (4096, &[]),
+        ends: SOUND,
         status: 0,
         written: b"module e ok\n1 refused export\nmodule cut refused malformed\n2 refused module\nmodule p ok\nmodule q refused malformed\n\
             module i refused invalid\nmodule f refused unsupported\n",
     },
     // functions of other shapes
     Run {
-        words: RUN,
+        line: RUN,
         bytes: SHAPES,
-        source: (4096, &[]),
-        sink: (4096, &[]),
+        ends: SOUND,
         status: 0,
         written: b"module rec ok\nmodule div ok\nmodule stop ok\nmodule mem ok\n\
             1 ok i32:0\n2 fuel\n3 trap exhausted\n4 trap overflow\n5 trap divide\n6 ok i64:-3\n7 trap unreachable\n\
@@ -220,28 +210,25 @@ const RUNS: [Run; 9] = [
     },
     // no line
     Run {
-        words: RUN,
+        line: RUN,
         bytes: b"",
-        source: (4096, &[]),
-        sink: (4096, &[]),
+        ends: SOUND,
         status: 0,
         written: b"",
     },
     // a frame that is enough
     Run {
-        words: &["poolhost", "run", "--frame", "5"],
+        line: "poolhost run --frame 5",
         bytes: ADDITION,
-        source: (4096, &[]),
-        sink: (4096, &[]),
+        ends: SOUND,
         status: 0,
         written: b"module add ok\n1 ok i32:5\n",
     },
     // a frame that is too small
     Run {
-        words: &["poolhost", "run", "--frame", "4"],
+        line: "poolhost run --frame 4",
         bytes: ADDITION,
-        source: (4096, &[]),
-        sink: (4096, &[]),
+        ends: SOUND,
         status: 0,
         written: b"module add refused limit\n1 refused module\n",
     },
@@ -251,91 +238,96 @@ const RUNS: [Run; 9] = [
 const ENDS: [Run; 10] = [
     // an unknown module
     Run {
-        words: RUN,
+        line: RUN,
         bytes: b"call a f 1",
-        source: (4096, &[]),
-        sink: (4096, &[]),
+        ends: SOUND,
         status: 2,
         written: b"line 1: unknown module\n",
     },
     // a bad argument in the second line
     Run {
-        words: RUN,
+        line: RUN,
         bytes: BAD_ARGUMENT,
-        source: (4096, &[]),
-        sink: (4096, &[]),
+        ends: SOUND,
         status: 2,
         written: b"line 2: bad argument\n",
     },
     // a name for two modules
     Run {
-        words: RUN,
+        line: RUN,
         bytes: USED_TWICE,
-        source: (4096, &[]),
-        sink: (4096, &[]),
+        ends: SOUND,
         status: 2,
         written: b"line 2: name used twice\n",
     },
     // a read that fails
     Run {
-        words: RUN,
+        line: RUN,
         bytes: ADDITION,
-        source: (16, &[3]),
-        sink: (4096, &[]),
+        ends: Ends {
+            source: (16, &[3]),
+            sink: (4096, &[]),
+        },
         status: 3,
         written: b"",
     },
     // a write that fails
     Run {
-        words: RUN,
+        line: RUN,
         bytes: ADDITION,
-        source: (4096, &[]),
-        sink: (5, &[2]),
+        ends: Ends {
+            source: (4096, &[]),
+            sink: (5, &[2]),
+        },
         status: 4,
         written: b"modul",
     },
     // several workers and one memory, unread
     Run {
-        words: &["poolhost", "run", "--workers", "2", "--memories", "1"],
+        line: "poolhost run --workers 2 --memories 1",
         bytes: b"abc",
-        source: (16, &[1]),
-        sink: (4096, &[]),
+        ends: Ends {
+            source: (16, &[1]),
+            sink: (4096, &[]),
+        },
         status: 2,
         written: b"refused words\n",
     },
     // one memory too many, unread
     Run {
-        words: &["poolhost", "run", "--memories", "1025"],
+        line: "poolhost run --memories 1025",
         bytes: b"abc",
-        source: (16, &[1]),
-        sink: (4096, &[]),
+        ends: Ends {
+            source: (16, &[1]),
+            sink: (4096, &[]),
+        },
         status: 2,
         written: b"refused words\n",
     },
     // too many workers
     Run {
-        words: &["poolhost", "run", "--workers", "17"],
+        line: "poolhost run --workers 17",
         bytes: b"",
-        source: (4096, &[]),
-        sink: (4096, &[]),
+        ends: SOUND,
         status: 2,
         written: b"refused words\n",
     },
     // no command
     Run {
-        words: &["poolhost"],
+        line: "poolhost",
         bytes: b"",
-        source: (4096, &[]),
-        sink: (4096, &[]),
+        ends: SOUND,
         status: 2,
         written: b"refused words\n",
     },
     // a refusal in part
     Run {
-        words: &["poolhost", "run", "run"],
+        line: "poolhost run run",
         bytes: b"",
-        source: (4096, &[]),
-        sink: (5, &[3]),
+        ends: Ends {
+            source: (4096, &[]),
+            sink: (5, &[3]),
+        },
         status: 4,
         written: b"refused wo",
     },
@@ -344,85 +336,76 @@ const ENDS: [Run; 10] = [
 const INSTANCES: [Run; 9] = [
     // modules at the bounds of what is read and run
     Run {
-        words: RUN,
+        line: RUN,
         bytes: BOUNDS,
-        source: (4096, &[]),
-        sink: (4096, &[]),
+        ends: SOUND,
         status: 0,
         written: b"module m refused unsupported\nmodule t ok\nmodule n refused limit\nmodule l refused malformed\nmodule cnt ok\n\
             1 ok i32:0\n2 fuel\n",
     },
     // memories, each call's fresh
     Run {
-        words: RUN,
+        line: RUN,
         bytes: MEMORY,
-        source: (4096, &[]),
-        sink: (4096, &[]),
+        ends: SOUND,
         status: 0,
         written: b"module bump ok\nmodule poke ok\nmodule wrap ok\n1 ok i32:1\n2 ok\n3 ok i32:1\n4 ok i32:1\n5 fuel\n6 ok\n\
             7 trap memory\n8 trap memory\n9 trap memory\n",
     },
     // memories that grow
     Run {
-        words: RUN,
+        line: RUN,
         bytes: GROWTH,
-        source: (4096, &[]),
-        sink: (4096, &[]),
+        ends: SOUND,
         status: 0,
         written: b"module grown ok\nmodule grow ok\n1 fuel\n2 ok i32:0\n3 ok i32:1\n4 ok i32:-1\n5 ok i32:1\n6 ok i32:-1\n",
     },
     // memories that may not grow
     Run {
-        words: &["poolhost", "run", "--pages", "1"],
+        line: "poolhost run --pages 1",
         bytes: GROWTH,
-        source: (4096, &[]),
-        sink: (4096, &[]),
+        ends: SOUND,
         status: 0,
         written: b"module grown ok\nmodule grow ok\n1 trap memory\n2 trap memory\n3 ok i32:-1\n4 ok i32:-1\n5 ok i32:1\n6 ok i32:-1\n",
     },
     // globals, and a start function on the same fuel
     Run {
-        words: RUN,
+        line: RUN,
         bytes: GLOBALS,
-        source: (4096, &[]),
-        sink: (4096, &[]),
+        ends: SOUND,
         status: 0,
         written: b"module count ok\nmodule set ok\n1 ok i32:42\n2 ok i32:42\n3 ok i32:7\n4 fuel\n5 fuel\n",
     },
     // start functions whose end is the call's
     Run {
-        words: RUN,
+        line: RUN,
         bytes: STARTS,
-        source: (4096, &[]),
-        sink: (4096, &[]),
+        ends: SOUND,
         status: 0,
         written: b"module trap ok\nmodule spin ok\n1 trap unreachable\n2 fuel\n3 fuel\n4 refused args\n5 refused export\n",
     },
     // tables
     Run {
-        words: RUN,
+        line: RUN,
         bytes: TABLES,
-        source: (4096, &[]),
-        sink: (4096, &[]),
+        ends: SOUND,
         status: 0,
         written: b"module ind ok\nmodule div ok\n1 ok i32:7\n2 trap signature\n3 trap uninit\n4 trap element\n5 trap element\n\
             6 trap overflow\n7 ok i32:0\n8 trap divide\n9 ok i32:-3\n10 ok i32:-1\n11 trap divide\n",
     },
     // what is past a memory or a limit
     Run {
-        words: RUN,
+        line: RUN,
         bytes: LIMITS,
-        source: (4096, &[]),
-        sink: (4096, &[]),
+        ends: SOUND,
         status: 0,
         written: b"module over refused segment\nmodule wide refused limit\nmodule long refused limit\n1 refused module\n2 refused module\n",
     },
     // limits that are enough
     Run {
-        words: &["poolhost", "run", "--pages", "33", "--elements", "1025"],
+        line: "poolhost run --pages 33 --elements 1025",
         bytes: LIMITS,
-        source: (4096, &[]),
-        sink: (4096, &[]),
+        ends: SOUND,
         status: 0,
         written: b"module over refused segment\nmodule wide ok\nmodule long ok\n1 refused module\n2 refused export\n",
     },
@@ -432,23 +415,9 @@ const INSTANCES: [Run; 9] = [
 const ONE_SLOT: [Run; 1] = [
     // a memory for one slot
     Run {
-        words: &[
-            "poolhost",
-            "run",
-            "--instances",
-            "1",
-            "--memories",
-            "1",
-            "--tables",
-            "1",
-            "--warm",
-            "0",
-            "--batch",
-            "1",
-        ],
+        line: "poolhost run --instances 1 --memories 1 --tables 1 --warm 0 --batch 1",
         bytes: MEMORY,
-        source: (4096, &[]),
-        sink: (4096, &[]),
+        ends: SOUND,
         status: 0,
         written: b"module bump ok\nmodule poke ok\nmodule wrap ok\n1 ok i32:1\n2 ok\n3 ok i32:1\n4 ok i32:1\n5 fuel\n6 ok\n\
             7 trap memory\n8 trap memory\n9 trap memory\n",
@@ -474,39 +443,25 @@ call bump bimp 8
 const SHARED: [Run; 3] = [
     // tenants and their calls write no line of their own
     Run {
-        words: &[
-            "poolhost",
-            "run",
-            "--instances",
-            "5",
-            "--memories",
-            "5",
-            "--tables",
-            "5",
-            "--warm",
-            "1",
-        ],
+        line: "poolhost run --instances 5 --memories 5 --tables 5 --warm 1",
         bytes: TENANTS,
-        source: (4096, &[]),
-        sink: (4096, &[]),
+        ends: SOUND,
         status: 0,
         written: b"module bump ok\n1 ok i32:1\n2 ok i32:1\n3 fuel\n4 ok i32:1\n5 refused export\n",
     },
     // the second tenant leaves one table, and the lane's
     Run {
-        words: &["poolhost", "run", "--tables", "5"],
+        line: "poolhost run --tables 5",
         bytes: b"profile 4\ntenant a 1 1 1 0\ntenant b 1 1 3 0\n",
-        source: (4096, &[]),
-        sink: (4096, &[]),
+        ends: SOUND,
         status: 2,
         written: b"line 3: share too large\n",
     },
     // so that one slot more is enough
     Run {
-        words: &["poolhost", "run", "--tables", "6"],
+        line: "poolhost run --tables 6",
         bytes: b"profile 4\ntenant a 1 1 1 0\ntenant b 1 1 3 0\nfor c\n",
-        source: (4096, &[]),
-        sink: (4096, &[]),
+        ends: SOUND,
         status: 2,
         written: b"line 4: unknown tenant\n",
     },
@@ -523,73 +478,74 @@ call g dirty 43
 const LOADS: [Run; 8] = [
     // a load, with the source unread
     Run {
-        words: &["poolhost", "make", "1", "1"],
+        line: "poolhost make 1 1",
         bytes: b"abc",
-        source: (16, &[1]),
-        sink: (4096, &[]),
+        ends: Ends {
+            source: (16, &[1]),
+            sink: (4096, &[]),
+        },
         status: 0,
         written: LOAD,
     },
     // a load in part
     Run {
-        words: &["poolhost", "make", "1", "1"],
+        line: "poolhost make 1 1",
         bytes: b"",
-        source: (4096, &[]),
-        sink: (5, &[2]),
+        ends: Ends {
+            source: (4096, &[]),
+            sink: (5, &[2]),
+        },
         status: 4,
         written: b"modul",
     },
     // a run on it
     Run {
-        words: RUN,
+        line: RUN,
         bytes: LOAD,
-        source: (4096, &[]),
-        sink: (4096, &[]),
+        ends: SOUND,
         status: 0,
         written: b"module add ok\nmodule bump ok\nmodule g ok\n1 fuel\n",
     },
     // its summary
     Run {
-        words: &["poolhost", "run", "--summary"],
+        line: "poolhost run --summary",
         bytes: LOAD,
-        source: (4096, &[]),
-        sink: (7, &[]),
+        ends: Ends {
+            source: (4096, &[]),
+            sink: (7, &[]),
+        },
         status: 0,
         written: b"modules ok 3\nmodules refused 0\ncalls ok 0\ncalls trap 0\ncalls fuel 1\ncalls refused 0\n",
     },
     // the summary of several ends
     Run {
-        words: &["poolhost", "run", "--summary"],
+        line: "poolhost run --summary",
         bytes: SHAPES,
-        source: (4096, &[]),
-        sink: (4096, &[]),
+        ends: SOUND,
         status: 0,
         written: b"modules ok 4\nmodules refused 0\ncalls ok 2\ncalls trap 4\ncalls fuel 1\ncalls refused 1\n",
     },
     // and of refused modules
     Run {
-        words: &["poolhost", "run", "--summary"],
+        line: "poolhost run --summary",
         bytes: MODULES,
-        source: (4096, &[]),
-        sink: (4096, &[]),
+        ends: SOUND,
         status: 0,
         written: b"modules ok 2\nmodules refused 4\ncalls ok 0\ncalls trap 0\ncalls fuel 0\ncalls refused 2\n",
     },
     // no line
     Run {
-        words: &["poolhost", "run", "--summary"],
+        line: "poolhost run --summary",
         bytes: b"",
-        source: (4096, &[]),
-        sink: (4096, &[]),
+        ends: SOUND,
         status: 0,
         written: b"modules ok 0\nmodules refused 0\ncalls ok 0\ncalls trap 0\ncalls fuel 0\ncalls refused 0\n",
     },
     // a file that is refused
     Run {
-        words: &["poolhost", "run", "--summary"],
+        line: "poolhost run --summary",
         bytes: b"call a f 1",
-        source: (4096, &[]),
-        sink: (4096, &[]),
+        ends: SOUND,
         status: 2,
         written: b"line 1: unknown module\n",
     },
@@ -600,34 +556,24 @@ fn check_runs<R: Abort + Threads + Wait + Sync>(
     rt: &R,
     alloc: Global,
     runs: &[Run],
-    more: &[&str],
+    more: &str,
 ) -> Result<(), Fail> {
-    for (at, run) in runs.iter().enumerate() {
-        let mut source = MemSource::new(
-            run.bytes.to_vec(alloc)?,
-            run.source.0.max(1),
-            run.source.1.to_vec(alloc)?,
-        );
-        let mut sink = MemSink::new(alloc, run.sink.0.max(1), run.sink.1.to_vec(alloc)?);
-        let mut words = run.words.to_vec(alloc)?;
-        words.extend_from_slice(more)?;
-        let status = serve(rt, alloc, &words, &mut source, &mut sink, &OpenGate);
-        assert_eq!(rt; status, run.status, "at run {at}");
-        assert_eq!(rt; sink.bytes(), run.written, "at run {at}");
+    for run in runs {
+        check(rt, alloc, run, more, &OpenGate)?;
     }
     Ok(())
 }
 
 #[test]
 fn runs_end_with_their_status_and_text(rt: HostRuntime) -> Result<(), Fail> {
-    check_runs(&rt, rt.alloc(), &RUNS, &[])?;
-    check_runs(&rt, rt.alloc(), &ENDS, &[])
+    check_runs(&rt, rt.alloc(), &RUNS, "")?;
+    check_runs(&rt, rt.alloc(), &ENDS, "")
 }
 
 #[test]
 fn each_call_runs_on_a_fresh_instance(rt: HostRuntime) -> Result<(), Fail> {
-    check_runs(&rt, rt.alloc(), &INSTANCES, &[])?;
-    check_runs(&rt, rt.alloc(), &ONE_SLOT, &[])
+    check_runs(&rt, rt.alloc(), &INSTANCES, "")?;
+    check_runs(&rt, rt.alloc(), &ONE_SLOT, "")
 }
 
 // A stream gives 4,096 bytes at a time, and would fail behind the byte past 64 MiB, which is the last that is read.
@@ -637,13 +583,13 @@ fn a_file_of_more_than_64_mib_is_refused_with_ample_memory(rt: HostRuntime) -> R
     let bytes = vec![in alloc; b'#'; 67_108_865]?;
     let mut source = MemSource::new(bytes, 4096, vec![in alloc; 16_386]?);
     let mut sink = MemSink::new(alloc, 4096, Vec::new(alloc));
-    let status = serve(&rt, alloc, RUN, &mut source, &mut sink, &OpenGate);
-    assert_eq!(rt; status, 2);
+    let ended = status_of(&rt, alloc, RUN, "", &mut source, &mut sink, &OpenGate)?;
+    assert_eq!(rt; ended, 2);
     assert_eq!(rt; sink.bytes(), b"file too long\n".as_slice());
     Ok(())
 }
 
-const FOUR_WORKERS: &[&str] = &["--workers", "4"];
+const FOUR_WORKERS: &str = "--workers 4";
 
 #[test]
 fn several_workers_write_the_same_reports(rt: HostRuntime) -> Result<(), Fail> {
@@ -656,7 +602,7 @@ fn several_workers_run_each_call_on_a_fresh_instance(rt: HostRuntime) -> Result<
 }
 
 // Each call is under way with others, an instruction at a time.
-const SLICES_OF_ONE: &[&str] = &["--workers", "2", "--slice", "1"];
+const SLICES_OF_ONE: &str = "--workers 2 --slice 1";
 
 #[test]
 fn slices_change_no_line(rt: HostRuntime) -> Result<(), Fail> {
@@ -666,45 +612,37 @@ fn slices_change_no_line(rt: HostRuntime) -> Result<(), Fail> {
 
 #[test]
 fn tenants_change_no_line(rt: HostRuntime) -> Result<(), Fail> {
-    check_runs(&rt, rt.alloc(), &SHARED, &[])?;
+    check_runs(&rt, rt.alloc(), &SHARED, "")?;
     check_runs(&rt, rt.alloc(), &SHARED, FOUR_WORKERS)?;
     check_runs(&rt, rt.alloc(), &SHARED, SLICES_OF_ONE)
 }
 
 #[test]
 fn loads_and_summaries_are_written(rt: HostRuntime) -> Result<(), Fail> {
-    check_runs(&rt, rt.alloc(), &LOADS, &[])
+    check_runs(&rt, rt.alloc(), &LOADS, "")
 }
 
 // What `poolhost make` writes, and the summary of a run on it.
 #[test]
 fn a_run_on_a_load_has_its_summary(rt: HostRuntime) -> Result<(), Fail> {
-    let alloc = rt.alloc();
     let rows = [
         (
-            ["poolhost", "make", "0", "1"],
+            "poolhost make 0 1",
             "modules ok 3\nmodules refused 0\ncalls ok 1\ncalls trap 0\ncalls fuel 0\ncalls refused 0\n",
         ),
         (
-            ["poolhost", "make", "7", "7"],
+            "poolhost make 7 7",
             "modules ok 3\nmodules refused 0\ncalls ok 6\ncalls trap 0\ncalls fuel 1\ncalls refused 0\n",
         ),
     ];
-    for (words, want) in rows {
-        let mut nothing = MemSource::new(Vec::new(alloc), 1, Vec::new(alloc));
-        let mut load = MemSink::new(alloc, 4096, Vec::new(alloc));
-        assert_eq!(rt;
-            serve(&rt, alloc, &words, &mut nothing, &mut load, &OpenGate),
-            0
-        );
-        let mut source = MemSource::new(load.bytes().to_vec(alloc)?, 4096, Vec::new(alloc));
-        let mut sink = MemSink::new(alloc, 4096, Vec::new(alloc));
-        let words = ["poolhost", "run", "--summary"];
-        assert_eq!(rt;
-            serve(&rt, alloc, &words, &mut source, &mut sink, &OpenGate),
-            0
-        );
-        assert_eq!(rt; sink.bytes(), want.as_bytes());
+    for (line, summary) in rows {
+        let (status, load) = ended(&rt, rt.alloc(), &over(line, "", ""), "", &OpenGate)?;
+        assert_eq!(rt; status, 0);
+        let run = Run {
+            bytes: load.bytes(),
+            ..over("poolhost run --summary", "", summary)
+        };
+        check(&rt, rt.alloc(), &run, "", &OpenGate)?;
     }
     Ok(())
 }
@@ -768,48 +706,46 @@ impl Gate for CountingGate {
     }
 }
 
-// In slices of one, with slots for each call that is under way, and the lane's.
-const SLICES_WITH_SLOTS: &[&str] = &[
-    "--workers",
-    "2",
-    "--slice",
-    "1",
-    "--instances",
-    "5",
-    "--memories",
-    "5",
-    "--tables",
-    "5",
-];
-
-// Where there are slots no call is answered twice, in slices as well.
+// Where there are slots for each call that is under way, and the lane's, no call is answered twice, in slices of one as well.
 #[test]
 fn the_gate_is_told_of_each_call_and_of_each_that_begins(rt: HostRuntime) -> Result<(), Fail> {
-    let alloc = rt.alloc();
-    for more in [SLICES_WITH_SLOTS, &[]] {
+    for line in [
+        "poolhost run",
+        "poolhost run --workers 2 --instances 3 --memories 3 --tables 3",
+        "poolhost run --workers 4 --instances 5 --memories 5 --tables 5",
+        "poolhost run --workers 2 --slice 1 --instances 5 --memories 5 --tables 5",
+        "poolhost run --workers 4 --slice 1 --instances 9 --memories 9 --tables 9",
+    ] {
         let gate = CountingGate {
             entered: AtomicU64::new(0),
             answered: AtomicU64::new(0),
         };
-        let mut words = RUN.to_vec(alloc)?;
-        words.extend_from_slice(more)?;
-        let mut source = MemSource::new(CALLS.to_vec(alloc)?, 4096, Vec::new(alloc));
-        let mut sink = MemSink::new(alloc, 4096, Vec::new(alloc));
-        assert_eq!(rt; serve(&rt, alloc, &words, &mut source, &mut sink, &gate), 0);
-        assert_eq!(rt; gate.entered.load(Ordering::SeqCst), 0x11_1110);
-        assert_eq!(rt; gate.answered.load(Ordering::SeqCst), 0x1111_1110);
+        let run = Run {
+            line,
+            bytes: CALLS,
+            ends: SOUND,
+            status: 0,
+            written: CALLS_REPORT,
+        };
+        check(&rt, rt.alloc(), &run, "", &gate)?;
+        assert_eq!(rt; gate.entered.load(Ordering::SeqCst), 0x11_1110, "{line}");
+        assert_eq!(rt; gate.answered.load(Ordering::SeqCst), 0x1111_1110, "{line}");
     }
     Ok(())
 }
 
 // The most turns for which a gate holds a call.
-const MOST_TURNS: u64 = 2_000_000_000;
+pub(crate) const MOST_TURNS: u64 = 2_000_000_000;
 
 pub(crate) const BUMPS: &str =
     "module bump 0061736d010000000105016000017f0302010005030100010708010462756d7000000a160114004100410028020041016a36020041002802000b
 call bump bump 100
 call bump bump 100
 ";
+
+const BUMPED: &str = "module bump ok\n1 ok i32:1\n2 ok i32:1\n";
+
+pub(crate) const TWO_CALLS: &str = "call bump bump 100\ncall bump bump 100\n";
 
 // A gate that holds one call as it enters, until so many calls were answered or it has waited for long enough.
 #[derive(Drop)]
@@ -852,11 +788,11 @@ impl Gate for HoldingGate {
 pub(crate) fn answered_beside_a_held_call<R: Abort + Threads + Wait + Sync>(
     rt: &R,
     alloc: Global,
-    words: &[&str],
+    line: &str,
     text: &str,
     held: u64,
     until: u64,
-    written: &[u8],
+    written: &str,
 ) -> Result<u64, Fail> {
     let gate = HoldingGate {
         held,
@@ -865,10 +801,7 @@ pub(crate) fn answered_beside_a_held_call<R: Abort + Threads + Wait + Sync>(
         answered: AtomicU64::new(0),
         seen: AtomicU64::new(0),
     };
-    let mut source = MemSource::new(text.as_bytes().to_vec(alloc)?, 4096, Vec::new(alloc));
-    let mut sink = MemSink::new(alloc, 4096, Vec::new(alloc));
-    assert_eq!(rt; serve(rt, alloc, words, &mut source, &mut sink, &gate), 0);
-    assert_eq!(rt; sink.bytes(), written);
+    check(rt, alloc, &over(line, text, written), "", &gate)?;
     assert_eq!(rt; gate.seen.load(Ordering::SeqCst), until);
     Ok(gate.answered.load(Ordering::SeqCst))
 }
@@ -876,16 +809,21 @@ pub(crate) fn answered_beside_a_held_call<R: Abort + Threads + Wait + Sync>(
 // One memory is shared: while the first call is held the others are answered Full, and the lane makes them again.
 #[test]
 fn a_call_that_finds_no_slot_is_made_again_on_the_lane(rt: HostRuntime) -> Result<(), Fail> {
-    let alloc = rt.alloc();
-    let words = ["poolhost", "run", "--workers", "2", "--memories", "2"];
-    let written = b"module bump ok\n1 ok i32:1\n2 ok i32:1\n";
-    let answered = answered_beside_a_held_call(&rt, alloc, &words, BUMPS, 0, 1, written)?;
+    let line = "poolhost run --workers 2 --memories 2";
+    let answered = answered_beside_a_held_call(&rt, rt.alloc(), line, BUMPS, 0, 1, BUMPED)?;
     assert_eq!(rt; answered, 3);
-    let mut four = String::from_str(alloc, BUMPS)?;
-    four.push_str("call bump bump 100\ncall bump bump 100\n")?;
-    let words = ["poolhost", "run", "--workers", "4", "--memories", "2"];
-    let written = b"module bump ok\n1 ok i32:1\n2 ok i32:1\n3 ok i32:1\n4 ok i32:1\n";
-    let answered = answered_beside_a_held_call(&rt, alloc, &words, four.as_str(), 0, 3, written)?;
+    let four = format!(in rt.alloc(); "{BUMPS}{TWO_CALLS}")?;
+    let line = "poolhost run --workers 4 --memories 2";
+    let written = "module bump ok\n1 ok i32:1\n2 ok i32:1\n3 ok i32:1\n4 ok i32:1\n";
+    let answered = answered_beside_a_held_call(
+        &rt,
+        rt.alloc(),
+        line,
+        four.as_str(),
+        0,
+        3,
+        written,
+    )?;
     assert_eq!(rt; answered, 7);
     Ok(())
 }
@@ -893,20 +831,8 @@ fn a_call_that_finds_no_slot_is_made_again_on_the_lane(rt: HostRuntime) -> Resul
 // Two memories are shared: the second call runs while the first is held, and no call is made twice.
 #[test]
 fn two_calls_run_at_the_same_time(rt: HostRuntime) -> Result<(), Fail> {
-    let words = [
-        "poolhost",
-        "run",
-        "--workers",
-        "2",
-        "--memories",
-        "3",
-        "--instances",
-        "3",
-        "--tables",
-        "2",
-    ];
-    let written = b"module bump ok\n1 ok i32:1\n2 ok i32:1\n";
-    let answered = answered_beside_a_held_call(&rt, rt.alloc(), &words, BUMPS, 1, 1, written)?;
+    let line = "poolhost run --workers 2 --memories 3 --instances 3 --tables 2";
+    let answered = answered_beside_a_held_call(&rt, rt.alloc(), line, BUMPS, 1, 1, BUMPED)?;
     assert_eq!(rt; answered, 2);
     Ok(())
 }
@@ -914,27 +840,20 @@ fn two_calls_run_at_the_same_time(rt: HostRuntime) -> Result<(), Fail> {
 // One tenant has a memory: while its first call is held its others are answered Full, and the other tenant's call is not.
 #[test]
 fn a_full_tenant_leaves_the_other_its_slots(rt: HostRuntime) -> Result<(), Fail> {
-    let alloc = rt.alloc();
-    let mut text = String::from_str(
-        alloc,
-        "profile 4\ntenant flood 2 1 1 0\ntenant quiet 1 1 1 0\nfor flood\n",
+    let text = format!(in rt.alloc();
+        "profile 4\ntenant flood 2 1 1 0\ntenant quiet 1 1 1 0\nfor flood\n{BUMPS}call bump bump 100\nfor quiet\ncall bump bump 100\n"
     )?;
-    text.push_str(BUMPS)?;
-    text.push_str("call bump bump 100\nfor quiet\ncall bump bump 100\n")?;
-    let words = [
-        "poolhost",
-        "run",
-        "--workers",
-        "2",
-        "--memories",
-        "4",
-        "--instances",
-        "5",
-        "--tables",
-        "4",
-    ];
-    let written = b"module bump ok\n1 ok i32:1\n2 ok i32:1\n3 ok i32:1\n4 ok i32:1\n";
-    let answered = answered_beside_a_held_call(&rt, alloc, &words, text.as_str(), 1, 3, written)?;
+    let line = "poolhost run --workers 2 --memories 4 --instances 5 --tables 4";
+    let written = "module bump ok\n1 ok i32:1\n2 ok i32:1\n3 ok i32:1\n4 ok i32:1\n";
+    let answered = answered_beside_a_held_call(
+        &rt,
+        rt.alloc(),
+        line,
+        text.as_str(),
+        1,
+        3,
+        written,
+    )?;
     assert_eq!(rt; answered, 6);
     Ok(())
 }

@@ -7,3 +7,5 @@ mod files;
 mod meetings;
 #[cfg(test)]
 mod retirements;
+#[cfg(test)]
+mod running;

@@ -1,6 +1,7 @@
 //! Whole runs whose gate tells how the calls were made: how many entered, and how many were under way at the same time.
-use host_edge::{Gate, MemSink, MemSource};
-use host_run::serve;
+use crate::files::MOST_TURNS;
+use crate::running::{ended, over};
+use host_edge::Gate;
 use std::alloc::Global;
 use std::process::Abort;
 use std::sync::Wait;
@@ -8,124 +9,161 @@ use std::sync::atomic::{AtomicU64, Ordering};
 use std::test::Fail;
 use std::thread::Threads;
 
-// A module that counts up in its memory.
-const BUMP: &str =
-    "module bump 0061736d010000000105016000017f0302010005030100010708010462756d7000000a160114004100410028020041016a36020041002802000b\n";
+// A module that counts up in its memory, and eight calls of it.
+const BUMPS: &str =
+    "module bump 0061736d010000000105016000017f0302010005030100010708010462756d7000000a160114004100410028020041016a36020041002802000b
+call bump bump 100
+call bump bump 100
+call bump bump 100
+call bump bump 100
+call bump bump 100
+call bump bump 100
+call bump bump 100
+call bump bump 100
+";
 
-// One that counts its argument down to 0, without a memory.
-const CNT: &str =
-    "module cnt 0061736d0100000001060160017f017f03020100070501016300000a120110000340200041016b22000d000b20000b\n";
+// One that counts its argument down to 0, without a memory, and eight calls of it.
+const COUNTS: &str =
+    "module cnt 0061736d0100000001060160017f017f03020100070501016300000a120110000340200041016b22000d000b20000b
+call cnt c 2000 i32:100
+call cnt c 2000 i32:100
+call cnt c 2000 i32:100
+call cnt c 2000 i32:100
+call cnt c 2000 i32:100
+call cnt c 2000 i32:100
+call cnt c 2000 i32:100
+call cnt c 2000 i32:100
+";
 
-// Notes how many calls entered, and how many were under way at the most. Each call waits as it enters until so many have, or for so
-// many turns.
+// A call on each side of a retire line of its module.
+const RETIRED: &str = "profile 5
+module bump 0061736d010000000105016000017f0302010005030100010708010462756d7000000a160114004100410028020041016a36020041002802000b
+call bump bump 100
+retire bump
+call bump bump 100
+";
+
+// Calls of two modules, of which the one is retired between them.
+const BEHIND: &str = "profile 5
+module cnt 0061736d0100000001060160017f017f03020100070501016300000a120110000340200041016b22000d000b20000b
+module bump 0061736d010000000105016000017f0302010005030100010708010462756d7000000a160114004100410028020041016a36020041002802000b
+call cnt c 100 i32:3
+retire cnt
+call bump bump 100
+call bump bump 100
+";
+
+// Notes how many calls entered, which of them are under way, by a bit for each, and how many were so at the most. Each from a number on
+// waits as it enters until so many have, or for long enough.
 #[derive(Drop)]
 struct Meeting {
+    from: u64,
     wanted: u64,
-    turns: u64,
     entered: AtomicU64,
     inside: AtomicU64,
     most: AtomicU64,
 }
 
 impl Gate for Meeting {
-    fn entered(&self, _call: u64) {
+    fn entered(&self, call: u64) {
+        let bit = 1 << (call % 64);
+        let inside = self.inside.fetch_or(bit, Ordering::SeqCst) | bit;
+        let count = u64::from(inside.count_ones());
+        self.most.fetch_max(count, Ordering::SeqCst);
         self.entered.fetch_add(1, Ordering::SeqCst);
-        let inside = self.inside.fetch_add(1, Ordering::SeqCst).saturating_add(1);
-        self.most.fetch_max(inside, Ordering::SeqCst);
-        for _ in 0..self.turns {
-            if self.entered.load(Ordering::SeqCst) >= self.wanted {
+        for _ in 0..MOST_TURNS {
+            if call < self.from || self.entered.load(Ordering::SeqCst) >= self.wanted {
                 return;
             }
         }
     }
 
-    fn answered(&self, _call: u64) {
-        let inside = self.inside.load(Ordering::SeqCst);
-        if inside > 0 {
-            self.inside.fetch_sub(1, Ordering::SeqCst);
-        }
+    fn answered(&self, call: u64) {
+        let bit: u64 = 1 << (call % 64);
+        self.inside.fetch_and(!bit, Ordering::SeqCst);
     }
 }
 
-// How many calls of a run entered, and how many were under way at the most, where each waits for so many to enter.
+// How many calls of a run entered, and how many were under way at the most, where each from a number on waits for so many to enter.
 fn met<R: Abort + Threads + Wait + Sync>(
     rt: &R,
     alloc: Global,
     line: &str,
     text: &str,
+    from: u64,
     wanted: u64,
 ) -> Result<(u64, u64), Fail> {
     let gate = Meeting {
+        from,
         wanted,
-        turns: if wanted > 0 { 200_000_000 } else { 0 },
         entered: AtomicU64::new(0),
         inside: AtomicU64::new(0),
         most: AtomicU64::new(0),
     };
-    let mut words = Vec::new(alloc);
-    for word in line.split_whitespace() {
-        words.push(word)?;
-    }
-    let mut source = MemSource::new(text.as_bytes().to_vec(alloc)?, 4096, Vec::new(alloc));
-    let mut sink = MemSink::new(alloc, 4096, Vec::new(alloc));
-    assert_eq!(rt; serve(rt, alloc, &words, &mut source, &mut sink, &gate), 0);
-    Ok((
-        gate.entered.load(Ordering::SeqCst),
-        gate.most.load(Ordering::SeqCst),
-    ))
+    let (status, _sink) = ended(rt, alloc, &over(line, text, ""), "", &gate)?;
+    assert_eq!(rt; status, 0, "{line}");
+    let entered = gate.entered.load(Ordering::SeqCst);
+    Ok((entered, gate.most.load(Ordering::SeqCst)))
 }
 
 // Of a call on each side of a retire line only the first enters, also where slices are asked for.
 #[test]
 fn a_call_behind_a_retire_line_never_enters(rt: HostRuntime) -> Result<(), Fail> {
-    let alloc = rt.alloc();
-    let text = format!(in alloc;
-        "profile 5\n{BUMP}call bump bump 100\nretire bump\ncall bump bump 100\n"
-    )?;
     for line in [
         "poolhost run",
         "poolhost run --workers 2",
         "poolhost run --workers 4",
         "poolhost run --workers 4 --slice 1",
     ] {
-        let (entered, _most) = met(&rt, alloc, line, text.as_str(), 0)?;
+        let (entered, _most) = met(&rt, rt.alloc(), line, RETIRED, 1, 0)?;
         assert_eq!(rt; entered, 1, "{line}");
     }
     Ok(())
 }
 
+// As many calls as there are workers, and slots for them, are under way at once, with the usual totals too: these are 4, and one slot
+// of each kind is the lane's.
 #[test]
-fn four_workers_are_in_four_calls(rt: HostRuntime) -> Result<(), Fail> {
-    let alloc = rt.alloc();
-    let calls = "call bump bump 100\ncall bump bump 100\ncall bump bump 100\ncall bump bump 100\n";
-    let text = format!(in alloc; "{BUMP}{calls}")?;
-    let line = "poolhost run --workers 4 --memories 6 --instances 6 --tables 6";
-    let (_entered, most) = met(&rt, alloc, line, text.as_str(), 4)?;
-    assert_eq!(rt; most, 4);
+fn all_workers_are_in_calls_at_once(rt: HostRuntime) -> Result<(), Fail> {
+    for (line, workers) in [
+        ("poolhost run", 1),
+        ("poolhost run --workers 2", 2),
+        ("poolhost run --workers 3", 3),
+        ("poolhost run --workers 4", 3),
+        (
+            "poolhost run --workers 4 --memories 5 --instances 5 --tables 5",
+            4,
+        ),
+    ] {
+        let (_entered, most) = met(&rt, rt.alloc(), line, BUMPS, 1, workers)?;
+        assert_eq!(rt; most, workers, "{line}");
+    }
     Ok(())
 }
 
+// So are they behind a retire line: calls 2 and 3, when call 1 has entered too.
 #[test]
 fn two_workers_are_in_calls_behind_a_retire_line(rt: HostRuntime) -> Result<(), Fail> {
-    let alloc = rt.alloc();
-    let text = format!(in alloc;
-        "profile 5\n{CNT}{BUMP}call cnt c 100 i32:3\nretire cnt\ncall bump bump 100\ncall bump bump 100\n"
-    )?;
-    let line = "poolhost run --workers 2 --memories 6 --instances 6 --tables 6";
-    let (_entered, most) = met(&rt, alloc, line, text.as_str(), 3)?;
+    let (_entered, most) = met(&rt, rt.alloc(), "poolhost run --workers 2", BEHIND, 2, 3)?;
     assert_eq!(rt; most, 2);
     Ok(())
 }
 
-// With slices two workers have more than two calls under way.
+// With slices more calls are under way than there are workers.
 #[test]
-fn two_workers_are_in_more_than_two_calls_in_slices(rt: HostRuntime) -> Result<(), Fail> {
-    let alloc = rt.alloc();
-    let calls =
-        "call cnt c 2000 i32:100\ncall cnt c 2000 i32:100\ncall cnt c 2000 i32:100\ncall cnt c 2000 i32:100\n";
-    let text = format!(in alloc; "{CNT}{calls}{calls}")?;
-    let line = "poolhost run --workers 2 --memories 6 --instances 6 --tables 6 --slice 10";
-    let (_entered, most) = met(&rt, alloc, line, text.as_str(), 0)?;
-    assert!(rt; most > 2, "{most}");
+fn workers_are_in_more_calls_in_slices(rt: HostRuntime) -> Result<(), Fail> {
+    for (line, workers) in [
+        (
+            "poolhost run --workers 2 --slice 10 --memories 5 --instances 5 --tables 5",
+            2,
+        ),
+        (
+            "poolhost run --workers 4 --slice 10 --memories 9 --instances 9 --tables 9",
+            4,
+        ),
+    ] {
+        let (_entered, most) = met(&rt, rt.alloc(), line, COUNTS, 1, 0)?;
+        assert!(rt; most > workers, "{line}: {most}");
+    }
     Ok(())
 }

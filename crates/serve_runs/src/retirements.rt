@@ -1,33 +1,22 @@
 //! Whole runs on request files that retire modules.
-use crate::files::{BUMPS, answered_beside_a_held_call};
-use host_edge::{MemSink, MemSource, OpenGate};
-use host_run::serve;
+use crate::files::{BUMPS, TWO_CALLS, answered_beside_a_held_call};
+use crate::running::{Run, check, over};
+use host_edge::OpenGate;
 use std::alloc::Global;
 use std::process::Abort;
 use std::sync::Wait;
 use std::test::Fail;
 use std::thread::Threads;
 
-// What a run on these words, parted by spaces, over a file must end with, and write.
-fn check<R: Abort + Threads + Wait + Sync>(
+// What a run over a text must write.
+fn check_text<R: Abort + Threads + Wait + Sync>(
     rt: &R,
     alloc: Global,
     line: &str,
     text: &str,
-    status: u8,
     written: &str,
 ) -> Result<(), Fail> {
-    let mut words = Vec::new(alloc);
-    for word in line.split_whitespace() {
-        words.push(word)?;
-    }
-    let bytes = text.as_bytes().to_vec(alloc)?;
-    let mut source = MemSource::new(bytes, 4096, Vec::new(alloc));
-    let mut sink = MemSink::new(alloc, 65536, Vec::new(alloc));
-    let ended = serve(rt, alloc, &words, &mut source, &mut sink, &OpenGate);
-    assert_eq!(rt; sink.bytes(), written.as_bytes(), "{line} on {text}");
-    assert_eq!(rt; ended, status, "{line} on {text}");
-    Ok(())
+    check(rt, alloc, &over(line, text, written), "", &OpenGate)
 }
 
 // The words of runs that write the same report on a file of profile 5.
@@ -103,7 +92,7 @@ fn check_rows<R: Abort + Threads + Wait + Sync>(
     for (directives, lines) in ROWS {
         let text = format!(in alloc; "{MODULES}{directives}")?;
         let written = format!(in alloc; "{ENTERED}{lines}")?;
-        check(rt, alloc, line, text.as_str(), 0, written.as_str())?;
+        check_text(rt, alloc, line, text.as_str(), written.as_str())?;
     }
     Ok(())
 }
@@ -132,14 +121,8 @@ fn retired_modules_are_summed_up(rt: HostRuntime) -> Result<(), Fail> {
     ];
     for (directives, written) in rows {
         let text = format!(in alloc; "{MODULES}{directives}")?;
-        check(
-            &rt,
-            alloc,
-            "poolhost run --workers 2 --summary",
-            text.as_str(),
-            0,
-            written,
-        )?;
+        let line = "poolhost run --workers 2 --summary";
+        check_text(&rt, alloc, line, text.as_str(), written)?;
     }
     Ok(())
 }
@@ -161,7 +144,11 @@ fn files_with_bad_retire_lines_are_refused(rt: HostRuntime) -> Result<(), Fail> 
         ),
     ];
     for (text, written) in rows {
-        check(&rt, rt.alloc(), "poolhost run", text, 2, written)?;
+        let run = Run {
+            status: 2,
+            ..over("poolhost run", text, written)
+        };
+        check(&rt, rt.alloc(), &run, "", &OpenGate)?;
     }
     Ok(())
 }
@@ -171,16 +158,15 @@ fn files_with_bad_retire_lines_are_refused(rt: HostRuntime) -> Result<(), Fail> 
 fn a_full_call_is_made_again_before_its_module_is_retired(rt: HostRuntime) -> Result<(), Fail> {
     let alloc = rt.alloc();
     let text = format!(in alloc; "profile 5\n{BUMPS}retire bump\ncall bump bump 100\n")?;
-    let words = ["poolhost", "run", "--workers", "2", "--memories", "2"];
-    let written = b"module bump ok\n1 ok i32:1\n2 ok i32:1\nretire bump done\n3 refused retired\n";
-    let answered = answered_beside_a_held_call(&rt, alloc, &words, text.as_str(), 0, 1, written)?;
+    let line = "poolhost run --workers 2 --memories 2";
+    let written = "module bump ok\n1 ok i32:1\n2 ok i32:1\nretire bump done\n3 refused retired\n";
+    let answered = answered_beside_a_held_call(&rt, alloc, line, text.as_str(), 0, 1, written)?;
     assert_eq!(rt; answered, 4);
-    let four = "call bump bump 100\ncall bump bump 100\n";
-    let text = format!(in alloc; "profile 5\n{BUMPS}{four}retire bump\ncall bump bump 100\n")?;
-    let words = ["poolhost", "run", "--workers", "4", "--memories", "2"];
+    let text = format!(in alloc; "profile 5\n{BUMPS}{TWO_CALLS}retire bump\ncall bump bump 100\n")?;
+    let line = "poolhost run --workers 4 --memories 2";
     let written =
-        b"module bump ok\n1 ok i32:1\n2 ok i32:1\n3 ok i32:1\n4 ok i32:1\nretire bump done\n5 refused retired\n";
-    let answered = answered_beside_a_held_call(&rt, alloc, &words, text.as_str(), 0, 3, written)?;
+        "module bump ok\n1 ok i32:1\n2 ok i32:1\n3 ok i32:1\n4 ok i32:1\nretire bump done\n5 refused retired\n";
+    let answered = answered_beside_a_held_call(&rt, alloc, line, text.as_str(), 0, 3, written)?;
     assert_eq!(rt; answered, 8);
     Ok(())
 }
@@ -192,21 +178,10 @@ fn a_full_tenant_is_served_before_its_module_is_retired(rt: HostRuntime) -> Resu
     let text = format!(in alloc;
         "profile 5\ntenant flood 2 1 1 0\ntenant quiet 1 1 1 0\nfor flood\n{BUMPS}call bump bump 100\nretire bump\nfor quiet\ncall bump bump 100\n"
     )?;
-    let words = [
-        "poolhost",
-        "run",
-        "--workers",
-        "2",
-        "--memories",
-        "4",
-        "--instances",
-        "5",
-        "--tables",
-        "4",
-    ];
+    let line = "poolhost run --workers 2 --memories 4 --instances 5 --tables 4";
     let written =
-        b"module bump ok\n1 ok i32:1\n2 ok i32:1\n3 ok i32:1\nretire bump done\n4 refused retired\n";
-    let answered = answered_beside_a_held_call(&rt, alloc, &words, text.as_str(), 0, 2, written)?;
+        "module bump ok\n1 ok i32:1\n2 ok i32:1\n3 ok i32:1\nretire bump done\n4 refused retired\n";
+    let answered = answered_beside_a_held_call(&rt, alloc, line, text.as_str(), 0, 2, written)?;
     assert_eq!(rt; answered, 6);
     Ok(())
 }
@@ -288,7 +263,7 @@ fn many_retire_lines_have_one_report(rt: HostRuntime) -> Result<(), Fail> {
         "poolhost run --pages 1 --workers 16",
         "poolhost run --pages 1 --workers 16 --slice 100",
     ] {
-        check(&rt, alloc, line, text.as_str(), 0, written.as_str())?;
+        check_text(&rt, alloc, line, text.as_str(), written.as_str())?;
     }
     Ok(())
 }

@@ -1,5 +1,5 @@
 -- What workers did in slices is put together, and the calls that still go round are made to their end.
-use Rattle.std.proofs.Common.{◌≡◌, inr, ℕ, ◌+◌, false, List, [], ◌∷◌, ◌++◌, Option, Ok, Err, ap, ◌∙◌, subst, arith, append_assoc, append-nil}
+use Rattle.std.proofs.Common.{◌≡◌, inr, ℕ, ◌+◌, false, List, [], ◌∷◌, ◌++◌, Option, Ok, Err, ap, ◌∙◌, subst, arith, append_assoc, append-nil, length, length-append}
 use Rattle.std.specs.Prelude.{Result, OnOk}
 use Rattle.std.specs.List.Sorted.{IsPermutation}
 use Rattle.std.proofs.lemmas.List.Sorted.{IsPermutation-append_comm, IsPermutation-append_left, IsPermutation-trans}
@@ -28,7 +28,7 @@ use Rattle.slice_workers.specs.Slices.{AreMade, DidSlices, HasSlicedAll, HaveSli
 use Rattle.slice_workers.proofs.Cancelling.{flat_map_same, without}
 use Rattle.due_calls.proofs.EndLemmas.{zeros-append}
 use Rattle.due_calls.proofs.EntryLemmas.{all_zip_append, called-append}
-use Rattle.slice_workers.proofs.SliceLemmas.{all_entries, all_sliced, both_even, pairs_of-append}
+use Rattle.slice_workers.proofs.SliceLemmas.{all_entries, all_sliced, both_even, paused_found, pairs_of-append}
 
 abbrev Given : Type 0
 Given = Account (Option Named)
@@ -47,14 +47,14 @@ module _ {N A : Type 0} {G : Ghosts N} (config : Numbers) (shared : SliceShared 
   Have own place n entries = HaveSliced config shared queue slice own place n entries
 
   -- the first worker's passes, and the pass that put the idle passes
-  pub joined_first : (own : Own) (first after place : RunPass (Queued N G)) (made : List Worked) → HasIdle queue first → IsJobPass shared.jobs own → IsRunPass queue after
+  pub joined_first : (many : ℕ) (own : Own) (first after place : RunPass (Queued N G)) (made : List Worked) → HasIdle queue many first → IsJobPass shared.jobs own → IsRunPass queue after
       → run_account_of after ≡ run_joined (run_account_of first) (run_account_of place) → Did own place made → Have own after 1 made
-  joined_first own first after place made idle is_own is_place both did =
+  joined_first many own first after place made idle is_own is_place both did =
       let given : given_to own ≡ did.taken = ap (λ (a : Given). a.given) did.account_is in
-      let taken : run_given_to place ≡ did.given = ap (λ (r : RunAccount (Queued N G)). r.given) did.run_is in
-      let thrown : run_put_by place ≡ did.put = ap (λ (r : RunAccount (Queued N G)). r.put) did.run_is in
-      let all_given : run_given_to after ≡ did.given = ap (λ (r : RunAccount (Queued N G)). r.given) both ∙ (ap (λ (xs : List (Queued N G)). xs ++ run_given_to place) idle.given_none ∙ taken) in
-      let all_put : pairs_of (run_put_by after) ≡ pairs_of did.put =
+      let taken : run_given_to place ≡ did.work.given = ap (λ (r : RunAccount (Queued N G)). r.given) did.work.run_is in
+      let thrown : run_put_by place ≡ did.work.put = ap (λ (r : RunAccount (Queued N G)). r.put) did.work.run_is in
+      let all_given : run_given_to after ≡ did.work.given = ap (λ (r : RunAccount (Queued N G)). r.given) both ∙ (ap (λ (xs : List (Queued N G)). xs ++ run_given_to place) idle.given_none ∙ taken) in
+      let all_put : pairs_of (run_put_by after) ≡ pairs_of did.work.put =
       ap (λ (r : RunAccount (Queued N G)). pairs_of r.put) both ∙ (pairs_of-append (run_put_by first) (run_put_by place)
       ∙ (ap (λ (ps : List Pair). ps ++ pairs_of (run_put_by place)) idle.idle ∙ ap (λ (xs : List (Queued N G)). pairs_of xs) thrown)) in
       record {
@@ -62,12 +62,12 @@ module _ {N A : Type 0} {G : Ghosts N} (config : Numbers) (shared : SliceShared 
         is_place = is_place;
         share = ap (λ (a : Given). a.share) did.account_is;
         places = let s : run_share after ≡ run_share first + run_share place = ap (λ (r : RunAccount (Queued N G)). r.share) both in
-            let one : run_share place ≡ 1 = ap (λ (r : RunAccount (Queued N G)). r.share) did.run_is in let f = idle.share in omega arith;
+            let one : run_share place ≡ 1 = ap (λ (r : RunAccount (Queued N G)). r.share) did.work.run_is in let f = idle.share in omega arith;
         puts_none = ap (λ (a : Given). a.put) did.account_is;
         ended = ap zeros given ∙ did.ended;
-        made = did.made;
-        entries_are = all_sliced G config shared.host calls slice did.made made did.entries_are;
-        even = rw (given, all_given, all_put) did.even;
+        made = did.work.made;
+        entries_are = all_sliced G config shared.host calls slice did.work.made made did.work.entries_are;
+        even = rw (given, all_given, all_put) did.work.even;
       }
 
   -- one worker's passes more
@@ -76,13 +76,13 @@ module _ {N A : Type 0} {G : Ghosts N} (config : Numbers) (shared : SliceShared 
       → n + 1 ≡ k → all ≡ entries ++ made → Have after later k all
   joined_next own after others first later place n k entries made all h is_own is_place both run_both did next behind =
       let given : given_to others ≡ did.taken = ap (λ (a : Given). a.given) did.account_is in
-      let taken : run_given_to place ≡ did.given = ap (λ (r : RunAccount (Queued N G)). r.given) did.run_is in
-      let thrown : run_put_by place ≡ did.put = ap (λ (r : RunAccount (Queued N G)). r.put) did.run_is in
+      let taken : run_given_to place ≡ did.work.given = ap (λ (r : RunAccount (Queued N G)). r.given) did.work.run_is in
+      let thrown : run_put_by place ≡ did.work.put = ap (λ (r : RunAccount (Queued N G)). r.put) did.work.run_is in
       let none : put_by others ≡ [] = ap (λ (a : Given). a.put) did.account_is in
       let all_given : given_to after ≡ given_to own ++ did.taken = ap (λ (a : Given). a.given) both ∙ ap (λ (ps : List Pair). given_to own ++ ps) given in
-      let run_given : pairs_of (run_given_to later) ≡ pairs_of (run_given_to first) ++ pairs_of did.given =
+      let run_given : pairs_of (run_given_to later) ≡ pairs_of (run_given_to first) ++ pairs_of did.work.given =
       ap (λ (r : RunAccount (Queued N G)). pairs_of r.given) run_both ∙ (pairs_of-append (run_given_to first) (run_given_to place) ∙ ap (λ (xs : List (Queued N G)). pairs_of (run_given_to first) ++ pairs_of xs) taken) in
-      let run_put : pairs_of (run_put_by later) ≡ pairs_of (run_put_by first) ++ pairs_of did.put =
+      let run_put : pairs_of (run_put_by later) ≡ pairs_of (run_put_by first) ++ pairs_of did.work.put =
       ap (λ (r : RunAccount (Queued N G)). pairs_of r.put) run_both ∙ (pairs_of-append (run_put_by first) (run_put_by place) ∙ ap (λ (xs : List (Queued N G)). pairs_of (run_put_by first) ++ pairs_of xs) thrown) in
       record {
         is_own = is_own;
@@ -90,13 +90,13 @@ module _ {N A : Type 0} {G : Ghosts N} (config : Numbers) (shared : SliceShared 
         share = let s : share_of after ≡ share_of own + share_of others = ap (λ (a : Given). a.share) both in
             let one : share_of others ≡ 1 = ap (λ (a : Given). a.share) did.account_is in let f = h.share in omega arith;
         places = let s : run_share later ≡ run_share first + run_share place = ap (λ (r : RunAccount (Queued N G)). r.share) run_both in
-            let one : run_share place ≡ 1 = ap (λ (r : RunAccount (Queued N G)). r.share) did.run_is in let f = h.places in omega arith;
+            let one : run_share place ≡ 1 = ap (λ (r : RunAccount (Queued N G)). r.share) did.work.run_is in let f = h.places in omega arith;
         puts_none = ap (λ (a : Given). a.put) both ∙ (ap (λ (ps : List Pair). ps ++ put_by others) h.puts_none ∙ none);
         ended = ap zeros all_given ∙ (zeros-append (given_to own) did.taken ∙ (let e = h.ended in let f = did.ended in omega arith));
-        made = h.made ++ did.made;
-        entries_are = rw behind (all_zip_append (IsSliced G config shared.host calls slice) h.made did.made entries made h.entries_are (all_sliced G config shared.host calls slice did.made made did.entries_are));
+        made = h.made ++ did.work.made;
+        entries_are = rw behind (all_zip_append (IsSliced G config shared.host calls slice) h.made did.work.made entries made h.entries_are (all_sliced G config shared.host calls slice did.work.made made did.work.entries_are));
         even = rw (all_given, called-append (given_to own) did.taken, run_given, run_put)
-            (both_even (called (given_to own)) (pairs_of (run_given_to first)) (pairs_of (run_put_by first)) h.made (called did.taken) (pairs_of did.given) (pairs_of did.put) did.made h.even did.even);
+            (both_even (called (given_to own)) (pairs_of (run_given_to first)) (pairs_of (run_put_by first)) h.made (called did.taken) (pairs_of did.work.given) (pairs_of did.work.put) did.work.made h.even did.work.even);
       }
 
   -- the same as an answer, where memory may have been refused
@@ -151,8 +151,16 @@ module _ {N A : Type 0} {G : Ghosts N} (config : Numbers) (shared : SliceShared 
         puts_none = h.puts_none;
         ended = h.ended;
         made = h.made ++ pair;
-        entries_are = rw behind (all_zip_append (IsSliced G config shared.host calls slice) h.made pair entries (worked ∷ []) h.entries_are
-            (inr (record { taken = queued.Paused paused; went_round = came; left = left; made = entry }), tt));
+        entries_are = rw behind (all_zip_append (IsSliced G config shared.host calls slice) h.made pair entries (worked ∷ []) h.entries_are (
+          inr (record {
+            taken = queued.Paused paused;
+            went_round = came;
+            left = left;
+            made = entry;
+            found_slots = paused_found config shared.host calls slice 18446744073709551615 (paused_pair paused) paused left worked.answer entry.answered;
+          }),
+          tt,
+        ));
         even = rw (given, put) (subst (λ (l : List Pair). IsPermutation l (pairs_of (run_put_by first) ++ (h.made ++ pair))) front
             (subst (λ (l : List Pair). IsPermutation ((called (given_to own) ++ pairs_of (run_given_to first)) ++ pair) l) back (IsPermutation-append_left pair _ _ h.even)));
       }
@@ -198,20 +206,22 @@ joined_whole config jobs calls own others after workers entries h none both = re
 
 -- one idle pass more is put to go round
 module _ {N A : Type 0} {G : Ghosts N} (queue : RunQueue (Queued N G) A) where
-  pub idle_first : (first : RunPass (Queued N G)) → IsFirstRunPass queue first → HasIdle queue first
+  pub idle_first : (first : RunPass (Queued N G)) → IsFirstRunPass queue first → HasIdle queue 0 first
   idle_first first new = record {
     own = new.own;
     share = ap (λ (r : RunAccount (Queued N G)). r.share) new.account_is;
     idle = ap (λ (r : RunAccount (Queued N G)). pairs_of r.put) new.account_is;
+    many_are = ap (λ (r : RunAccount (Queued N G)). length r.put) new.account_is;
     given_none = ap (λ (r : RunAccount (Queued N G)). r.given) new.account_is;
   }
 
-  pub idle_more : (first after : RunPass (Queued N G)) (pass : HostPass N G) → HasIdle queue first → IsRunPass queue after
-      → run_account_of after ≡ with_run_put (run_account_of first) (queued.Idle pass ∷ []) → HasIdle queue after
-  idle_more first after pass h is_place put = record {
+  pub idle_more : (many : ℕ) (first after : RunPass (Queued N G)) (pass : HostPass N G) → HasIdle queue many first → IsRunPass queue after
+      → run_account_of after ≡ with_run_put (run_account_of first) (queued.Idle pass ∷ []) → HasIdle queue (many + 1) after
+  idle_more many first after pass h is_place put = record {
     own = is_place;
     share = ap (λ (r : RunAccount (Queued N G)). r.share) put ∙ h.share;
     idle = ap (λ (r : RunAccount (Queued N G)). pairs_of r.put) put
         ∙ (pairs_of-append (run_put_by first) (queued.Idle pass ∷ []) ∙ (append-nil (pairs_of (run_put_by first)) ∙ h.idle));
+    many_are = ap (λ (r : RunAccount (Queued N G)). length r.put) put ∙ (length-append (run_put_by first) (queued.Idle pass ∷ []) ∙ ap (λ (n : ℕ). n + 1) h.many_are);
     given_none = ap (λ (r : RunAccount (Queued N G)). r.given) put ∙ h.given_none;
   }

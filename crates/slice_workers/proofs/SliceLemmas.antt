@@ -1,10 +1,11 @@
 -- What workers did in slices, one after the other and together.
-use Rattle.std.proofs.Common.{◌≡◌, inl, inr, ℕ, suc, ◌+◌, ◌-◌, ◌<◌, true, false, List, [], ◌∷◌, ◌++◌, Option, None, Some, Ok, Err, length, refl, sym, ap, ◌∙◌, subst, arith, append_assoc, append-nil}
+use Rattle.std.proofs.Common.{◌≡◌, inl, inr, ℕ, suc, ◌+◌, ◌-◌, ◌<◌, false, List, [], ◌∷◌, ◌++◌, Option, None, Some, Ok, Err, length, refl, sym, ap, ◌∙◌, subst, arith, append_assoc, append-nil}
 use Rattle.std.specs.Prelude.{◌↔◌, Result, IfOk, OnOk, slice_get}
-use Rattle.std.specs.List.{AllZip}
+use Rattle.std.specs.List.{All, AllZip}
 use Rattle.std.specs.List.Sorted.{IsPermutation}
 use Rattle.std.proofs.Math.Nat.{suc-mul, zero-mul}
 use Rattle.std.proofs.lemmas.Grind.{flat_map-append}
+use Rattle.std.proofs.lemmas.List.Elements.{All-append, All-cons, All-nil}
 use Rattle.std.proofs.lemmas.List.Sorted.{IsPermutation-append, IsPermutation-append_comm, IsPermutation-append_left, IsPermutation-append_right, IsPermutation-refl, IsPermutation-trans}
 use Rattle.wasm_values.specs.declared.outcome.NoMemory.{NoMemory}
 use Rattle.wasm_values.specs.declared.outcome.Outcome.{Outcome}
@@ -18,9 +19,8 @@ use Rattle.module_store.specs.declared.naming.Naming.{Ghosts}
 use Rattle.retired_tags.specs.Passes.{TagPass}
 use Rattle.instance_calls.specs.PausedViews.{PausedView}
 use Rattle.pool_limits.specs.declared.numbers.Numbers.{Numbers}
-use Rattle.pool_worlds.specs.Contents.{Named, needs}
+use Rattle.pool_worlds.specs.Contents.{Named}
 use Rattle.pool_worlds.specs.declared.kinds.Kind.{Kind}
-use Rattle.pool_worlds.specs.declared.kinds.Kind.TheVariants as kind
 use Rattle.pool_host.specs.declared.answers.Answer.{Answer}
 use Rattle.pool_host.specs.declared.answers.Answer.TheVariants as answer
 use Rattle.pool_host.specs.declared.host.Host.{Host}
@@ -28,19 +28,21 @@ use Rattle.pool_host.specs.declared.passes.HostPass.{HostPass}
 use Rattle.pool_host.specs.declared.passes.Passes.{Passes}
 use Rattle.pool_host.specs.declared.paused.Paused.{Paused}
 use Rattle.pool_host.specs.Hosts.{IsHostPass}
-use Rattle.pool_host.specs.Looks.{Looked}
-use Rattle.pool_host.specs.Pausing.{HasEnded, IsPausedAgain, IsReady, IsUntouched, TookThose, WasFull}
-use Rattle.pool_host.specs.Trails.{AddsTrails, IsFullMemoryTake, IsFullTableTake, IsFullTicketTake, IsMemoryGive, IsMemoryTake, IsTableGive, IsTableTake, IsTicketGive, IsTicketTake}
+use Rattle.pool_host.specs.Looks.{Looked, refused_look}
+use Rattle.pool_host.specs.Pausing.{HasEnded, IsPausedAgain, IsReady, WasRefused}
+use Rattle.pool_host.specs.Starting.{refused_answer}
+use Rattle.pool_host.specs.Taking.{TookThose}
 use Rattle.due_calls.specs.declared.calls.Due.{Due}
 use Rattle.due_calls.specs.declared.entries.Worked.{Worked}
 use Rattle.slice_workers.specs.declared.queued.Queued.{Queued}
 use Rattle.slice_workers.specs.declared.queued.Queued.TheVariants as queued
 use Rattle.slice_workers.specs.declared.slices.Slice.{Slice}
-use Rattle.slice_workers.specs.declared.steps.Step.{Step}
+use Rattle.slice_workers.specs.declared.slices.Tried.TheVariants as tried
+use Rattle.slice_workers.specs.declared.pacing.Came.{Came}
 use Rattle.due_calls.specs.Entries.{IsEntry, Pair, called}
 use Rattle.slice_workers.specs.Queued.{AreIdleOn, HasMadeSlices, IsOfRun, IsOnHost, IsPausedIn, NamesRun, goes_round, pair_of, paused_pair, pairs_of}
-use Rattle.slice_workers.specs.Slices.{AnsweredBy, DidSlices, GoesOn, GoesRound, HelpedWith, IsMade, IsMadeBy, IsSliceOf, IsSliced, PutBack, TookCall, WasAnswered, ends_of, entries_of, roomless, step_of}
-use Rattle.pool_host.proofs.VisitLemmas.{nothing, nothing_if}
+use Rattle.slice_workers.specs.Slices.{AnsweredAtOnce, AnsweredBy, DidSlices, GoesOn, GoesRound, HasMore, HasTried, IsMade, IsMadeBy, IsPutBack, IsSliceOf, IsSliced, KeepsEntry, WasAnswered, WorkedOn, ends_of, full_in, full_kind, roomless}
+use Rattle.pool_host.proofs.StartLemmas.{look_is, refused_cause, refused_trails}
 use Rattle.due_calls.proofs.EndLemmas.{no_zeros_in, one_zero_in, zeros-append}
 use Rattle.job_queue.proofs.AccountLemmas.{given_none, given_twice}
 use Rattle.due_calls.proofs.EntryLemmas.{all_zip_append, called-append, called_one, called_zero}
@@ -107,6 +109,15 @@ module _ {N : Type 0} (G : Ghosts N) (config : Numbers) (host : Host N) (calls :
   pub all_entries : (made : List Pair) (entries : List Worked) → AllZip (IsSliced G config host calls slice) made entries → AllZip (IsEntry config calls) made entries
   all_entries made entries h = all_zip_of (IsSliced G config host calls slice) (IsEntry config calls) entry_of made entries h
 
+-- what was answered where a kind was full
+full_is : (a : Option Answer) (k : Kind) → full_in a ≡ Some k → a ≡ Some (answer.Full k)
+full_is None k e = let z : None ≡ Some k = e in absurd (cc)
+full_is (Some (answer.Done outcome)) k e = let z : None ≡ Some k = e in absurd (cc)
+full_is (Some answer.NoExport) k e = let z : None ≡ Some k = e in absurd (cc)
+full_is (Some answer.BadArgs) k e = let z : None ≡ Some k = e in absurd (cc)
+full_is (Some answer.Retired) k e = let z : None ≡ Some k = e in absurd (cc)
+full_is (Some (answer.Full j)) k e = let z : Some j ≡ Some k = e in let same : j ≡ k = cc in ap (λ (kind : Kind). Some (answer.Full kind)) same
+
 module _ {N : Type 0} {G : Ghosts N} where
   pub pairs_of-append : (xs ys : List (Queued N G)) → pairs_of (xs ++ ys) ≡ pairs_of xs ++ pairs_of ys
   pairs_of-append xs ys = flat_map-append pair_of xs ys
@@ -135,31 +146,15 @@ module _ {N : Type 0} {G : Ghosts N} where
   module _ (config : Numbers) (host : Host N) where
     -- ---- how a call began
 
-    -- a pass that did nothing added what such a call adds
-    adds_nothing : (m : Named) (before after : HostPass N G) → IsUntouched host before.passes after → AddsTrails config host m answer.Retired before.passes after.passes
-    adds_nothing m before after h = rw h.passes_are (record {
-      ticket = nothing (IsTicketTake config host m) (IsTicketGive config host m) (IsFullTicketTake config host m) _ _ refl;
-      memory = nothing_if (IsMemoryTake config host m) (IsMemoryGive config host m) (IsFullMemoryTake config host m) (needs kind.Memory m.tree) _ _ refl;
-      table = nothing_if (IsTableTake config host m) (IsTableGive config host m) (IsFullTableTake config host m) (needs kind.Table m.tree) _ _ refl;
-    })
-
-    pub begun_lacking : (m : Named) (before after : HostPass N G) → IsUntouched host before.passes after → Looked host.retired.tags m.tag before.retired after.retired None
-        → WasAnswered config host m answer.NoExport before after
-    begun_lacking m before after h look =
-        let n = adds_nothing m before after h in record { own = h.own; trails = record { ticket = n.ticket; memory = n.memory; table = n.table }; full = tt; looked = look }
-
-    pub begun_unfit : (m : Named) (before after : HostPass N G) → IsUntouched host before.passes after → Looked host.retired.tags m.tag before.retired after.retired None
-        → WasAnswered config host m answer.BadArgs before after
-    begun_unfit m before after h look =
-        let n = adds_nothing m before after h in record { own = h.own; trails = record { ticket = n.ticket; memory = n.memory; table = n.table }; full = tt; looked = look }
-
-    pub begun_retired : (m : Named) (before after : HostPass N G) → IsUntouched host before.passes after → Looked host.retired.tags m.tag before.retired after.retired (Some true)
-        → WasAnswered config host m answer.Retired before after
-    begun_retired m before after h look = record { own = h.own; trails = adds_nothing m before after h; full = tt; looked = look }
-
-    pub begun_full : (m : Named) (export : List ℕ) (args : List Val) (before after : HostPass N G) (k : Kind) → WasFull config host m export args before.passes after k
-        → Looked host.retired.tags m.tag before.retired after.retired (Some false) → WasAnswered config host m (answer.Full k) before after
-    begun_full m export args before after k h look = record { own = h.own; trails = h.trails; full = h.full; looked = look }
+    -- a call that was refused is answered so
+    pub begun_refused : (m : Named) (export : List ℕ) (args : List Val) (before after : HostPass N G) (why : _) → WasRefused config host m export args before.passes after why
+        → Looked host.retired.tags m.tag before.retired after.retired (refused_look why) → WasAnswered config host m (refused_answer why) before after
+    begun_refused m export args before after why h look = record {
+      own = h.own;
+      trails = refused_trails config host m export args before.passes after.passes why h.cause;
+      full = refused_cause config host m export args before.passes after.passes why h.cause;
+      looked = rw (look_is why) look;
+    }
 
     -- ---- what a slice left
 
@@ -192,7 +187,7 @@ module _ {N : Type 0} {G : Ghosts N} where
             small = rw (h.number_is, h.begun.fuel_is) small;
           };
         };
-        goes = (rw (h.number_is, h.begun.named_is) refl, record { took = subst (λ (x : Named). TookThose config host x before.passes after.passes after.running) (sym h.begun.named_is) h.took; looked = rw h.begun.named_is look; turns_are = h.begun.turns_are });
+        goes = (rw (h.number_is, h.begun.named_is) refl, record { took = subst (λ (x : Named). TookThose host x before.passes after.passes after.running.ticket after.running.memory after.running.table) (sym h.begun.named_is) h.took; looked = rw h.begun.named_is look; turns_are = h.begun.turns_are });
       }
 
       -- a call that made a slice and goes on
@@ -250,6 +245,45 @@ module _ {N : Type 0} {G : Ghosts N} where
           record { fits = answered.own; goes = rw is (refl, record { entry = entry; answered = rw (of, so) answered }) }
       whole_slice turns before m pair pass (Err wanting) answer worked is of so entry answered = record { fits = answered.own; goes = refl }
 
+      -- ---- a try to begin a call
+
+      full_one : (turns : ℕ) (before : HostPass N G) (pair : Pair) (after : HostPass N G) (entry : Result (Option Worked) NoMemory) (k : Kind) → full_kind entry ≡ Some k
+          → GoesRound config host calls turns (queued.Idle before) pair (queued.Idle after) entry → AnsweredAtOnce config host pair.1 (Some (answer.Full k)) before after
+      full_one turns before pair after (Ok None) k e goes = let z : None ≡ Some k = e in absurd (cc)
+      full_one turns before pair after (Ok (Some worked)) k e goes =
+          subst (λ (a : Option Answer). AnsweredAtOnce config host pair.1 a before after) (full_is worked.answer k e) goes.1.answered
+      full_one turns before pair after (Err wanting) k e goes = let z : None ≡ Some k = e in absurd (cc)
+
+      -- it was full, and a pass is left
+      pub full_tried : (turns : ℕ) (before : HostPass N G) (pair : Pair) (slice : Slice N G) (after : HostPass N G) (k : Kind) → slice.queued ≡ queued.Idle after → full_kind slice.entry ≡ Some k
+          → IsSliceOf config host calls turns (queued.Idle before) pair slice → HasTried config host calls turns before pair (tried.Full after k)
+      full_tried turns before pair slice after k left full is = (
+        subst (λ (q : Queued N G). IsOnHost host calls q) left is.fits,
+        full_one turns before pair after slice.entry k full (subst (λ (q : Queued N G). GoesRound config host calls turns (queued.Idle before) pair q slice.entry) left is.goes),
+      )
+
+      answered_is_idle : (turns : ℕ) (taken : Queued N G) (pair : Pair) (q : Paused N G) (entry : Result (Option Worked) NoMemory) (k : Kind) → full_kind entry ≡ Some k
+          → GoesRound config host calls turns taken pair (queued.Paused q) entry → ⊥
+      answered_is_idle turns taken pair q (Ok None) k e goes = let z : None ≡ Some k = e in cc
+      answered_is_idle turns taken pair q (Ok (Some worked)) k e goes = let n = ap length goes.0 in omega arith
+      answered_is_idle turns taken pair q (Err wanting) k e goes = let n = ap length goes in omega arith
+
+      -- no call is left
+      pub full_is_idle : (turns : ℕ) (taken : Queued N G) (pair : Pair) (slice : Slice N G) (q : Paused N G) (k : Kind) → slice.queued ≡ queued.Paused q → full_kind slice.entry ≡ Some k
+          → IsSliceOf config host calls turns taken pair slice → ⊥
+      full_is_idle turns taken pair slice q k left full is =
+          answered_is_idle turns taken pair q slice.entry k full (subst (λ (x : Queued N G). GoesRound config host calls turns taken pair x slice.entry) left is.goes)
+
+      -- of a call that was answered no call is left
+      pub never_left : (turns : ℕ) (taken left : Queued N G) (pair : Pair) (worked : Worked) (q : Paused N G) → left ≡ queued.Paused q
+          → IsMadeBy config host calls turns taken left pair worked → ⊥
+      never_left turns taken left pair worked q is made = subst (λ (x : Queued N G). AnsweredBy config host turns pair worked.answer taken x) is made.answered
+
+      -- but a pass
+      pub left_idle : (turns : ℕ) (taken left : Queued N G) (pair : Pair) (worked : Worked) (pass : HostPass N G) → left ≡ queued.Idle pass
+          → IsMadeBy config host calls turns taken left pair worked → IsMadeBy config host calls turns taken (queued.Idle pass) pair worked
+      left_idle turns taken left pair worked pass is made = subst (λ (x : Queued N G). IsMadeBy config host calls turns taken x pair worked) is made
+
       -- what is left of what is of the run is of the run: a call has made whole slices
       whole_again : (slice : ℕ) (taken : Queued N G) (q : Paused N G) → IsOfRun host calls slice taken → GoesOn config host slice taken (queued.Paused q) → HasMadeSlices slice q.running
       whole_again slice (queued.Idle pass) q came goes = record { slices = 0; turns_are = goes.turns_are ∙ sym (zero-mul slice) }
@@ -271,303 +305,246 @@ module _ {N : Type 0} {G : Ghosts N} where
 
   -- what workers made in slices is of the calls
   module _ (config : Numbers) (host : Host N) (calls : List Due) (slice : ℕ) where
-    -- an entry that a step made, of what is of the run
-    pub made_of_run : (turns : ℕ) (taken left : Queued N G) (made : List Pair) (entries : List Worked) → IsOfRun host calls slice taken → AllZip (IsMadeBy config host calls turns taken left) made entries
-        → AllZip (IsMade G config host calls slice turns) made entries
-    made_of_run turns taken left made entries came h =
-        all_zip_of (IsMadeBy config host calls turns taken left) (IsMade G config host calls slice turns)
-        (λ (pair : Pair) (worked : Worked) (m : IsMadeBy config host calls turns taken left pair worked). record { taken = taken; went_round = came; left = left; made = m }) made entries h
+    -- ---- entries, and what is put back
 
-    pub did_nothing : (a : Given) (was : RunAccount (Queued N G)) → DidSlices config host calls slice 0 a a was was []
-    did_nothing a was = record {
-      taken = [];
-      account_is = given_none a;
-      ended = refl;
+    -- a paused call was not given up because a kind was full
+    pub paused_found : (turns : ℕ) (pair : Pair) (p : Paused N G) (left : Queued N G) (a : Option Answer) → AnsweredBy config host turns pair a (queued.Paused p) left → full_in a ≡ None
+    paused_found turns pair p (queued.Paused after) a h = absurd h
+    paused_found turns pair p (queued.Idle after) None h = refl
+    paused_found turns pair p (queued.Idle after) (Some (answer.Done outcome)) h = refl
+    paused_found turns pair p (queued.Idle after) (Some answer.NoExport) h = refl
+    paused_found turns pair p (queued.Idle after) (Some answer.BadArgs) h = refl
+    paused_found turns pair p (queued.Idle after) (Some answer.Retired) h = refl
+    paused_found turns pair p (queued.Idle after) (Some (answer.Full kind)) h = absurd h.1
+
+    never_full : (turns : ℕ) (pair : Pair) (p : Paused N G) (left : Queued N G) (entry : Result (Option Worked) NoMemory) → GoesRound config host calls turns (queued.Paused p) pair left entry
+        → full_kind entry ≡ None
+    never_full turns pair p left (Ok None) h = refl
+    never_full turns pair p left (Ok (Some worked)) h = paused_found turns pair p left worked.answer h.1.answered
+    never_full turns pair p left (Err wanting) h = refl
+
+    one_put : (item : Queued N G) → IsPutBack config host calls slice item → All (IsPutBack config host calls slice) (item ∷ [])
+    one_put item h = All-cons (IsPutBack config host calls slice) item [] h (All-nil (IsPutBack config host calls slice))
+
+    -- what was left without a call is a pass
+    idle_left : (taken item : Queued N G) → pair_of item ≡ [] → GoesOn config host slice taken item
+    idle_left taken (queued.Idle pass) none = tt
+    idle_left taken (queued.Paused q) none = let n = ap length none in absurd (omega arith)
+
+    -- ---- one thing done
+
+    pub worked_nothing : (was : RunAccount (Queued N G)) → WorkedOn config host calls slice [] was was []
+    worked_nothing was = record {
       given = [];
       put = [];
-      run_is = changed_none was;
+      run_is = changed_none (roomless was);
+      put_are = All-nil (IsPutBack config host calls slice);
       made = [];
       entries_are = tt;
       even = IsPermutation-refl [];
     }
 
-    -- one after the other
-    pub did_both : (n k : ℕ) (a b c : Given) (was between now : RunAccount (Queued N G)) (first second : List Worked) → DidSlices config host calls slice n a b was between first
+    -- this was taken as it went round
+    worked_taken : (was between now : RunAccount (Queued N G)) (item : Queued N G) (entries : List Worked) → between ≡ with_run_given was (item ∷ [])
+        → WorkedOn config host calls slice (pair_of item) between now entries → WorkedOn config host calls slice [] was now entries
+    worked_taken was between now item entries took h =
+        let g = append_assoc was.given (item ∷ []) h.given in record {
+          given = item ∷ h.given;
+          put = h.put;
+          run_is = h.run_is ∙ (ap (λ (r : RunAccount (Queued N G)). changed (roomless r) h.put h.given) took
+              ∙ (λ i. record (roomless was) { put = was.put ++ h.put; given = g i }));
+          put_are = h.put_are;
+          made = h.made;
+          entries_are = h.entries_are;
+          even = h.even;
+        }
+
+    -- a pass was put back
+    put_pass : (was now : RunAccount (Queued N G)) (pass : HostPass N G) → IsHostPass host pass → now ≡ with_run_put was (queued.Idle pass ∷ []) → WorkedOn config host calls slice [] was now []
+    put_pass was now pass own put = record {
+      given = [];
+      put = queued.Idle pass ∷ [];
+      run_is = rw (append-nil was.given) (ap roomless put);
+      put_are = one_put (queued.Idle pass) (record { taken = queued.Idle pass; went_round = own; goes_on = tt });
+      made = [];
+      entries_are = tt;
+      even = IsPermutation-refl [];
+    }
+
+    -- what a slice of a call left was put back, and its entry was kept
+    put_one : (taken : Queued N G) (was now : RunAccount (Queued N G)) (pair : Pair) (item : Queued N G) (entry : Result (Option Worked) NoMemory) (before after : List Worked)
+        → IsOfRun host calls slice taken → GoesRound config host calls slice taken pair item entry → full_kind entry ≡ None → now ≡ with_run_put was (item ∷ [])
+        → KeepsEntry entry before after → HasMore (WorkedOn config host calls slice (pair ∷ []) was now) before after
+    put_one taken was now pair item (Ok None) before after came goes slots put kept =
+        let e : pairs_of (item ∷ []) ++ [] ≡ pair ∷ [] = append-nil (pairs_of (item ∷ [])) ∙ (pair_alone item ∙ goes.0) in record {
+          more = [];
+          after_is = kept ∙ sym (append-nil before);
+          so = record {
+            given = [];
+            put = item ∷ [];
+            run_is = rw (append-nil was.given) (ap roomless put);
+            put_are = one_put item (record { taken = taken; went_round = came; goes_on = goes.1 });
+            made = [];
+            entries_are = tt;
+            even = subst (λ (l : List Pair). IsPermutation (pair ∷ []) l) (sym e) (IsPermutation-refl (pair ∷ []));
+          };
+        }
+    put_one taken was now pair item (Ok (Some worked)) before after came goes slots put kept =
+        let e : pairs_of (item ∷ []) ++ pair ∷ [] ≡ pair ∷ [] = ap (λ (ps : List Pair). ps ++ pair ∷ []) (pair_alone item ∙ goes.0) in record {
+          more = worked ∷ [];
+          after_is = kept;
+          so = record {
+            given = [];
+            put = item ∷ [];
+            run_is = rw (append-nil was.given) (ap roomless put);
+            put_are = one_put item (record { taken = taken; went_round = came; goes_on = idle_left taken item goes.0 });
+            made = pair ∷ [];
+            entries_are = (record { taken = taken; went_round = came; left = item; made = goes.1; found_slots = slots }, tt);
+            even = subst (λ (l : List Pair). IsPermutation (pair ∷ []) l) (sym e) (IsPermutation-refl (pair ∷ []));
+          };
+        }
+    put_one taken was now pair item (Err wanting) before after came goes slots put kept = absurd kept
+
+    -- ---- one after the other
+
+    worked_both : (hs ks : List Pair) (was between now : RunAccount (Queued N G)) (first second : List Worked) → WorkedOn config host calls slice hs was between first
+        → WorkedOn config host calls slice ks between now second → WorkedOn config host calls slice (hs ++ ks) was now (first ++ second)
+    worked_both hs ks was between now first second h g = record {
+      given = h.given ++ g.given;
+      put = h.put ++ g.put;
+      run_is = changed_twice (roomless was) (roomless between) (roomless now) h.put h.given g.put g.given h.run_is g.run_is;
+      put_are = All-append (IsPutBack config host calls slice) h.put g.put h.put_are g.put_are;
+      made = h.made ++ g.made;
+      entries_are = all_zip_append (IsMade G config host calls slice slice) h.made g.made first second h.entries_are g.entries_are;
+      even = rw (pairs_of-append h.given g.given, pairs_of-append h.put g.put)
+          (both_even hs (pairs_of h.given) (pairs_of h.put) h.made ks (pairs_of g.given) (pairs_of g.put) g.made h.even g.even);
+    }
+
+    pub pass_put : (was between now : RunAccount (Queued N G)) (pass : HostPass N G) → IsHostPass host pass → WorkedOn config host calls slice [] was between []
+        → now ≡ with_run_put between (queued.Idle pass ∷ []) → WorkedOn config host calls slice [] was now []
+    pass_put was between now pass own h put = worked_both [] [] was between now [] [] h (put_pass between now pass own put)
+
+    pub worked_more : (ks : List Pair) (was between now : RunAccount (Queued N G)) (before mid after : List Worked) → HasMore (WorkedOn config host calls slice [] was between) before mid
+        → HasMore (WorkedOn config host calls slice ks between now) mid after → HasMore (WorkedOn config host calls slice ks was now) before after
+    worked_more ks was between now before mid after h g = record {
+      more = h.more ++ g.more;
+      after_is = g.after_is ∙ (ap (λ (ws : List Worked). ws ++ g.more) h.after_is ∙ append_assoc before h.more g.more);
+      so = worked_both [] ks was between now h.more g.more h.so g.so;
+    }
+
+    -- ---- the steps of a worker
+
+    -- nothing came round, and no entry was made
+    pub nothing_more : (was now : RunAccount (Queued N G)) (before after : List Worked) → now ≡ was → after ≡ before → HasMore (WorkedOn config host calls slice [] was now) before after
+    nothing_more was now before after still same = record { more = []; after_is = same ∙ sym (append-nil before); so = rw still (worked_nothing was) }
+
+    -- a pass came round, and is kept
+    pub pass_kept : (was now : RunAccount (Queued N G)) (pass : HostPass N G) (before after : List Worked) → now ≡ with_run_given was (queued.Idle pass ∷ []) → after ≡ before
+        → HasMore (WorkedOn config host calls slice [] was now) before after
+    pass_kept was now pass before after took same =
+        record { more = []; after_is = same ∙ sym (append-nil before); so = worked_taken was now now (queued.Idle pass) [] took (worked_nothing now) }
+
+    -- a call that came round is in hand, and then goes round again or is answered
+    pub call_taken : {V E : Type 0} (was between now : RunAccount (Queued N G)) (p : Paused N G) (before mid after : List Worked) (r : Result V E)
+        → between ≡ with_run_given was (queued.Paused p ∷ []) → mid ≡ before → OnOk r (HasMore (WorkedOn config host calls slice (paused_pair p ∷ []) between now) mid after)
+        → OnOk r (HasMore (WorkedOn config host calls slice [] was now) before after)
+    call_taken was between now p before mid after (Ok done) took same h = record {
+      more = h.more;
+      after_is = h.after_is ∙ ap (λ (ws : List Worked). ws ++ h.more) same;
+      so = worked_taken was between now (queued.Paused p) h.more took h.so;
+    }
+    call_taken was between now p before mid after (Err wanting) took same h = tt
+
+    pub paused_slice : {V E : Type 0} (p : Paused N G) (was now : RunAccount (Queued N G)) (left : Slice N G) (before after : List Worked) (r : Result V E) → IsOfRun host calls slice (queued.Paused p)
+        → IsSliceOf config host calls slice (queued.Paused p) (paused_pair p) left → now ≡ with_run_put was (left.queued ∷ []) → OnOk r (KeepsEntry left.entry before after)
+        → OnOk r (HasMore (WorkedOn config host calls slice (paused_pair p ∷ []) was now) before after)
+    paused_slice p was now left before after (Ok done) came is put kept =
+        put_one (queued.Paused p) was now (paused_pair p) left.queued left.entry before after came is.goes (never_full slice (paused_pair p) p left.queued left.entry is.goes) put kept
+    paused_slice p was now left before after (Err wanting) came is put kept = tt
+
+    -- a call began, or was answered at once
+    pub begun_put : (pass : HostPass N G) (was now : RunAccount (Queued N G)) (pair : Pair) (left : Slice N G) (before mid after : List Worked) → IsHostPass host pass
+        → HasTried config host calls slice pass pair (tried.Left left) → now ≡ with_run_put was (left.queued ∷ []) → mid ≡ before → KeepsEntry left.entry mid after
+        → HasMore (WorkedOn config host calls slice (pair ∷ []) was now) before after
+    begun_put pass was now pair left before mid after own is put same kept =
+        put_one (queued.Idle pass) was now pair left.queued left.entry before after own is.0.goes is.1 put (subst (λ (ws : List Worked). KeepsEntry left.entry ws after) same kept)
+
+    -- it took no call
+    pub took_no_call : (a b : Given) (was now : RunAccount (Queued N G)) (before after : List Worked) (r : Result Came NoMemory) → b ≡ a → IfOk r (λ came. ends_of came ≡ 0)
+        → OnOk r (HasMore (WorkedOn config host calls slice [] was now) before after)
+        → IfOk r (λ came. HasMore (DidSlices config host calls slice (ends_of came) a b was now) before after)
+    took_no_call a b was now before after (Ok came) same none h =
+        record { more = h.more; after_is = h.after_is; so = record { taken = []; account_is = same ∙ given_none a; ended = sym none; work = h.so } }
+    took_no_call a b was now before after (Err wanting) same none h = tt
+
+    -- it took a call, which began or was answered
+    pub took_call : (a b : Given) (was now : RunAccount (Queued N G)) (before after : List Worked) (pair : Pair) → 0 < pair.0 → b ≡ with_given a (pair ∷ [])
+        → HasMore (WorkedOn config host calls slice (pair ∷ []) was now) before after → HasMore (DidSlices config host calls slice 0 a b was now) before after
+    took_call a b was now before after pair counted given h = record {
+      more = h.more;
+      after_is = h.after_is;
+      so = record {
+        taken = pair ∷ [];
+        account_is = given;
+        ended = no_zeros_in pair counted;
+        work = subst (λ (hs : List Pair). WorkedOn config host calls slice hs was now h.more) (sym (called_one pair counted)) h.so;
+      };
+    }
+
+    -- it was told to end
+    pub told_to_end : (a b : Given) (was : RunAccount (Queued N G)) (before : List Worked) (pair : Pair) → pair.0 ≡ 0 → b ≡ with_given a (pair ∷ [])
+        → HasMore (DidSlices config host calls slice 1 a b was was) before before
+    told_to_end a b was before pair zeroed given = record {
+      more = [];
+      after_is = sym (append-nil before);
+      so = record {
+        taken = pair ∷ [];
+        account_is = given;
+        ended = one_zero_in pair zeroed;
+        work = subst (λ (hs : List Pair). WorkedOn config host calls slice hs was was []) (sym (called_zero pair zeroed)) (worked_nothing was);
+      };
+    }
+
+    -- ---- the work of a worker
+
+    pub did_nothing : (a : Given) (was : RunAccount (Queued N G)) (before : List Worked) → HasMore (DidSlices config host calls slice 0 a a was was) before before
+    did_nothing a was before =
+        record { more = []; after_is = sym (append-nil before); so = record { taken = []; account_is = given_none a; ended = refl; work = worked_nothing was } }
+
+    did_both : (n k : ℕ) (a b c : Given) (was between now : RunAccount (Queued N G)) (first second : List Worked) → DidSlices config host calls slice n a b was between first
         → DidSlices config host calls slice k b c between now second → DidSlices config host calls slice (n + k) a c was now (first ++ second)
     did_both n k a b c was between now first second h g = record {
       taken = h.taken ++ g.taken;
       account_is = given_twice a b c h.taken g.taken h.account_is g.account_is;
       ended = zeros-append h.taken g.taken ∙ (let e = h.ended in let f = g.ended in omega arith);
-      given = h.given ++ g.given;
-      put = h.put ++ g.put;
-      run_is = changed_twice was between now h.put h.given g.put g.given h.run_is g.run_is;
-      made = h.made ++ g.made;
-      entries_are = all_zip_append (IsMade G config host calls slice slice) h.made g.made first second h.entries_are g.entries_are;
-      even = rw (called-append h.taken g.taken, pairs_of-append h.given g.given, pairs_of-append h.put g.put)
-          (both_even (called h.taken) (pairs_of h.given) (pairs_of h.put) h.made (called g.taken) (pairs_of g.given) (pairs_of g.put) g.made h.even g.even);
+      work = subst (λ (hs : List Pair). WorkedOn config host calls slice hs was now (first ++ second)) (sym (called-append h.taken g.taken))
+          (worked_both (called h.taken) (called g.taken) was between now first second h.work g.work);
     }
 
-    -- a pass that came round idle was put back, or a call that it began
-    pub took_idle : (a b : Given) (was between now : RunAccount (Queued N G)) (pass : HostPass N G) (step : Step) → IsHostPass host pass → between ≡ with_run_given was (queued.Idle pass ∷ [])
-        → TookCall config host calls slice pass a b between now step → DidSlices config host calls slice (ends_of step) a b was now (entries_of step)
-    took_idle a b was between now pass step own took h = record {
-      taken = h.taken;
-      account_is = h.account_is;
-      ended = h.ended;
-      given = queued.Idle pass ∷ [];
-      put = h.item ∷ [];
-      run_is = changed_once was between now (queued.Idle pass) h.item took h.run_is;
-      made = h.made;
-      entries_are = made_of_run slice (queued.Idle pass) h.item h.made (entries_of step) own h.entries_are;
-      even = rw (append-nil (called h.taken), pair_alone h.item, h.same) (IsPermutation-refl (pair_of h.item ++ h.made));
+    pub did_more : (n k m : ℕ) (a b c : Given) (was between now : RunAccount (Queued N G)) (before mid after : List Worked) → HasMore (DidSlices config host calls slice n a b was between) before mid
+        → HasMore (DidSlices config host calls slice k b c between now) mid after → n + k ≡ m → HasMore (DidSlices config host calls slice m a c was now) before after
+    did_more n k m a b c was between now before mid after h g sum = record {
+      more = h.more ++ g.more;
+      after_is = g.after_is ∙ (ap (λ (ws : List Worked). ws ++ g.more) h.after_is ∙ append_assoc before h.more g.more);
+      so = subst (λ (ends : ℕ). DidSlices config host calls slice ends a c was now (h.more ++ g.more)) sum (did_both n k a b c was between now h.more g.more h.so g.so);
     }
 
-    -- a call that came round goes on, or is answered
-    pub took_paused : (a : Given) (was between now : RunAccount (Queued N G)) (paused : Paused N G) (step : Step) → IsOfRun host calls slice (queued.Paused paused) → between ≡ with_run_given was (queued.Paused paused ∷ [])
-        → PutBack config host calls slice (queued.Paused paused) (paused_pair paused) between now step → DidSlices config host calls slice 0 a a was now (entries_of step)
-    took_paused a was between now paused step came took h = record {
-      taken = [];
-      account_is = given_none a;
-      ended = refl;
-      given = queued.Paused paused ∷ [];
-      put = h.item ∷ [];
-      run_is = changed_once was between now (queued.Paused paused) h.item took h.run_is;
-      made = h.made;
-      entries_are = made_of_run slice (queued.Paused paused) h.item h.made (entries_of step) came h.entries_are;
-      even = rw (pair_alone h.item, h.one) (IsPermutation-refl (pair_of h.item ++ h.made));
-    }
+    -- it worked on what went round, when it had been told to end
+    pub helped : {V E : Type 0} (a b c : Given) (was between now : RunAccount (Queued N G)) (before mid after : List Worked) (r : Result V E)
+        → HasMore (DidSlices config host calls slice 1 a b was between) before mid → c ≡ b → OnOk r (HasMore (WorkedOn config host calls slice [] between now) mid after)
+        → OnOk r (HasMore (DidSlices config host calls slice 1 a c was now) before after)
+    helped a b c was between now before mid after (Ok done) h same g =
+        let sum : 1 + 0 ≡ 1 = omega arith in
+        did_more 1 0 1 a b c was between now before mid after h
+        (record { more = g.more; after_is = g.after_is; so = record { taken = []; account_is = same ∙ given_none b; ended = refl; work = g.so } }) sum
+    helped a b c was between now before mid after (Err wanting) h same g = tt
 
-    -- one step more, and nothing but its entries
-    pub did_more : (n : ℕ) (a b c : Given) (was between now : RunAccount (Queued N G)) (made later second : List Worked) → DidSlices config host calls slice 0 a b was between made
-        → DidSlices config host calls slice n b c between now second → later ≡ made ++ second → DidSlices config host calls slice n a c was now later
-    did_more n a b c was between now made later second h g is =
-        let both : 0 + n ≡ n = omega arith in
-        rw is (subst (λ (k : ℕ). DidSlices config host calls slice k a c was now (made ++ second)) both (did_both 0 n a b c was between now made second h g))
-
-    pub did_quiet : (n : ℕ) (a b c : Given) (was between now : RunAccount (Queued N G)) (made later : List Worked) → DidSlices config host calls slice 0 a b was between made
-        → DidSlices config host calls slice n b c between now [] → later ≡ made → DidSlices config host calls slice n a c was now later
-    did_quiet n a b c was between now made later h g is = did_more n a b c was between now made later [] h g (is ∙ sym (append-nil made))
-
-    -- a step that began no call
-    pub never_told : (a b : Given) (was now : RunAccount (Queued N G)) (r : Result Step NoMemory) → IfOk r (λ step. DidSlices config host calls slice 0 a b was now (entries_of step))
-        → IfOk r (λ step. ends_of step ≡ 0) → IfOk r (λ step. DidSlices config host calls slice (ends_of step) a b was now (entries_of step))
-    never_told a b was now (Ok step) h none = rw none h
-    never_told a b was now (Err wanting) h none = tt
-
-    -- a worker helped for one step more
-    pub helped_none : (a : Given) (was : RunAccount (Queued N G)) (before : List Worked) → HelpedWith config host calls slice a was was before before
-    helped_none a was before = record { more = []; after_is = sym (append-nil before); did = did_nothing a was }
-
-    pub helped_more : (a : Given) (was between now : RunAccount (Queued N G)) (before after later second : List Worked) → HelpedWith config host calls slice a was between before after
-        → DidSlices config host calls slice 0 a a between now second → later ≡ after ++ second → HelpedWith config host calls slice a was now before later
-    helped_more a was between now before after later second h g is = record {
-      more = h.more ++ second;
-      after_is = is ∙ (ap (λ (ws : List Worked). ws ++ second) h.after_is ∙ append_assoc before h.more second);
-      did = did_both 0 0 a a a was between now h.more second h.did g;
-    }
-
-    -- a step that took no call, on the account of a pass that took none
-    pub on_same_account : (a b c : Given) (was now : RunAccount (Queued N G)) (second : List Worked) → DidSlices config host calls slice 0 b c was now second → b ≡ a → c ≡ b
-        → DidSlices config host calls slice 0 a a was now second
-    on_same_account a b c was now second g e f =
-        subst (λ (x : Given). DidSlices config host calls slice 0 x x was now second) e (subst (λ (x : Given). DidSlices config host calls slice 0 b x was now second) f g)
-
-    pub helped_quiet : (a : Given) (was between now : RunAccount (Queued N G)) (before after later : List Worked) → HelpedWith config host calls slice a was between before after
-        → DidSlices config host calls slice 0 a a between now [] → later ≡ after → HelpedWith config host calls slice a was now before later
-    helped_quiet a was between now before after later h g is = helped_more a was between now before after later [] h g (is ∙ sym (append-nil after))
-
-    pub did_and_helped : (n : ℕ) (a b c : Given) (was between now : RunAccount (Queued N G)) (made later : List Worked) → DidSlices config host calls slice n a b was between made
-        → c ≡ b → HelpedWith config host calls slice b between now made later → DidSlices config host calls slice n a c was now later
-    did_and_helped n a b c was between now made later h same g =
-        let both : n + 0 ≡ n = omega arith in
-        rw (same, g.after_is) (subst (λ (k : ℕ). DidSlices config host calls slice k a b was now (made ++ g.more)) both (did_both n 0 a b b was between now made g.more h g.did))
-
-    -- what a slice left is put back
-    idle_left : (taken item : Queued N G) → pair_of item ≡ [] → GoesOn config host slice taken item
-    idle_left taken (queued.Idle pass) none = tt
-    idle_left taken (queued.Paused q) none = let n = ap length none in absurd (omega arith)
-
-    put_one : (taken : Queued N G) (was now : RunAccount (Queued N G)) (pair : Pair) (item : Queued N G) (entry : Result (Option Worked) NoMemory) → GoesRound config host calls slice taken pair item entry
-        → now ≡ with_run_put was (item ∷ []) → IfOk (step_of entry) (PutBack config host calls slice taken pair was now)
-    put_one taken was now pair item (Ok None) goes put =
-        record { item = item; run_is = put; goes_on = goes.1; never_ends = refl; made = []; entries_are = tt; one = sym goes.0 ∙ sym (append-nil (pair_of item)) }
-    put_one taken was now pair item (Ok (Some worked)) goes put = record {
-      item = item;
-      run_is = put;
-      goes_on = idle_left taken item goes.0;
-      never_ends = refl;
-      made = pair ∷ [];
-      entries_are = (goes.1, tt);
-      one = ap (λ (ps : List Pair). ps ++ pair ∷ []) (sym goes.0);
-    }
-    put_one taken was now pair item (Err wanting) goes put = tt
-
-    pub put_slice : (taken : Queued N G) (was now : RunAccount (Queued N G)) (pair : Pair) (left : Slice N G) (r : Result Step NoMemory) → IsSliceOf config host calls slice taken pair left
-        → now ≡ with_run_put was (left.queued ∷ []) → r ≡ step_of left.entry → IfOk r (PutBack config host calls slice taken pair was now)
-    put_slice taken was now pair left r is put step = rw step (put_one taken was now pair left.queued left.entry is.goes put)
-
-    -- a call was taken with an idle pass
-    took_one : (pass : HostPass N G) (a b : Given) (was now : RunAccount (Queued N G)) (pair : Pair) (r : Result Step NoMemory) → 0 < pair.0 → b ≡ with_given a (pair ∷ [])
-        → IfOk r (PutBack config host calls slice (queued.Idle pass) pair was now) → IfOk r (TookCall config host calls slice pass a b was now)
-    took_one pass a b was now pair (Ok step) counted given h = record {
-      taken = pair ∷ [];
-      account_is = given;
-      ended = no_zeros_in pair counted ∙ sym h.never_ends;
-      item = h.item;
-      run_is = h.run_is;
-      goes_on = h.goes_on;
-      made = h.made;
-      entries_are = h.entries_are;
-      same = called_one pair counted ∙ h.one;
-    }
-    took_one pass a b was now pair (Err wanting) counted given h = tt
-
-    pub took_slice : (pass : HostPass N G) (a b : Given) (was now : RunAccount (Queued N G)) (pair : Pair) (left : Slice N G) (r : Result Step NoMemory) → 0 < pair.0 → b ≡ with_given a (pair ∷ [])
-        → IsSliceOf config host calls slice (queued.Idle pass) pair left → now ≡ with_run_put was (left.queued ∷ []) → r ≡ step_of left.entry → IfOk r (TookCall config host calls slice pass a b was now)
-    took_slice pass a b was now pair left r counted given is put step = took_one pass a b was now pair r counted given (put_slice (queued.Idle pass) was now pair left r is put step)
-
-    -- no call was taken, and the pass is put back
-    pub took_none : (a b : Given) (was now : RunAccount (Queued N G)) (pass : HostPass N G) (step : Step) → b ≡ a → ends_of step ≡ 0 → entries_of step ≡ []
-        → now ≡ with_run_put was (queued.Idle pass ∷ []) → TookCall config host calls slice pass a b was now step
-    took_none a b was now pass step same none quiet put = record {
-      taken = [];
-      account_is = same ∙ given_none a;
-      ended = sym none;
-      item = queued.Idle pass;
-      run_is = put;
-      goes_on = tt;
-      made = [];
-      entries_are = rw quiet tt;
-      same = refl;
-    }
-
-    -- the worker was told to end
-    pub took_end : (a b : Given) (was now : RunAccount (Queued N G)) (pass : HostPass N G) (pair : Pair) (step : Step) → pair.0 ≡ 0 → b ≡ with_given a (pair ∷ []) → ends_of step ≡ 1 → entries_of step ≡ []
-        → now ≡ with_run_put was (queued.Idle pass ∷ []) → TookCall config host calls slice pass a b was now step
-    took_end a b was now pass pair step zeroed given one quiet put = record {
-      taken = pair ∷ [];
-      account_is = given;
-      ended = one_zero_in pair zeroed ∙ sym one;
-      item = queued.Idle pass;
-      run_is = put;
-      goes_on = tt;
-      made = [];
-      entries_are = rw quiet tt;
-      same = called_zero pair zeroed;
-    }
-
-    -- ---- the steps of a worker
-
-    pub idle_turn : (a b : Given) (was between now : RunAccount (Queued N G)) (pass : HostPass N G) (r : Result Step NoMemory) → IsHostPass host pass → between ≡ with_run_given was (queued.Idle pass ∷ [])
-        → IfOk r (TookCall config host calls slice pass a b between now) → IfOk r (λ step. DidSlices config host calls slice (ends_of step) a b was now (entries_of step))
-    idle_turn a b was between now pass (Ok step) own took h = took_idle a b was between now pass step own took h
-    idle_turn a b was between now pass (Err wanting) own took h = tt
-
-    pub paused_turn : (a b : Given) (was between now : RunAccount (Queued N G)) (paused : Paused N G) (r : Result Step NoMemory) → IsOfRun host calls slice (queued.Paused paused) → b ≡ a → between ≡ with_run_given was (queued.Paused paused ∷ [])
-        → IfOk r (PutBack config host calls slice (queued.Paused paused) (paused_pair paused) between now) → IfOk r (λ step. DidSlices config host calls slice (ends_of step) a b was now (entries_of step))
-    paused_turn a b was between now paused (Ok step) came same took h = rw (same, h.never_ends) (took_paused a was between now paused step came took h)
-    paused_turn a b was between now paused (Err wanting) came same took h = tt
-
-    pub paused_step : (a b : Given) (was between now : RunAccount (Queued N G)) (paused : Paused N G) (r : Result Step NoMemory) → IsOfRun host calls slice (queued.Paused paused) → b ≡ a → between ≡ with_run_given was (queued.Paused paused ∷ [])
-        → IfOk r (PutBack config host calls slice (queued.Paused paused) (paused_pair paused) between now) → IfOk r (λ step. DidSlices config host calls slice 0 a b was now (entries_of step))
-    paused_step a b was between now paused (Ok step) came same took h = rw same (took_paused a was between now paused step came took h)
-    paused_step a b was between now paused (Err wanting) came same took h = tt
-
-    -- a pass that came round idle was put back
-    pub idle_back : (a b : Given) (was between now : RunAccount (Queued N G)) (pass : HostPass N G) → b ≡ a → between ≡ with_run_given was (queued.Idle pass ∷ [])
-        → now ≡ with_run_put between (queued.Idle pass ∷ []) → DidSlices config host calls slice 0 a b was now []
-    idle_back a b was between now pass same took put = rw same (record {
-      taken = [];
-      account_is = given_none a;
-      ended = refl;
-      given = queued.Idle pass ∷ [];
-      put = queued.Idle pass ∷ [];
-      run_is = changed_once was between now (queued.Idle pass) (queued.Idle pass) took put;
-      made = [];
-      entries_are = tt;
-      even = IsPermutation-refl [];
-    })
-
-    -- ---- passes that are kept: what a worker may put is left out
-
-    -- the same, but for how many items may be put
-    did_roomless : (n : ℕ) (a b : Given) (was now : RunAccount (Queued N G)) (made : List Worked) → DidSlices config host calls slice n a b was now made
-        → DidSlices config host calls slice n a b (roomless was) (roomless now) made
-    did_roomless n a b was now made h = record {
-      taken = h.taken;
-      account_is = h.account_is;
-      ended = h.ended;
-      given = h.given;
-      put = h.put;
-      run_is = ap roomless h.run_is;
-      made = h.made;
-      entries_are = h.entries_are;
-      even = h.even;
-    }
-
-    pub step_roomless : (a b : Given) (was now : RunAccount (Queued N G)) (r : Result Step NoMemory) → IfOk r (λ step. DidSlices config host calls slice 0 a b was now (entries_of step))
-        → IfOk r (λ step. DidSlices config host calls slice 0 a b (roomless was) (roomless now) (entries_of step))
-    step_roomless a b was now (Ok step) h = did_roomless 0 a b was now (entries_of step) h
-    step_roomless a b was now (Err wanting) h = tt
-
-    -- a pass that came round idle was kept
-    pub idle_kept : (a b : Given) (was now : RunAccount (Queued N G)) (pass : HostPass N G) → b ≡ a → now ≡ with_run_given was (queued.Idle pass ∷ [])
-        → DidSlices config host calls slice 0 a b (roomless was) (roomless now) []
-    idle_kept a b was now pass same took = rw same (record {
-      taken = [];
-      account_is = given_none a;
-      ended = refl;
-      given = queued.Idle pass ∷ [];
-      put = [];
-      run_is = rw (append-nil was.put) (ap roomless took);
-      made = [];
-      entries_are = tt;
-      even = IsPermutation-refl [];
-    })
-
-    -- and one that was kept was put back
-    pub kept_put : (a : Given) (was between now : RunAccount (Queued N G)) (pass : HostPass N G) → DidSlices config host calls slice 0 a a (roomless was) (roomless between) []
-        → now ≡ with_run_put between (queued.Idle pass ∷ []) → DidSlices config host calls slice 0 a a (roomless was) (roomless now) []
-    kept_put a was between now pass h put = did_both 0 0 a a a (roomless was) (roomless between) (roomless now) [] [] h (record {
-      taken = [];
-      account_is = given_none a;
-      ended = refl;
-      given = [];
-      put = queued.Idle pass ∷ [];
-      run_is = rw (append-nil between.given) (ap roomless put);
-      made = [];
-      entries_are = tt;
-      even = IsPermutation-refl [];
-    })
-
-    -- all that were kept are put back
-    helped_again : (a : Given) (was between now : RunAccount (Queued N G)) (before after : List Worked) → HelpedWith config host calls slice a (roomless was) (roomless between) before after
-        → DidSlices config host calls slice 0 a a (roomless between) (roomless now) [] → now.room ≡ was.room → HelpedWith config host calls slice a was now before after
-    helped_again a was between now before after h g room =
-        let roomed : now ≡ record now { room = was.room } = ap (λ (n : ℕ). record now { room = n }) room in
-        let all = helped_quiet a (roomless was) (roomless between) (roomless now) before after after h g refl in
-        let did = all.did in record {
-          more = all.more;
-          after_is = all.after_is;
-          did = record {
-            taken = did.taken;
-            account_is = did.account_is;
-            ended = did.ended;
-            given = did.given;
-            put = did.put;
-            run_is = roomed ∙ ap (λ (r : RunAccount (Queued N G)). record r { room = was.room }) did.run_is;
-            made = did.made;
-            entries_are = did.entries_are;
-            even = did.even;
-          };
-        }
-
-    pub helped_if : (a : Given) (was between now : RunAccount (Queued N G)) (before after : List Worked) (r : Result (Unit {0}) NoMemory)
-        → OnOk r (HelpedWith config host calls slice a (roomless was) (roomless between) before after) → DidSlices config host calls slice 0 a a (roomless between) (roomless now) [] → now.room ≡ was.room
-        → OnOk r (HelpedWith config host calls slice a was now before after)
-    helped_if a was between now before after (Ok done) h g room = helped_again a was between now before after h g room
-    helped_if a was between now before after (Err wanting) h g room = tt
-
-    -- nothing came round
-    pub nothing_came : (a b : Given) (was now : RunAccount (Queued N G)) → b ≡ a → now ≡ was → DidSlices config host calls slice 0 a b was now []
-    nothing_came a b was now same still = rw (same, still) (did_nothing a was)
+    -- its passes are put back, and it had no entry before
+    pub all_put_back : (a b : Given) (was between now : RunAccount (Queued N G)) (before after : List Worked) → before ≡ [] → HasMore (DidSlices config host calls slice 1 a b was between) before after
+        → WorkedOn config host calls slice [] between now [] → DidSlices config host calls slice 1 a b was now after
+    all_put_back a b was between now before after none h g =
+        let sum : 1 + 0 ≡ 1 = omega arith in
+        let e : after ≡ h.more ++ [] = h.after_is ∙ (ap (λ (ws : List Worked). ws ++ h.more) none ∙ sym (append-nil h.more)) in
+        subst (λ (ws : List Worked). DidSlices config host calls slice 1 a b was now ws) (sym e)
+        (subst (λ (ends : ℕ). DidSlices config host calls slice ends a b was now (h.more ++ [])) sum
+        (did_both 1 0 a b b was between now h.more [] h.so (record { taken = []; account_is = given_none b; ended = refl; work = g })))

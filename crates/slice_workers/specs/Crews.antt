@@ -4,7 +4,7 @@ use Rattle.job_queue.specs.declared.run_queue.RunQueue.{RunQueue}
 use Rattle.job_queue.specs.Accounts.{new_account}
 use Rattle.job_queue.specs.Passes.{IsJobPass, IsNewPassOf, account_of, capacity_of, count_of, first_of, passes_of}
 use Rattle.job_queue.specs.RunAccounts.{new_run_account}
-use Rattle.job_queue.specs.RunPasses.{FitsWhere, IsNewRunPass, IsRunPass, RunPass, run_account_of, run_given_to, run_put_by, run_share}
+use Rattle.job_queue.specs.RunPasses.{FitsWhere, IsNewRunPass, IsRunPass, RunPass, run_account_of, run_given_to, run_put_by, run_room, run_share}
 use Rattle.module_store.specs.declared.naming.Naming.{Ghosts}
 use Rattle.pool_limits.specs.declared.numbers.Numbers.{Numbers}
 use Rattle.pool_limits.specs.declared.share.Share.{Share}
@@ -44,16 +44,19 @@ module _ {N : Type 0} {G : Ghosts N} where
       pub slice_is : worker.slice ≡ slice
       pub fits : FitsWhere may_go_round (IsOfRun shared.host shared.calls.items slice)
 
-    -- a worker that has ended: its passes are still those of the queues. If memory lasted, it did its work.
+    -- a worker that has ended: its passes are still those of the queues, and it put back all items that it took. If memory lasted, it did its
+    -- work.
     pub record IsSliceDone (config : Numbers) (shared : SliceShared N) (slice : ℕ) (done : SliceDone N G) : Type 0 where
       pub own : IsJobPass shared.jobs done.worker.own
       pub place : IsRunPass queue done.worker.place
+      pub room : run_room done.worker.place ≡ 0
       pub made : IfOk done.made (λ made. DidSlices config shared.host shared.calls.items slice 1 (new_account shared.jobs.terms false) (account_of done.worker.own)
           (new_run_account queue.terms) (run_account_of done.worker.place) made.items)
 
-    -- the first pass of the run queue, which stands for itself, has put idle passes and was given nothing
-    pub record HasIdle (first : RunPass (Queued N G)) : Type 0 where
+    -- the first pass of the run queue, which stands for itself, has put so many idle passes and was given nothing
+    pub record HasIdle (many : ℕ) (first : RunPass (Queued N G)) : Type 0 where
       pub own : IsRunPass queue first
       pub share : run_share first ≡ 1
       pub idle : pairs_of (run_put_by first) ≡ []
+      pub many_are : length (run_put_by first) ≡ many
       pub given_none : run_given_to first ≡ []

@@ -1,5 +1,5 @@
 -- What workers make of calls in slices.
-use Rattle.std.specs.Prelude.{◌≡◌, ◌⊎◌, ℕ, ◌+◌, false, List, [], ◌∷◌, ◌++◌, Option, None, Some, Result, Ok, Err}
+use Rattle.std.specs.Prelude.{◌≡◌, ◌⊎◌, ℕ, ◌+◌, Bool, true, false, List, [], ◌∷◌, ◌++◌, Option, None, Some, Result, Ok, Err, All, length}
 use Rattle.std.specs.List.{AllZip}
 use Rattle.std.specs.List.Sorted.{IsPermutation}
 use Rattle.wasm_values.specs.declared.outcome.NoMemory.{NoMemory}
@@ -9,11 +9,11 @@ use Rattle.job_queue.specs.declared.run_queue.RunAccount.{RunAccount}
 use Rattle.job_queue.specs.declared.run_queue.RunQueue.{RunQueue}
 use Rattle.job_queue.specs.Accounts.{with_given}
 use Rattle.job_queue.specs.Passes.{IsJobPass, JobPass, account_of, given_to, put_by, share_of}
-use Rattle.job_queue.specs.RunAccounts.{with_run_put}
-use Rattle.job_queue.specs.RunPasses.{IsRunPass, RunPass, run_account_of, run_given_to, run_put_by, run_share}
+use Rattle.job_queue.specs.RunPasses.{IsRunPass, RunPass, run_account_of, run_given_to, run_put_by, run_room, run_share}
 use Rattle.module_store.specs.declared.naming.Naming.{Ghosts}
 use Rattle.pool_limits.specs.declared.numbers.Numbers.{Numbers}
 use Rattle.pool_worlds.specs.Contents.{Named}
+use Rattle.pool_worlds.specs.declared.kinds.Kind.{Kind}
 use Rattle.pool_host.specs.declared.answers.Answer.{Answer}
 use Rattle.pool_host.specs.declared.answers.Answer.TheVariants as answer
 use Rattle.pool_host.specs.declared.host.Host.{Host}
@@ -22,7 +22,8 @@ use Rattle.pool_host.specs.declared.paused.Paused.{Paused}
 use Rattle.pool_host.specs.CallWords.{IfFull}
 use Rattle.pool_host.specs.Hosts.{IsHostPass}
 use Rattle.pool_host.specs.Looks.{look_of, Looked}
-use Rattle.pool_host.specs.Pausing.{HasEnded, IsPausedAgain, TookThose}
+use Rattle.pool_host.specs.Pausing.{HasEnded, IsPausedAgain}
+use Rattle.pool_host.specs.Taking.{TookThose}
 use Rattle.pool_host.specs.Trails.{AddsTrails, HasCause}
 use Rattle.due_calls.specs.declared.calls.Due.{Due}
 use Rattle.due_calls.specs.declared.entries.Worked.{Worked}
@@ -31,27 +32,46 @@ use Rattle.slice_workers.specs.declared.queued.Queued.TheVariants as queued
 use Rattle.slice_workers.specs.declared.crew.Sliced.{Sliced}
 use Rattle.slice_workers.specs.declared.shared.SliceShared.{SliceShared}
 use Rattle.slice_workers.specs.declared.slices.Slice.{Slice}
+use Rattle.slice_workers.specs.declared.slices.Tried.{Tried}
+use Rattle.slice_workers.specs.declared.slices.Tried.TheVariants as tried
+use Rattle.slice_workers.specs.declared.pacing.Came.{Came}
+use Rattle.slice_workers.specs.declared.pacing.Came.TheVariants.{End}
+use Rattle.slice_workers.specs.declared.steps.Hand.{Hand}
 use Rattle.slice_workers.specs.declared.steps.Slicer.{Slicer}
-use Rattle.slice_workers.specs.declared.steps.Step.{Step}
-use Rattle.slice_workers.specs.declared.steps.Step.TheVariants.{Again, End, Entry}
 use Rattle.due_calls.specs.Entries.{IsEntry, Pair, called, zeros}
 use Rattle.slice_workers.specs.Queued.{IsOfRun, IsOnHost, pair_of, paused_pair, pairs_of}
 
--- the entry that a step made, if it made one
-abbrev pub entries_of : Step → List Worked
-entries_of (Entry worked) = worked ∷ []
-entries_of _ = []
+-- the kind that a call was answered to have found full
+abbrev pub full_in : Option Answer → Option Kind
+full_in (Some (answer.Full kind)) = Some kind
+full_in _ = None
 
--- how often a step was told to end
-abbrev pub ends_of : Step → ℕ
+-- the same of its entry, if it has one
+abbrev pub full_kind : Result (Option Worked) NoMemory → Option Kind
+full_kind (Ok (Some worked)) = full_in worked.answer
+full_kind _ = None
+
+-- these entries have one more, if one was made
+abbrev pub KeepsEntry : Result (Option Worked) NoMemory → (before after : List Worked) → Type 0
+KeepsEntry (Ok None) before after = after ≡ before
+KeepsEntry (Ok (Some worked)) before after = after ≡ before ++ worked ∷ []
+KeepsEntry (Err wanting) before after = ⊥
+
+-- these have some more, of which that is so
+pub record HasMore (P : List Worked → Type 0) (before after : List Worked) : Type 0 where
+  pub more : List Worked
+  pub after_is : after ≡ before ++ more
+  pub so : P more
+
+-- how often a worker was told to end
+abbrev pub ends_of : Came → ℕ
 ends_of End = 1
 ends_of _ = 0
 
--- the step that puts back what a slice left
-abbrev pub step_of : Result (Option Worked) NoMemory → Result Step NoMemory
-step_of (Ok None) = Ok Again
-step_of (Ok (Some worked)) = Ok (Entry worked)
-step_of (Err wanting) = Err wanting
+-- a call that a worker had in hand: it has begun, or it waits for its slots
+abbrev pub begun_of : Pair → Bool → List Pair
+begun_of pair true = pair ∷ []
+begun_of pair false = []
 
 module _ {N : Type 0} {G : Ghosts N} where
   -- the account of a pass, but for how many items it may put
@@ -90,7 +110,7 @@ module _ {N : Type 0} {G : Ghosts N} (config : Numbers) (host : Host N) where
 
   -- A call has begun with this pass: it took its slots, and has made no turn. Its module was not retired at its one look.
   pub record HasBegunWith (before : HostPass N G) (after : Paused N G) : Type 0 where
-    pub took : TookThose config host after.running.named before.passes after.passes after.running
+    pub took : TookThose host after.running.named before.passes after.passes after.running.ticket after.running.memory after.running.table
     pub looked : Looked host.retired.tags after.running.named.tag before.retired after.retired (Some false)
     pub turns_are : after.running.call.turns ≡ 0
 
@@ -121,90 +141,78 @@ module _ {N : Type 0} {G : Ghosts N} (config : Numbers) (host : Host N) where
       pub fits : IsOnHost host calls slice.queued
       pub goes : GoesRound turns taken pair slice.queued slice.entry
 
+    -- A call was begun with this pass, and went on from there, or it found a kind full for its cause, with that pass left.
+    abbrev pub HasTried : (turns : ℕ) → (before : HostPass N G) → Pair → Tried N G → Type 0
+    HasTried turns before pair (tried.Full after kind) = IsHostPass host after × AnsweredAtOnce pair.1 (Some (answer.Full kind)) before after
+    HasTried turns before pair (tried.Left slice) = IsSliceOf turns (queued.Idle before) pair slice × (full_kind slice.entry ≡ None)
+
 module _ {N : Type 0} (G : Ghosts N) (config : Numbers) (host : Host N) (calls : List Due) where
   -- An entry for a pair. What was taken is of a run in slices of the one length: a pass of the host, or a call that has made whole slices. The call
-  -- of the pair was answered there, a paused one in a slice of the other length.
+  -- of the pair was answered there, a paused one in a slice of the other length. It was not given up because a kind was full.
   pub record IsMade (slice turns : ℕ) (pair : Pair) (worked : Worked) : Type 0 where
     pub taken : Queued N G
     pub went_round : IsOfRun host calls slice taken
     pub left : Queued N G
     pub made : IsMadeBy config host calls turns taken left pair worked
+    pub found_slots : full_in worked.answer ≡ None
 
   -- the last slice had the same length, or so many turns that no call has fuel for them
   abbrev pub IsSliced : (slice : ℕ) → Pair → Worked → Type 0
   IsSliced slice pair worked = IsMade slice slice pair worked ⊎ IsMade slice 18446744073709551615 pair worked
 
 module _ {N : Type 0} {G : Ghosts N} (config : Numbers) (host : Host N) (calls : List Due) (slice : ℕ) where
-  -- what a step put back of the call of this pair, or the entry that it made
-  pub record PutBack (taken : Queued N G) (pair : Pair) (was now : RunAccount (Queued N G)) (step : Step) : Type 0 where
-    pub item : Queued N G
-    pub run_is : now ≡ with_run_put was (item ∷ [])
+  -- What was put back: it is what was taken, or goes on from it by its start, or by exactly one slice.
+  pub record IsPutBack (item : Queued N G) : Type 0 where
+    pub taken : Queued N G
+    pub went_round : IsOfRun host calls slice taken
     pub goes_on : GoesOn config host slice taken item
-    pub never_ends : ends_of step ≡ 0
-    pub made : List Pair
-    pub entries_are : AllZip (IsMadeBy config host calls slice taken item) made (entries_of step)
-    pub one : pair ∷ [] ≡ pair_of item ++ made
 
-  -- what a step took from the queue of calls with an idle pass, and what it put back and made of it
-  pub record TookCall (pass : HostPass N G) (before after : Account (Option Named)) (was now : RunAccount (Queued N G)) (step : Step) : Type 0 where
-    pub taken : List Pair
-    pub account_is : after ≡ with_given before taken
-    pub ended : zeros taken ≡ ends_of step
-    pub item : Queued N G
-    pub run_is : now ≡ with_run_put was (item ∷ [])
-    pub goes_on : GoesOn config host slice (queued.Idle pass) item
+  -- What a worker did, while the account of its pass of the run queue went from this to that: the calls that it had in hand and those that
+  -- it took as they went round are those that it put to go round again and those of which it made the entries, each as often.
+  pub record WorkedOn (held : List Pair) (was now : RunAccount (Queued N G)) (entries : List Worked) : Type 0 where
+    pub given : List (Queued N G)
+    pub put : List (Queued N G)
+    pub run_is : roomless now ≡ record (roomless was) { put = was.put ++ put; given = was.given ++ given }
+    pub put_are : All IsPutBack put
     pub made : List Pair
-    pub entries_are : AllZip (IsMadeBy config host calls slice (queued.Idle pass) item) made (entries_of step)
-    pub same : called taken ≡ pair_of item ++ made
+    pub entries_are : AllZip (IsMade G config host calls slice slice) made entries
+    pub even : IsPermutation (held ++ pairs_of given) (pairs_of put ++ made)
 
-  -- What a worker did in slices, while the accounts of its passes went from these to those, and it was so often told to end. The calls that
-  -- it was given and those that it took as they went round are those that it put to go round again and those of which it made the
-  -- entries, each as often.
+  -- What a worker did in slices: the calls that it had in hand are those that it was given meanwhile, and it was so often told to end.
   pub record DidSlices (ends : ℕ) (before after : Account (Option Named)) (was now : RunAccount (Queued N G)) (entries : List Worked) : Type 0 where
     pub taken : List Pair
     pub account_is : after ≡ with_given before taken
     pub ended : zeros taken ≡ ends
-    pub given : List (Queued N G)
-    pub put : List (Queued N G)
-    pub run_is : now ≡ record was { put = was.put ++ put; given = was.given ++ given }
-    pub made : List Pair
-    pub entries_are : AllZip (IsMade G config host calls slice slice) made entries
-    pub even : IsPermutation (called taken ++ pairs_of given) (pairs_of put ++ made)
+    pub work : WorkedOn (called taken) was now entries
 
-  -- a worker made these entries more, and took no call
-  pub record HelpedWith (account : Account (Option Named)) (was now : RunAccount (Queued N G)) (before after : List Worked) : Type 0 where
-    pub more : List Worked
-    pub after_is : after ≡ before ++ more
-    pub did : DidSlices 0 account account was now more
+-- ---- the same of a worker, by its passes and its entries before and after
 
-  -- ---- the same of a worker, by its passes before and after
+module _ {N : Type 0} {G : Ghosts N} (config : Numbers) (shared : SliceShared N) (slice : ℕ) where
+  -- it worked on the calls that it had in hand, and on what went round
+  abbrev pub HandWorked : (held : List Pair) → (old new : Slicer N G) → (before after : Hand N G) → Type 0
+  HandWorked held old new before after =
+      HasMore (WorkedOn config shared.host shared.calls.items slice held (run_account_of old.place) (run_account_of new.place))
+      before.made.items after.made.items
 
-  -- it put back what a slice of the call of this pair left
-  abbrev pub WorkerPutBack : Queued N G → Pair → Slicer N G → Slicer N G → Step → Type 0
-  WorkerPutBack taken pair old new step = PutBack taken pair (run_account_of old.place) (run_account_of new.place) step
+  -- it worked on what it was given too, was so often told to end, and made these entries
+  abbrev pub WorkerDid : (ends : ℕ) → (old new : Slicer N G) → List Worked → Type 0
+  WorkerDid ends old new entries = DidSlices config shared.host shared.calls.items slice ends (account_of old.own) (account_of new.own)
+      (run_account_of old.place) (run_account_of new.place) entries
 
-  -- it took from the queue of calls with an idle pass
-  abbrev pub WorkerTook : HostPass N G → Slicer N G → Slicer N G → Step → Type 0
-  WorkerTook pass old new step = TookCall pass (account_of old.own) (account_of new.own) (run_account_of old.place) (run_account_of new.place) step
+  -- the same of what it made more
+  abbrev pub HandDid : (ends : ℕ) → (old new : Slicer N G) → (before after : Hand N G) → Type 0
+  HandDid ends old new before after =
+      HasMore (WorkerDid ends old new) before.made.items after.made.items
 
-  -- it made slices, was so often told to end, and made these entries
-  abbrev pub WorkerDid : ℕ → Slicer N G → Slicer N G → List Worked → Type 0
-  WorkerDid ends old new entries =
-      DidSlices ends (account_of old.own) (account_of new.own) (run_account_of old.place) (run_account_of new.place) entries
-
-  -- the same where it keeps idle passes, which it may still put
-  abbrev pub WorkerDidKeeping : ℕ → Slicer N G → Slicer N G → List Worked → Type 0
-  WorkerDidKeeping ends old new entries =
-      DidSlices ends (account_of old.own) (account_of new.own) (roomless (run_account_of old.place)) (roomless (run_account_of new.place)) entries
-
-  -- it made slices of calls that went round, and its entries went from these to those
-  abbrev pub WorkerHelped : Slicer N G → Slicer N G → List Worked → List Worked → Type 0
-  WorkerHelped old new before after = HelpedWith (account_of old.own) (run_account_of old.place) (run_account_of new.place) before after
-
-  -- the same where it keeps idle passes, which it may still put
-  abbrev pub WorkerHelpedKeeping : Slicer N G → Slicer N G → List Worked → List Worked → Type 0
-  WorkerHelpedKeeping old new before after =
-      HelpedWith (account_of old.own) (roomless (run_account_of old.place)) (roomless (run_account_of new.place)) before after
+-- A worker at work in a run of such slices: its passes are those of the queues, and the idle ones that it has in hand are of the host. It
+-- took so many items besides, and may put back all of these.
+pub record IsAtWork {N A : Type 0} {G : Ghosts N} (queue : RunQueue (Queued N G) A) (shared : SliceShared N) (slice besides : ℕ) (worker : Slicer N G)
+    (hand : Hand N G) : Type 0 where
+  pub own : IsJobPass shared.jobs worker.own
+  pub place : IsRunPass queue worker.place
+  pub slice_is : worker.slice ≡ slice
+  pub passes : All (IsHostPass shared.host) hand.passes.items
+  pub room : run_room worker.place ≡ length hand.passes.items + besides
 
 -- What passes of both queues did that stand for so many workers and for whoever put the idle passes: the workers were told to end, and
 -- the calls that they were given and that they took as they went round are those that went round and those of these entries, each as often.
@@ -240,3 +248,16 @@ pub record AreMade {N : Type 0} (G : Ghosts N) (config : Numbers) (host : Host N
   pub made : List Pair
   pub all : IsPermutation pairs made
   pub entries_are : AllZip (IsSliced G config host calls slice) made entries
+
+-- so it is of workers that share this
+abbrev pub SlicedAll : {N : Type 0} → Numbers → SliceShared N → (workers : ℕ) → Sliced N → Type 0
+SlicedAll config shared workers sliced = HasSlicedAll config shared.jobs shared.calls.items sliced.own workers sliced.entries.items
+
+-- and their entries have their causes
+abbrev pub AreCaused : {N : Type 0} → Ghosts N → Numbers → SliceShared N → (slice : ℕ) → Sliced N → Type 0
+AreCaused G config shared slice sliced = AreMade G config shared.host shared.calls.items slice (called (given_to sliced.own)) sliced.entries.items
+
+-- a paused call was made to its end: this is left of it, and this is its entry
+abbrev pub IsEndOf : {N : Type 0} {G : Ghosts N} → Numbers → SliceShared N → Paused N G → (left : Queued N G) → Worked → Type 0
+IsEndOf config shared paused left worked =
+    IsMadeBy config shared.host shared.calls.items 18446744073709551615 (queued.Paused paused) left (paused_pair paused) worked

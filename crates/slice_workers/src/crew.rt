@@ -1,12 +1,12 @@
 //! Workers that make calls in slices, side by side.
 ghost use Rattle.std.specs.Prelude.{◌≡◌, ◌*◌, ◌^◌, ◌<◌, ◌≤◌, false, All, IfOk, length};
-ghost use Rattle.job_queue.specs.Passes.{IsNewPassOf, given_to};
+ghost use Rattle.job_queue.specs.Passes.{IsNewPassOf};
 ghost use Rattle.job_queue.specs.RunPasses.{FitsWhere, IsFirstRunPass, IsNewRunPass, run_capacity};
 ghost use Rattle.pool_host.specs.Hosts.{IsHostPass, IsShare};
-ghost use Rattle.due_calls.specs.Entries.{AreNumbered, called};
+ghost use Rattle.due_calls.specs.Entries.{AreNumbered};
 ghost use Rattle.slice_workers.specs.Crews.{HasIdle, IsNewSliceCrew, IsNewSlicer, IsSliceDone};
 ghost use Rattle.slice_workers.specs.Queued.{IsOfRun, NamesRun};
-ghost use Rattle.slice_workers.specs.Slices.{AreMade, HasSlicedAll};
+ghost use Rattle.slice_workers.specs.Slices.{AreCaused, SlicedAll};
 
 use crate::ends::{end_paused, join_slicers};
 use crate::queued::Queued;
@@ -91,7 +91,7 @@ fn put_passes<N: Naming, A: Admits<Queued<N>> + InSlices, R: Wait>(
     requires room { length passes.items ≤ run_capacity queue.now }
     requires passes { All (IsHostPass shared.now.host) passes.items }
     requires fits { FitsWhere A.fits (IsOfRun shared.now.host shared.now.calls.items A.slice) }
-    ensures { HasIdle queue.now first.new }
+    ensures { HasIdle queue.now (length passes.items) first.new }
 {
     while let Some(pass) = passes.pop() {
         queue.put(rt, first, Queued::Idle(pass));
@@ -202,8 +202,8 @@ fn slice_in<
     requires items { (1 ≤ length passes.items) × (length passes.items ≤ MOST_PASSES) }
     requires run { NamesRun shared.now.host shared.now.calls.items J.slice J.idle J.paused }
     requires slice { J.slice ≡ slice }
-    ensures all { IfOk result (λ done. HasSlicedAll N.config shared.now.jobs shared.now.calls.items done.own (length takers.items) done.entries.items) }
-    ensures made { IfOk result (λ done. AreMade N.Naming N.config shared.now.host shared.now.calls.items slice (called (given_to done.own)) done.entries.items) }
+    ensures all { IfOk result (SlicedAll N.config shared.now (length takers.items)) }
+    ensures made { IfOk result (AreCaused N.Naming N.config shared.now slice) }
 {
     let (count, items) = (takers.len() as u32, passes.len() as u32);
     let (queue, mut first, places) = RunQueue::<Queued<N>, InRun<N, J>>::open(alloc, items, count)?;
@@ -236,10 +236,10 @@ pub fn slice_all<N: Naming + Send + Sync, R: Threads + Wait + Sync, G: Gate>(
     requires workers { (1 ≤ length takers.items) × (length takers.items ≤ MOST_PASSES) }
     requires passes { All (IsHostPass shared.now.host) passes.items }
     requires items { (1 ≤ length passes.items) × (length passes.items ≤ MOST_PASSES) }
-    ensures all { IfOk result (λ done. HasSlicedAll N.config shared.now.jobs shared.now.calls.items done.own (length takers.items) done.entries.items) }
+    ensures all { IfOk result (SlicedAll N.config shared.now (length takers.items)) }
 
-    // each entry has its cause on a pass of the host: a take that won nothing, a look at the tags, or a call that ended
-    ensures made { IfOk result (λ done. AreMade N.Naming N.config shared.now.host shared.now.calls.items slice (called (given_to done.own)) done.entries.items) }
+    // each entry has its cause on a pass of the host, a look at the tags or a call that ended, and none is of a kind that was full
+    ensures made { IfOk result (AreCaused N.Naming N.config shared.now slice) }
 {
     slice_in::<N, Brand, R, G>(rt, alloc, store, shared, takers, passes, slice, gate)
 }

@@ -1,11 +1,11 @@
 //! What workers that make calls in slices made, once they have ended.
 ghost use Rattle.std.specs.Prelude.{◌≡◌, ◌+◌, ◌<◌, [], All, IfOk, OnOk, length};
 ghost use Rattle.job_queue.specs.Passes.{IsJobPass, given_to, passes_of, put_by, share_of};
-ghost use Rattle.job_queue.specs.RunPasses.{FitsWhere, HasAllRunPasses};
-ghost use Rattle.due_calls.specs.Entries.{AnswersAll, EndsAll, called};
+ghost use Rattle.job_queue.specs.RunPasses.{FitsWhere, HasAllRunPasses, run_capacity};
+ghost use Rattle.due_calls.specs.Entries.{AnswersAll, EndsAll};
 ghost use Rattle.slice_workers.specs.Crews.{HasIdle, IsSliceDone};
-ghost use Rattle.slice_workers.specs.Queued.{IsOfRun, IsPausedIn, paused_pair};
-ghost use Rattle.slice_workers.specs.Slices.{AreMade, HasSlicedAll, HaveSliced, IsMadeBy, WorkersHaveSliced};
+ghost use Rattle.slice_workers.specs.Queued.{IsOfRun, IsPausedIn};
+ghost use Rattle.slice_workers.specs.Slices.{AreCaused, HasSlicedAll, HaveSliced, IsEndOf, SlicedAll, WorkersHaveSliced};
 
 use crate::crew::{SliceDone, Sliced};
 use crate::queued::Queued;
@@ -17,7 +17,7 @@ use due_calls::{Item, Worked, put_behind};
 use host_edge::Gate;
 use job_queue::{Admits, JobPass, RunPass, RunQueue};
 use module_store::{ModuleStore, Naming};
-use pool_host::Paused;
+use pool_host::{HostPass, Paused};
 use std::sync::Wait;
 use wasm_values::NoMemory;
 
@@ -28,7 +28,7 @@ fn join_first<N: Naming, A: Admits<Queued<N>> + InSlices>(
     first: &mut RunPass<Queued<N>>,
     done: SliceDone<N>,
 ) -> Result<Sliced<N>, NoMemory>
-    requires first { HasIdle queue.now first.old }
+    requires first { HasIdle queue.now (run_capacity queue.now) first.old }
     requires done { IsSliceDone queue.now N.config shared.now A.slice done }
     ensures { IfOk result (λ sliced. HaveSliced N.config shared.now queue.now A.slice sliced.own first.new 1 sliced.entries.items) }
 {
@@ -67,7 +67,7 @@ pub(crate) fn join_slicers<N: Naming, A: Admits<Queued<N>> + InSlices>(
     one: SliceDone<N>,
     mut others: Vec<SliceDone<N>>,
 ) -> Result<Sliced<N>, NoMemory>
-    requires first { HasIdle queue.now first.old }
+    requires first { HasIdle queue.now (run_capacity queue.now) first.old }
     requires one { IsSliceDone queue.now N.config shared.now A.slice one }
     requires others { All (IsSliceDone queue.now N.config shared.now A.slice) others.items }
     ensures share { IfOk result (λ sliced. share_of sliced.own ≡ length others.items + 1) }
@@ -80,20 +80,37 @@ pub(crate) fn join_slicers<N: Naming, A: Admits<Queued<N>> + InSlices>(
     Ok(sliced)
 }
 
-// Makes a call to its end: its entry, and what is left.
-fn end_call<N: Naming, G: Gate>(
+// Makes so many turns of a call that it is answered: its entry, and what is left.
+fn make_to_end<N: Naming, G: Gate>(
     shared: &SliceShared<N>,
     store: &ModuleStore<N>,
     paused: Paused<N>,
     gate: &G,
 ) -> (Worked, Queued<N>)
     requires paused { IsPausedIn shared.now.host shared.now.calls.items paused.passes paused.retired paused.running paused.number }
-    ensures { IsMadeBy N.config shared.now.host shared.now.calls.items 18446744073709551615 (Queued.Paused paused) result.1 (paused_pair paused) result.0 }
+    ensures { IsEndOf N.config shared.now paused result.1 result.0 }
 {
     let Slice { queued, entry } = resume(shared, store, paused, u64::MAX, gate);
     match entry {
         Ok(Some(worked)) => (worked, queued),
         _ => unreachable!(),
+    }
+}
+
+// Makes a call to its end: its entry, and the pass that is left.
+fn end_call<N: Naming, G: Gate>(
+    shared: &SliceShared<N>,
+    store: &ModuleStore<N>,
+    paused: Paused<N>,
+    gate: &G,
+) -> (Worked, HostPass<N>)
+    requires paused { IsPausedIn shared.now.host shared.now.calls.items paused.passes paused.retired paused.running paused.number }
+    ensures { IsEndOf N.config shared.now paused (Queued.Idle result.1) result.0 }
+{
+    let (worked, left) = make_to_end(shared, store, paused, gate);
+    match left {
+        Queued::Idle(pass) => (worked, pass),
+        Queued::Paused(_) => unreachable!(),
     }
 }
 
@@ -110,8 +127,8 @@ pub(crate) fn end_paused<N: Naming, A: Admits<Queued<N>> + InSlices, R: Wait, G:
     requires whole { HasAllRunPasses queue.now first.old }
     requires sliced { WorkersHaveSliced N.config shared.now queue.now A.slice sliced.old first.old }
     requires fits { FitsWhere A.fits (IsOfRun shared.now.host shared.now.calls.items A.slice) }
-    ensures all { OnOk result (HasSlicedAll N.config shared.now.jobs shared.now.calls.items sliced.new.own (share_of sliced.old.own) sliced.new.entries.items) }
-    ensures made { OnOk result (AreMade N.Naming N.config shared.now.host shared.now.calls.items A.slice (called (given_to sliced.new.own)) sliced.new.entries.items) }
+    ensures all { OnOk result (SlicedAll N.config shared.now (share_of sliced.old.own) sliced.new) }
+    ensures made { OnOk result (AreCaused N.Naming N.config shared.now A.slice sliced.new) }
 {
     for _ in rt.forever() {
         sliced.entries.reserve(1).map_err(|_| NoMemory)?;
@@ -119,7 +136,7 @@ pub(crate) fn end_paused<N: Naming, A: Admits<Queued<N>> + InSlices, R: Wait, G:
             None => return Ok(()),
             Some(Queued::Idle(_pass)) => {}
             Some(Queued::Paused(paused)) => {
-                let (worked, _left) = end_call(shared, store, paused, gate);
+                let (worked, _pass) = end_call(shared, store, paused, gate);
                 sliced.entries.push_reserved(worked);
             }
         }

@@ -3,6 +3,7 @@
 
 mod crew;
 mod ends;
+mod pacing;
 mod queued;
 mod run_names;
 mod shared;

@@ -3,7 +3,7 @@ ghost use Rattle.std.specs.Prelude.{◌≡◌, ℕ, ◌-◌, ◌^◌, ◌<◌, �
 ghost use Rattle.request_text.specs.Invocations.{shown_of};
 ghost use Rattle.pool_host.specs.Hosts.{IsHostPass};
 ghost use Rattle.slice_workers.specs.Queued.{IsPausedIn, paused_pair};
-ghost use Rattle.slice_workers.specs.Slices.{IsSliceOf};
+ghost use Rattle.slice_workers.specs.Slices.{HasTried, IsSliceOf, full_in, full_kind};
 
 use crate::queued::Queued;
 use crate::shared::SliceShared;
@@ -11,6 +11,7 @@ use due_calls::{Due, Item, Worked, due_at};
 use host_edge::Gate;
 use module_store::{ModuleRef, ModuleStore, Naming};
 use pool_host::{Answer, Begun, HostPass, Paused, Turned};
+use pool_worlds::Kind;
 use std::alloc::Global;
 use wasm_values::NoMemory;
 
@@ -19,6 +20,15 @@ use wasm_values::NoMemory;
 pub(crate) struct Slice<N: Naming> {
     pub queued: Queued<N>,
     pub entry: Result<Option<Worked>, NoMemory>,
+}
+
+// What a try to begin a call left.
+#[derive(Drop)]
+pub(crate) enum Tried<N: Naming> {
+    // Other calls had every slot of this kind: the pass that it was tried with.
+    Full(HostPass<N>, Kind),
+    // It was answered, or goes round.
+    Left(Slice<N>),
 }
 
 // The call of this number is answered so, and its pass is idle.
@@ -52,18 +62,12 @@ fn begin<N: Naming, G: Gate>(
     requires unsent { due.now.invocation.request ≡ None }
     ensures { (turns : ℕ) → IsSliceOf N.config shared.now.host shared.now.calls.items turns (Queued.Idle pass) (due.now.number, Some called.now) result }
 {
-    let asked = &due.invocation;
+    // A count of 32 bits, as the fuel of a paused call is.
+    let _fuel = due.invocation.fuel;
+    let call = due.invocation.call();
     let number = due.number;
-    let begun = shared.host.begin(
-        pass,
-        store,
-        called,
-        asked.export.as_slice(),
-        asked.args.as_slice(),
-        asked.fuel as u64,
-        number as u64,
-        gate,
-    );
+    let host = &shared.host;
+    let begun = host.begin_call(pass, store, called, &call, number as u64, gate);
     match begun {
         Begun::Ready(paused) => Slice {
             queued: Queued::Paused(paused),
@@ -108,18 +112,10 @@ fn send<N: Naming, G: Gate>(
     requires due { slice_get shared.now.calls.items (due.now.number - 1) ≡ Some due.now }
     ensures { (turns : ℕ) → IsSliceOf N.config shared.now.host shared.now.calls.items turns (Queued.Idle pass) (due.now.number, Some called.now) result }
 {
-    let asked = &due.invocation;
-    let answer = shared.host.send(
-        &mut pass,
-        store,
-        called,
-        asked.export.as_slice(),
-        asked.args.as_slice(),
-        asked.sent(),
-        asked.fuel as u64,
-        due.number as u64,
-        gate,
-    );
+    let call = due.invocation.call();
+    let number = due.number as u64;
+    let host = &shared.host;
+    let answer = host.invoke(&mut pass, store, called, &call, number, gate);
     let entry = entry_of(alloc, due, answer, pass.answer());
     Slice {
         queued: Queued::Idle(pass),
@@ -128,26 +124,71 @@ fn send<N: Naming, G: Gate>(
 }
 
 // Begins the call of this number, if it has a module. One that is sent bytes is made whole.
-pub(crate) fn begin_call<N: Naming, G: Gate>(
+fn begin_call<N: Naming, G: Gate>(
     alloc: Global,
     shared: &SliceShared<N>,
     pass: HostPass<N>,
     store: &ModuleStore<N>,
     number: u32,
-    item: Item<N>,
+    item: &Item<N>,
     gate: &G,
 ) -> Slice<N>
     requires pass { IsHostPass shared.now.host pass }
     requires counted { 0 < number }
     requires enough { number ≤ length shared.now.calls.items }
-    ensures { (turns : ℕ) → IsSliceOf N.config shared.now.host shared.now.calls.items turns (Queued.Idle pass) (number, item) result }
+    ensures { (turns : ℕ) → IsSliceOf N.config shared.now.host shared.now.calls.items turns (Queued.Idle pass) (number, item.now) result }
 {
     let due = due_at(&shared.calls, number);
     match item {
         None => answered(pass, number, None),
         Some(called) => match &due.invocation.request {
-            Some(_) => send(alloc, shared, pass, store, &called, due, gate),
-            None => begin(shared, pass, store, &called, due, gate),
+            Some(_) => send(alloc, shared, pass, store, called, due, gate),
+            None => begin(shared, pass, store, called, due, gate),
+        },
+    }
+}
+
+// The kind that a call was answered to have found full.
+fn full_in(answer: Option<Answer>) -> Option<Kind>
+    ensures { result ≡ full_in answer }
+{
+    match answer {
+        Some(Answer::Full(kind)) => Some(kind),
+        _ => None,
+    }
+}
+
+// The same of its entry, if it has one.
+fn full_kind(entry: &Result<Option<Worked>, NoMemory>) -> Option<Kind>
+    ensures { result ≡ full_kind entry.now }
+{
+    match entry {
+        Ok(Some(worked)) => full_in(worked.answer),
+        _ => None,
+    }
+}
+
+// Begins the call of this number as `begin_call` does, and gives the pass back where a kind is full.
+pub(crate) fn try_call<N: Naming, G: Gate>(
+    alloc: Global,
+    shared: &SliceShared<N>,
+    pass: HostPass<N>,
+    store: &ModuleStore<N>,
+    number: u32,
+    item: &Item<N>,
+    gate: &G,
+) -> Tried<N>
+    requires pass { IsHostPass shared.now.host pass }
+    requires counted { 0 < number }
+    requires enough { number ≤ length shared.now.calls.items }
+    ensures { (turns : ℕ) → HasTried N.config shared.now.host shared.now.calls.items turns pass (number, item.now) result }
+{
+    let Slice { queued, entry } = begin_call(alloc, shared, pass, store, number, item, gate);
+    match full_kind(&entry) {
+        None => Tried::Left(Slice { queued, entry }),
+        Some(kind) => match queued {
+            Queued::Idle(pass) => Tried::Full(pass, kind),
+            Queued::Paused(_) => unreachable!(),
         },
     }
 }

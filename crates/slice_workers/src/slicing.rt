@@ -1,139 +1,104 @@
 //! The work of one worker that makes calls in slices.
-ghost use Rattle.std.specs.Prelude.{◌≡◌, ◌+◌, All, IfOk, OnOk, length};
+ghost use Rattle.std.specs.Prelude.{◌≡◌, [], IfOk, OnOk};
 ghost use Rattle.job_queue.specs.Passes.{IsJobPass};
 ghost use Rattle.job_queue.specs.RunPasses.{FitsWhere, IsRunPass, run_room};
-ghost use Rattle.pool_host.specs.Hosts.{IsHostPass};
-ghost use Rattle.due_calls.specs.declared.entries.Worked.{Worked};
 ghost use Rattle.slice_workers.specs.Queued.{IsOfRun};
-ghost use Rattle.slice_workers.specs.Slices.{WorkerDid, WorkerHelped, WorkerHelpedKeeping};
+ghost use Rattle.slice_workers.specs.Slices.{HandDid, HandWorked, IsAtWork, WorkerDid};
 
+use crate::pacing::{Came, Pace};
 use crate::queued::Queued;
 use crate::run_names::InSlices;
 use crate::shared::SliceShared;
-use crate::steps::{Slicer, Step, go_on_keeping, next_step, put_kept};
-use due_calls::{Waits, Worked};
+use crate::steps::{Hand, Slicer, go_on, next_step, put_kept};
+use due_calls::Worked;
 use host_edge::Gate;
 use job_queue::{Admits, RunQueue};
 use module_store::{ModuleStore, Naming};
-use pool_host::HostPass;
 use std::alloc::Global;
 use std::sync::Wait;
 use wasm_values::NoMemory;
 
-// Makes slices of calls, and begins those that the queue gives, until it is told to end. After a call that found a kind full it makes
-// some slices of others before it begins the next one.
+// Begins the calls that the queue gives, and makes slices of those that go round, until it is told to end.
 fn work_until_end<N: Naming, A: Admits<Queued<N>> + InSlices, R: Wait, G: Gate>(
     rt: &R,
-    alloc: Global,
     store: &ModuleStore<N>,
     shared: &SliceShared<N>,
     queue: &RunQueue<Queued<N>, A>,
     worker: &mut Slicer<N>,
+    hand: &mut Hand<N>,
     gate: &G,
-) -> Result<Vec<Worked>, NoMemory>
-    requires own { IsJobPass shared.now.jobs worker.old.own }
-    requires place { IsRunPass queue.now worker.old.place }
-    requires slice { worker.old.slice ≡ A.slice }
+) -> Result<(), NoMemory>
+    requires at_work { IsAtWork queue.now shared.now A.slice 0 worker.old hand.old }
     requires fits { FitsWhere A.fits (IsOfRun shared.now.host shared.now.calls.items A.slice) }
-    ensures own { IsJobPass shared.now.jobs worker.new.own }
-    ensures place { IsRunPass queue.now worker.new.place }
-    ensures slice { worker.new.slice ≡ A.slice }
-    ensures did { IfOk result (λ made. WorkerDid N.config shared.now.host shared.now.calls.items A.slice 1 worker.old worker.new made.items) }
+    ensures at_work { IsAtWork queue.now shared.now A.slice 0 worker.new hand.new }
+    ensures did { OnOk result (HandDid N.config shared.now A.slice 1 worker.old worker.new hand.old hand.new) }
 {
-    let mut made = Vec::new(alloc);
-    let mut waits = Waits::none();
-    let mut others = 0;
+    let mut pace = Pace::new();
     for _ in rt.forever() {
-        made.reserve(1).map_err(|_| NoMemory)?;
-        let may_begin = others == 0;
-        others = u64::saturating_sub(others, 1);
-        match next_step(rt, alloc, store, shared, queue, worker, may_begin, gate)? {
-            Step::Idle => {}
-            Step::Again => {}
-            Step::Entry(worked) => {
-                waits = waits.after(worked.answer);
-                others = waits.turns();
-                made.push_reserved(worked);
-            }
-            Step::End => return Ok(made),
+        let came = next_step(rt, store, shared, queue, worker, hand, gate)?;
+        let told = came.is_end();
+        if told {
+            return Ok(());
         }
+        pace.note(rt, came);
     }
     unreachable!()
 }
 
-// Makes slices of the calls that go round and keeps the idle passes, until it has found nothing as often as there are items.
-fn help_keeping<N: Naming, A: Admits<Queued<N>> + InSlices, R: Wait, G: Gate>(
+// Makes slices of the calls that go round, until it has found nothing as often as there are items. The idle passes that it meets it keeps:
+// no call is left to begin, and between two slices nobody has to take them.
+fn help<N: Naming, A: Admits<Queued<N>> + InSlices, R: Wait, G: Gate>(
     rt: &R,
     store: &ModuleStore<N>,
     shared: &SliceShared<N>,
     queue: &RunQueue<Queued<N>, A>,
     worker: &mut Slicer<N>,
-    kept: &mut Vec<HostPass<N>>,
-    made: &mut Vec<Worked>,
+    hand: &mut Hand<N>,
     gate: &G,
 ) -> Result<(), NoMemory>
-    requires own { IsJobPass shared.now.jobs worker.old.own }
-    requires place { IsRunPass queue.now worker.old.place }
-    requires slice { worker.old.slice ≡ A.slice }
+    requires at_work { IsAtWork queue.now shared.now A.slice 0 worker.old hand.old }
     requires fits { FitsWhere A.fits (IsOfRun shared.now.host shared.now.calls.items A.slice) }
-    requires kept { All (IsHostPass shared.now.host) kept.old.items }
+    ensures at_work { IsAtWork queue.now shared.now A.slice 0 worker.new hand.new }
     ensures own { worker.new.own ≡ worker.old.own }
-    ensures place { IsRunPass queue.now worker.new.place }
-    ensures slice { worker.new.slice ≡ A.slice }
-    ensures kept { All (IsHostPass shared.now.host) kept.new.items }
-    ensures room { run_room worker.new.place + length kept.old.items ≡ run_room worker.old.place + length kept.new.items }
-    ensures did { OnOk result (WorkerHelpedKeeping N.config shared.now.host shared.now.calls.items A.slice worker.old worker.new made.old.items made.new.items) }
+    ensures did { OnOk result (HandWorked N.config shared.now A.slice [] worker.old worker.new hand.old hand.new) }
 {
     let mut idle = 0;
     for _ in rt.forever() {
-        made.reserve(1).map_err(|_| NoMemory)?;
-        match go_on_keeping(rt, store, shared, queue, worker, kept, gate)? {
-            Step::Idle => {
+        match go_on(rt, store, shared, queue, worker, hand, gate)? {
+            Came::Nothing => {
                 if idle >= worker.items {
                     return Ok(());
                 }
                 idle += 1;
             }
-            Step::Entry(worked) => {
-                idle = 0;
-                made.push_reserved(worked);
-            }
-            Step::Again => idle = 0,
-            Step::End => idle = 0,
+            _ => idle = 0,
         }
     }
     unreachable!()
 }
 
-// Makes slices of the calls that go round while it finds some. The idle passes that it meets it keeps for so long: no call is left to begin,
-// and between two slices nobody has to take them. Then it puts them back, since a worker is told to end where it finds one.
-fn help<N: Naming, A: Admits<Queued<N>> + InSlices, R: Wait, G: Gate>(
+// Makes calls until it is told to end, and then slices of those that go round while it finds some.
+fn work_keeping<N: Naming, A: Admits<Queued<N>> + InSlices, R: Wait, G: Gate>(
     rt: &R,
-    alloc: Global,
     store: &ModuleStore<N>,
     shared: &SliceShared<N>,
     queue: &RunQueue<Queued<N>, A>,
     worker: &mut Slicer<N>,
-    made: &mut Vec<Worked>,
+    hand: &mut Hand<N>,
     gate: &G,
 ) -> Result<(), NoMemory>
-    requires own { IsJobPass shared.now.jobs worker.old.own }
-    requires place { IsRunPass queue.now worker.old.place }
-    requires slice { worker.old.slice ≡ A.slice }
+    requires at_work { IsAtWork queue.now shared.now A.slice 0 worker.old hand.old }
     requires fits { FitsWhere A.fits (IsOfRun shared.now.host shared.now.calls.items A.slice) }
-    ensures own { worker.new.own ≡ worker.old.own }
-    ensures place { IsRunPass queue.now worker.new.place }
-    ensures did { OnOk result (WorkerHelped N.config shared.now.host shared.now.calls.items A.slice worker.old worker.new made.old.items made.new.items) }
+    ensures at_work { IsAtWork queue.now shared.now A.slice 0 worker.new hand.new }
+    ensures did { OnOk result (HandDid N.config shared.now A.slice 1 worker.old worker.new hand.old hand.new) }
 {
-    let mut kept = Vec::new(alloc);
-    let helped = help_keeping(rt, store, shared, queue, worker, &mut kept, made, gate);
-    put_kept(rt, shared, queue, worker, kept);
-    helped
+    work_until_end(rt, store, shared, queue, worker, hand, gate)?;
+    help(rt, store, shared, queue, worker, hand, gate)
 }
 
 /// Makes calls in slices: those that the queue of calls gives it and those that go round, of which any worker takes the next. When it is
 /// told to end it begins no call more, and makes slices of those that go round while it finds some. There is an entry for each call
-/// that was answered in its hands.
+/// that was answered in its hands. Its idle passes it puts back, also where memory is refused, since others end with them.
 ///
 /// # Errors
 ///
@@ -149,13 +114,28 @@ pub(crate) fn work_in_slices<N: Naming, A: Admits<Queued<N>> + InSlices, R: Wait
 ) -> Result<Vec<Worked>, NoMemory>
     requires own { IsJobPass shared.now.jobs worker.old.own }
     requires place { IsRunPass queue.now worker.old.place }
+    requires room { run_room worker.old.place ≡ 0 }
     requires slice { worker.old.slice ≡ A.slice }
     requires fits { FitsWhere A.fits (IsOfRun shared.now.host shared.now.calls.items A.slice) }
     ensures own { IsJobPass shared.now.jobs worker.new.own }
     ensures place { IsRunPass queue.now worker.new.place }
-    ensures did { IfOk result (λ made. WorkerDid N.config shared.now.host shared.now.calls.items A.slice 1 worker.old worker.new made.items) }
+
+    // also where memory is refused
+    ensures room { run_room worker.new.place ≡ 0 }
+    ensures did { IfOk result (λ made. WorkerDid N.config shared.now A.slice 1 worker.old worker.new made.items) }
 {
-    let mut made = work_until_end(rt, alloc, store, shared, queue, worker, gate)?;
-    help(rt, alloc, store, shared, queue, worker, &mut made, gate)?;
-    Ok(made)
+    let passes = Vec::new(alloc);
+    let made = Vec::new(alloc);
+    let mut hand = Hand {
+        alloc,
+        passes,
+        made,
+    };
+    let worked = work_keeping(rt, store, shared, queue, worker, &mut hand, gate);
+    let Hand { passes, made, .. } = hand;
+    put_kept(rt, shared, queue, &mut worker.place, passes);
+    match worked {
+        Ok(()) => Ok(made),
+        Err(NoMemory) => Err(NoMemory),
+    }
 }

@@ -12,7 +12,8 @@ use Rattle.slot_pools.specs.Rows.{AreLost}
 use Rattle.slot_words.specs.Rule.{HeldByAnother}
 use Rattle.slot_words.proofs.Parts.{number_at}
 use Rattle.slot_pools.specs.Wins.{all_numbers}
-use Rattle.slot_pools.specs.Takes.{IsFullBatchedTake, IsFullAffineTake, IsFullAnyTake}
+use Rattle.slot_pools.specs.declared.policy.Policy.TheVariants.{Batched, Affine, Any}
+use Rattle.slot_pools.specs.Takes.{IsFullTake}
 use Rattle.slot_pools.specs.Causes.{AllFoundHeld, FullAfterMark, FullAfterLook, FullAfterScan, LostToAnother}
 
 -- after these first operations, a claim of each number was lost
@@ -25,7 +26,7 @@ lost_after slots first swept lost n h = let at = number_at IsLost slots n swept 
   done_is = ap (λ os. first ++ os) at.done_is ∙ sym (append_assoc first at.before (at.part ++ at.after));
 }
 
-pub batched_cause : (limit slots tag : ℕ) (done : List Operation) → IsFullBatchedTake limit slots tag done → FullAfterMark slots done
+pub batched_cause : (limit slots tag : ℕ) (done : List Operation) → IsFullTake (Batched tag) limit slots done → FullAfterMark slots done
 batched_cause limit slots tag done full =
     let look = full.1 in let loss = look.is_second in let mark = loss.is_second in let flush = mark.is_second in record {
       first = (look.first ++ loss.first) ++ mark.first;
@@ -36,7 +37,7 @@ batched_cause limit slots tag done full =
       is_second = λ n h. rw flush.done_is (lost_after slots flush.first flush.second flush.is_second n h);
     }
 
-pub affine_cause : (limit slots tag : ℕ) (done : List Operation) → IsFullAffineTake limit slots tag done → FullAfterLook limit slots tag done
+pub affine_cause : (limit slots tag : ℕ) (done : List Operation) → IsFullTake (Affine tag) limit slots done → FullAfterLook limit slots tag done
 affine_cause limit slots tag done full = let look = full.1 in let loss = look.is_second in record {
   first = look.first;
   second = look.second;
@@ -45,8 +46,8 @@ affine_cause limit slots tag done full = let look = full.1 in let loss = look.is
   is_second = λ n h. rw loss.done_is (lost_after slots loss.first loss.second loss.is_second n h);
 }
 
-pub any_cause : (slots : ℕ) (done : List Operation) → IsFullAnyTake slots done → FullAfterScan slots done
-any_cause slots done full = let scan = full.1 in let loss = scan.is_second in record {
+pub any_cause : (limit slots : ℕ) (done : List Operation) → IsFullTake Any limit slots done → FullAfterScan slots done
+any_cause limit slots done full = let scan = full.1 in let loss = scan.is_second in record {
   first = scan.first;
   second = scan.second;
   done_is = scan.done_is;

@@ -1,5 +1,5 @@
 -- What a take adds to its pass's trail: what it read, its claims, and what settles the slot that was won.
-use Rattle.std.proofs.Common.{◌≡◌, ℕ, leb, List, ◌∷◌, ◌++◌, length, Result, Ok, Err, refl}
+use Rattle.std.proofs.Common.{◌≡◌, ℕ, leb, List, ◌∷◌, ◌++◌, Result, Ok, Err, refl}
 use Rattle.std.specs.Result.{OnErr}
 use Rattle.slot_words.specs.declared.views.Operation.{Operation}
 use Rattle.slot_words.specs.declared.views.Operation.TheVariants.{WarmLoad}
@@ -7,9 +7,11 @@ use Rattle.slot_words.specs.Trails.{loads_from}
 use Rattle.slot_words.specs.Parts.{Grew, Then}
 use Rattle.slot_words.proofs.Parts.{then_grew}
 use Rattle.affinity_index.specs.Orders.{IsOrder}
-use Rattle.affinity_index.specs.Unheld.{unheld}
 use Rattle.slot_pools.specs.Rows.{AreLost}
-use Rattle.slot_pools.specs.Looks.{AreWords, IsLook, IsScan}
+use Rattle.slot_pools.specs.declared.policy.Policy.{Policy}
+use Rattle.slot_pools.specs.declared.policy.Policy.TheVariants.{Batched, Affine, Any}
+use Rattle.slot_pools.specs.Looks.{AreWords, IsLook, IsReading}
+use Rattle.slot_pools.specs.LookWins.{reads, IsOrderBy}
 
 on_err : {T E P : Type 0} (r : Result T E) → P → OnErr r P
 on_err (Ok x) p = tt
@@ -39,39 +41,37 @@ looked limit slots tag warm seen t u words read order is = record {
   is = record { warm = warm; seen = seen; all_seen = words.all_seen; order_is = is; done_is = refl };
 }
 
-pub scanned : (slots : ℕ) (seen : List ℕ) (t u : List Operation) → length seen ≡ slots → u ≡ t ++ loads_from 0 seen → Grew (IsScan slots (unheld seen)) t u
-scanned slots seen t u all read = record {
+-- and what a take of any policy reads
+reading : (policy : Policy) (limit slots warm : ℕ) (seen : List ℕ) (t u : List Operation) → AreWords slots seen → u ≡ t ++ reads policy warm seen
+    → (order : List ℕ) → IsOrderBy policy limit warm seen order → Grew (IsReading policy limit slots order) t u
+reading (Batched tag) limit slots warm seen t u words read order is = looked limit slots tag warm seen t u words read order is
+reading (Affine tag) limit slots warm seen t u words read order is = looked limit slots tag warm seen t u words read order is
+reading Any limit slots warm seen t u words read order is = record {
   done = loads_from 0 seen;
   grown = read;
-  is = record { seen = seen; all_seen = all; order_is = refl; done_is = refl };
+  is = record { seen = seen; all_seen = words.all_seen; order_is = is; done_is = refl };
 }
 
--- it read, and so knew the order; it won a slot, and settled it
-pub won_grew : (Look Win : List ℕ → List Operation → Type 0) (Rest : List Operation → Type 0) (order : List ℕ) (t u v w : List Operation)
-    → Grew (Look order) t u → Grew (Win order) u v → Grew Rest v w → Grew (λ done. (ns : List ℕ) × Then (Look ns) (Then (Win ns) Rest) done) t w
-won_grew Look Win Rest order t u v w read won settled =
-    let all = then_grew (Look order) (Then (Win order) Rest) t u w read (then_grew (Win order) Rest u v w won settled) in
-    record { done = all.done; grown = all.grown; is = (order, all.is) }
-
--- it read, and so knew the order; then it claimed in vain
-pub full_grew : {T E Idle : Type 0} (Look Loss : List ℕ → List Operation → Type 0) (order : List ℕ) (t u v : List Operation) (r : Result T E)
-    → Grew (Look order) t u → Idle → Grew (Loss order) u v → OnErr r (Idle × Grew (λ done. (ns : List ℕ) × Then (Look ns) (Loss ns) done) t v)
-full_grew Look Loss order t u v r read idle lost =
-    let all = then_grew (Look order) (Loss order) t u v read lost in
-    on_err r (idle, record { done = all.done; grown = all.grown; is = (order, all.is) })
-
-module _ (limit slots tag warm : ℕ) (seen : List ℕ) (t u : List Operation) (words : AreWords slots seen) (read : u ≡ t ++ WarmLoad warm ∷ loads_from 0 seen) where
+module _ (policy : Policy) (limit slots warm : ℕ) (seen : List ℕ) (t u : List Operation) (words : AreWords slots seen) (read : u ≡ t ++ reads policy warm seen) where
   abbrev IsIts : List ℕ → Type 0
-  IsIts order = IsOrder seen tag (leb limit warm) order
+  IsIts order = IsOrderBy policy limit warm seen order
 
-  pub won_by_look : (Win : List ℕ → List Operation → Type 0) (Rest : List Operation → Type 0) (v w : List Operation)
-      → Grew (Along IsIts Win) u v → Grew Rest v w → Grew (λ done. (ns : List ℕ) × Then (IsLook limit slots tag ns) (Then (Win ns) Rest) done) t w
-  won_by_look Win Rest v w won settled =
+  -- it read, and so knew the order; it won a slot, and settled it
+  pub won_by_reading : (Win : List ℕ → List Operation → Type 0) (Rest : List Operation → Type 0) (v w : List Operation)
+      → Grew (Along IsIts Win) u v → Grew Rest v w → Grew (λ done. (ns : List ℕ) × Then (IsReading policy limit slots ns) (Then (Win ns) Rest) done) t w
+  won_by_reading Win Rest v w won settled =
       let order = won.is.0 in
-      won_grew (IsLook limit slots tag) Win Rest order t u v w (looked limit slots tag warm seen t u words read order won.is.1) (record { done = won.done; grown = won.grown; is = won.is.2 }) settled
+      let look = reading policy limit slots warm seen t u words read order won.is.1 in
+      let win : Grew (Win order) u v = record { done = won.done; grown = won.grown; is = won.is.2 } in
+      let all = then_grew (IsReading policy limit slots order) (Then (Win order) Rest) t u w look (then_grew (Win order) Rest u v w win settled) in
+      record { done = all.done; grown = all.grown; is = (order, all.is) }
 
-  pub full_by_look : {T E Idle : Type 0} (Loss : List ℕ → List Operation → Type 0) (v : List Operation) (r : Result T E)
-      → Idle → Grew (Along IsIts Loss) u v → OnErr r (Idle × Grew (λ done. (ns : List ℕ) × Then (IsLook limit slots tag ns) (Loss ns) done) t v)
-  full_by_look Loss v r idle lost =
+  -- it read, and so knew the order; then it claimed in vain
+  pub full_by_reading : {T E Idle : Type 0} (Loss : List ℕ → List Operation → Type 0) (v : List Operation) (r : Result T E)
+      → Idle → Grew (Along IsIts Loss) u v → OnErr r (Idle × Grew (λ done. (ns : List ℕ) × Then (IsReading policy limit slots ns) (Loss ns) done) t v)
+  full_by_reading Loss v r idle lost =
       let order = lost.is.0 in
-      full_grew (IsLook limit slots tag) Loss order t u v r (looked limit slots tag warm seen t u words read order lost.is.1) idle (record { done = lost.done; grown = lost.grown; is = lost.is.2 })
+      let look = reading policy limit slots warm seen t u words read order lost.is.1 in
+      let loss : Grew (Loss order) u v = record { done = lost.done; grown = lost.grown; is = lost.is.2 } in
+      let all = then_grew (IsReading policy limit slots order) (Loss order) t u v look loss in
+      on_err r (idle, record { done = all.done; grown = all.grown; is = (order, all.is) })

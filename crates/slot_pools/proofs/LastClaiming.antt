@@ -9,8 +9,10 @@ use Rattle.slot_words.specs.declared.views.Operation.TheVariants.{Claim, WarmDow
 use Rattle.slot_words.specs.Parts.{Then}
 use Rattle.decommit_batch.specs.Settle.{IsSettled, IsSettledFrom}
 use Rattle.slot_pools.specs.Rows.{IsWonAlong}
-use Rattle.slot_pools.specs.Wins.{IsFlushWin, IsDirectWin}
-use Rattle.slot_pools.specs.Takes.{IsBatchedTake, IsAffineTake, IsAnyTake}
+use Rattle.slot_pools.specs.declared.policy.Policy.{Policy}
+use Rattle.slot_pools.specs.declared.policy.Policy.TheVariants.{Batched, Affine, Any}
+use Rattle.slot_pools.specs.Wins.{all_numbers, IsLastTry, IsWin}
+use Rattle.slot_pools.specs.Takes.{IsTake}
 use Rattle.slot_pools.specs.LastClaims.{is_claim, EndsWithClaim}
 
 abbrev NoClaim : List Operation → Type 0
@@ -35,14 +37,15 @@ ends_second n read First Second done both ends = let end = ends both.second both
 won_ends : (ns : List ℕ) (n read : ℕ) (done : List Operation) → IsWonAlong ns n read done → EndsIn n read done
 won_ends ns n read done won = (won.lost, won.done_is)
 
-direct_win_ends : (slots : ℕ) (order : List ℕ) (n read : ℕ) (done : List Operation) → IsDirectWin slots order n read done → EndsIn n read done
-direct_win_ends slots order n read done =
-    ⊎_elim (won_ends order n read done) (λ swept. ends_second n read _ _ done swept (won_ends _ n read))
+last_try_ends : (policy : Policy) (limit slots n read : ℕ) (done : List Operation) → IsLastTry policy limit slots (IsWonAlong (all_numbers slots) n read) done → EndsIn n read done
+last_try_ends (Batched tag) limit slots n read done marked = ends_second n read _ _ done marked
+    (λ flushed is_flushed. ends_second n read _ _ flushed is_flushed (won_ends (all_numbers slots) n read))
+last_try_ends (Affine tag) limit slots n read done won = won_ends (all_numbers slots) n read done won
+last_try_ends Any limit slots n read done won = won_ends (all_numbers slots) n read done won
 
-flush_win_ends : (limit slots : ℕ) (order : List ℕ) (n read : ℕ) (done : List Operation) → IsFlushWin limit slots order n read done → EndsIn n read done
-flush_win_ends limit slots order n read done =
-    ⊎_elim (won_ends order n read done) (λ swept. ends_second n read _ _ done swept
-    (λ marked is_marked. ends_second n read _ _ marked is_marked (λ flushed is_flushed. ends_second n read _ _ flushed is_flushed (won_ends _ n read))))
+win_ends : (policy : Policy) (limit slots : ℕ) (order : List ℕ) (n read : ℕ) (done : List Operation) → IsWin policy limit slots order n read done → EndsIn n read done
+win_ends policy limit slots order n read done =
+    ⊎_elim (won_ends order n read done) (λ swept. ends_second n read _ _ done swept (last_try_ends policy limit slots n read))
 
 -- a look, a win that ends in a claim, and what settles it
 taken_ends : (n read : ℕ) (Look Win : List Operation → Type 0) (done : List Operation) → ((win : List Operation) → Win win → EndsIn n read win) → Then Look (Then Win (IsSettled read)) done → EndsWithClaim n read done
@@ -55,11 +58,5 @@ taken_ends n read Look Win done ends take =
       no_other = settling_claims_none win.is_second.0.target.state win.second win.is_second.2;
     }
 
-pub batched_ends : (limit slots tag n read : ℕ) (done : List Operation) → IsBatchedTake limit slots tag n read done → EndsWithClaim n read done
-batched_ends limit slots tag n read done take = taken_ends n read _ _ done (flush_win_ends limit slots take.0 n read) take.1
-
-pub affine_ends : (limit slots tag n read : ℕ) (done : List Operation) → IsAffineTake limit slots tag n read done → EndsWithClaim n read done
-affine_ends limit slots tag n read done take = taken_ends n read _ _ done (direct_win_ends slots take.0 n read) take.1
-
-pub any_ends : (slots n read : ℕ) (done : List Operation) → IsAnyTake slots n read done → EndsWithClaim n read done
-any_ends slots n read done take = taken_ends n read _ _ done (direct_win_ends slots take.0 n read) take.1
+pub take_ends : (policy : Policy) (limit slots n read : ℕ) (done : List Operation) → IsTake policy limit slots n read done → EndsWithClaim n read done
+take_ends policy limit slots n read done take = taken_ends n read _ _ done (win_ends policy limit slots take.0 n read) take.1

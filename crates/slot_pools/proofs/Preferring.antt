@@ -11,7 +11,8 @@ use Rattle.slot_words.proofs.Parts.{part_at}
 use Rattle.affinity_index.specs.Orders.{IsOrder}
 use Rattle.affinity_index.specs.Preference.{IsOwnSeen, OwnAreListed, OwnOrAllBefore}
 use Rattle.slot_pools.specs.Looks.{IsLook}
-use Rattle.slot_pools.specs.Takes.{IsBatchedTake, IsAffineTake}
+use Rattle.slot_pools.specs.declared.policy.Policy.TheVariants.{Batched, Affine}
+use Rattle.slot_pools.specs.Takes.{IsTake}
 use Rattle.slot_pools.specs.Causes.{HasLostClaim}
 use Rattle.slot_pools.specs.Preferring.{PrefersOwn}
 
@@ -63,7 +64,7 @@ module _ (tag : ℕ) (seen order : List ℕ) (listed : OwnAreListed tag seen ord
 abbrev pub Orders : Type 0
 Orders = (seen : List ℕ) (tag : ℕ) (full : Bool) (order : List ℕ) → IsOrder seen tag full order → OwnAreListed tag seen order × OwnOrAllBefore tag seen order
 
-pub batched_prefers : Orders → (limit slots tag n read : ℕ) (done : List Operation) → IsBatchedTake limit slots tag n read done → PrefersOwn slots tag n done
+pub batched_prefers : Orders → (limit slots tag n read : ℕ) (done : List Operation) → IsTake (Batched tag) limit slots n read done → PrefersOwn slots tag n done
 batched_prefers orders limit slots tag n read done take =
     let look : IsLook limit slots tag take.0 take.1.first = take.1.is_first in let win = take.1.is_second in
     let says = orders look.seen tag (leb limit look.warm) take.0 look.order_is in record {
@@ -76,7 +77,7 @@ batched_prefers orders limit slots tag n read done take =
           (⊎_elim (won_prefers tag look.seen take.0 says.0 says.1 n read win.first) (swept_prefers tag look.seen take.0 says.0 says.1 n _ win.first) win.is_first));
     }
 
-pub affine_prefers : Orders → (limit slots tag n read : ℕ) (done : List Operation) → IsAffineTake limit slots tag n read done → PrefersOwn slots tag n done
+pub affine_prefers : Orders → (limit slots tag n read : ℕ) (done : List Operation) → IsTake (Affine tag) limit slots n read done → PrefersOwn slots tag n done
 affine_prefers orders limit slots tag n read done take =
     let look : IsLook limit slots tag take.0 take.1.first = take.1.is_first in let win = take.1.is_second in
     let says = orders look.seen tag (leb limit look.warm) take.0 look.order_is in record {

@@ -8,55 +8,24 @@ use Rattle.slot_words.specs.Owned.{limit_of, slots_of}
 use Rattle.slot_words.specs.Parts.{Grew, Then}
 use Rattle.slot_words.specs.Passes.{Pass, IsIdle, trail}
 use Rattle.decommit_batch.specs.Settle.{IsSettled}
-use Rattle.slot_pools.specs.Looks.{IsLook, IsScan}
-use Rattle.slot_pools.specs.Wins.{IsFlushWin, IsFlushLoss, IsDirectWin, IsDirectLoss}
+use Rattle.slot_pools.specs.declared.policy.Policy.{Policy}
+use Rattle.slot_pools.specs.Looks.{IsReading}
+use Rattle.slot_pools.specs.Wins.{IsWin, IsLoss}
 
--- a take for the module of this tag that won slot n, where this was read, out of slots that may await
-abbrev pub IsBatchedTake : ℕ → ℕ → ℕ → ℕ → ℕ → List Operation → Type 0
-IsBatchedTake limit slots tag n read done = (order : List ℕ) × Then (IsLook limit slots tag order) (Then (IsFlushWin limit slots order n read) (IsSettled read)) done
-
--- one that won nothing
-abbrev pub IsFullBatchedTake : ℕ → ℕ → ℕ → List Operation → Type 0
-IsFullBatchedTake limit slots tag done = (order : List ℕ) × Then (IsLook limit slots tag order) (IsFlushLoss limit slots order) done
-
--- a take for the module of this tag that won slot n, where this was read, out of slots that never await
-abbrev pub IsAffineTake : ℕ → ℕ → ℕ → ℕ → ℕ → List Operation → Type 0
-IsAffineTake limit slots tag n read done = (order : List ℕ) × Then (IsLook limit slots tag order) (Then (IsDirectWin slots order n read) (IsSettled read)) done
+-- a take of this policy that won slot n, where this was read
+abbrev pub IsTake : Policy → (limit slots n read : ℕ) → List Operation → Type 0
+IsTake policy limit slots n read done = (order : List ℕ) × Then (IsReading policy limit slots order) (Then (IsWin policy limit slots order n read) (IsSettled read)) done
 
 -- one that won nothing
-abbrev pub IsFullAffineTake : ℕ → ℕ → ℕ → List Operation → Type 0
-IsFullAffineTake limit slots tag done = (order : List ℕ) × Then (IsLook limit slots tag order) (IsDirectLoss slots order) done
-
--- a take for any module that won slot n, where this was read
-abbrev pub IsAnyTake : ℕ → ℕ → ℕ → List Operation → Type 0
-IsAnyTake slots n read done = (order : List ℕ) × Then (IsScan slots order) (Then (IsDirectWin slots order n read) (IsSettled read)) done
-
--- one that won nothing
-abbrev pub IsFullAnyTake : ℕ → List Operation → Type 0
-IsFullAnyTake slots done = (order : List ℕ) × Then (IsScan slots order) (IsDirectLoss slots order) done
+abbrev pub IsFullTake : Policy → (limit slots : ℕ) → List Operation → Type 0
+IsFullTake policy limit slots done = (order : List ℕ) × Then (IsReading policy limit slots order) (IsLoss policy limit slots order) done
 
 -- The same of a pass between two moments. Where it won nothing, it is full that it meets, and it holds nothing.
-module _ {V I : Type 0} (words : Words V I) where
-  -- it took the slot of this lease for the module of this tag, out of slots that may await
-  abbrev pub TakesBatched : (tag : ℕ) → (old new : Pass V) → Lease V → Type 0
-  TakesBatched tag old new lease = Grew (IsBatchedTake (limit_of words) (slots_of words) tag (lease_number lease) (lease_word lease)) (trail old) (trail new)
-
-  -- it won none of them
-  abbrev pub MeetsFullBatched : (tag : ℕ) → (old new : Pass V) → Type 0
-  MeetsFullBatched tag old new = IsIdle new × Grew (IsFullBatchedTake (limit_of words) (slots_of words) tag) (trail old) (trail new)
-
-  -- it took the slot of this lease for the module of this tag, out of slots that never await
-  abbrev pub TakesAffine : (tag : ℕ) → (old new : Pass V) → Lease V → Type 0
-  TakesAffine tag old new lease = Grew (IsAffineTake (limit_of words) (slots_of words) tag (lease_number lease) (lease_word lease)) (trail old) (trail new)
-
-  -- it won none of them
-  abbrev pub MeetsFullAffine : (tag : ℕ) → (old new : Pass V) → Type 0
-  MeetsFullAffine tag old new = IsIdle new × Grew (IsFullAffineTake (limit_of words) (slots_of words) tag) (trail old) (trail new)
-
-  -- it took the slot of this lease for any module
-  abbrev pub TakesAny : (old new : Pass V) → Lease V → Type 0
-  TakesAny old new lease = Grew (IsAnyTake (slots_of words) (lease_number lease) (lease_word lease)) (trail old) (trail new)
+module _ {V I : Type 0} (words : Words V I) (policy : Policy) where
+  -- it took the slot of this lease
+  abbrev pub Takes : (old new : Pass V) → Lease V → Type 0
+  Takes old new lease = Grew (IsTake policy (limit_of words) (slots_of words) (lease_number lease) (lease_word lease)) (trail old) (trail new)
 
   -- it won none
-  abbrev pub MeetsFullAny : (old new : Pass V) → Type 0
-  MeetsFullAny old new = IsIdle new × Grew (IsFullAnyTake (slots_of words)) (trail old) (trail new)
+  abbrev pub MeetsFull : (old new : Pass V) → Type 0
+  MeetsFull old new = IsIdle new × Grew (IsFullTake policy (limit_of words) (slots_of words)) (trail old) (trail new)

@@ -9,15 +9,16 @@ ghost use Rattle.slot_words.specs.Rows.{HasWon, IsLost};
 ghost use Rattle.affinity_index.specs.Unheld.{unheld};
 ghost use Rattle.slot_pools.specs.Rows.{AreLost};
 ghost use Rattle.slot_pools.specs.Looks.{AreWords};
-ghost use Rattle.slot_pools.specs.LookWins.{AlongOrder, WinsAlong};
+ghost use Rattle.slot_pools.specs.LookWins.{AlongOrder, AlongSeen, WinsAlong};
 
+use crate::policy::Policy;
 use crate::rows::AllHeld;
 use affinity_index::laws::each_scan_has_its_order;
 use affinity_index::{first_in_order, next_in_order};
 use slot_words::{Held, Lease, Pass, Pooled, Words};
 
 // Claims along the order for the module of this tag. What comes next in it is looked for only where a claim is lost.
-pub(crate) fn claim_in_order<V: Pooled>(
+fn claim_in_order<V: Pooled>(
     words: &Words<V>,
     pass: &mut Pass<V>,
     seen: &[u64],
@@ -73,7 +74,7 @@ fn claim_unheld<V: Pooled>(
 }
 
 // Claims the numbers that were seen not held, rising.
-pub(crate) fn claim_first_unheld<V: Pooled>(
+fn claim_first_unheld<V: Pooled>(
     words: &Words<V>,
     pass: &mut Pass<V>,
     seen: &[u64],
@@ -92,4 +93,27 @@ pub(crate) fn claim_first_unheld<V: Pooled>(
         }
     }
     Err(AllHeld)
+}
+
+// Claims along the order that a take of this policy has by what it read.
+pub(crate) fn claim_seen<V: Pooled>(
+    words: &Words<V>,
+    pass: &mut Pass<V>,
+    seen: &[u64],
+    warm: u64,
+    policy: Policy,
+) -> Result<Lease<V>, AllHeld>
+    requires own { IsPassOf words.now pass.old }
+    requires idle { IsIdle pass.old }
+    requires words { AreWords (slots_of words.now) seen.now }
+    ensures same { IsSamePass pass.old pass.new }
+    ensures won { IfOk result (HasWon V.fits words.now pass.new) }
+    ensures trail { IfOk result (λ l. Grew (AlongSeen words.now policy warm seen.now (WinsAlong l)) (trail pass.old) (trail pass.new)) }
+    ensures held { OnErr result (IsIdle pass.new × Grew (AlongSeen words.now policy warm seen.now AreLost) (trail pass.old) (trail pass.new)) }
+{
+    match policy {
+        Policy::Batched(tag) => claim_in_order(words, pass, seen, warm, tag),
+        Policy::Affine(tag) => claim_in_order(words, pass, seen, warm, tag),
+        Policy::Any => claim_first_unheld(words, pass, seen),
+    }
 }

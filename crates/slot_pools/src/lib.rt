@@ -1,15 +1,15 @@
 //! How a slot is taken out of a pool and given back, whatever lies in it.
 //!
-//! A slot that awaits its decommit is taken by [`take_batched`] and given back by `decommit_batch::hand_in`; one that is warm or cold by [`take_affine`] and [`give_warm`]; one that is only ever cold by [`take_any`] and [`give_cold`].
+//! A slot is taken by [`take`], under the [`Policy`] of its pool. One that awaits its decommit is given back by `decommit_batch::hand_in`, one that is warm or cold by [`give_warm`], and one that is only ever cold by [`give_cold`].
 #![tactic(auto)]
 
 mod answers;
-mod by_row;
 mod claiming;
 mod giving;
 pub mod laws;
 mod looking;
 mod opening;
+mod policy;
 mod rows;
 mod taking;
 mod winning;
@@ -18,4 +18,5 @@ pub use answers::Full;
 pub use decommit_batch::sweep;
 pub use giving::{give_cold, give_warm};
 pub use opening::{OpenSlot, open};
-pub use taking::{take_affine, take_any, take_batched};
+pub use policy::Policy;
+pub use taking::take;

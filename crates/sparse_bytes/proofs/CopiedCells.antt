@@ -13,27 +13,27 @@ use Rattle.std.proofs.lemmas.Grind.{common_steps}
 use Rattle.std.proofs.lemmas.List.{get_or-replicate, length-replicate}
 use Rattle.std.proofs.lemmas.List.Elements.{All-tail}
 use Rattle.std.proofs.lemmas.Map.Entries.{lookup-filter-keys}
-use Rattle.sparse_bytes.specs.declared.bytes.SparseBytes.{SparseBytes}
-use Rattle.sparse_bytes.specs.SparseBytes.{byte_at, cell_at}
-use Rattle.sparse_bytes.proofs.Cells.{none_zero}
+use Rattle.sparse_bytes.specs.declared.cells.Cells.{Cells}
+use Rattle.sparse_bytes.specs.Cells.{cell_at, cell_byte}
+use Rattle.sparse_bytes.proofs.CellLemmas.{none_zero}
 
 -- it is a cell of these, with a number from the first on and before the end
-pub record IsCellOf (bytes : SparseBytes) (first end : ℕ) (entry : ℕ × List ℕ) : Type 0 where
+pub record IsCellOf (bytes : Cells) (first end : ℕ) (entry : ℕ × List ℕ) : Type 0 where
   pub from : first ≤ entry.0
   pub below : entry.0 < end
   pub is : get nat_cmp bytes.cells entry.0 ≡ Some entry.1
 
 -- the part shows the cells that are not left
-pub record IsCopiedBut (bytes : SparseBytes) (first end : ℕ) (left : List (ℕ × List ℕ)) (part : List ℕ) : Type 0 where
+pub record IsCopiedBut (bytes : Cells) (first end : ℕ) (left : List (ℕ × List ℕ)) (part : List ℕ) : Type 0 where
   pub here : All (IsCellOf bytes first end) left
-  pub copied : (i : ℕ) → i < length part → is_some (lookup (is_at (nat_cmp (first + i / 64))) left) ≡ false → get_or part i 0 ≡ byte_at bytes (64 * first + i)
+  pub copied : (i : ℕ) → i < length part → is_some (lookup (is_at (nat_cmp (first + i / 64))) left) ≡ false → get_or part i 0 ≡ cell_byte bytes (64 * first + i)
 
 lookup_later : (q number : ℕ) (cell : List ℕ) (left : List (ℕ × List ℕ)) → q ≢ number → lookup (is_at (nat_cmp q)) ((number, cell) ∷ left) ≡ lookup (is_at (nat_cmp q)) left
 lookup_later q number cell left ne = grind (arith, common_steps)
 
-module _ (bytes : SparseBytes) (first end : ℕ) where
-  byte_is : (i : ℕ) → byte_at bytes (64 * first + i) ≡ get_or (cell_at bytes (first + i / 64)) (i % 64) 0
-  unfolding byte_at
+module _ (bytes : Cells) (first end : ℕ) where
+  byte_is : (i : ℕ) → cell_byte bytes (64 * first + i) ≡ get_or (cell_at bytes (first + i / 64)) (i % 64) 0
+  unfolding cell_byte
   byte_is i =
       let number : (64 * first + i) / 64 ≡ first + i / 64 = omega arith in
       let place : (64 * first + i) % 64 ≡ i % 64 = omega arith in
@@ -79,7 +79,7 @@ module _ (bytes : SparseBytes) (first end : ℕ) where
             ∙ sym
             (byte_is i ∙ ap (λ (n : ℕ). get_or (cell_at bytes n) (i % 64) 0) e ∙ ap (λ o. get_or (unwrap_or o []) (i % 64) 0) this.is))
             (λ (ne : first + i / 64 ≢ number).
-            let old : get_or part i 0 ≡ byte_at bytes (64 * first + i) = is.copied i (omega arith) (ap is_some (lookup_later (first + i / 64) number cell left ne) ∙ absent) in
+            let old : get_or part i 0 ≡ cell_byte bytes (64 * first + i) = is.copied i (omega arith) (ap is_some (lookup_later (first + i / 64) number cell left ne) ∙ absent) in
             ⊎_elim (λ (l : i < start). before i l ∙ old) (λ (l : start ≤ i). after i (omega arith) ∙ old) (cases_lt i start))
             (cases_eq (first + i / 64) number);
       }

@@ -9,43 +9,45 @@ use Rattle.std.proofs.lemmas.Grind.{common_steps}
 use Rattle.std.proofs.lemmas.List.{places, get_or-take, length-take}
 use Rattle.std.proofs.lemmas.List.Edits.{get_or-between, length-between}
 use borrow.Rule.Slice.PartMut.{put_mid}
-use Rattle.sparse_bytes.specs.declared.bytes.SparseBytes.{SparseBytes}
-use Rattle.sparse_bytes.specs.SparseBytes.{HasCell, IsWritten, Touches, byte_at, cell_at}
+use Rattle.sparse_bytes.specs.declared.cells.Cells.{Cells}
+use Rattle.sparse_bytes.specs.Written.{IsOver, Touches}
+use Rattle.sparse_bytes.specs.Cells.{HasCell, WritesCells, cell_at, cell_byte}
+use Rattle.sparse_bytes.proofs.WrittenParts.{over_more, touches_more}
 
 -- ---- one cell
 
-put_within : (from k : ℕ) (cell piece : List ℕ) (j : ℕ) → k ≡ length piece → from + k ≤ length cell → from ≤ j → j < from + k → get_or (put_mid from k cell piece) j 0 ≡ get_or piece (j - from) 0
+pub put_within : (from k : ℕ) (cell piece : List ℕ) (j : ℕ) → k ≡ length piece → from + k ≤ length cell → from ≤ j → j < from + k → get_or (put_mid from k cell piece) j 0 ≡ get_or piece (j - from) 0
 put_within from k cell piece j e h l u = grind (arith, common_steps, places)
 
-put_outside : (from k : ℕ) (cell piece : List ℕ) (j : ℕ) → k ≡ length piece → from + k ≤ length cell → (j < from) ⊎ (from + k ≤ j) → get_or (put_mid from k cell piece) j 0 ≡ get_or cell j 0
+pub put_outside : (from k : ℕ) (cell piece : List ℕ) (j : ℕ) → k ≡ length piece → from + k ≤ length cell → (j < from) ⊎ (from + k ≤ j) → get_or (put_mid from k cell piece) j 0 ≡ get_or cell j 0
 put_outside from k cell piece j e h w = ⊎_elim (λ (l : j < from). grind (arith, common_steps, places)) (λ (l : from + k ≤ j). grind (arith, common_steps, places)) w
 
-module _ (old new : SparseBytes) (number from k : ℕ) (cell piece : List ℕ)
+module _ (old new : Cells) (number from k : ℕ) (cell piece : List ℕ)
     (updates : Updates nat_cmp old.cells new.cells number (Some (put_mid from k cell piece)))
     (size : k ≡ length piece) (some : 0 < k) (fits : from + k ≤ 64) (long : length cell ≡ 64)
     (shows : (j : ℕ) → get_or cell j 0 ≡ get_or (cell_at old number) j 0) where
-  here : (i : ℕ) → i / 64 ≡ number → byte_at new i ≡ get_or (put_mid from k cell piece) (i % 64) 0
-  unfolding byte_at
+  here : (i : ℕ) → i / 64 ≡ number → cell_byte new i ≡ get_or (put_mid from k cell piece) (i % 64) 0
+  unfolding cell_byte
   here i e = ap (λ (n : ℕ). get_or (cell_at new n) (i % 64) 0) e ∙ ap (λ o. get_or (unwrap_or o []) (i % 64) 0) updates.1
 
   apart : (q : ℕ) → q ≢ number → get nat_cmp new.cells q ≡ get nat_cmp old.cells q
   apart q ne = updates.2 q (grind (arith, common_steps))
 
-  there : (i : ℕ) → i / 64 ≢ number → byte_at new i ≡ byte_at old i
-  unfolding byte_at
+  there : (i : ℕ) → i / 64 ≢ number → cell_byte new i ≡ cell_byte old i
+  unfolding cell_byte
   there i ne = ap (λ o. get_or (unwrap_or o []) (i % 64) 0) (apart (i / 64) ne)
 
-  found : (q : ℕ) → HasCell new q → HasCell old q ⊎ Touches (64 * number + from) (length piece) q
+  found : (q : ℕ) → HasCell new q → HasCell old q ⊎ Touches 64 (64 * number + from) (length piece) q
   found q has = ⊎_elim
-      (λ (e : q ≡ number). inr (record { place = 64 * number + from; from = omega arith; below = omega arith; in_cell = omega arith }))
+      (λ (e : q ≡ number). inr (record { place = 64 * number + from; from = omega arith; below = omega arith; in_part = omega arith }))
       (λ (ne : q ≢ number). inl (ap is_some (sym (apart q ne)) ∙ has))
       (cases_eq q number)
 
   place : (i : ℕ) → i / 64 ≡ number → (i < 64 * number + from) ⊎ (64 * number + from + k ≤ i) → (i % 64 < from) ⊎ (from + k ≤ i % 64)
   place i e w = ⊎_elim (λ (l : i < 64 * number + from). inl (omega arith)) (λ (l : 64 * number + from + k ≤ i). inr (omega arith)) w
 
-  outside : (i : ℕ) → (i < 64 * number + from) ⊎ (64 * number + from + k ≤ i) → byte_at new i ≡ byte_at old i
-  unfolding byte_at
+  outside : (i : ℕ) → (i < 64 * number + from) ⊎ (64 * number + from + k ≤ i) → cell_byte new i ≡ cell_byte old i
+  unfolding cell_byte
   outside i w = ⊎_elim
       (λ (e : i / 64 ≡ number).
       here i e
@@ -55,44 +57,23 @@ module _ (old new : SparseBytes) (number from k : ℕ) (cell piece : List ℕ)
       (there i)
       (cases_eq (i / 64) number)
 
-  pub written_cell : IsWritten (64 * number + from) piece old new
+  pub written_cell : WritesCells (64 * number + from) piece old new
   written_cell = record {
-    within = λ i l u. here i (omega arith) ∙ put_within from k cell piece (i % 64) size (omega arith) (omega arith) (omega arith) ∙ ap (λ (n : ℕ). get_or piece n 0) (omega arith);
-    before = λ i l. outside i (inl l);
-    after = λ i l. outside i (inr (omega arith));
+    bytes = record {
+      within = λ i l u. here i (omega arith) ∙ put_within from k cell piece (i % 64) size (omega arith) (omega arith) (omega arith) ∙ ap (λ (n : ℕ). get_or piece n 0) (omega arith);
+      before = λ i l. outside i (inl l);
+      after = λ i l. outside i (inr (omega arith));
+    };
     cells = found;
   }
 
 -- ---- one piece after another
 
 -- the first bytes are written, and those after them into what that left
-pub written_more : (bytes : List ℕ) (start done count place : ℕ) (old middle new : SparseBytes) → done + count ≤ length bytes → place ≡ start + done
-    → IsWritten start (take done bytes) old middle → IsWritten place (between done (done + count) bytes) middle new
-    → IsWritten start (take (done + count) bytes) old new
-written_more bytes start done count place old middle new h e first second =
-    let short : length (take done bytes) ≡ done = omega (arith, length-take done bytes) in
-    let whole : length (take (done + count) bytes) ≡ done + count = omega (arith, length-take (done + count) bytes) in
-    let piece : length (between done (done + count) bytes) ≡ count = omega (arith, length-between bytes done (done + count) h) in
-    record {
-      within = λ i l u. ⊎_elim
-          (λ (b : i < place).
-          second.before i b
-          ∙ first.within i l (omega arith)
-          ∙ get_or-take done bytes (i - start) 0 (omega arith)
-          ∙ sym (get_or-take (done + count) bytes (i - start) 0 (omega arith)))
-          (λ (b : place ≤ i).
-          second.within i b (omega arith)
-          ∙ get_or-between bytes done (done + count) (i - place) 0 (omega arith)
-          ∙ ap (λ (n : ℕ). get_or bytes n 0) (omega arith)
-          ∙ sym (get_or-take (done + count) bytes (i - start) 0 (omega arith)))
-          (cases_lt i place);
-      before = λ i l. second.before i (omega arith) ∙ first.before i l;
-      after = λ i l. second.after i (omega arith) ∙ first.after i (omega arith);
-      cells = λ q has. ⊎_elim
-          (λ (m : HasCell middle q). ⊎_elim
-          (λ (o : HasCell old q). inl o)
-          (λ (t : Touches start (length (take done bytes)) q). inr (record { place = t.place; from = t.from; below = omega (arith, t.below); in_cell = t.in_cell }))
-          (first.cells q m))
-          (λ (t : Touches place (length (between done (done + count) bytes)) q). inr (record { place = t.place; from = omega (arith, t.from); below = omega (arith, t.below); in_cell = t.in_cell }))
-          (second.cells q has);
-    }
+pub written_more : (bytes : List ℕ) (start done count place : ℕ) (old middle new : Cells) → done + count ≤ length bytes → place ≡ start + done
+    → WritesCells start (take done bytes) old middle → WritesCells place (between done (done + count) bytes) middle new
+    → WritesCells start (take (done + count) bytes) old new
+written_more bytes start done count place old middle new h e first second = record {
+  bytes = over_more bytes start done count place h e (cell_byte old) (cell_byte middle) (cell_byte new) first.bytes second.bytes;
+  cells = λ q has. touches_more bytes start done count place h e 64 q (HasCell old q) (HasCell middle q) (HasCell new q) (first.cells q) (second.cells q) has;
+}

@@ -1,33 +1,28 @@
 -- Which bytes a sparse image shows.
-use Rattle.std.specs.Prelude.{◌≡◌, ℕ, ◌+◌, ◌-◌, ◌/◌, ◌%◌, ◌<◌, ◌≤◌, ◌⊎◌, List, [], IsSome, length, slice_index, unwrap_or}
+use Rattle.std.specs.Global.{Global}
+use Rattle.std.specs.Prelude.{◌≡◌, ℕ, ◌/◌, ◌%◌, ◌⊎◌, List, Box, Option, None, Some, IsSome, length, slice_index}
 use Rattle.std.specs.Ordering.{nat_cmp}
 use Rattle.std.specs.BTreeMap.{get}
+use Rattle.sparse_bytes.specs.Written.{IsOver, Touches}
+use Rattle.sparse_bytes.specs.Cells.{HasCell, cell_byte}
 use Rattle.sparse_bytes.specs.declared.bytes.SparseBytes.{SparseBytes}
-use Rattle.sparse_bytes.specs.declared.bytes.TheConstants.{CELL_SIZE}
+use Rattle.sparse_bytes.specs.declared.bytes.TheConstants.{BLOCK_SIZE}
+use Rattle.sparse_bytes.specs.declared.cells.Cells.{Cells}
 
--- the bytes of the cell of this number, or none where it was never written to
-abbrev pub cell_at : SparseBytes → ℕ → List ℕ
-cell_at bytes number = unwrap_or (get nat_cmp bytes.cells number) []
+-- the byte at i: that of its block, where this is kept whole, and else that of its cell
+abbrev pub shown_byte : Option (Box (List ℕ) Global) → Cells → ℕ → ℕ
+shown_byte (Some block) cells i = slice_index block.value (i % BLOCK_SIZE)
+shown_byte None cells i = cell_byte cells i
 
--- the byte at its place in its cell, or 0 where there is no such cell; crates above read it as a function of places
+-- the byte at i, or 0 where nothing was written; crates above read it as a function of places
 unfoldable pub byte_at : SparseBytes → ℕ → ℕ
-byte_at bytes i = slice_index (cell_at bytes (i / CELL_SIZE)) (i % CELL_SIZE)
+byte_at bytes i = shown_byte (get nat_cmp bytes.whole (i / BLOCK_SIZE)) bytes.cells i
 
--- the cell of this number was written to
-abbrev pub HasCell : SparseBytes → ℕ → Type 0
-HasCell bytes number = IsSome (get nat_cmp bytes.cells number)
+-- the block of this number was written to
+abbrev pub HasBlock : SparseBytes → ℕ → Type 0
+HasBlock bytes number = IsSome (get nat_cmp bytes.whole number) ⊎ ((cell : ℕ) × HasCell bytes.cells cell × (cell / 64 ≡ number))
 
--- of so many bytes from a place on, one lies in the cell of this number
-pub record Touches (start count number : ℕ) : Type 0 where
-  pub place : ℕ
-  pub from : start ≤ place
-  pub below : place < start + count
-  pub in_cell : place / CELL_SIZE ≡ number
-
--- The piece lies from a place on, and every other byte is as it was. A cell is there only if it was before or the piece touches
--- it.
+-- The piece lies from a place on. A block was written to only if it was before or the piece touches it.
 pub record IsWritten (start : ℕ) (piece : List ℕ) (old new : SparseBytes) : Type 0 where
-  pub within : (i : ℕ) → start ≤ i → i < start + length piece → byte_at new i ≡ slice_index piece (i - start)
-  pub before : (i : ℕ) → i < start → byte_at new i ≡ byte_at old i
-  pub after : (i : ℕ) → start + length piece ≤ i → byte_at new i ≡ byte_at old i
-  pub cells : (number : ℕ) → HasCell new number → HasCell old number ⊎ Touches start (length piece) number
+  pub bytes : IsOver start piece (byte_at old) (byte_at new)
+  pub blocks : (number : ℕ) → HasBlock new number → HasBlock old number ⊎ Touches BLOCK_SIZE start (length piece) number

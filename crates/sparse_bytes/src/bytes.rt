@@ -1,44 +1,35 @@
-//! Bytes in cells.
-ghost use Rattle.std.specs.Prelude.{◌≡◌, ℕ, ◌+◌, ◌-◌, ◌*◌, ◌/◌, ◌<◌, ◌≤◌, false, true, OnOk, length, set, slice_index, slice_index_or};
-ghost use Rattle.sparse_bytes.specs.SparseBytes.{HasCell, IsWritten, byte_at, cell_at};
+//! Bytes of which most are zero.
+ghost use Rattle.std.specs.Prelude.{◌≡◌, ◌≢◌, ◌↔◌, ℕ, ◌+◌, ◌*◌, ◌/◌, ◌^◌, ◌<◌, ◌≤◌, false, true, IfOk, IfSome, IsSome, OnOk, length, slice_index, slice_index_or};
+ghost use Rattle.std.specs.Ordering.{nat_cmp};
+ghost use Rattle.std.specs.BTreeMap.{get};
+ghost use Rattle.sparse_bytes.specs.Cells.{cell_byte};
+ghost use Rattle.sparse_bytes.specs.SparseBytes.{HasBlock, IsWritten, byte_at};
 
+use crate::cells::{CELL_SIZE, Cells, mark};
 use std::alloc::Global;
 use std::collections::BTreeMap;
 use wasm_values::NoMemory;
 
-/// How many bytes a cell has.
-pub const CELL_SIZE: usize = 64;
+/// How many bytes a block has.
+pub const BLOCK_SIZE: usize = 4096;
 
-/// Bytes from 0 on without end, all zero but in the cells that were written to.
+// How many cells make a block.
+const CELLS_IN_BLOCK: usize = BLOCK_SIZE / CELL_SIZE;
+
+// The fewest bytes of one piece for which a block is kept whole. So a byte that was written takes no more than in a cell of its own.
+const LEAST_WHOLE: usize = 256;
+
+/// Bytes from 0 on without end, all zero but in the blocks that were written to.
 pub struct SparseBytes {
-    cells: BTreeMap<usize, [u8; CELL_SIZE]>,
+    // The blocks that are kept whole.
+    whole: BTreeMap<usize, Box<[u8; BLOCK_SIZE]>>,
+    // The bytes of all others.
+    cells: Cells,
 }
 
 impl Drop for SparseBytes {
     fn drop(self) {
-        let SparseBytes { cells: _ } = self;
-    }
-}
-
-// Writes a cell from a place on, as far as the part reaches.
-fn put_cell(part: &mut [u8], start: usize, cell: &[u8; CELL_SIZE])
-    requires { start ≤ length part.old }
-    ensures within { (i : ℕ) → start ≤ i → i < start + CELL_SIZE → i < length part.new
-        → slice_index part.new i ≡ slice_index cell.now (i - start) }
-    ensures before { (i : ℕ) → i < start → slice_index part.new i ≡ slice_index part.old i }
-    ensures after { (i : ℕ) → start + CELL_SIZE ≤ i → slice_index part.new i ≡ slice_index part.old i }
-    ensures room { length part.new ≡ length part.old }
-{
-    let count = (part.len() - start).min(CELL_SIZE);
-    part[start..start + count].copy_from_slice(&cell[..count]);
-}
-
-// Marks a block, if there is a mark for it.
-fn mark(marks: &mut [bool], block: usize)
-    ensures { marks.new ≡ set marks.old block true }
-{
-    if block < marks.len() {
-        marks[block] = true;
+        let SparseBytes { whole: _, cells: _ } = self;
     }
 }
 
@@ -47,81 +38,136 @@ impl SparseBytes {
     #[tactic(auto, unfolding(crate::specs::SparseBytes::byte_at))]
     pub fn zeros(alloc: Global) -> SparseBytes
         ensures zeros { (i : ℕ) → byte_at result i ≡ 0 }
-        ensures cells { (number : ℕ) → HasCell result number → ⊥ }
+        ensures blocks { (number : ℕ) → HasBlock result number → ⊥ }
     {
         SparseBytes {
-            cells: BTreeMap::new(alloc),
+            whole: BTreeMap::new(alloc),
+            cells: Cells::zeros(alloc),
         }
     }
 
-    // The cell of a number, or zeros where there is none.
-    #[tactic(auto, using(crate::proofs::Cells::cell_or_zeros))]
-    fn cell(&self, number: usize) -> [u8; CELL_SIZE]
-        ensures { (j : ℕ) → slice_index result j ≡ slice_index (cell_at self.now number) j }
+    // The bytes of a block, by its cells.
+    fn joined(&self, alloc: Global, number: usize) -> Result<Box<[u8; BLOCK_SIZE]>, NoMemory>
+        requires { number < 2 ^ 52 }
+        ensures { IfOk result (λ block. (i : ℕ) → i < BLOCK_SIZE → slice_index block.value i ≡ cell_byte self.now.cells (BLOCK_SIZE * number + i)) }
     {
-        self.cells.get(&number).copied().unwrap_or([0; CELL_SIZE])
+        let mut block = [0u8; BLOCK_SIZE];
+        self.cells.copy_to(CELLS_IN_BLOCK * number, &mut block);
+        Box::new(alloc, block).map_err(|_| NoMemory)
     }
 
-    // Writes a piece into one cell, from a place in it on.
-    fn write_cell(&mut self, number: usize, from: usize, piece: &[u8]) -> Result<(), NoMemory>
-        requires some { 0 < length piece.now }
-        requires fits { from + length piece.now ≤ CELL_SIZE }
-        ensures { OnOk result (IsWritten (CELL_SIZE * number + from) piece.now self.old self.new) }
+    // The bytes of a block, which is taken out of those that are kept whole if it is one of them.
+    #[tactic(auto, unfolding(crate::specs::SparseBytes::byte_at))]
+    fn take_block(
+        &mut self,
+        alloc: Global,
+        number: usize,
+    ) -> Result<Box<[u8; BLOCK_SIZE]>, NoMemory>
+        requires { number < 2 ^ 52 }
+        ensures bytes { IfOk result (λ block. (i : ℕ) → i < BLOCK_SIZE → slice_index block.value i ≡ byte_at self.old (BLOCK_SIZE * number + i)) }
+        ensures others { (q : ℕ) → q ≢ number → get nat_cmp self.new.whole q ≡ get nat_cmp self.old.whole q }
+        ensures cells { self.new.cells ≡ self.old.cells }
     {
-        let mut cell = self.cell(number);
-        cell[from..from + piece.len()].copy_from_slice(piece);
-        match self.cells.insert(number, cell) {
+        match self.whole.remove(&number) {
+            Some(block) => Ok(block),
+            None => self.joined(alloc, number),
+        }
+    }
+
+    // Writes a piece into one block, from a place in it on, and keeps that whole.
+    fn write_whole(
+        &mut self,
+        alloc: Global,
+        number: usize,
+        from: usize,
+        piece: &[u8],
+    ) -> Result<(), NoMemory>
+        requires number { number < 2 ^ 52 }
+        requires some { 0 < length piece.now }
+        requires fits { from + length piece.now ≤ BLOCK_SIZE }
+        ensures { OnOk result (IsWritten (BLOCK_SIZE * number + from) piece.now self.old self.new) }
+    {
+        let mut block = self.take_block(alloc, number)?;
+        block[from..from + piece.len()].copy_from_slice(piece);
+        match self.whole.insert(number, block) {
             Ok(_) => Ok(()),
             Err(_) => Err(NoMemory),
         }
     }
 
-    /// Writes bytes from a place on. Takes a cell for each that they touch, and time in proportion to the bytes.
+    // Writes a piece into one block, from a place in it on.
+    fn write_block(
+        &mut self,
+        alloc: Global,
+        number: usize,
+        from: usize,
+        piece: &[u8],
+    ) -> Result<(), NoMemory>
+        requires number { number < 2 ^ 52 }
+        requires some { 0 < length piece.now }
+        requires fits { from + length piece.now ≤ BLOCK_SIZE }
+        ensures { OnOk result (IsWritten (BLOCK_SIZE * number + from) piece.now self.old self.new) }
+    {
+        if piece.len() < LEAST_WHOLE && !self.whole.contains_key(&number) {
+            return self.cells.write(BLOCK_SIZE * number + from, piece);
+        }
+        self.write_whole(alloc, number, from, piece)
+    }
+
+    /// Writes bytes from a place on. Takes memory and time in proportion to the bytes.
     ///
     /// # Errors
     ///
     /// `NoMemory` where memory was refused: how much is written then is left open.
-    pub fn write(&mut self, start: u32, bytes: &[u8]) -> Result<(), NoMemory>
+    pub fn write(&mut self, alloc: Global, start: u32, bytes: &[u8]) -> Result<(), NoMemory>
         ensures { OnOk result (IsWritten start bytes.now self.old self.new) }
     {
         let mut done = 0;
         while done < bytes.len() {
             let place = start as usize + done;
-            let from = place % CELL_SIZE;
-            let count = (CELL_SIZE - from).min(bytes.len() - done);
-            self.write_cell(place / CELL_SIZE, from, &bytes[done..done + count])?;
+            let from = place % BLOCK_SIZE;
+            let count = (BLOCK_SIZE - from).min(bytes.len() - done);
+            self.write_block(alloc, place / BLOCK_SIZE, from, &bytes[done..done + count])?;
             done += count;
         }
         Ok(())
     }
 
-    /// Fills a part with the bytes from the cell of a number on. Takes no memory, and time in proportion to the part.
-    pub fn copy_to(&self, first: u32, part: &mut [u8])
-        ensures bytes { (i : ℕ) → i < length part.new
-            → slice_index part.new i ≡ byte_at self.now (CELL_SIZE * first + i) }
-        ensures room { length part.new ≡ length part.old }
+    /// The bytes of the block of a number, if it is kept whole: a piece of it was long enough.
+    pub fn whole_block(&self, number: usize) -> Option<&[u8]>
+        ensures size { IfSome result (λ block. length block.now ≡ BLOCK_SIZE) }
+        ensures bytes { IfSome result (λ block. (i : ℕ) → i < BLOCK_SIZE → slice_index block.now i ≡ byte_at self.now (BLOCK_SIZE * number + i)) }
+        ensures there { IsSome result ↔ IsSome (get nat_cmp self.now.whole number) }
     {
-        part.fill(0);
-        let first = first as usize;
-        let end = first + part.len().div_ceil(CELL_SIZE);
-        for (number, cell) in self.cells.range(first..end) {
-            put_cell(part, (*number - first) * CELL_SIZE, cell);
+        let block = self.whole.get(&number)?;
+        Some(&block[..])
+    }
+
+    /// Fills a part with the bytes of the block of a number. Takes no memory.
+    pub fn copy_block(&self, number: usize, part: &mut [u8])
+        requires number { number < 2 ^ 52 }
+        requires size { length part.old ≡ BLOCK_SIZE }
+        ensures bytes { (i : ℕ) → i < BLOCK_SIZE → slice_index part.new i ≡ byte_at self.now (BLOCK_SIZE * number + i) }
+        ensures room { length part.new ≡ BLOCK_SIZE }
+    {
+        match self.whole_block(number) {
+            Some(block) => part.copy_from_slice(block),
+            None => self.cells.copy_to(CELLS_IN_BLOCK * number, part),
         }
     }
 
-    /// Marks each block of so many cells that has a cell that was written to, and leaves the other marks as they were: a byte
-    /// in a block with no mark is zero. Takes no memory, and time in proportion to the cells that were written to.
-    pub fn mark_blocks(&self, cells: u32, marks: &mut [bool])
-        requires { 0 < cells }
-        ensures covered { (i : ℕ) → i < CELL_SIZE * cells * length marks.new
-            → slice_index_or marks.new (i / (CELL_SIZE * cells)) false ≡ false → byte_at self.now i ≡ 0 }
+    /// Marks each block that was written to, and leaves the other marks as they were: a byte in a block with no mark is zero. Takes no
+    /// memory, and time in proportion to the blocks and cells that were written to.
+    pub fn mark_blocks(&self, marks: &mut [bool])
+        ensures covered { (i : ℕ) → i < BLOCK_SIZE * length marks.new
+            → slice_index_or marks.new (i / BLOCK_SIZE) false ≡ false → byte_at self.now i ≡ 0 }
         ensures kept { (k : ℕ) → slice_index_or marks.new k false ≡ false → slice_index_or marks.old k false ≡ false }
-        ensures least { (k : ℕ) → slice_index_or marks.old k false ≡ false → slice_index_or marks.new k false ≡ true
-            → (number : ℕ) × HasCell self.now number × (number / cells ≡ k) }
+        ensures least { (k : ℕ) → slice_index_or marks.old k false ≡ false → slice_index_or marks.new k false ≡ true → HasBlock self.now k }
         ensures room { length marks.new ≡ length marks.old }
     {
-        for number in self.cells.keys() {
-            mark(marks, *number / cells as usize);
+        self.cells.mark_blocks(CELLS_IN_BLOCK as u32, marks);
+        for number in self.whole.keys() {
+            mark(marks, *number);
         }
     }
 }

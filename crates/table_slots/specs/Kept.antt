@@ -3,8 +3,8 @@ use Rattle.std.specs.Prelude.{◌≡◌, ℕ, ◌≤◌, List, Option, length, t
 use Rattle.pool_limits.specs.declared.numbers.Numbers.{Numbers}
 use Rattle.pool_worlds.specs.Contents.{Named, table_image}
 
--- room for the configured elements, of which so many are the table's: those of its own module
+-- at most the configured elements, of which so many are the table's: those of its own module
 pub record IsKeptTable (config : Numbers) (entries : List (Option ℕ)) (count : ℕ) (holds : Option Named) : Type 0 where
-  pub room : length entries ≡ config.elements
-  pub size : count ≤ config.elements
+  pub room : length entries ≤ config.elements
+  pub size : count ≤ length entries
   pub image : take count entries ≡ table_image holds

@@ -7,14 +7,15 @@ ghost use Rattle.slot_words.specs.Leases.{lease_number};
 ghost use Rattle.slot_words.specs.Owned.{IsNewPassOf, IsPassOf, limit_of, passes_of, slots_of};
 ghost use Rattle.slot_words.specs.Passes.{Holds, IsIdle, IsSamePass, joined_trails, operations, seat_number, share_of, trail, trails};
 ghost use Rattle.slot_pools.specs.Gives.{GivesWarm};
-ghost use Rattle.slot_pools.specs.Takes.{TakesAffine, MeetsFullAffine};
+ghost use Rattle.slot_pools.specs.declared.policy.Policy.TheVariants.{Affine};
+ghost use Rattle.slot_pools.specs.Takes.{Takes, MeetsFull};
 ghost use Rattle.pool_worlds.specs.Contents.{IsTableOf};
 ghost use Rattle.pool_worlds.specs.declared.kinds.Kind.TheVariants.{Table};
 ghost use Rattle.pool_worlds.specs.OwnTags.{own_tag};
 
 use crate::slot::TableSlot;
-use module_store::{ModuleRef, ModuleStore, Naming};
-use slot_pools::{Full, give_warm, take_affine};
+use module_store::{LoadedModule, ModuleRef, ModuleStore, Naming};
+use slot_pools::{Full, Policy, give_warm};
 use slot_words::{KindCounts, Lease, Pass, Words};
 use std::alloc::Global;
 use std::marker::Model;
@@ -74,11 +75,11 @@ impl<N: Naming> TablePool<N> {
     ///
     /// [`Full`] exactly where no claim was won: other passes held the tables. The pass holds nothing then. One that stands for
     /// all passes never meets it.
-    pub fn take(
+    pub fn take<'a>(
         &self,
         pass: &mut Pass<TableSlot<N>>,
-        store: &ModuleStore<N>,
-        module: &ModuleRef<N>,
+        store: &'a ModuleStore<N>,
+        module: &'a ModuleRef<N>,
     ) -> Result<Lease<TableSlot<N>>, Full>
         requires own { IsPassOf self.now pass.old }
         requires idle { IsIdle pass.old }
@@ -88,14 +89,44 @@ impl<N: Naming> TablePool<N> {
         ensures number { IfOk result (λ l. lease_number l < slots_of self.now) }
         ensures holds { IfOk result (λ l. Holds pass.new (lease_number l) false false false) }
         ensures table { IfOk result (λ l. IsTableOf l.value «module».now) }
-        ensures trail { IfOk result (TakesAffine self.now «module».now.tag pass.old pass.new) }
+        ensures trail { IfOk result (Takes self.now (Affine «module».now.tag) pass.old pass.new) }
 
         // it won nothing
-        ensures full { OnErr result (MeetsFullAffine self.now «module».now.tag pass.old pass.new) }
+        ensures full { OnErr result (MeetsFull self.now (Affine «module».now.tag) pass.old pass.new) }
         ensures another { OnErr result (share_of pass.old < passes_of self.now) }
     {
-        let mut lease = take_affine(&self.words, pass, module.tag())?;
-        lease.value.prepare(store, module);
+        let found = store.find(module);
+        let loaded = LoadedModule {
+            store,
+            module,
+            found,
+        };
+        self.take_for(pass, &loaded)
+    }
+
+    /// The same for a module that was looked up.
+    ///
+    /// # Errors
+    ///
+    /// [`Full`] as above.
+    pub fn take_for(
+        &self,
+        pass: &mut Pass<TableSlot<N>>,
+        loaded: &LoadedModule<'_, N>,
+    ) -> Result<Lease<TableSlot<N>>, Full>
+        requires own { IsPassOf self.now pass.old }
+        requires idle { IsIdle pass.old }
+        ensures same { IsSamePass pass.old pass.new }
+        ensures number { IfOk result (λ l. lease_number l < slots_of self.now) }
+        ensures holds { IfOk result (λ l. Holds pass.new (lease_number l) false false false) }
+        ensures table { IfOk result (λ l. IsTableOf l.value loaded.now.module.now) }
+        ensures trail { IfOk result (Takes self.now (Affine loaded.now.module.now.tag) pass.old pass.new) }
+        ensures full { OnErr result (MeetsFull self.now (Affine loaded.now.module.now.tag) pass.old pass.new) }
+        ensures another { OnErr result (share_of pass.old < passes_of self.now) }
+    {
+        let policy = Policy::Affine(loaded.module.tag());
+        let mut lease = slot_pools::take(&self.words, pass, loaded.store, policy)?;
+        lease.value.prepare(loaded);
         Ok(lease)
     }
 

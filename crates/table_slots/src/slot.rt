@@ -1,20 +1,20 @@
 //! Tables in slots, and the modules that they belong to.
-ghost use Rattle.std.specs.Prelude.{◌≡◌, true, is_some, IfOk};
+ghost use Rattle.std.specs.Prelude.{◌≡◌, ◌≤◌, true, is_some, IfOk, length, max, vec_capacity};
 ghost use Rattle.pool_core.specs.declared.words.State.TheVariants.{Warm};
 ghost use Rattle.pool_worlds.specs.Contents.{prepared, restored, IsCold, IsTableOf, Matches};
 ghost use Rattle.pool_worlds.specs.declared.kinds.Kind.TheVariants.{Table};
 ghost use Rattle.pool_worlds.specs.OwnTags.{own_tag, fits-own_tag};
 
-use initial_image::write_table;
-use module_store::{ModuleRef, ModuleStore, Naming};
+use initial_image::{table_length, write_table};
+use module_store::{LoadedModule, ModuleRef, ModuleStore, Naming};
 use slot_pools::OpenSlot;
 use slot_words::{NoMemory as Refused, Pooled};
 use std::alloc::Global;
 use std::marker::Model;
 use wasm_values::NoMemory;
 
-/// A table that lies in a slot, with room for the configured elements. No run writes to a table, so its entries are those of
-/// its own module. Contracts see its contents.
+/// A table that lies in a slot, with room for the configured elements, of which those are written that a module had so far. No run
+/// writes to a table, so its entries are those of its own module. Contracts see its contents.
 pub struct TableSlot<N: Naming> {
     entries: Vec<Option<u32>>,
     // How many of the entries are the table's.
@@ -23,7 +23,7 @@ pub struct TableSlot<N: Naming> {
 }
 
 impl<N: Naming> Model for TableSlot<N> {
-    ghost use Rattle.std.specs.Prelude.{take};
+    ghost use Rattle.std.specs.Prelude.{◌≤◌, take, vec_capacity};
     ghost use Rattle.pool_worlds.specs.Contents.{TableContents};
     ghost use Rattle.pool_worlds.specs.Codes.{coded_table};
     ghost use Rattle.table_slots.specs.Kept.{IsKeptTable};
@@ -34,7 +34,7 @@ impl<N: Naming> Model for TableSlot<N> {
 
     ghost view = { λ s. record { entries = take s.count s.entries.items; holds = s.holds } };
 
-    ghost invariant = { λ s. IsKeptTable N.config s.entries.items s.count s.holds };
+    ghost invariant = { λ s. IsKeptTable N.config s.entries.items s.count s.holds × (N.config.elements ≤ vec_capacity s.entries) };
 }
 
 impl<N: Naming> Drop for TableSlot<N> {
@@ -44,6 +44,19 @@ impl<N: Naming> Drop for TableSlot<N> {
             count: _,
             holds: _,
         } = self;
+    }
+}
+
+// Appends empty entries up to so many, for which there is room. Where there are as many, none.
+fn reach(entries: &mut Vec<Option<u32>>, count: usize)
+    requires { count ≤ vec_capacity entries.old }
+    ensures reached { count ≤ length entries.new.items }
+    ensures within { length entries.new.items ≤ max count (length entries.old.items) }
+    ensures capacity { vec_capacity entries.old ≤ vec_capacity entries.new }
+{
+    if count > entries.len() {
+        let reached = entries.resize(count, None);
+        prove!(reached.is_ok());
     }
 }
 
@@ -57,7 +70,7 @@ impl<N: Naming> TableSlot<N> {
         ensures { IfOk result (IsCold N.config.pages Table) }
     {
         let room = store.config().numbers().elements as usize;
-        let entries = vec![in alloc; None; room].map_err(|_| NoMemory)?;
+        let entries = Vec::with_capacity(alloc, room).map_err(|_| NoMemory)?;
         Ok(TableSlot {
             entries,
             count: 0,
@@ -66,26 +79,27 @@ impl<N: Naming> TableSlot<N> {
     }
 
     /// Makes it the module's fresh table. Where it belongs to that module already, nothing is written. Takes no memory.
-    pub fn prepare(&mut self, store: &ModuleStore<N>, module: &ModuleRef<N>)
-        ensures prepared { self.new ≡ prepared N.config.pages «module».now Table self.old }
-        ensures table { IsTableOf self.new «module».now }
+    pub fn prepare(&mut self, loaded: &LoadedModule<'_, N>)
+        ensures prepared { self.new ≡ prepared N.config.pages loaded.now.module.now Table self.old }
+        ensures table { IsTableOf self.new loaded.now.module.now }
     {
         if let Some(own) = &self.holds {
-            if store.same(own, module) {
+            if loaded.store.same(own, loaded.module) {
                 return;
             }
         }
-        self.write(store, module);
+        self.write(loaded);
     }
 
     // Writes the module's table over what is there.
-    fn write(&mut self, store: &ModuleStore<N>, module: &ModuleRef<N>)
-        ensures { IsTableOf self.new «module».now }
+    fn write(&mut self, loaded: &LoadedModule<'_, N>)
+        ensures { IsTableOf self.new loaded.now.module.now }
     {
         // A module of the store has no larger table than the configuration allows.
-        let valid = store.valid(module);
+        let valid = loaded.valid();
+        reach(&mut self.entries, table_length(valid));
         self.count = write_table(valid, &mut self.entries);
-        self.holds = Some(module.again());
+        self.holds = Some(loaded.module.again());
     }
 
     /// Makes it the fresh table of its own module, if it has one: it is that already. Takes no memory.

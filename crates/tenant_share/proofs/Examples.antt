@@ -1,10 +1,9 @@
 -- Worked shares.
 use Rattle.std.proofs.Common.{◌≡◌, ℕ, List, [], ◌∷◌, arith, refl}
-use Rattle.std.specs.Prelude.{Some, None, replicate}
+use Rattle.std.specs.Prelude.{replicate}
 use Rattle.pool_limits.specs.declared.numbers.Numbers.{Numbers}
-use Rattle.pool_limits.specs.declared.wants.PlanFault.TheVariants.{NoMemory, TooManyTenants}
 use Rattle.pool_limits.specs.declared.wants.Want.{Want}
-use Rattle.tenant_share.specs.Shares.{rest, shares, all_of, AddUp, IsPlan, Names}
+use Rattle.tenant_share.specs.Shares.{rest, shares, all_of, AddUp, IsPlan}
 
 abbrev numbers : (instances memories tables warm : ℕ) → Numbers
 numbers instances memories tables warm = record { workers = 2; instances = instances; memories = memories; tables = tables; warm = warm; batch = 4; pages = 32; elements = 1024; depth = 128; frame = 1024 }
@@ -50,13 +49,3 @@ seventeen_tenants h = let few = h.few in omega arith
 
 tenant_without_memory : IsPlan (numbers 3 2 3 0) (want 1 1 1 0 ∷ want 1 0 1 0 ∷ []) → ⊥
 tenant_without_memory h = let none = (h.each 1 (want 0 0 0 0) (omega arith)).memories in omega arith
-
--- a fault is told as it is, and not as want of memory
-memory_in_place_of_a_fault : Names (Some (TooManyTenants 16)) NoMemory → ⊥
-memory_in_place_of_a_fault h = absurd (cc)
-
-other_fault : Names (Some (TooManyTenants 16)) (TooManyTenants 17) → ⊥
-other_fault h = absurd (cc)
-
-fault_without_cause : Names None (TooManyTenants 16) → ⊥
-fault_without_cause h = absurd (cc)

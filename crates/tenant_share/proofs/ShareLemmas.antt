@@ -9,16 +9,14 @@ use Rattle.pool_limits.specs.declared.numbers.Numbers.{Numbers}
 use Rattle.pool_limits.specs.declared.share.Share.{Share}
 use Rattle.pool_limits.specs.declared.wants.Part.{Part}
 use Rattle.pool_limits.specs.declared.wants.Part.TheVariants.{Instance, Memory, Table, Warm}
-use Rattle.pool_limits.specs.declared.wants.PlanFault.{PlanFault}
-use Rattle.pool_limits.specs.declared.wants.PlanFault.TheVariants.{BadShare, NoMemory, Over, TooManyTenants}
 use Rattle.pool_limits.specs.declared.wants.Want.{Want}
 use Rattle.pool_limits.specs.Plans.{amount, kept, plan_fault, total, wanted, HasSlots, MayWant}
 use Rattle.pool_limits.specs.Ranges.{AreInRange}
 use Rattle.pool_limits.specs.Shares.{AreAllSlots, lane_share, shared_share}
-use Rattle.pool_limits.proofs.WantLemmas.{may_want, not_memory}
+use Rattle.pool_limits.proofs.WantLemmas.{may_want}
 use Rattle.pool_worlds.specs.Tenants.{all_free_warm, pools_after_all, WarmSlotsStayWithin}
 use Rattle.pool_host.specs.Hosts.{IsShare}
-use Rattle.tenant_share.specs.Shares.{all_of, rest, shares, IsPlan, Names}
+use Rattle.tenant_share.specs.Shares.{all_of, rest, shares, IsPlan}
 use Rattle.tenant_share.specs.Tenants.{share_of}
 use Rattle.tenant_share.specs.Worlds.{warm_of, PlansBoundWarmSlots}
 use Rattle.tenant_share.proofs.PlaceLemmas.{All-at}
@@ -70,13 +68,6 @@ all-left n several = let i : wanted Instance (rest n [] ∷ []) ≡ n.instances 
 
 pub warm-left : (n : Numbers) → (rest n []).warm ≡ n.warm
 warm-left n = omega arith
-
--- a fault of wants is told as it is
-pub names-fault : (n : Numbers) (ws : List Want) (fault : PlanFault) → plan_fault n ws ≡ Some fault → Names (plan_fault n ws) fault
-names-fault n ws NoMemory is = absurd (not_memory n ws is)
-names-fault n ws (TooManyTenants count) is = is
-names-fault n ws (BadShare tenant kind) is = is
-names-fault n ws (Over kind sum total) is = is
 
 -- a tenant has no more of a part than all tenants have
 amount-within : (all : List Want) (part : Part) (tenant : ℕ) (w : Want) → slice_get all tenant ≡ Some w → amount part w ≤ wanted part all

@@ -6,8 +6,8 @@ use Rattle.module_store.specs.declared.naming.Naming.{Ghosts}
 use Rattle.pool_worlds.specs.Contents.{Named}
 use Rattle.pool_host.specs.declared.host.Host.{Host}
 use Rattle.pool_host.specs.declared.passes.HostPass.{HostPass}
-use Rattle.pool_host.specs.declared.retiring.Retire.{Retire}
-use Rattle.pool_host.specs.declared.retiring.Retire.TheVariants.{Already}
+use Rattle.pool_host.specs.declared.answers.Retire.{Retire}
+use Rattle.pool_host.specs.declared.answers.Retire.TheVariants.{Already}
 use Rattle.pool_host.specs.Looks.{SetsBit}
 use Rattle.pool_host.specs.Retiring.{is_already, Sweeps}
 use Rattle.tenant_share.specs.declared.passes.Caller.{Caller}

@@ -1,13 +1,11 @@
 -- What each tenant has of the slots.
-use Rattle.std.specs.Prelude.{◌≡◌, ℕ, ◌+◌, ◌-◌, ◌≤◌, List, ◌∷◌, length, Option, Some, None}
+use Rattle.std.specs.Prelude.{◌≡◌, ℕ, ◌+◌, ◌-◌, ◌≤◌, List, ◌∷◌, length}
 use Rattle.std.specs.List.{All}
 use Rattle.pool_limits.specs.declared.numbers.Numbers.{Numbers}
 use Rattle.pool_limits.specs.declared.share.Share.{Share}
 use Rattle.pool_limits.specs.declared.wants.TheConstants.{MOST_TENANTS}
 use Rattle.pool_limits.specs.declared.wants.Part.{Part}
 use Rattle.pool_limits.specs.declared.wants.Part.TheVariants.{Instance, Memory, Table, Warm}
-use Rattle.pool_limits.specs.declared.wants.PlanFault.{PlanFault}
-use Rattle.pool_limits.specs.declared.wants.PlanFault.TheVariants.{NoMemory}
 use Rattle.pool_limits.specs.declared.wants.Want.{Want}
 use Rattle.pool_limits.specs.Plans.{total, wanted, HasSlots}
 use Rattle.pool_limits.specs.Shares.{AreAllSlots}
@@ -30,11 +28,6 @@ rest n ws = record { instances = left_of n ws Instance; memories = left_of n ws 
 -- what tenants 0, 1, .. have
 abbrev pub shares : Numbers → List Want → List Want
 shares n ws = rest n ws ∷ ws
-
--- the fault is told as it is, and want of memory only where there is none
-abbrev pub Names : Option PlanFault → PlanFault → Type 0
-Names fault NoMemory = fault ≡ None
-Names fault e = fault ≡ Some e
 
 -- the slots of all shares together
 abbrev pub all_of : List Want → Share

@@ -1,26 +1,11 @@
-//! Loads that were computed by hand, and what is read of a long one.
+//! Loads that were computed by hand.
 use load_maker::make;
-use pool_limits::{Numbers, PoolConfig};
-use request_text::{Directive, parse};
 use std::test::Fail;
 
 const MODULES: &str =
     "module add 0061736d0100000001070160027f7f017f030201000707010361646400000a09010700200020016a0b\n\
     module bump 0061736d010000000105016000017f0302010005030100010708010462756d7000000a160114004100410028020041016a36020041002802000b\n\
     module g 0061736d010000000108026000006000017f030302000105030100010710020564697274790000046c6f6f6b00010a26021500410140001a41ffff07417f3a000003400c000b0b0e00410140001a41ffff072d00000b\n";
-
-const NUMBERS: Numbers = Numbers {
-    workers: 1,
-    instances: 4,
-    memories: 4,
-    tables: 4,
-    warm: 2,
-    batch: 4,
-    pages: 32,
-    elements: 1_024,
-    depth: 128,
-    frame: 1_024,
-};
 
 #[test]
 fn loads_are_those_that_were_computed_by_hand(rt: HostRuntime) -> Result<(), Fail> {
@@ -45,22 +30,5 @@ fn loads_are_those_that_were_computed_by_hand(rt: HostRuntime) -> Result<(), Fai
         let file = make(rt.alloc(), seed, count)?;
         assert_eq!(rt; file.as_slice(), want.as_bytes(), "of seed {seed}");
     }
-    Ok(())
-}
-
-#[test]
-fn a_load_of_1000_calls_is_a_request_file(rt: HostRuntime) -> Result<(), Fail> {
-    let config = PoolConfig::new(NUMBERS)?;
-    let file = make(rt.alloc(), 7, 1000)?;
-    let mut modules = 0u32;
-    let mut calls = 0u32;
-    for directive in parse(rt.alloc(), &config, file.as_slice())?.directives() {
-        match directive {
-            Directive::Module { .. } => modules = modules.saturating_add(1),
-            Directive::Call { .. } => calls = calls.saturating_add(1),
-            Directive::Retire { .. } => panic!(rt; "a load retires no module"),
-        }
-    }
-    assert_eq!(rt; (modules, calls), (3, 1000));
     Ok(())
 }

@@ -119,7 +119,7 @@ fn a_report_has_its_text_and_its_summary(rt: HostRuntime) -> Result<(), Fail> {
         "module calls ok\nmodule calls refused malformed\nmodule calls ok\nmodule calls refused segment\n\
         module calls refused limit\n1 ok\n1 ok i32:5\n1 trap uninit\n1 fuel\n1 fuel\n1 fuel\n1 refused module\n\
         1 refused export\n1 refused args\n1 refused args\n1 refused retired\n1 ok out:-\nretire calls done\n";
-    let text = report_text(alloc, &lines)?;
+    let text = report_text(alloc, lines)?;
     assert_eq!(rt; text.as_slice(), want.as_bytes());
     Ok(())
 }

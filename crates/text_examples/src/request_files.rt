@@ -20,19 +20,21 @@ const NUMBERS: Numbers = Numbers {
     frame: 1_024,
 };
 
-// The most of everything.
-const GREATEST: Numbers = Numbers {
-    workers: 16,
-    instances: 1_024,
-    memories: 1_024,
-    tables: 1_024,
-    warm: 1_024,
-    batch: 1_024,
-    pages: 256,
-    elements: 65_536,
-    depth: 1_000,
-    frame: 4_096,
-};
+// Pushes characters.
+fn push_name(text: &mut String, name: &[u8]) -> Result<(), AllocError> {
+    for byte in name {
+        text.push(char::from(*byte))?;
+    }
+    Ok(())
+}
+
+// Pushes bytes in hex.
+fn push_hex(text: &mut String, bytes: &[u8]) -> Result<(), AllocError> {
+    for byte in bytes {
+        write!(text, "{byte:02x}")?;
+    }
+    Ok(())
+}
 
 // Pushes a call: its module's place, its export, its fuel, its request if it has one, and its arguments.
 fn push_invocation(
@@ -44,15 +46,11 @@ fn push_invocation(
         None => write!(text, "call {module} ")?,
         Some(_) => write!(text, "send {module} ")?,
     }
-    for byte in invocation.export.as_slice() {
-        text.push(char::from(*byte))?;
-    }
+    push_name(text, invocation.export.as_slice())?;
     write!(text, " {}", invocation.fuel)?;
     if let Some(request) = &invocation.request {
         text.push_str(" =")?;
-        for byte in request.bytes() {
-            write!(text, "{byte:02x}")?;
-        }
+        push_hex(text, request.bytes())?;
     }
     for arg in invocation.args.as_slice() {
         write!(text, " {arg:?}")?;
@@ -66,13 +64,9 @@ fn push_directive(text: &mut String, directive: &Directive) -> Result<(), AllocE
     match directive {
         Directive::Module { name, bytes } => {
             text.push_str("module ")?;
-            for byte in name.as_slice() {
-                text.push(char::from(*byte))?;
-            }
+            push_name(text, name.as_slice())?;
             text.push_str(" ")?;
-            for byte in bytes.as_slice() {
-                write!(text, "{byte:02x}")?;
-            }
+            push_hex(text, bytes.as_slice())?;
         }
         Directive::Call {
             tenant,
@@ -83,45 +77,49 @@ fn push_directive(text: &mut String, directive: &Directive) -> Result<(), AllocE
             if *tenant != 0 {
                 write!(text, "for {tenant}: ")?;
             }
-            if *retired {
-                text.push_str("retired: ")?;
-            }
+            text.push_str(if *retired { "retired: " } else { "" })?;
             push_invocation(text, *module, invocation)?;
         }
         Directive::Retire { module, name } => {
             write!(text, "retire {module} ")?;
-            for byte in name.as_slice() {
-                text.push(char::from(*byte))?;
-            }
+            push_name(text, name.as_slice())?;
         }
     }
     text.push_str("\n")
 }
 
-// What was read, line by line, or the fault.
-fn described(alloc: Global, parsed: &Result<Requests, ParseFault>) -> Result<String, AllocError> {
-    let mut text = String::new(alloc);
-    match parsed {
-        Ok(requests) => {
-            match requests.profile() {
-                Profile::One => {}
-                Profile::Two => text.push_str("profile 2\n")?,
-                Profile::Three => text.push_str("profile 3\n")?,
-            }
-            if requests.runs_whole() {
-                text.push_str("whole\n")?;
-            }
-            for want in requests.wants() {
-                write!(text, "wants {} {} ", want.instances, want.memories)?;
-                write!(text, "{} {}\n", want.tables, want.warm)?;
-            }
-            for directive in requests.directives() {
-                push_directive(&mut text, directive)?;
-            }
-        }
-        Err(fault) => write!(text, "{fault}")?,
+// Pushes what was read, line by line.
+fn push_requests(text: &mut String, requests: &Requests) -> Result<(), AllocError> {
+    text.push_str(match requests.profile() {
+        Profile::One => "",
+        Profile::Two => "profile 2\n",
+        Profile::Three => "profile 3\n",
+    })?;
+    text.push_str(if requests.runs_whole() { "whole\n" } else { "" })?;
+    for want in requests.wants() {
+        write!(text, "wants {} {} ", want.instances, want.memories)?;
+        write!(text, "{} {}\n", want.tables, want.warm)?;
     }
-    Ok(text)
+    for directive in requests.directives() {
+        push_directive(text, directive)?;
+    }
+    Ok(())
+}
+
+// Pushes what was read, or the fault.
+fn push_parsed(text: &mut String, parsed: &Result<Requests, ParseFault>) -> Result<(), AllocError> {
+    match parsed {
+        Ok(requests) => push_requests(text, requests),
+        Err(fault) => write!(text, "{fault}"),
+    }
+}
+
+// What is read of a text, line by line, or the fault.
+fn described(alloc: Global, config: &PoolConfig, text: &[u8]) -> Result<String, AllocError> {
+    let mut lines = String::new(alloc);
+    let parsed = parse(alloc, config, text);
+    push_parsed(&mut lines, &parsed)?;
+    Ok(lines)
 }
 
 // Texts, and what is read of them.
@@ -234,184 +232,33 @@ const REQUESTS: [(&str, &str); 10] = [
     ),
 ];
 
-fn check_texts<R: Abort>(rt: &R, alloc: Global, rows: &[(&str, &str)]) -> Result<(), Fail> {
-    let config = PoolConfig::new(NUMBERS)?;
-    for (text, want) in rows {
-        let got = described(alloc, &parse(alloc, &config, text.as_bytes()))?;
-        assert_eq!(rt; got.as_str(), *want, "of {text}");
-    }
-    Ok(())
-}
-
-#[test]
-fn modules_and_calls_are_read_or_refused_at_the_first_bad_line(
-    rt: HostRuntime,
-) -> Result<(), Fail> {
-    check_texts(&rt, rt.alloc(), &CALLS)
-}
-
-#[test]
-fn a_profile_is_read_or_refused_at_the_first_bad_line(rt: HostRuntime) -> Result<(), Fail> {
-    check_texts(&rt, rt.alloc(), &PROFILES)
-}
-
-#[test]
-fn requests_are_read_or_refused_at_the_first_bad_line(rt: HostRuntime) -> Result<(), Fail> {
-    check_texts(&rt, rt.alloc(), &REQUESTS)
-}
-
-// A file of 1,048,576 modules, `m0` to `m1048575`.
-fn most_modules(alloc: Global) -> Result<String, AllocError> {
-    let mut text = String::new(alloc);
-    for k in 0..1_048_576 {
-        write!(text, "module m{k} 00\n")?;
-    }
-    Ok(text)
-}
-
-#[test]
-fn the_limits_are_exact(rt: HostRuntime) -> Result<(), Fail> {
-    let alloc = rt.alloc();
-    let config = PoolConfig::new(NUMBERS)?;
-    let long = "n".repeat(alloc, 64)?;
-    let text = format!(in alloc; "module {long} 00")?;
-    assert!(rt;
-        parse(alloc, &config, text.as_bytes()).is_ok(),
-        "a name of 64 bytes"
-    );
-    let text = format!(in alloc; "module n{long} 0")?;
-    let got = described(alloc, &parse(alloc, &config, text.as_bytes()))?;
-    assert_eq!(rt; got.as_str(), "line 1: bad name");
-
-    let mut comment = vec![in alloc; b'#'; 67_108_864]?;
-    assert!(rt;
-        parse(alloc, &config, comment.as_slice()).is_ok(),
-        "67108864 bytes"
-    );
-    comment.push(b'#')?;
-    let got = described(alloc, &parse(alloc, &config, comment.as_slice()))?;
-    assert_eq!(rt; got.as_str(), "file too long");
-    Ok(())
-}
-
-#[test]
-fn one_module_more_is_refused(rt: HostRuntime) -> Result<(), Fail> {
-    let alloc = rt.alloc();
-    let config = PoolConfig::new(NUMBERS)?;
-    let mut text = most_modules(alloc)?;
-    text.push_str("module m 00")?;
-    let got = described(alloc, &parse(alloc, &config, text.as_bytes()))?;
-    assert_eq!(rt; got.as_str(), "line 1048577: too many modules");
-    Ok(())
-}
-
-#[test]
-fn as_many_modules_and_calls_as_a_file_may_have_are_read(rt: HostRuntime) -> Result<(), Fail> {
-    let alloc = rt.alloc();
-    let config = PoolConfig::new(NUMBERS)?;
-    let mut text = most_modules(alloc)?;
-    for _ in 0..1_000_000 {
-        text.push_str("call m1048575 f 1\n")?;
-    }
-    let mut places = 0u64;
-    for directive in parse(alloc, &config, text.as_bytes())?.directives() {
-        if let Directive::Call { module, .. } = directive {
-            places = places.saturating_add(u64::from(*module));
-        }
-    }
-    assert_eq!(rt; places, 1_048_575_000_000);
-    Ok(())
-}
-
-#[test]
-fn one_call_more_is_refused(rt: HostRuntime) -> Result<(), Fail> {
-    let alloc = rt.alloc();
-    let config = PoolConfig::new(NUMBERS)?;
-    let mut text = String::from_str(alloc, "module a 00\n")?;
-    for _ in 0..1_000_001 {
-        text.push_str("call a f 1\n")?;
-    }
-    let got = described(alloc, &parse(alloc, &config, text.as_bytes()))?;
-    assert_eq!(rt; got.as_str(), "line 1000002: too many calls");
-    Ok(())
-}
-
-#[test]
-fn a_large_module_and_many_arguments_are_read(rt: HostRuntime) -> Result<(), Fail> {
-    let alloc = rt.alloc();
-    let config = PoolConfig::new(NUMBERS)?;
-    let digits = "0a".repeat(alloc, 1_000_000)?;
-    let words = " i64:-1".repeat(alloc, 20_000)?;
-    let text = format!(in alloc; "module a {digits}\ncall a f 1{words}\n")?;
-    let mut sizes = (0, 0);
-    for directive in parse(alloc, &config, text.as_bytes())?.directives() {
-        match directive {
-            Directive::Module { bytes, .. } => sizes.0 = bytes.len(),
-            Directive::Call { invocation, .. } => sizes.1 = invocation.args.len(),
-            Directive::Retire { .. } => panic!(rt; "no line retires a module"),
-        }
-    }
-    assert_eq!(rt; sizes, (1_000_000, 20_000));
-    Ok(())
-}
-
-#[test]
-fn a_request_has_at_most_65536_bytes(rt: HostRuntime) -> Result<(), Fail> {
-    let alloc = rt.alloc();
-    let config = PoolConfig::new(NUMBERS)?;
-    let digits = "0a".repeat(alloc, 65536)?;
-    let rows = [
-        ("", "line 3: bad argument"),
-        ("00", "line 3: request too long"),
-        ("0", "line 3: bad request"),
-        ("0g", "line 3: bad request"),
-    ];
-    for (more, want) in rows {
-        let text = format!(in alloc; "profile 3\nmodule a 00\nsend a f 1 {digits}{more} x")?;
-        let got = described(alloc, &parse(alloc, &config, text.as_bytes()))?;
-        assert_eq!(rt; got.as_str(), want, "with {more}");
-    }
-    Ok(())
-}
-
-#[test]
-fn calls_are_those_of_the_tenant_that_was_named_last(rt: HostRuntime) -> Result<(), Fail> {
-    let alloc = rt.alloc();
-    let config = PoolConfig::new(NUMBERS)?;
-    let rows = [
-        ("", ""),
-        (
-            "tenant a 1 2 3 4\ntenant b 003 3 3 0",
-            "wants 1 2 3 4\nwants 3 3 3 0\n",
-        ),
-        (
-            "tenant a 1 1 1 3\n tenant  b 1 1 1 4 ",
-            "wants 1 1 1 3\nwants 1 1 1 4\n",
-        ),
-        (
-            "module a 00\ncall a f 0\ntenant a 1 1 1 0\ncall a f 1",
-            "wants 1 1 1 0\nmodule a 00\ncall 0 f 0\ncall 0 f 1\n",
-        ),
-        (
-            "module m 00\ntenant a 1 1 1 0\ntenant b 1 1 1 0\nfor b\ncall m f 1\nsend m f 2 -\ncall m f 3\nfor a\ncall m f 4\nfor b\nfor b\ncall m f 5",
-            "wants 1 1 1 0\nwants 1 1 1 0\nmodule m 00\nfor 2: call 0 f 1\nfor 2: send 0 f 2 =\nfor 2: call 0 f 3\nfor 1: call 0 f 4\nfor 2: call 0 f 5\n",
-        ),
-        (
-            "tenant a 1 1 1 0\nfor a\nmodule m 00\ntenant b 1 1 1 0\ncall m f 1\n#for b\n\ncall m f 2",
-            "wants 1 1 1 0\nwants 1 1 1 0\nmodule m 00\nfor 1: call 0 f 1\nfor 1: call 0 f 2\n",
-        ),
-    ];
-    for (lines, read) in rows {
-        let text = format!(in alloc; "profile 4\n{lines}")?;
-        let want = format!(in alloc; "profile 3\nwhole\n{read}")?;
-        let got = described(alloc, &parse(alloc, &config, text.as_bytes()))?;
-        assert_eq!(rt; got.as_str(), want.as_str(), "of {lines}");
-    }
-    Ok(())
-}
+// The same of calls of tenants: each is that of the tenant that was named last.
+const TENANTS: [(&str, &str); 6] = [
+    ("profile 4\n", "profile 3\nwhole\n"),
+    (
+        "profile 4\ntenant a 1 2 3 4\ntenant b 003 3 3 0",
+        "profile 3\nwhole\nwants 1 2 3 4\nwants 3 3 3 0\n",
+    ),
+    (
+        "profile 4\ntenant a 1 1 1 3\n tenant  b 1 1 1 4 ",
+        "profile 3\nwhole\nwants 1 1 1 3\nwants 1 1 1 4\n",
+    ),
+    (
+        "profile 4\nmodule a 00\ncall a f 0\ntenant a 1 1 1 0\ncall a f 1",
+        "profile 3\nwhole\nwants 1 1 1 0\nmodule a 00\ncall 0 f 0\ncall 0 f 1\n",
+    ),
+    (
+        "profile 4\nmodule m 00\ntenant a 1 1 1 0\ntenant b 1 1 1 0\nfor b\ncall m f 1\nsend m f 2 -\ncall m f 3\nfor a\ncall m f 4\nfor b\nfor b\ncall m f 5",
+        "profile 3\nwhole\nwants 1 1 1 0\nwants 1 1 1 0\nmodule m 00\nfor 2: call 0 f 1\nfor 2: send 0 f 2 =\nfor 2: call 0 f 3\nfor 1: call 0 f 4\nfor 2: call 0 f 5\n",
+    ),
+    (
+        "profile 4\ntenant a 1 1 1 0\nfor a\nmodule m 00\ntenant b 1 1 1 0\ncall m f 1\n#for b\n\ncall m f 2",
+        "profile 3\nwhole\nwants 1 1 1 0\nwants 1 1 1 0\nmodule m 00\nfor 1: call 0 f 1\nfor 1: call 0 f 2\n",
+    ),
+];
 
 // Texts that name tenants, and their first bad line.
-const TENANTS: [(&str, &str); 34] = [
+const BAD_TENANTS: [(&str, &str); 34] = [
     ("tenant a 1 1 1 0", "line 1: unknown directive"),
     ("profile 3\ntenant a 1 1 1 0", "line 2: unknown directive"),
     ("profile 3\nfor a", "line 2: unknown directive"),
@@ -472,164 +319,153 @@ const TENANTS: [(&str, &str); 34] = [
     ),
 ];
 
-#[test]
-fn tenants_are_refused_at_the_first_bad_line(rt: HostRuntime) -> Result<(), Fail> {
-    check_texts(&rt, rt.alloc(), &TENANTS)
-}
-
-#[test]
-fn a_tenant_has_a_name_of_at_most_64_bytes(rt: HostRuntime) -> Result<(), Fail> {
-    let alloc = rt.alloc();
-    let config = PoolConfig::new(NUMBERS)?;
-    let long = "n".repeat(alloc, 64)?;
-    let rows = [
-        ("tenant n", " 0 1 1 0", "line 2: bad name"),
-        ("for n", "", "line 2: bad name"),
-        ("for ", "", "line 2: unknown tenant"),
-        ("tenant ", " 1 1 1 0", "profile 3\nwhole\nwants 1 1 1 0\n"),
-    ];
-    for (before, behind, want) in rows {
-        let text = format!(in alloc; "profile 4\n{before}{long}{behind}")?;
-        let got = described(alloc, &parse(alloc, &config, text.as_bytes()))?;
-        assert_eq!(rt; got.as_str(), want, "of {before}");
-    }
-    Ok(())
-}
-
-#[test]
-fn at_most_15_tenants_share(rt: HostRuntime) -> Result<(), Fail> {
-    let alloc = rt.alloc();
-    let config = PoolConfig::new(GREATEST)?;
-    let mut text = String::from_str(alloc, "profile 4\nmodule m 00\n")?;
-    for tenant in 1..16 {
-        write!(text, "tenant t{tenant} 1 1 1 0\n")?;
-    }
-    let rows = [
-        ("tenant t15 1 1 1 0", "line 18: name used twice"),
-        ("tenant t16 1 1 1025 0", "line 18: bad share"),
-        ("tenant t16 1024 1 1 0", "line 18: too many tenants"),
-    ];
-    for (line, want) in rows {
-        let more = format!(in alloc; "{text}{line}")?;
-        let got = described(alloc, &parse(alloc, &config, more.as_bytes()))?;
-        assert_eq!(rt; got.as_str(), want, "of {line}");
-    }
-    text.push_str("for t15\ncall m f 1")?;
-    let requests = parse(alloc, &config, text.as_bytes())?;
-    assert_eq!(rt; requests.wants().len(), 15);
-    let mut tenants = 0u32;
-    for directive in requests.directives() {
-        if let Directive::Call { tenant, .. } = directive {
-            tenants = tenants.saturating_add(*tenant);
-        }
-    }
-    assert_eq!(rt; tenants, 15);
-    Ok(())
-}
-
-// Lines behind the profile, and what is read of them.
-const RETIREMENTS: [(&str, &str); 15] = [
+// Texts that retire modules, which they may from profile 5 on, and what is read of them.
+const RETIREMENTS: [(&str, &str); 20] = [
     (
-        "module a 00\ncall a f 1\nretire a\ncall a f 2\n retire  b ",
+        "profile 5\nmodule a 00\ncall a f 1\nretire a\ncall a f 2\n retire  b ",
         "line 6: unknown module",
     ),
     (
-        "module a 00\nmodule b 01\ncall a f 1\n retire  b \ncall a f 2\ncall b f 3\nretire a\ncall b f 4\ncall a f 5\nmodule c 02\ncall c f 6\nretire c",
+        "profile 5\nmodule a 00\nmodule b 01\ncall a f 1\n retire  b \ncall a f 2\ncall b f 3\nretire a\ncall b f 4\ncall a f 5\nmodule c 02\ncall c f 6\nretire c",
         "profile 3\nwhole\nmodule a 00\nmodule b 01\ncall 0 f 1\nretire 1 b\ncall 0 f 2\nretired: call 1 f 3\nretire 0 a\nretired: call 1 f 4\nretired: call 0 f 5\nmodule c 02\ncall 2 f 6\nretire 2 c\n",
     ),
     (
-        "tenant t 1 1 1 0\nmodule a 00\nfor t\nretire a\nsend a f 1 0a",
+        "profile 5\ntenant t 1 1 1 0\nmodule a 00\nfor t\nretire a\nsend a f 1 0a",
         "profile 3\nwhole\nwants 1 1 1 0\nmodule a 00\nretire 0 a\nfor 1: retired: send 0 f 1 =0a\n",
     ),
-    ("tenant t 1 1 1 0\nretire t", "line 3: unknown module"),
-    ("retire a\nmodule a 00", "line 2: unknown module"),
-    ("module a 00\nretire A", "line 3: unknown module"),
-    ("module a 00\nretire a\nretire a", "line 4: retired twice"),
     (
-        "module a 00\nmodule b 00\nretire b\nretire a\n#\nretire b",
+        "profile 5\ntenant t 1 1 1 0\nretire t",
+        "line 3: unknown module",
+    ),
+    ("profile 5\nretire a\nmodule a 00", "line 2: unknown module"),
+    ("profile 5\nmodule a 00\nretire A", "line 3: unknown module"),
+    (
+        "profile 5\nmodule a 00\nretire a\nretire a",
+        "line 4: retired twice",
+    ),
+    (
+        "profile 5\nmodule a 00\nmodule b 00\nretire b\nretire a\n#\nretire b",
         "line 7: retired twice",
     ),
-    ("module a 00\nretire a\nretire a a", "line 4: bad words"),
-    ("retire", "line 2: bad words"),
-    ("retire b b", "line 2: bad words"),
-    ("retire a\t", "line 2: bad byte"),
-    ("Retire a", "line 2: unknown directive"),
     (
-        "module a 00\nretire a\nmodule a 00",
+        "profile 5\nmodule a 00\nretire a\nretire a a",
+        "line 4: bad words",
+    ),
+    ("profile 5\nretire", "line 2: bad words"),
+    ("profile 5\nretire b b", "line 2: bad words"),
+    ("profile 5\nretire a\t", "line 2: bad byte"),
+    ("profile 5\nRetire a", "line 2: unknown directive"),
+    (
+        "profile 5\nmodule a 00\nretire a\nmodule a 00",
         "line 4: name used twice",
     ),
-    ("module a 00\nretire a\nprofile 5", "line 4: late profile"),
+    (
+        "profile 5\nmodule a 00\nretire a\nprofile 5",
+        "line 4: late profile",
+    ),
+    ("\nmodule a 00\nretire a", "line 3: unknown directive"),
+    (
+        "profile 1\nmodule a 00\nretire a",
+        "line 3: unknown directive",
+    ),
+    (
+        "profile 2\nmodule a 00\nretire a",
+        "line 3: unknown directive",
+    ),
+    (
+        "profile 3\nmodule a 00\nretire a",
+        "line 3: unknown directive",
+    ),
+    (
+        "profile 4\nmodule a 00\nretire a",
+        "line 3: unknown directive",
+    ),
 ];
+
+fn check_texts<R: Abort>(rt: &R, alloc: Global, rows: &[(&str, &str)]) -> Result<(), Fail> {
+    let config = PoolConfig::new(NUMBERS)?;
+    for (text, want) in rows {
+        let got = described(alloc, &config, text.as_bytes())?;
+        assert_eq!(rt; got.as_str(), *want, "of {text}");
+    }
+    Ok(())
+}
+
+#[test]
+fn modules_and_calls_are_read_or_refused_at_the_first_bad_line(
+    rt: HostRuntime,
+) -> Result<(), Fail> {
+    check_texts(&rt, rt.alloc(), &CALLS)
+}
+
+#[test]
+fn a_profile_is_read_or_refused_at_the_first_bad_line(rt: HostRuntime) -> Result<(), Fail> {
+    check_texts(&rt, rt.alloc(), &PROFILES)
+}
+
+#[test]
+fn requests_are_read_or_refused_at_the_first_bad_line(rt: HostRuntime) -> Result<(), Fail> {
+    check_texts(&rt, rt.alloc(), &REQUESTS)
+}
+
+#[test]
+fn tenants_are_read_or_refused_at_the_first_bad_line(rt: HostRuntime) -> Result<(), Fail> {
+    check_texts(&rt, rt.alloc(), &TENANTS)?;
+    check_texts(&rt, rt.alloc(), &BAD_TENANTS)
+}
 
 #[test]
 fn modules_are_retired_from_profile_5_on(rt: HostRuntime) -> Result<(), Fail> {
-    let alloc = rt.alloc();
+    check_texts(&rt, rt.alloc(), &RETIREMENTS)
+}
+
+// A file of 1,048,576 modules, `m0` to `m1048575`, and a line.
+fn most_modules(alloc: Global, last: &str) -> Result<String, AllocError> {
+    let mut text = String::new(alloc);
+    for k in 0..1_048_576 {
+        write!(text, "module m{k} 00\n")?;
+    }
+    text.push_str(last)?;
+    Ok(text)
+}
+
+// The place of the module of the last call.
+fn last_place(requests: &Requests) -> Option<u32> {
+    match requests.directives().last() {
+        Some(Directive::Call { module, .. }) => Some(*module),
+        _ => None,
+    }
+}
+
+// What is read of the last call, or the fault.
+fn last_read(alloc: Global, config: &PoolConfig, text: &str) -> Result<Option<u32>, ParseFault> {
+    let requests = parse(alloc, config, text.as_bytes())?;
+    Ok(last_place(&requests))
+}
+
+#[test]
+fn as_many_modules_as_a_file_may_have_are_read(rt: HostRuntime) -> Result<(), Fail> {
     let config = PoolConfig::new(NUMBERS)?;
-    for (lines, want) in RETIREMENTS {
-        let text = format!(in alloc; "profile 5\n{lines}")?;
-        let got = described(alloc, &parse(alloc, &config, text.as_bytes()))?;
-        assert_eq!(rt; got.as_str(), want, "of {lines}");
-    }
-    for before in ["", "profile 1", "profile 2", "profile 3", "profile 4"] {
-        let text = format!(in alloc; "{before}\nmodule a 00\nretire a")?;
-        let got = described(alloc, &parse(alloc, &config, text.as_bytes()))?;
-        assert_eq!(rt; got.as_str(), "line 3: unknown directive", "in {before}");
-    }
+    let text = most_modules(rt.alloc(), "call m1048575 f 1\n")?;
+    let read = last_read(rt.alloc(), &config, text.as_str());
+    assert_eq!(rt; read, Ok(Some(1_048_575)));
     Ok(())
 }
 
 #[test]
-fn a_retire_line_has_the_name_of_a_module(rt: HostRuntime) -> Result<(), Fail> {
-    let alloc = rt.alloc();
+fn one_module_more_is_refused(rt: HostRuntime) -> Result<(), Fail> {
     let config = PoolConfig::new(NUMBERS)?;
-    let long = "n".repeat(alloc, 64)?;
-    let text = format!(in alloc; "profile 5\nmodule {long} 00\nretire {long}")?;
-    assert!(rt;
-        parse(alloc, &config, text.as_bytes()).is_ok(),
-        "a name of 64 bytes"
-    );
-    let text = format!(in alloc; "{text}n")?;
-    let got = described(alloc, &parse(alloc, &config, text.as_bytes()))?;
-    assert_eq!(rt; got.as_str(), "line 3: unknown module");
-    Ok(())
-}
-
-#[test]
-fn each_of_many_modules_is_retired(rt: HostRuntime) -> Result<(), Fail> {
-    let alloc = rt.alloc();
-    let config = PoolConfig::new(NUMBERS)?;
-    let mut text = String::from_str(alloc, "profile 5\n")?;
-    for k in 0..20_000 {
-        write!(text, "module m{k} 00\ncall m{k} f 1\n")?;
-    }
-    for k in 0..20_000 {
-        write!(text, "retire m{k}\ncall m{k} f 1\n")?;
-    }
-    let mut places = 0u64;
-    let mut calls = (0u32, 0u32);
-    for directive in parse(alloc, &config, text.as_bytes())?.directives() {
-        match directive {
-            Directive::Module { .. } => {}
-            Directive::Call { retired: false, .. } => calls.0 = calls.0.saturating_add(1),
-            Directive::Call { retired: true, .. } => calls.1 = calls.1.saturating_add(1),
-            Directive::Retire { module, .. } => {
-                places = places.saturating_add(u64::from(*module));
-            }
-        }
-    }
-    assert_eq!(rt; places, 199_990_000);
-    assert_eq!(rt; calls, (20_000, 20_000));
-    text.push_str("retire m19999")?;
-    let got = described(alloc, &parse(alloc, &config, text.as_bytes()))?;
-    assert_eq!(rt; got.as_str(), "line 80002: retired twice");
+    let text = most_modules(rt.alloc(), "module m 00")?;
+    let read = last_read(rt.alloc(), &config, text.as_str());
+    let (line, reason) = (1_048_577, Reason::TooManyModules);
+    assert_eq!(rt; read, Err(ParseFault::TextFault { line, reason }));
     Ok(())
 }
 
 #[test]
 fn a_refusal_is_appended(rt: HostRuntime) -> Result<(), Fail> {
-    let alloc = rt.alloc();
-    let mut out = Vec::from_slice(alloc, b"a\n")?;
-    write_text_fault(alloc, &mut out, 2, Reason::BadArgument)?;
+    let mut out = Vec::from_slice(rt.alloc(), b"a\n")?;
+    write_text_fault(rt.alloc(), &mut out, 2, Reason::BadArgument)?;
     assert_eq!(rt; out.as_slice(), b"a\nline 2: bad argument\n".as_slice());
     Ok(())
 }

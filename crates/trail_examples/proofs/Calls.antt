@@ -20,7 +20,7 @@ use Rattle.pool_worlds.specs.Contents.{Named}
 use Rattle.pool_worlds.specs.declared.kinds.Kind.TheVariants.{Memory}
 use Rattle.pool_host.specs.declared.host.Host.{Host}
 use Rattle.pool_host.specs.declared.passes.Passes.{Passes}
-use Rattle.pool_host.specs.declared.retiring.Retire.TheVariants.{First}
+use Rattle.pool_host.specs.declared.answers.Retire.TheVariants.{First}
 use Rattle.pool_host.specs.Preferring.{FoundAllHeld, IsServedOwn}
 use Rattle.pool_host.specs.Retirements.{Calls, MakeAll, Retires}
 use Rattle.trail_examples.proofs.Causes as causes

@@ -11,7 +11,8 @@ use Rattle.affinity_index.specs.Orders.{seen_rank}
 use Rattle.slot_pools.specs.Causes.{AllFoundHeld, FullAfterLook, FullAfterMark, FullAfterScan}
 use Rattle.slot_pools.specs.Looks.{IsLook, IsScan}
 use Rattle.slot_pools.specs.Rows.{AreLost}
-use Rattle.slot_pools.specs.Takes.{IsFullAffineTake, IsFullAnyTake, IsFullBatchedTake}
+use Rattle.slot_pools.specs.declared.policy.Policy.TheVariants.{Affine, Any, Batched}
+use Rattle.slot_pools.specs.Takes.{IsFullTake}
 use Rattle.slot_pools.specs.Wins.{all_numbers}
 use Rattle.trail_examples.proofs.LostClaims.{counted, is_lost_claim, lost_among, lost_cold, lost_is_counted, lost_warm}
 use Rattle.trail_examples.proofs.SlotWords.{cold_held, warm_5, warm_5_held}
@@ -49,7 +50,7 @@ flush = (_, _, refl, (cold_held, unpacked cold_held, record { packed_is = refl; 
 all_lost : AreLost (all_numbers 2) claims
 all_lost = (_, _, refl, lost_cold, (_, _, refl, lost_warm, refl))
 
-full_batched_take : IsFullBatchedTake 0 2 5 (looked ++ (marked ++ claims))
+full_batched_take : IsFullTake (Batched 5) 0 2 (looked ++ (marked ++ claims))
 full_batched_take = (
   [],
   record {
@@ -67,13 +68,13 @@ full_batched_take = (
   },
 )
 
-full_affine_take : IsFullAffineTake 0 2 5 (looked ++ claims)
+full_affine_take : IsFullTake (Affine 5) 0 2 (looked ++ claims)
 full_affine_take = ([], record { first = looked; second = claims; done_is = refl; is_first = look; is_second = record { first = []; second = claims; done_is = refl; is_first = refl; is_second = all_lost } })
 
 scan : IsScan 2 [] scanned
 scan = record { seen = held; all_seen = refl; order_is = refl; done_is = refl }
 
-full_any_take : IsFullAnyTake 2 (scanned ++ claims)
+full_any_take : IsFullTake Any 0 2 (scanned ++ claims)
 full_any_take = ([], record { first = scanned; second = claims; done_is = refl; is_first = scan; is_second = record { first = []; second = claims; done_is = refl; is_first = refl; is_second = all_lost } })
 
 -- ---- their causes
@@ -158,24 +159,24 @@ slot_1_was_lost done (one, others, e, lost, (two, more, f, lost_too, none)) =
     let here = lost_is_counted 1 two lost_too in let all = ap (λ (os : List Operation). count_by (is_lost_claim 1) os) e in let first = counted (is_lost_claim 1) one others in
     let rest = ap (λ (os : List Operation). count_by (is_lost_claim 1) os) f in let second = counted (is_lost_claim 1) two more in omega arith
 
-batched_take_claims_one : IsFullBatchedTake 0 2 5 (looked ++ (marked ++ Claim 0 cold_held ∷ [])) → ⊥
+batched_take_claims_one : IsFullTake (Batched 5) 0 2 (looked ++ (marked ++ Claim 0 cold_held ∷ [])) → ⊥
 batched_take_claims_one (order, take) =
     let loss = take.is_second in let flushed = loss.is_second in let swept = flushed.is_second in let some = slot_1_was_lost swept.second swept.is_second in
     let a : 0 ≡ count_by (is_lost_claim 1) take.first + count_by (is_lost_claim 1) take.second = both_counted _ _ (is_lost_claim 1) _ take in let b = both_counted _ _ (is_lost_claim 1) _ loss in
     let c = both_counted _ _ (is_lost_claim 1) _ flushed in let d = both_counted _ _ (is_lost_claim 1) _ swept in omega arith
 
-batched_take_sets_no_mark : IsFullBatchedTake 0 2 5 (looked ++ (scanned ++ claims)) → ⊥
+batched_take_sets_no_mark : IsFullTake (Batched 5) 0 2 (looked ++ (scanned ++ claims)) → ⊥
 batched_take_sets_no_mark (order, take) =
     let loss = take.is_second in let flushed = loss.is_second in let (r, is) = flushed.is_first in
     let mark : count_by is_mark flushed.first ≡ 1 = ap (λ (os : List Operation). count_by is_mark os) is in
     let a : 0 ≡ count_by is_mark take.first + count_by is_mark take.second = both_counted _ _ is_mark _ take in let b = both_counted _ _ is_mark _ loss in let c = both_counted _ _ is_mark _ flushed in omega arith
 
-affine_take_claims_one : IsFullAffineTake 0 2 5 (looked ++ Claim 0 cold_held ∷ []) → ⊥
+affine_take_claims_one : IsFullTake (Affine 5) 0 2 (looked ++ Claim 0 cold_held ∷ []) → ⊥
 affine_take_claims_one (order, take) =
     let loss = take.is_second in let some = slot_1_was_lost loss.second loss.is_second in
     let a : 0 ≡ count_by (is_lost_claim 1) take.first + count_by (is_lost_claim 1) take.second = both_counted _ _ (is_lost_claim 1) _ take in let b = both_counted _ _ (is_lost_claim 1) _ loss in omega arith
 
-any_take_claims_one : IsFullAnyTake 2 (scanned ++ Claim 0 cold_held ∷ []) → ⊥
+any_take_claims_one : IsFullTake Any 0 2 (scanned ++ Claim 0 cold_held ∷ []) → ⊥
 any_take_claims_one (order, take) =
     let loss = take.is_second in let some = slot_1_was_lost loss.second loss.is_second in
     let a : 0 ≡ count_by (is_lost_claim 1) take.first + count_by (is_lost_claim 1) take.second = both_counted _ _ (is_lost_claim 1) _ take in let b = both_counted _ _ (is_lost_claim 1) _ loss in omega arith

@@ -9,7 +9,8 @@ use Rattle.decommit_batch.specs.Settle.{IsSettled}
 use Rattle.decommit_batch.specs.Swept.{gives_permit}
 use Rattle.slot_pools.specs.LastClaims.{is_claim, EndsWithClaim}
 use Rattle.slot_pools.specs.Rows.{AreLost, IsWonAlong}
-use Rattle.slot_pools.specs.Takes.{IsAffineTake, IsAnyTake, IsBatchedTake}
+use Rattle.slot_pools.specs.declared.policy.Policy.TheVariants.{Affine, Any, Batched}
+use Rattle.slot_pools.specs.Takes.{IsTake}
 use Rattle.trail_examples.proofs.Looks.{look, looked}
 use Rattle.trail_examples.proofs.LostClaims.{counted, lost_warm}
 use Rattle.trail_examples.proofs.Settling.{by_state, warm_gives_a_permit}
@@ -33,7 +34,7 @@ first_is_passed_over w = by w.place w.number_is w.lost w.are_lost w.done_is
 
 -- ---- takes
 
-batched_take : IsBatchedTake 1 2 5 1 warm_5 (looked ++ Claim 1 warm_5 ∷ WarmDown 1 ∷ [])
+batched_take : IsTake (Batched 5) 1 2 1 warm_5 (looked ++ Claim 1 warm_5 ∷ WarmDown 1 ∷ [])
 batched_take = (
   1 ∷ 0 ∷ [],
   record {
@@ -45,7 +46,7 @@ batched_take = (
   },
 )
 
-affine_take : IsAffineTake 1 2 5 1 warm_5 (looked ++ Claim 1 warm_5 ∷ WarmDown 1 ∷ [])
+affine_take : IsTake (Affine 5) 1 2 1 warm_5 (looked ++ Claim 1 warm_5 ∷ WarmDown 1 ∷ [])
 affine_take = (
   1 ∷ 0 ∷ [],
   record {
@@ -61,7 +62,7 @@ affine_take = (
 abbrev scanned : List Operation
 scanned = loads_from 0 (cold_held ∷ warm_5 ∷ [])
 
-any_take : IsAnyTake 2 1 warm_5 (scanned ++ Claim 1 warm_5 ∷ WarmDown 1 ∷ [])
+any_take : IsTake Any 0 2 1 warm_5 (scanned ++ Claim 1 warm_5 ∷ WarmDown 1 ∷ [])
 any_take = (
   1 ∷ [],
   record {
@@ -89,21 +90,21 @@ permit_in Look Win done take =
     let inner = ap (λ (os : List Operation). count_by gives_permit os) rest.done_is in let both = counted gives_permit rest.first rest.second in
     let outer = ap (λ (os : List Operation). count_by gives_permit os) take.done_is in let all = counted gives_permit take.first take.second in omega arith
 
-batched_take_keeps_its_permit : IsBatchedTake 1 2 5 1 warm_5 (looked ++ Claim 1 warm_5 ∷ []) → ⊥
+batched_take_keeps_its_permit : IsTake (Batched 5) 1 2 1 warm_5 (looked ++ Claim 1 warm_5 ∷ []) → ⊥
 batched_take_keeps_its_permit (order, take) = let one : ◌≤◌ 1 0 = permit_in _ _ _ take in omega (arith, one)
 
-affine_take_keeps_its_permit : IsAffineTake 1 2 5 1 warm_5 (looked ++ Claim 1 warm_5 ∷ []) → ⊥
+affine_take_keeps_its_permit : IsTake (Affine 5) 1 2 1 warm_5 (looked ++ Claim 1 warm_5 ∷ []) → ⊥
 affine_take_keeps_its_permit (order, take) = let one : ◌≤◌ 1 0 = permit_in _ _ _ take in omega (arith, one)
 
-any_take_keeps_its_permit : IsAnyTake 2 1 warm_5 (scanned ++ Claim 1 warm_5 ∷ []) → ⊥
+any_take_keeps_its_permit : IsTake Any 0 2 1 warm_5 (scanned ++ Claim 1 warm_5 ∷ []) → ⊥
 any_take_keeps_its_permit (order, take) = let one : ◌≤◌ 1 0 = permit_in _ _ _ take in omega (arith, one)
 
 -- ---- a take that does not look
 
-claims_at_once_by_a_tag : IsBatchedTake 1 2 5 1 warm_5 (Claim 1 warm_5 ∷ WarmDown 1 ∷ []) → ⊥
+claims_at_once_by_a_tag : IsTake (Batched 5) 1 2 1 warm_5 (Claim 1 warm_5 ∷ WarmDown 1 ∷ []) → ⊥
 claims_at_once_by_a_tag (order, take) = let e = take.done_is in let f = take.is_first.done_is in cc
 
-claims_at_once_by_none : IsAnyTake 2 1 warm_5 (Claim 1 warm_5 ∷ WarmDown 1 ∷ []) → ⊥
+claims_at_once_by_none : IsTake Any 0 2 1 warm_5 (Claim 1 warm_5 ∷ WarmDown 1 ∷ []) → ⊥
 claims_at_once_by_none (order, take) = by take.is_first.seen take.is_first.all_seen (let e = take.done_is in let f = take.is_first.done_is in cc)
   where
     by : (words : List ℕ) → length words ≡ 2 → Claim 1 warm_5 ∷ WarmDown 1 ∷ [] ≡ loads_from 0 words ++ take.second → ⊥

@@ -5,7 +5,8 @@ use Rattle.slot_words.specs.declared.views.Operation.TheVariants.{Claim, Load, R
 use Rattle.slot_words.specs.Accounts.{is_release}
 use Rattle.slot_words.specs.Passes.{share_of, Pass}
 use Rattle.slot_pools.specs.Gives.{IsColdGive}
-use Rattle.slot_pools.specs.Takes.{IsAnyTake, IsFullAnyTake}
+use Rattle.slot_pools.specs.declared.policy.Policy.TheVariants.{Any}
+use Rattle.slot_pools.specs.Takes.{IsTake, IsFullTake}
 use Rattle.pool_host.specs.Visits.{Adds, IsTurnedAway, None, Served}
 use Rattle.trail_examples.proofs.LostClaims.{counted}
 use Rattle.trail_examples.proofs.Settling.{cold_needs_nothing}
@@ -14,7 +15,7 @@ use Rattle.trail_examples.proofs.SlotWords.{cold}
 abbrev taken : List Operation
 taken = Load 0 cold ∷ Claim 0 cold ∷ []
 
-it_is_taken : IsAnyTake 1 0 cold taken
+it_is_taken : IsTake Any 0 1 0 cold taken
 it_is_taken = (
   0 ∷ [],
   record {
@@ -32,23 +33,23 @@ it_is_taken = (
   },
 )
 
-served : Adds (IsAnyTake 1) IsColdGive (IsFullAnyTake 1) Served (Load 0 cold ∷ Claim 0 cold ∷ Release 0 cold ∷ [])
+served : Adds (IsTake Any 0 1) IsColdGive (IsFullTake Any 0 1) Served (Load 0 cold ∷ Claim 0 cold ∷ Release 0 cold ∷ [])
 served = (0, cold, record { first = taken; second = Release 0 cold ∷ []; done_is = refl; is_first = it_is_taken; is_second = refl })
 
-served_and_not_given_back : Adds (IsAnyTake 1) IsColdGive (IsFullAnyTake 1) Served taken → ⊥
+served_and_not_given_back : Adds (IsTake Any 0 1) IsColdGive (IsFullTake Any 0 1) Served taken → ⊥
 served_and_not_given_back (n, read, both) =
     let give : count_by is_release both.second ≡ 1 = ap (λ (os : List Operation). count_by is_release os) both.is_second in
     let all : 0 ≡ count_by is_release both.first + count_by is_release both.second = ap (λ (os : List Operation). count_by is_release os) both.done_is ∙ counted is_release both.first both.second in omega arith
 
-takes_what_it_does_not_need : Adds (IsAnyTake 1) IsColdGive (IsFullAnyTake 1) None taken → ⊥
+takes_what_it_does_not_need : Adds (IsTake Any 0 1) IsColdGive (IsFullTake Any 0 1) None taken → ⊥
 takes_what_it_does_not_need e = cc
 
 -- ---- a call that is turned away
 
 module _ {V : Type 0} (before after : Pass V) where
-  turned_away_without_need : IsTurnedAway false (IsFullAnyTake 1) 2 before after → ⊥
+  turned_away_without_need : IsTurnedAway false (IsFullTake Any 0 1) 2 before after → ⊥
   turned_away_without_need away = let e = away.needed_is in cc
 
   -- a pass that stands for all finds no slot held
-  turned_away_by_nobody : share_of before ≡ 2 → IsTurnedAway true (IsFullAnyTake 1) 2 before after → ⊥
+  turned_away_by_nobody : share_of before ≡ 2 → IsTurnedAway true (IsFullTake Any 0 1) 2 before after → ⊥
   turned_away_by_nobody all away = let some = away.others in omega arith

@@ -6,7 +6,7 @@ use Rattle.wasm_types.specs.declared.types.FuncType.{FuncType}
 use Rattle.wasm_types.specs.declared.module.Function.{Function}
 use Rattle.wasm_types.specs.declared.module.Module.{Module}
 use Rattle.wasm_types.specs.Tree.{Code, module_tree, function_tree, expr_tree}
-use Rattle.wasm_spec.specs.Typing.{result_types, Context, results_of, results_or_none, Typed, IsTypedFunction}
+use Rattle.wasm_spec.specs.Typing.{result_types, Context, own_type, type_or_empty, Typed, IsTypedFunction}
 use Rattle.wasm_spec.specs.Need.{need, highest, deepest}
 use Rattle.wasm_checker.specs.declared.fault.CheckFault.{CheckFault}
 use Rattle.wasm_checker.specs.declared.fault.CheckFault.TheVariants.{Invalid, NoMemory}
@@ -26,12 +26,12 @@ one_value [] le = refl
 one_value (t ∷ []) le = refl
 one_value (t ∷ u ∷ ts) le = absurd (omega arith)
 
-result_values : (o : Option FuncType) → ((t : FuncType) → o ≡ Some t → length t.results ≤ 1) → result_types (slice_get (results_or_none o) 0) ≡ results_or_none o
+result_values : (o : Option FuncType) → ((t : FuncType) → o ≡ Some t → length t.results ≤ 1) → result_types (slice_get (type_or_empty o).results 0) ≡ (type_or_empty o).results
 result_values None le = refl
 result_values (Some t) le = one_value t.results (le t refl)
 
 -- a function's results are its one result or none
-results_are : (m : Module) (f : Function) → HaveOneResult m → result_types (result_of m f) ≡ results_of (module_tree m) (function_tree f)
+results_are : (m : Module) (f : Function) → HaveOneResult m → result_types (result_of m f) ≡ (own_type (module_tree m) (function_tree f)).results
 results_are m f one =
     result_values (slice_get m.types f.type_index) (λ t e. all_found (λ (t : FuncType). length t.results ≤ 1) m.types f.type_index t one e)
 
@@ -45,17 +45,17 @@ module _ (m : Module) (f : Function) (one : HaveOneResult m) where
   abbrev code : Code
   code = code_at f.body (length f.body.sequences - 1) 0
 
-  typed_to : Typed (outer (result_types (result_of m f))) code [] (result_types (result_of m f)) → Typed (outer (results_of (module_tree m) (function_tree f))) (expr_tree f.body) [] (results_of (module_tree m) (function_tree f))
+  typed_to : Typed (outer (result_types (result_of m f))) code [] (result_types (result_of m f)) → Typed (outer (own_type (module_tree m) (function_tree f)).results) (expr_tree f.body) [] (own_type (module_tree m) (function_tree f)).results
   typed_to h =
       subst (λ (ts : List ValType). Typed (outer ts) (expr_tree f.body) [] ts) (results_are m f one)
       (subst (λ (c : Code). Typed (outer (result_types (result_of m f))) c [] (result_types (result_of m f))) body_is h)
 
-  typed_from : Typed (outer (results_of (module_tree m) (function_tree f))) (expr_tree f.body) [] (results_of (module_tree m) (function_tree f)) → Typed (outer (result_types (result_of m f))) code [] (result_types (result_of m f))
+  typed_from : Typed (outer (own_type (module_tree m) (function_tree f)).results) (expr_tree f.body) [] (own_type (module_tree m) (function_tree f)).results → Typed (outer (result_types (result_of m f))) code [] (result_types (result_of m f))
   typed_from h =
       subst (λ (c : Code). Typed (outer (result_types (result_of m f))) c [] (result_types (result_of m f))) (sym body_is)
       (subst (λ (ts : List ValType). Typed (outer ts) (expr_tree f.body) [] ts) (sym (results_are m f one)) h)
 
-  highest_is : highest 0 (outer (result_types (result_of m f))) code 0 ≡ highest 0 (outer (results_of (module_tree m) (function_tree f))) (expr_tree f.body) 0
+  highest_is : highest 0 (outer (result_types (result_of m f))) code 0 ≡ highest 0 (outer (own_type (module_tree m) (function_tree f)).results) (expr_tree f.body) 0
   highest_is =
       ap (λ (c : Code). highest 0 (outer (result_types (result_of m f))) c 0) body_is
       ∙ ap (λ (ts : List ValType). highest 0 (outer ts) (expr_tree f.body) 0) (results_are m f one)

@@ -84,7 +84,7 @@ pub(crate) fn global_type(m: &Module, x: u32) -> Option<GlobalType>
 
 /// The types of a function's parameters; none where it names no type.
 pub(crate) fn params_of<'a>(m: &'a Module, f: &Function) -> &'a [ValType]
-    ensures { result.now ≡ typing.params_of (module_tree m.now) (function_tree f.now) }
+    ensures { result.now ≡ (typing.own_type (module_tree m.now) (function_tree f.now)).params }
 {
     match m.types.as_slice().get(f.type_index as usize) {
         Some(t) => t.params.as_slice(),

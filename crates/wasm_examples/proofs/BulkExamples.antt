@@ -5,7 +5,8 @@ use Rattle.wasm_values.specs.declared.outcome.Val.TheVariants.{I64}
 use Rattle.wasm_values.specs.declared.outcome.TrapKind.TheVariants as trap
 use Rattle.wasm_values.specs.declared.outcome.Outcome.{Outcome}
 use Rattle.wasm_values.specs.declared.outcome.Outcome.TheVariants.{Done, Trap}
-use Rattle.wasm_types.specs.declared.instr.Width.TheVariants.{W64}
+use Rattle.wasm_types.specs.declared.instr.Width.TheVariants.{W32, W64}
+use Rattle.wasm_types.specs.declared.instr.PackSize.TheVariants.{Pack8, Pack32}
 use Rattle.wasm_types.specs.declared.instr.MemArg.{MemArg}
 use Rattle.wasm_types.specs.declared.instr.Instr.{Instr}
 use Rattle.wasm_types.specs.declared.instr.Instr.TheVariants as instr
@@ -163,3 +164,6 @@ fill_behind_a_call_of_an_element = refl
 -- growth and stores are none
 neither_copy_nor_fill : uses (Block None (Loop None (If None (Call 0 End) (CallIndirect 0 End) End) End) (straight (instr.MemoryGrow ∷ instr.Store W64 here ∷ []) End)) ≡ false
 neither_copy_nor_fill = refl
+
+narrow_store_is_none : uses (straight (instr.StorePacked W32 Pack8 here ∷ instr.StorePacked W64 Pack32 here ∷ []) End) ≡ false
+narrow_store_is_none = refl

@@ -1,6 +1,6 @@
 -- The numbers and types of functions behind imports, and which imports are run.
 use Rattle.std.proofs.Common.{sym, subst, true≢false, arith}
-use Rattle.std.specs.Prelude.{◌≡◌, ℕ, false, ◌≤◌, List, [], ◌∷◌, ◌++◌, Option, Some, None, IfSome, IsSome, IsTrue, codes, length, map, slice_get, refl}
+use Rattle.std.specs.Prelude.{◌≡◌, ◌≢◌, ℕ, false, ◌≤◌, List, [], ◌∷◌, ◌++◌, Option, Some, None, IfSome, IsSome, IsTrue, codes, length, map, slice_get, refl}
 use Rattle.std.proofs.lemmas.List.Elements.{All-nil, All-from_recursion}
 use Rattle.wasm_types.specs.declared.types.ValType.TheVariants.{I32}
 use Rattle.wasm_types.specs.declared.types.FuncType.{FuncType}
@@ -46,6 +46,13 @@ len_of module_name = host_function (imports_from module_name (codes "len") (item
 
 name_of_another_module : len_of (codes "env") ∷ len_of (codes "hosts") ∷ len_of (codes "hos") ∷ len_of [] ∷ [] ≡ None ∷ None ∷ None ∷ None ∷ []
 name_of_another_module = refl
+
+-- a name is told by all of its bytes
+longer_names : named (codes "lens") ∷ named (codes "length") ∷ named (codes "reader") ∷ named (codes "writer") ∷ named (codes "writ") ∷ [] ≡ None ∷ None ∷ None ∷ None ∷ None ∷ []
+longer_names = refl
+
+longer_modules : len_of (codes "ghost") ∷ len_of (codes "hosted") ∷ len_of (codes "Host") ∷ [] ≡ None ∷ None ∷ None ∷ []
+longer_modules = refl
 
 types_of_the_host : host_type host.Len ∷ host_type host.Read ∷ host_type host.Write ∷ [] ≡ constant_type ∷ ternary_type ∷ binary_type ∷ []
 types_of_the_host = refl
@@ -173,6 +180,18 @@ import_of_another_type h =
     subst (λ (f : HostFunction). IfSome (slice_get echo.types 1) (λ t. IsTrue (same_type t (host_type f)))) (sym len)
     (subst (λ (n : ℕ). IfSome (slice_get echo.types n) (λ t. IsTrue (same_type t (host_type h.function)))) (sym one) h.same) in true≢false (sym same)
 
+-- its parameters and its results are both told
+import_of_another_result : IsHostImport (record echo { types = record { params = []; results = [] } ∷ [] }) (host_import (codes "len") 0) → ⊥
+import_of_another_result h =
+    let named : Some host.Len ≡ Some h.function = h.named in
+    let len : host.Len ≡ h.function = cc (named) in
+    let imports : item.Func 0 ≡ item.Func h.type = h.imports in
+    let first : 0 ≡ h.type = cc (imports) in
+    let types : List FuncType = record { params = []; results = [] } ∷ [] in
+    let same : IfSome (slice_get types 0) (λ t. IsTrue (same_type t (host_type host.Len))) =
+    subst (λ (f : HostFunction). IfSome (slice_get types 0) (λ t. IsTrue (same_type t (host_type f)))) (sym len)
+    (subst (λ (n : ℕ). IfSome (slice_get types n) (λ t. IsTrue (same_type t (host_type h.function)))) (sym first) h.same) in true≢false (sym same)
+
 import_of_another_name : IsHostImport echo (host_import (codes "reads") 1) → ⊥
 import_of_another_name h = let e = h.named in cc (e)
 
@@ -200,10 +219,16 @@ not_run_behind_one_that_is s = let e = (s.imports 1 (host_import [] 0) (omega ar
 -- ---- few marks
 
 echo_may_mark_more : HasFewMarks echo → ⊥
-echo_may_mark_more few = let e = few.imports in cc (e)
+echo_may_mark_more few = few.imports 1 (host_import [] 0) (omega arith) refl
+
+len_and_write_mark_nothing : HasFewMarks (record echo { imports = host_import (codes "len") 0 ∷ host_import (codes "write") 2 ∷ [] })
+len_and_write_mark_nothing = record {
+  imports = All-from_recursion (λ i. host_function i ≢ Some host.Read) (host_import (codes "len") 0 ∷ host_import (codes "write") 2 ∷ []) ((λ e. cc), ((λ e. cc), tt));
+  bulk = refl;
+}
 
 a_fill_may_mark_more : HasFewMarks (record echo { imports = []; functions = function_of 0 (straight (instr.MemoryFill ∷ []) End) ∷ [] }) → ⊥
 a_fill_may_mark_more few = true≢false few.bulk
 
 without_either : HasFewMarks (record echo { imports = []; functions = function_of 0 (straight (instr.MemoryGrow ∷ []) End) ∷ [] })
-without_either = record { imports = refl; bulk = refl }
+without_either = record { imports = All-nil (λ i. host_function i ≢ Some host.Read); bulk = refl }

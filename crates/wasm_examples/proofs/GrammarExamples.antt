@@ -1,5 +1,5 @@
 -- Bytes that spell a module.
-use Rattle.std.proofs.Common.{◌≡◌, ℕ, inl, inr, List, [], ◌∷◌, ◌++◌, length, false, refl, sym, ap, ◌∙◌, subst, arith}
+use Rattle.std.proofs.Common.{◌≡◌, ℕ, inl, inr, List, [], ◌∷◌, ◌++◌, length, map, false, refl, sym, ap, ◌∙◌, subst, arith}
 use Rattle.std.specs.Prelude.{Option, Some, None, replicate, IsUtf8}
 use Rattle.std.proofs.lemmas.List.{length-append}
 use Rattle.std.specs.Str.{is_utf8, chars}
@@ -11,7 +11,7 @@ use Rattle.wasm_types.specs.declared.module.LocalRun.{LocalRun}
 use Rattle.wasm_types.specs.Tree.{Code, End, Plain, Block, Loop, If, Call, CallIndirect, ModuleTree}
 use Rattle.wasm_spec.specs.Numbers.{TakesUnsigned, TakesEach, TakesVec, TakesBytes, TakesName}
 use Rattle.wasm_spec.specs.InstrGrammar.{shape, PrefixedRow, TakesShape, TakesInstr, TakesPrefixed, TakesCode, ByEnd, prefixed_row}
-use Rattle.wasm_spec.specs.Grammar.{Section, TakesSection, TakesLocalRun, Body, TakesBody, TakesSizedBody, SpellsVec, SpellsStart, SpellsCount, IsOrderedAbove, Spells}
+use Rattle.wasm_spec.specs.Grammar.{Section, IsCustom, TakesSection, TakesLocalRun, Body, TakesBody, TakesSizedBody, SpellsVec, SpellsStart, SpellsCount, IsOrderedAbove, Spells}
 use Rattle.wasm_spec.proofs.UnambiguousNumbers.{unsigned-unique, bytes-unique, vec-unique}
 
 abbrev nothing : ModuleTree
@@ -97,6 +97,36 @@ no_section_twice_around_a_custom_one (inr a) =
 no_custom_section_without_a_name : IsOrderedAbove One 0 (record { id = 0; contents = [] } ∷ []) → ⊥
 no_custom_section_without_a_name (inl a) = a.1.spelled.spelled.count
 no_custom_section_without_a_name (inr a) = absurd (omega (arith, a.0))
+
+-- a custom section may have an empty name
+no_name : (behind : List ℕ) → IsCustom (0 ∷ behind)
+unfolding lib.Utf8.encode
+no_name behind = record { name = []; after = behind; spelled = record { spelled = record { mid = behind; count = inl (omega arith, omega arith, refl, refl); items = refl }; utf8 = ([], (refl, refl)) } }
+
+-- custom sections in a row leave the order as it is, and have what they like behind their names
+custom_sections_in_a_row : IsOrderedAbove One 0 (section_of 0 ∷ section_of 1 ∷ section_of 0 ∷ section_of 0 ∷ section_of 0 ∷ section_of 2 ∷ record { id = 0; contents = 0 ∷ 5 ∷ [] } ∷ [])
+custom_sections_in_a_row =
+    inl (
+      refl,
+      no_name [],
+      inr (
+        omega arith,
+        omega arith,
+        inl (
+          refl,
+          no_name [],
+          inl (
+            refl,
+            no_name [],
+            inl (
+              refl,
+              no_name [],
+              inr (omega arith, omega arith, inl (refl, no_name (5 ∷ []), tt)),
+            ),
+          ),
+        ),
+      ),
+    )
 
 -- without a section there are no items, and no start function
 no_items_without_a_section : SpellsVec (TakesUnsigned 32) (5 ∷ []) None → ⊥
@@ -188,6 +218,10 @@ no_copy_with_one_zero i rest t =
     let zeros : (0x00 ∷ []) ≡ replicate t.row.zeros 0 ++ rest = sym same.1 ∙ t.zeros in
     let two : (0x00 ∷ []) ≡ 0 ∷ 0 ∷ rest = zeros ∙ ap (λ (r : PrefixedRow). replicate r.zeros 0 ++ rest) (sym row) in
     cc (two)
+
+-- no other number behind the prefix is one of an instruction
+no_other_numbers : map prefixed_row (0 ∷ 1 ∷ 2 ∷ 3 ∷ 4 ∷ 5 ∷ 6 ∷ 7 ∷ 8 ∷ 9 ∷ 12 ∷ 13 ∷ 14 ∷ 15 ∷ 16 ∷ 17 ∷ []) ≡ replicate 16 None
+no_other_numbers = refl
 
 no_number_9 : (i : Instr) (rest : List ℕ) → TakesPrefixed i (0x09 ∷ 0x00 ∷ []) rest → ⊥
 no_number_9 i rest t =

@@ -11,7 +11,7 @@ use Rattle.wasm_types.specs.declared.instr.BinaryOp.TheVariants as binary
 use Rattle.wasm_types.specs.declared.instr.Instr.TheVariants as instr
 use Rattle.wasm_types.specs.declared.module.ImportDesc.TheVariants as item
 use Rattle.wasm_types.specs.Tree.{Code, End, Plain, Call, CallIndirect, ModuleTree}
-use Rattle.wasm_spec.specs.Execution.{exec, terms}
+use Rattle.wasm_spec.specs.Execution.{exec, terms_of}
 use Rattle.wasm_spec.specs.Result.{CallResult, answer_of, call_result}
 
 abbrev pub i32 : ℕ → Code → Code
@@ -35,12 +35,12 @@ echo = record {
   data_segments = [];
 }
 
-abbrev shows : Option CallResult → Option (Outcome × (List ℕ × ℕ))
+abbrev pub shows : Option CallResult → Option (Outcome × (List ℕ × ℕ))
 shows None = None
 shows (Some r) = Some (r.outcome, (answer_of r, r.fuel))
 
 -- with at most one page and one call open
-abbrev sent : List ℕ → ℕ → List Val → ℕ → Option (Outcome × (List ℕ × ℕ))
+abbrev pub sent : List ℕ → ℕ → List Val → ℕ → Option (Outcome × (List ℕ × ℕ))
 sent request x arguments fuel = shows (call_result echo (record { pages = 1; depth = 1; request = request }) x arguments fuel)
 
 gives_i32 : ℕ → List ℕ → ℕ → Option (Outcome × (List ℕ × ℕ))
@@ -88,12 +88,12 @@ import_of_the_table = refl
 -- ---- parts of a request, and answers of more than one write
 
 -- what a function of this body gives beside the three imports, on 20 units of fuel
-abbrev said : List ℕ → Code → Option (Outcome × (List ℕ × ℕ))
+abbrev pub said : List ℕ → Code → Option (Outcome × (List ℕ × ℕ))
 said request body = shows (call_result (record echo { functions = record { type_index = 0; locals = []; body = body } ∷ []; element_segments = [] })
     (record { pages = 1; depth = 1; request = request }) 3 [] 20)
 
 -- how it ends, and how many bytes are answered
-abbrev lengths : Option (Outcome × (List ℕ × ℕ)) → Option (Outcome × ℕ)
+abbrev pub lengths : Option (Outcome × (List ℕ × ℕ)) → Option (Outcome × ℕ)
 lengths None = None
 lengths (Some r) = Some (r.0, length r.1.0)
 
@@ -289,5 +289,5 @@ len-as_read = refl
 
 -- ---- what a run is given
 
-given_terms : terms (record { pages = 3; depth = 4 }) (codes "abc") ≡ record { pages = 3; depth = 4; request = codes "abc" }
+given_terms : terms_of (record { pages = 3; depth = 4 }) (codes "abc") ≡ record { pages = 3; depth = 4; request = codes "abc" }
 given_terms = refl

@@ -22,4 +22,7 @@ pub mod FuelExamples
 pub mod RelationExamples
 pub mod OperandExamples
 pub mod ImportExamples
+pub mod HostLimits
+pub mod StoresLeft
+pub mod PaddedNumbers
 pub mod FunctionExamples

@@ -76,6 +76,10 @@ label_behind_a_block = refl
 after_a_call : need_of 2 [] (straight (i32_const 1 ∷ i32_const 2 ∷ []) (Call 0 (straight (i32_const 1 ∷ i32_const 1 ∷ []) drops))) ≡ 4
 after_a_call = refl
 
+-- its arguments count where it stands
+arguments_of_a_call : need_of 2 [] (straight (i32_const 1 ∷ i32_const 2 ∷ []) (Call 0 (straight (instr.Drop ∷ []) End))) ≡ 3
+arguments_of_a_call = refl
+
 after_a_call_of_an_element : need_of 2 [] (straight (i32_const 1 ∷ i32_const 2 ∷ i32_const 0 ∷ []) (CallIndirect 0 (straight (i32_const 1 ∷ i32_const 1 ∷ []) drops))) ≡ 4
 after_a_call_of_an_element = refl
 
@@ -125,3 +129,25 @@ label_behind_a_call_of_an_element = refl
 -- four operands behind it, where three lie before
 higher_behind_a_call_of_an_element : need_of 2 [] (straight (i32_const 1 ∷ i32_const 2 ∷ i32_const 0 ∷ []) (CallIndirect 0 (straight three (straight (instr.Drop ∷ []) drops)))) ≡ 5
 higher_behind_a_call_of_an_element = refl
+
+-- ---- heights under labels, in code that is not reached
+
+-- a branch if, behind which two operands are put on what it leaves
+abbrev unreached : Code
+unreached = straight (instr.Unreachable ∷ instr.BrIf 0 ∷ i32_const 1 ∷ i32_const 2 ∷ instr.Drop ∷ instr.Drop ∷ []) End
+
+unreached_in_a_block : need_of 2 [] (Block (Some type.I32) unreached (straight (instr.Drop ∷ []) End)) ≡ 5
+unreached_in_a_block = refl
+
+unreached_in_a_first_arm : need_of 2 [] (straight (i32_const 0 ∷ []) (If (Some type.I32) unreached (straight (i32_const 0 ∷ []) End) (straight (instr.Drop ∷ []) End))) ≡ 5
+unreached_in_a_first_arm = refl
+
+unreached_in_a_second_arm : need_of 2 [] (straight (i32_const 0 ∷ []) (If (Some type.I32) (straight (i32_const 0 ∷ []) End) unreached (straight (instr.Drop ∷ []) End))) ≡ 5
+unreached_in_a_second_arm = refl
+
+-- a branch to a loop takes nothing, whatever the loop gives and whatever lies around it
+unreached_in_a_loop_with_a_result : need_of 2 [] (Loop (Some type.I32) unreached (straight (instr.Drop ∷ []) End)) ≡ 4
+unreached_in_a_loop_with_a_result = refl
+
+unreached_in_a_loop_of_a_function_with_one : need_of 1 [] (Loop None unreached (straight (i32_const 0 ∷ []) End)) ≡ 4
+unreached_in_a_loop_of_a_function_with_one = refl

@@ -1,8 +1,10 @@
 -- Bytes that spell a module in profile 2 and none in profile 1: an extension by the sign, a fill, and a data count section. The
 -- expected values are those of another engine, V8.
-use Rattle.std.proofs.Common.{◌≡◌, ◌≢◌, ◌≤◌, ℕ, inl, inr, List, [], ◌∷◌, ◌++◌, length, map, refl, ap, subst, arith, pos}
+use Rattle.std.proofs.Common.{◌≡◌, ◌≢◌, ◌≤◌, ℕ, false, inl, inr, List, [], ◌∷◌, ◌++◌, length, map, refl, sym, ap, subst, arith, pos}
 use Rattle.std.specs.Prelude.{Ok, Err, codes}
 use Rattle.std.proofs.lemmas.List.Elements.{All-nil, All-cons}
+use Rattle.wasm_values.specs.declared.outcome.Val.TheVariants as val
+use Rattle.wasm_values.specs.declared.profile.Profile.{Profile}
 use Rattle.wasm_values.specs.declared.profile.Profile.TheVariants.{One, Two}
 use Rattle.wasm_types.specs.declared.limits.LoadLimits.{LoadLimits}
 use Rattle.wasm_types.specs.declared.types.ValType.TheVariants as type
@@ -13,16 +15,16 @@ use Rattle.wasm_types.specs.declared.instr.UnaryOp.TheVariants.{ExtendS}
 use Rattle.wasm_types.specs.declared.instr.Instr.{Instr}
 use Rattle.wasm_types.specs.declared.instr.Instr.TheVariants as instr
 use Rattle.wasm_types.specs.declared.module.Export.{Export}
-use Rattle.wasm_types.specs.Tree.{Code, End, Plain, Block, Loop, If, Call, CallIndirect, FunctionTree, ModuleTree}
+use Rattle.wasm_types.specs.Tree.{Code, End, Plain, Block, Loop, If, Call, CallIndirect, FunctionTree, ElementTree, DataTree, ModuleTree}
 use Rattle.wasm_spec.specs.Numbers.{TakesUnsigned, TakesEach, TakesVec, TakesBytes}
 use Rattle.wasm_spec.specs.TypeGrammar.{TakesFuncType, TakesLimits}
-use Rattle.wasm_spec.specs.InstrGrammar.{shape, TakesShape, TakesInstr, TakesCode, ByEnd}
-use Rattle.wasm_spec.specs.Grammar.{Section, Body, TakesSection, TakesLocalRun, TakesExport, TakesSizedBody, TakesData, SpellsVec, SpellsCount, body_of, section, Spells}
+use Rattle.wasm_spec.specs.InstrGrammar.{Shape, Alone, WithI32, shape, TakesShape, TakesInstr, TakesCode, ByEnd}
+use Rattle.wasm_spec.specs.Grammar.{Section, Body, TakesSection, TakesLocalRun, TakesGlobal, TakesExport, TakesElement, TakesSizedBody, TakesData, SpellsVec, SpellsCount, body_of, section, Spells}
 use Rattle.wasm_spec.specs.Typing.{IsTypedFunction}
 use Rattle.wasm_spec.specs.Validity.{IsValid, IsSupported, IsDefined}
 use Rattle.wasm_spec.specs.Loading.{Loads, Malformed}
 use Rattle.wasm_spec.proofs.AddModule.{one_pair, short, section_is}
-use Rattle.wasm_spec.proofs.UnambiguousNumbers.{same_first, unsigned-unique, bytes-unique}
+use Rattle.wasm_spec.proofs.UnambiguousNumbers.{same_first, same_others, unsigned-unique, signed-unique, bytes-unique}
 use Rattle.wasm_spec.proofs.UnambiguousModules.{sections-unique}
 use Rattle.wasm_examples.proofs.Modules.{exported, unary_type, extend_module, fill_module, counted_module}
 use Rattle.wasm_examples.proofs.GrammarExamples.{no_runs}
@@ -169,6 +171,41 @@ limits = record { pages = 1; elements = 0; frame = 8 }
 extend_is_loaded_in_profile_2 : Loads Two extend_bytes limits (Ok extend_module)
 extend_is_loaded_in_profile_2 = record { tree = extend_module; spells = extend_is_spelled; answers = (record { runs = extend_supported; valid = extend_valid; late_is = refl }, refl) }
 
+extend_is_not_malformed_in_profile_2 : Loads Two extend_bytes limits (Err Malformed) → ⊥
+extend_is_not_malformed_in_profile_2 h = h extend_module extend_is_spelled
+
+-- ---- an extension in an initialiser and in offsets, which are read in the profile of the module
+
+abbrev extended_constant : Code
+extended_constant = Plain (instr.Const (val.I32 0)) (Plain (instr.Unary W32 (ExtendS Pack8)) End)
+
+abbrev extended_bytes : List ℕ
+extended_bytes = 0x41 ∷ 0x00 ∷ 0xC0 ∷ 0x0B ∷ []
+
+extended_spelled : (profile : Profile) → shape profile 0x41 ≡ WithI32 → shape profile 0xC0 ≡ Alone (instr.Unary W32 (ExtendS Pack8)) → (rest : List ℕ) → TakesCode profile ByEnd extended_constant (extended_bytes ++ rest) rest
+extended_spelled profile constant extension rest = (
+  _,
+  record { opcode = 0x41; after = _; leads = refl; follows = subst (λ (k : Shape). TakesShape k (instr.Const (val.I32 0)) (0x00 ∷ 0xC0 ∷ 0x0B ∷ rest) (0xC0 ∷ 0x0B ∷ rest)) (sym constant) (pos 0, refl, inl (omega arith, omega arith, refl, refl)) },
+  (
+    _,
+    record { opcode = 0xC0; after = _; leads = refl; follows = subst (λ (k : Shape). TakesShape k (instr.Unary W32 (ExtendS Pack8)) (0x0B ∷ rest) (0x0B ∷ rest)) (sym extension) (refl, refl) },
+    refl,
+  ),
+)
+
+in_profile_2 : (rest : List ℕ) → TakesCode Two ByEnd extended_constant (extended_bytes ++ rest) rest
+unfolding shape
+in_profile_2 rest = extended_spelled Two refl refl rest
+
+extended_initialiser : TakesGlobal Two (record { global_type = record { value = type.I32; mutable = false }; init = extended_constant }) (0x7F ∷ 0x00 ∷ extended_bytes) []
+extended_initialiser = record { mid = extended_bytes; global_type = refl; init = in_profile_2 [] }
+
+extended_offset_of_elements : TakesElement Two (record { table = 0; offset = extended_constant; functions = [] }) (0x00 ∷ extended_bytes ++ 0x00 ∷ []) []
+extended_offset_of_elements = record { after_table = _; after_offset = 0x00 ∷ []; table = short 0 _ (omega arith); offset = in_profile_2 (0x00 ∷ []); functions = record { mid = []; count = short 0 [] (omega arith); items = refl } }
+
+extended_offset_of_data : TakesData Two (record { memory = 0; offset = extended_constant; bytes = [] }) (0x00 ∷ extended_bytes ++ 0x00 ∷ []) []
+extended_offset_of_data = record { after_memory = _; after_offset = 0x00 ∷ []; memory = short 0 _ (omega arith); offset = in_profile_2 (0x00 ∷ []); contents = record { mid = []; count = short 0 [] (omega arith); items = refl } }
+
 -- ---- the same bytes in profile 1
 
 -- no row has the opcode
@@ -190,6 +227,48 @@ no_code_from_an_extension (Loop t body more) h = absurd (omega (arith, first_byt
 no_code_from_an_extension (If t first second more) h = absurd (omega (arith, first_bytes 0xC0 0x04 (0x0B ∷ []) h.0 h.1))
 no_code_from_an_extension (Call x more) h = absurd (omega (arith, first_bytes 0xC0 0x10 (0x0B ∷ []) h.0 h.1))
 no_code_from_an_extension (CallIndirect x more) h = absurd (omega (arith, first_bytes 0xC0 0x11 (0x0B ∷ []) h.0 h.1))
+
+-- behind a constant of one byte stands what follows it
+constant_taken : (i : Instr) (mid : List ℕ) (rest : List ℕ) → TakesShape (shape One 0x41) i (0x00 ∷ 0xC0 ∷ rest) mid → mid ≡ 0xC0 ∷ rest
+unfolding shape
+constant_taken i mid rest h = (signed-unique 32 h.0 (pos 0) (0x00 ∷ 0xC0 ∷ rest) mid (0xC0 ∷ rest) h.2 (inl (omega arith, omega arith, refl, refl))).1
+
+no_code_from_an_extension_on : (c : Code) (after rest : List ℕ) → TakesCode One ByEnd c (0xC0 ∷ after) rest → ⊥
+no_code_from_an_extension_on End after rest h = absurd (omega (arith, first_bytes 0xC0 0x0B after rest h))
+no_code_from_an_extension_on (Plain i more) after rest h = no_extension i after h.0 h.1
+no_code_from_an_extension_on (Block t body more) after rest h = absurd (omega (arith, first_bytes 0xC0 0x02 after h.0 h.1))
+no_code_from_an_extension_on (Loop t body more) after rest h = absurd (omega (arith, first_bytes 0xC0 0x03 after h.0 h.1))
+no_code_from_an_extension_on (If t first second more) after rest h = absurd (omega (arith, first_bytes 0xC0 0x04 after h.0 h.1))
+no_code_from_an_extension_on (Call x more) after rest h = absurd (omega (arith, first_bytes 0xC0 0x10 after h.0 h.1))
+no_code_from_an_extension_on (CallIndirect x more) after rest h = absurd (omega (arith, first_bytes 0xC0 0x11 after h.0 h.1))
+
+behind_the_constant : (i : Instr) (mid rest : List ℕ) → TakesInstr One i (0x41 ∷ 0x00 ∷ 0xC0 ∷ rest) mid → mid ≡ 0xC0 ∷ rest
+behind_the_constant i mid rest h =
+    let is : h.opcode ≡ 0x41 = same_first h.leads refl in
+    let after : h.after ≡ 0x00 ∷ 0xC0 ∷ rest = same_others h.leads refl in
+    constant_taken i mid rest (subst (λ (l : List ℕ). TakesShape (shape One 0x41) i l mid) after (subst (λ (opcode : ℕ). TakesShape (shape One opcode) i h.after mid) is h.follows))
+
+-- in profile 1 no offset holds an extension
+no_extended_code : (c : Code) (after rest : List ℕ) → TakesCode One ByEnd c (0x41 ∷ 0x00 ∷ 0xC0 ∷ after) rest → ⊥
+no_extended_code End after rest h = absurd (omega (arith, first_bytes 0x41 0x0B (0x00 ∷ 0xC0 ∷ after) rest h))
+no_extended_code (Plain i more) after rest h = no_code_from_an_extension_on more after rest (subst (λ (l : List ℕ). TakesCode One ByEnd more l rest) (behind_the_constant i h.0 after h.1) h.2)
+no_extended_code (Block t body more) after rest h = absurd (omega (arith, first_bytes 0x41 0x02 (0x00 ∷ 0xC0 ∷ after) h.0 h.1))
+no_extended_code (Loop t body more) after rest h = absurd (omega (arith, first_bytes 0x41 0x03 (0x00 ∷ 0xC0 ∷ after) h.0 h.1))
+no_extended_code (If t first second more) after rest h = absurd (omega (arith, first_bytes 0x41 0x04 (0x00 ∷ 0xC0 ∷ after) h.0 h.1))
+no_extended_code (Call x more) after rest h = absurd (omega (arith, first_bytes 0x41 0x10 (0x00 ∷ 0xC0 ∷ after) h.0 h.1))
+no_extended_code (CallIndirect x more) after rest h = absurd (omega (arith, first_bytes 0x41 0x11 (0x00 ∷ 0xC0 ∷ after) h.0 h.1))
+
+no_extended_offset_of_data_in_profile_1 : (d : DataTree) (rest : List ℕ) → TakesData One d (0x00 ∷ extended_bytes ++ 0x00 ∷ []) rest → ⊥
+no_extended_offset_of_data_in_profile_1 d rest h =
+    let behind : List ℕ = extended_bytes ++ 0x00 ∷ [] in
+    let after : h.after_memory ≡ behind = (unsigned-unique 32 d.memory 0 (0x00 ∷ behind) h.after_memory behind h.memory (short 0 behind (omega arith))).1 in
+    no_extended_code d.offset (0x0B ∷ 0x00 ∷ []) h.after_offset (subst (λ (l : List ℕ). TakesCode One ByEnd d.offset l h.after_offset) after h.offset)
+
+no_extended_offset_of_elements_in_profile_1 : (e : ElementTree) (rest : List ℕ) → TakesElement One e (0x00 ∷ extended_bytes ++ 0x00 ∷ []) rest → ⊥
+no_extended_offset_of_elements_in_profile_1 e rest h =
+    let behind : List ℕ = extended_bytes ++ 0x00 ∷ [] in
+    let after : h.after_table ≡ behind = (unsigned-unique 32 e.table 0 (0x00 ∷ behind) h.after_table behind h.table (short 0 behind (omega arith))).1 in
+    no_extended_code e.offset (0x0B ∷ 0x00 ∷ []) h.after_offset (subst (λ (l : List ℕ). TakesCode One ByEnd e.offset l h.after_offset) after h.offset)
 
 -- what a local's index takes
 index_taken : (i : Instr) (mid : List ℕ) → TakesShape (shape One 0x20) i (0x00 ∷ 0xC0 ∷ 0x0B ∷ []) mid → mid ≡ 0xC0 ∷ 0x0B ∷ []

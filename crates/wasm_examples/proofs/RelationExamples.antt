@@ -4,7 +4,7 @@ use Rattle.wasm_types.specs.declared.types.ValType.TheVariants.{I32, I64}
 use Rattle.wasm_values.specs.declared.outcome.Val.TheVariants as val
 use Rattle.wasm_types.specs.declared.instr.Width.TheVariants.{W64}
 use Rattle.wasm_types.specs.declared.instr.Instr.TheVariants as instr
-use Rattle.wasm_types.specs.Tree.{Code, End, Plain, Block}
+use Rattle.wasm_types.specs.Tree.{Code, End, Plain, Block, Loop}
 use Rattle.wasm_spec.specs.Typing.{Typed, body_context}
 use Rattle.wasm_examples.proofs.Modules.{function_of, bare, empty_type}
 
@@ -30,6 +30,10 @@ select_of_64_bits = (
     ),
   ),
 )
+
+-- the body of a loop leaves its result
+loop_with_a_result : IsTyped (Loop (Some I32) (Plain (instr.Const (val.I32 8)) End) (Plain instr.Drop End))
+loop_with_a_result = ((I32 ∷ [], ([], refl, refl), refl), ([], (I32, refl), refl))
 
 -- an operand is left
 operand_left : IsTyped (wide End) → ⊥

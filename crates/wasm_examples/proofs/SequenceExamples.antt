@@ -5,6 +5,8 @@ use Rattle.wasm_types.specs.declared.instr.Instr.TheVariants as instr
 use Rattle.wasm_types.specs.declared.instr.Op.TheVariants as op
 use Rattle.wasm_types.specs.declared.instr.Expr.{Expr}
 use Rattle.wasm_types.specs.declared.module.Function.{Function}
+use Rattle.wasm_types.specs.declared.module.ExportDesc.TheVariants as export
+use Rattle.wasm_types.specs.declared.module.ImportDesc.TheVariants as item
 use Rattle.wasm_types.specs.declared.module.Module.{Module}
 use Rattle.wasm_types.specs.Tree.{Code, End, Plain, Block, Loop, If, Call, CallIndirect, codes, expr_tree, function_tree, module_tree}
 use Rattle.wasm_types.specs.Sequences.{code_at, named_in}
@@ -75,12 +77,12 @@ expression = record { sequences = (op.Plain (instr.GlobalGet 2) ∷ []) ∷ [] }
 abbrev module_of_parts : Module
 module_of_parts = record {
   types = record { params = type.I32 ∷ []; results = [] } ∷ [];
-  imports = [];
+  imports = record { module_name = 97 ∷ []; item_name = 98 ∷ []; desc = item.Func 9 } ∷ [];
   functions = function_of_runs ∷ [];
   tables = record { min = 1; max = None } ∷ [];
   memories = record { min = 2; max = Some 3 } ∷ [];
   globals = record { global_type = record { value = type.I64; mutable = true }; init = expression } ∷ [];
-  exports = [];
+  exports = record { name = 99 ∷ []; desc = export.Func 8 } ∷ [];
   start = Some 0;
   element_segments = record { table = 4; offset = expression; functions = 5 ∷ [] } ∷ [];
   data_segments = record { memory = 6; offset = expression; bytes = 7 ∷ [] } ∷ [];
@@ -88,12 +90,12 @@ module_of_parts = record {
 
 module-tree : module_tree module_of_parts ≡ record {
   types = record { params = type.I32 ∷ []; results = [] } ∷ [];
-  imports = [];
+  imports = record { module_name = 97 ∷ []; item_name = 98 ∷ []; desc = item.Func 9 } ∷ [];
   functions = record { type_index = 7; locals = type.I32 ∷ type.I32 ∷ type.F64 ∷ []; body = Plain instr.Nop End } ∷ [];
   tables = record { min = 1; max = None } ∷ [];
   memories = record { min = 2; max = Some 3 } ∷ [];
   globals = record { global_type = record { value = type.I64; mutable = true }; init = Plain (instr.GlobalGet 2) End } ∷ [];
-  exports = [];
+  exports = record { name = 99 ∷ []; desc = export.Func 8 } ∷ [];
   start = Some 0;
   element_segments = record { table = 4; offset = Plain (instr.GlobalGet 2) End; functions = 5 ∷ [] } ∷ [];
   data_segments = record { memory = 6; offset = Plain (instr.GlobalGet 2) End; bytes = 7 ∷ [] } ∷ [];
@@ -111,6 +113,9 @@ other_order = refl
 
 shorter : all_same (type.I32 ∷ []) (type.I32 ∷ type.I32 ∷ []) ≡ false
 shorter = refl
+
+shorter_than_the_other : all_same [] (type.I32 ∷ []) ≡ false
+shorter_than_the_other = refl
 
 other_float : same type.F32 type.F64 ≡ false
 other_float = refl

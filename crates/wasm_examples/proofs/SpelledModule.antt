@@ -144,13 +144,13 @@ types_spelled = record { mid = _; count = inl (omega arith, omega arith, refl, r
 
 imports_spelled : TakesVec TakesImport everything.imports import_contents []
 unfolding lib.Utf8.encode
-imports_spelled = record { mid = _; count = inl (omega arith, omega arith, refl, refl); items = (_, record { after_module = _; after_item = _; module_name = record { spelled = record { mid = _; count = inl (omega arith, omega arith, refl, refl); items = refl }; utf8 = (97 ∷ [], (refl, refl)) }; item_name = record { spelled = record { mid = _; count = inl (omega arith, omega arith, refl, refl); items = refl }; utf8 = (98 ∷ [], (refl, refl)) }; desc = (_, refl, inl (omega arith, omega arith, refl, refl)) }, (_, record { after_module = _; after_item = _; module_name = record { spelled = record { mid = _; count = inl (omega arith, omega arith, refl, refl); items = refl }; utf8 = ([], (refl, refl)) }; item_name = record { spelled = record { mid = _; count = inl (omega arith, omega arith, refl, refl); items = refl }; utf8 = (233 ∷ [], (refl, refl)) }; desc = (_, refl, (_, refl, (_, refl, _, inl (omega arith, omega arith, refl, refl), inl (omega arith, omega arith, refl, refl)))) }, (_, record { after_module = _; after_item = _; module_name = record { spelled = record { mid = _; count = inl (omega arith, omega arith, refl, refl); items = refl }; utf8 = (97 ∷ [], (refl, refl)) }; item_name = record { spelled = record { mid = _; count = inl (omega arith, omega arith, refl, refl); items = refl }; utf8 = (99 ∷ [], (refl, refl)) }; desc = (_, refl, (_, refl, inl (omega arith, omega arith, refl, refl))) }, (_, record { after_module = _; after_item = _; module_name = record { spelled = record { mid = _; count = inl (omega arith, omega arith, refl, refl); items = refl }; utf8 = (97 ∷ [], (refl, refl)) }; item_name = record { spelled = record { mid = _; count = inl (omega arith, omega arith, refl, refl); items = refl }; utf8 = (100 ∷ [], (refl, refl)) }; desc = (_, refl, refl) }, refl)))) }
+imports_spelled = record { mid = _; count = inl (omega arith, omega arith, refl, refl); items = (_, record { after_module = _; after_item = _; module_name = record { spelled = record { mid = _; count = inl (omega arith, omega arith, refl, refl); items = refl }; utf8 = (97 ∷ [], (refl, refl)) }; item_name = record { spelled = record { mid = _; count = inl (omega arith, omega arith, refl, refl); items = refl }; utf8 = (98 ∷ [], (refl, refl)) }; desc = (_, refl, inl (omega arith, omega arith, refl, refl)) }, (_, record { after_module = _; after_item = _; module_name = record { spelled = record { mid = _; count = inl (omega arith, omega arith, refl, refl); items = refl }; utf8 = ([], (refl, refl)) }; item_name = record { spelled = record { mid = _; count = inl (omega arith, omega arith, refl, refl); items = refl }; utf8 = (233 ∷ [], (refl, refl)) }; desc = (_, refl, (_, refl, (_, refl, (_, inl (omega arith, omega arith, refl, refl), inl (omega arith, omega arith, refl, refl))))) }, (_, record { after_module = _; after_item = _; module_name = record { spelled = record { mid = _; count = inl (omega arith, omega arith, refl, refl); items = refl }; utf8 = (97 ∷ [], (refl, refl)) }; item_name = record { spelled = record { mid = _; count = inl (omega arith, omega arith, refl, refl); items = refl }; utf8 = (99 ∷ [], (refl, refl)) }; desc = (_, refl, (_, refl, inl (omega arith, omega arith, refl, refl))) }, (_, record { after_module = _; after_item = _; module_name = record { spelled = record { mid = _; count = inl (omega arith, omega arith, refl, refl); items = refl }; utf8 = (97 ∷ [], (refl, refl)) }; item_name = record { spelled = record { mid = _; count = inl (omega arith, omega arith, refl, refl); items = refl }; utf8 = (100 ∷ [], (refl, refl)) }; desc = (_, refl, refl) }, refl)))) }
 
 indices_spelled : TakesVec (TakesUnsigned 32) (0 ∷ 1 ∷ []) function_contents []
 indices_spelled = record { mid = _; count = inl (omega arith, omega arith, refl, refl); items = (_, inl (omega arith, omega arith, refl, refl), (_, inl (omega arith, omega arith, refl, refl), refl)) }
 
 tables_spelled : TakesVec TakesTableType everything.tables table_contents []
-tables_spelled = record { mid = _; count = inl (omega arith, omega arith, refl, refl); items = (_, (_, refl, (_, refl, _, inl (omega arith, omega arith, refl, refl), inl (omega arith, omega arith, refl, refl))), refl) }
+tables_spelled = record { mid = _; count = inl (omega arith, omega arith, refl, refl); items = (_, (_, refl, (_, refl, (_, inl (omega arith, omega arith, refl, refl), inl (omega arith, omega arith, refl, refl)))), refl) }
 
 memories_spelled : TakesVec TakesLimits everything.memories memory_contents []
 memories_spelled = record { mid = _; count = inl (omega arith, omega arith, refl, refl); items = (_, (_, refl, inl (omega arith, omega arith, refl, refl)), refl) }

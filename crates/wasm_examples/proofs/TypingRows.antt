@@ -13,7 +13,7 @@ use Rattle.wasm_types.specs.declared.instr.BinaryOp.TheVariants as binary_op
 use Rattle.wasm_types.specs.declared.instr.CompareOp.TheVariants as compare_op
 use Rattle.wasm_types.specs.declared.instr.Instr.TheVariants as instr
 use Rattle.wasm_types.specs.Tree.{Code, End, Plain, Block, Loop, If, Call, CallIndirect, FunctionTree, ModuleTree}
-use Rattle.wasm_spec.specs.Typing.{body_context, results_of, result_types, Typed}
+use Rattle.wasm_spec.specs.Typing.{body_context, own_type, result_types, Typed}
 use Rattle.wasm_spec.specs.Need.{need}
 use Rattle.wasm_checker.specs.Check.{Stack, check_body}
 use Rattle.wasm_checker.proofs.Exact.{Decides, body_exact}
@@ -45,7 +45,7 @@ need_if (Some s) m f = Some (need m f)
 abbrev need_if_typed : ModuleTree → ℕ → Code → Option ℕ
 need_if_typed m t body =
     let f : FunctionTree = record { type_index = t; locals = []; body = body } in
-    need_if (check_body (body_context m f) (slice_get (results_of m f) 0) body) m f
+    need_if (check_body (body_context m f) (slice_get (own_type m f).results 0) body) m f
 
 -- a module with a memory and a table
 abbrev both : ModuleTree
@@ -62,10 +62,10 @@ by_stack (Some s) m f P d = d
 
 -- The meaning of a row: the body is typed where its left side is a number, and is not where it is None.
 row_says : (m : ModuleTree) (t : ℕ) (body : Code) → let f : FunctionTree = record { type_index = t; locals = []; body = body } in
-    Says (need_if_typed m t body) (Typed (body_context m f) body [] (result_types (slice_get (results_of m f) 0)))
+    Says (need_if_typed m t body) (Typed (body_context m f) body [] (result_types (slice_get (own_type m f).results 0)))
 row_says m t body =
     let f : FunctionTree = record { type_index = t; locals = []; body = body } in
-    let result = slice_get (results_of m f) 0 in
+    let result = slice_get (own_type m f).results 0 in
     by_stack (check_body (body_context m f) result body) m f (Typed (body_context m f) body [] (result_types result)) (body_exact (body_context m f) result body)
 
 -- two of them, in the words of the relation
@@ -483,3 +483,40 @@ operand_below_a_loop-row = refl
 
 operand_below_an_if-row : need_if_typed both 0 (Plain (instr.Const (I32 1)) (Plain (instr.Const (I32 0)) (If None (End) (End) (End)))) ≡ Some 6
 operand_below_an_if-row = refl
+
+-- ---- each access needs a memory, and a table is none
+
+load_of_64_without_a_memory-row : need_if_typed (around [] one) 3 (Plain (instr.Const (I32 0)) (Plain (instr.Load W64 (record { align = 0; offset = 0 })) (Plain (instr.Drop) (End)))) ≡ None
+load_of_64_without_a_memory-row = refl
+
+narrow_load_without_a_memory-row : need_if_typed (around [] one) 3 (Plain (instr.Const (I32 0)) (Plain (instr.LoadPacked W32 Pack8 Signed (record { align = 0; offset = 0 })) (Plain (instr.Drop) (End)))) ≡ None
+narrow_load_without_a_memory-row = refl
+
+narrow_load_of_64_without_a_memory-row : need_if_typed (around [] one) 3 (Plain (instr.Const (I32 0)) (Plain (instr.LoadPacked W64 Pack32 Unsigned (record { align = 0; offset = 0 })) (Plain (instr.Drop) (End)))) ≡ None
+narrow_load_of_64_without_a_memory-row = refl
+
+store_of_64_without_a_memory-row : need_if_typed (around [] one) 3 (Plain (instr.Const (I32 0)) (Plain (instr.Const (I64 0)) (Plain (instr.Store W64 (record { align = 0; offset = 0 })) (End)))) ≡ None
+store_of_64_without_a_memory-row = refl
+
+narrow_store_without_a_memory-row : need_if_typed (around [] one) 3 (Plain (instr.Const (I32 0)) (Plain (instr.Const (I32 0)) (Plain (instr.StorePacked W32 Pack8 (record { align = 0; offset = 0 })) (End)))) ≡ None
+narrow_store_without_a_memory-row = refl
+
+narrow_load_without_a_table-row : need_if_typed (around one []) 3 (Plain (instr.Const (I32 0)) (Plain (instr.LoadPacked W32 Pack8 Signed (record { align = 0; offset = 0 })) (Plain (instr.Drop) (End)))) ≡ Some 4
+narrow_load_without_a_table-row = refl
+
+narrow_store_without_a_table-row : need_if_typed (around one []) 3 (Plain (instr.Const (I32 0)) (Plain (instr.Const (I32 0)) (Plain (instr.StorePacked W32 Pack8 (record { align = 0; offset = 0 })) (End)))) ≡ Some 5
+narrow_store_without_a_table-row = refl
+
+branch_out_without_its_value-row : need_if_typed both 0 (Block None (Plain (instr.Br 1) (End)) (Plain (instr.Const (I32 2)) (End))) ≡ None
+branch_out_without_its_value-row = refl
+
+-- ---- all labels of a table have the types of its last one
+
+second_label_of_another_type-row : need_if_typed both 0 (Block None (Plain (instr.Const (I32 0)) (Plain (instr.BrTable (0 ∷ 1 ∷ []) 0) (End))) (Plain (instr.Const (I32 0)) (End))) ≡ None
+second_label_of_another_type-row = refl
+
+labels_of_32_and_64-row : need_if_typed both 2 (Block (Some type.I32) (Plain (instr.Const (I32 1)) (Plain (instr.Const (I32 0)) (Plain (instr.BrTable (1 ∷ []) 0) (End)))) (Plain (instr.Drop) (Plain (instr.Const (I64 0)) (End)))) ≡ None
+labels_of_32_and_64-row = refl
+
+labels_of_one_type-row : need_if_typed both 0 (Block (Some type.I32) (Plain (instr.Const (I32 1)) (Plain (instr.Const (I32 0)) (Plain (instr.BrTable (1 ∷ 0 ∷ []) 0) (End)))) (End)) ≡ Some 6
+labels_of_one_type-row = refl

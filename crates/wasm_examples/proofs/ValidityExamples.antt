@@ -18,7 +18,7 @@ use Rattle.wasm_spec.specs.Functions.{callee_at}
 use Rattle.wasm_spec.specs.Typing.{IsTypedFunction}
 use Rattle.wasm_spec.specs.Validity.{IsValid, IsSupported, IsDefined, IsInitialised, IsElementSegment, IsDataSegment, IsMemoryType, AreOrdered, IsStart, Exports}
 use Rattle.wasm_spec.proofs.AddModule.{all_one}
-use Rattle.wasm_examples.proofs.Modules.{straight, i32_const, function_type, function_of, empty_type, unary_type}
+use Rattle.wasm_examples.proofs.Modules.{straight, i32_const, function_type, function_of, bare, empty_type, unary_type}
 
 -- ---- a valid module with every part
 
@@ -125,6 +125,48 @@ an_import_is_unsupported s = let e = s.imports in cc (e)
 
 a_float_is_unsupported : IsSupported One (record whole { types = empty_type ∷ function_type [] (type.F32 ∷ []) ∷ [] }) → ⊥
 a_float_is_unsupported s = let e : true ≡ false = s.no_float in cc (e)
+
+-- ---- what is valid besides
+
+global_of_64_bits : IsInitialised (record { global_type = record { value = type.I64; mutable = false }; init = straight (instr.Const (val.I64 5) ∷ []) End })
+global_of_64_bits = refl
+
+range_from_0_to_0 : AreOrdered (range 0 (Some 0))
+range_from_0_to_0 = omega arith
+
+-- two exports whose names begin alike
+abbrev alike_exports : List Export
+alike_exports = exports_as (codes "ab") (desc.Func 0) ∷ exports_as (codes "ac") (desc.Func 0) ∷ []
+
+abbrev alike : ModuleTree
+alike = bare (empty_type ∷ []) (the_function ∷ []) alike_exports
+
+abbrev second_of : List ℕ → ℕ
+second_of (a ∷ b ∷ bytes) = b
+second_of _ = 0
+
+alike_differ : AllPairs (λ (a b : Export). a.name ≢ b.name) alike_exports
+alike_differ zero zero d lt le = absurd (omega arith)
+alike_differ zero (suc zero) d lt le = λ e. omega (arith, ap second_of e)
+alike_differ zero (suc (suc n)) d lt le = absurd (omega arith)
+alike_differ (suc i) j d lt le = absurd (omega arith)
+
+names_that_begin_alike : IsValid alike
+names_that_begin_alike = record {
+  function_types = all_one (λ (t : FuncType). length t.results ≤ 1) empty_type (omega arith);
+  imports = All-nil _;
+  functions = all_one (IsTypedFunction alike) the_function (refl, refl);
+  one_table = omega arith;
+  table_types = All-nil _;
+  one_memory = omega arith;
+  memory_types = All-nil _;
+  globals = All-nil _;
+  element_segments = All-nil _;
+  data_segments = All-nil _;
+  start = tt;
+  exports = two (λ e. IsDefined alike e.desc) (exports_as (codes "ab") (desc.Func 0)) (exports_as (codes "ac") (desc.Func 0)) refl refl;
+  names_differ = alike_differ;
+}
 
 -- ---- an invalid module for each condition
 
@@ -260,14 +302,16 @@ two_exports_of_one_name v = v.names_differ 0 2 (exports_as [] (desc.Func 0)) (om
 -- ---- exports by name: the function, and not the table of that name
 
 function_of_its_name : Exports (exports_as (codes "t") (desc.Table 1) ∷ exports_as (codes "f") (desc.Func 7) ∷ []) (codes "f") 7
-function_of_its_name = record { place = 1; export = exports_as (codes "f") (desc.Func 7); there = refl; named = refl; function = refl }
+function_of_its_name = record { place = 1; there = refl }
 
-table_at : (x place : ℕ) (e : Export) → slice_get (exports_as (codes "t") (desc.Table 1) ∷ []) place ≡ Some e → e.desc ≡ desc.Func x → ⊥
-table_at x zero e there function = cc (there, function)
-table_at x (suc place) e there function = cc (there)
+table_at : (x place : ℕ) → slice_get (exports_as (codes "t") (desc.Table 1) ∷ []) place ≡ Some (exports_as (codes "t") (desc.Func x)) → ⊥
+table_at x zero there =
+    let same : exports_as (codes "t") (desc.Table 1) ≡ exports_as (codes "t") (desc.Func x) = cc (there) in
+    let is : desc.Table 1 ≡ desc.Func x = ap (λ (y : Export). y.desc) same in cc (is)
+table_at x (suc place) there = cc (there)
 
 table_is_no_function : (x : ℕ) → Exports (exports_as (codes "t") (desc.Table 1) ∷ []) (codes "t") x → ⊥
-table_is_no_function x e = table_at x e.place e.export e.there e.function
+table_is_no_function x e = table_at x e.place e.there
 
 named_at : (place : ℕ) (e : Export) → slice_get (exports_as (codes "f") (desc.Func 7) ∷ []) place ≡ Some e → e.name ≡ codes "g" → ⊥
 named_at zero e there named =
@@ -276,4 +320,4 @@ named_at zero e there named =
 named_at (suc place) e there named = cc (there)
 
 function_of_another_name : (x : ℕ) → Exports (exports_as (codes "f") (desc.Func 7) ∷ []) (codes "g") x → ⊥
-function_of_another_name x e = named_at e.place e.export e.there e.named
+function_of_another_name x e = named_at e.place (exports_as (codes "g") (desc.Func x)) e.there refl

@@ -62,12 +62,12 @@ least_size : (low : ℕ) (behind rest : List ℕ) → TakesRange low None (0 ∷
 least_size low behind rest h = refuted low behind h.0 rest (cc (h.1)) h.2
 
 least_size_below_a_greatest : (low high : ℕ) (behind rest : List ℕ) → TakesRange low (Some high) (1 ∷ too_great behind) rest → ⊥
-least_size_below_a_greatest low high behind rest h = refuted low behind h.0 h.2 (cc (h.1)) h.3
+least_size_below_a_greatest low high behind rest h = refuted low behind h.0 h.2.0 (cc (h.1)) h.2.1
 
 greatest_size : (low high : ℕ) (behind rest : List ℕ) → TakesRange low (Some high) (1 ∷ 0 ∷ too_great behind) rest → ⊥
 greatest_size low high behind rest h =
     let after : h.0 ≡ 0 ∷ too_great behind = let e = h.1 in cc (e) in
-    behind_zero low high behind h.2 rest (subst (λ (l : List ℕ). TakesUnsigned 32 low l h.2) after h.3) h.4
+    behind_zero low high behind h.2.0 rest (subst (λ (l : List ℕ). TakesUnsigned 32 low l h.2.0) after h.2.1) h.2.2
 
 count_of_locals : (run : LocalRun) (behind rest : List ℕ) → TakesLocalRun run (too_great behind) rest → ⊥
 count_of_locals run behind rest h = unused_bits_are_not_zero run.count behind h.mid h.count

@@ -1,13 +1,14 @@
 -- The beginning of a run.
+use Rattle.wasm_types.specs.declared.types.FuncType.{FuncType}
 use Rattle.wasm_types.proofs.SequenceLemmas.{tree_is}
 use Rattle.wasm_spec.specs.Execution.{Terms}
-use Rattle.std.proofs.Common.{◌≡◌, ℕ, ◌+◌, ◌<◌, List, [], ◌++◌, false, length, map, take, drop, reverse, Some, refl, sym, ap, ◌∙◌, arith, append-nil}
+use Rattle.std.proofs.Common.{◌≡◌, ℕ, ◌+◌, ◌<◌, List, [], ◌++◌, false, length, map, take, drop, reverse, Option, Some, refl, sym, ap, ◌∙◌, arith, append-nil}
 use Rattle.std.proofs.lemmas.List.{length-map, length-reverse, reverse-reverse, take_all, drop_all}
 use Rattle.wasm_types.specs.declared.types.ValType.{ValType}
 use Rattle.wasm_values.specs.declared.outcome.Val.{Val}
 use Rattle.wasm_types.specs.declared.module.Module.{Module}
 use Rattle.wasm_types.specs.Tree.{Code, FunctionTree, function_tree, module_tree}
-use Rattle.wasm_spec.specs.Typing.{type_of, params_or_none, results_or_none}
+use Rattle.wasm_spec.specs.Typing.{type_of, type_or_empty}
 use Rattle.wasm_spec.specs.Validity.{has_float}
 use Rattle.wasm_spec.specs.Store.{Store}
 use Rattle.std.specs.Prelude.{option_map}
@@ -38,12 +39,12 @@ begins_run m limits frame x args old new store run call deep stored room keeps a
     let zeros = (function_tree (function_of m x)).locals in
     let known : body_type (module_tree m) x ≡ Some t = type_known m frame x f t run call.there call.typed in
     let tree : f ≡ function_tree (function_of m x) = tree_known m frame x f t run call.there call.typed in
-    let gives : results m x ≡ t.results = ap results_or_none known in
+    let gives : results m x ≡ t.results = ap (λ (o : Option FuncType). (type_or_empty o).results) known in
     let floats : has_float zeros ≡ false = ap (λ (g : FunctionTree). has_float g.locals) (sym tree) ∙ no_floats m x f run.supported call.there in
     let locals : map type_of (args ++ map zero_of zeros) ≡ local_types m frame x =
     map-append args (map zero_of zeros)
-    ∙ ap (λ (l : List ValType). l ++ map type_of (map zero_of zeros)) (call.args_fit ∙ ap params_or_none (sym known))
-    ∙ ap (λ (l : List ValType). params_or_none (body_type (module_tree m) x) ++ l) (zero_types zeros floats) in
+    ∙ ap (λ (l : List ValType). l ++ map type_of (map zero_of zeros)) (call.args_fit ∙ ap (λ (o : Option FuncType). (type_or_empty o).params) (sym known))
+    ∙ ap (λ (l : List ValType). (type_or_empty (body_type (module_tree m) x)).params ++ l) (zero_types zeros floats) in
     let counted : length args ≡ n = sym (length-map args type_of) ∙ ap length call.args_fit in
     let whole : take n (reverse args) ≡ reverse args = take_all n (reverse args) (omega (arith, length-reverse args)) in
     let arguments : reverse (take n (reverse args)) ≡ args = ap reverse whole ∙ reverse-reverse args in
@@ -64,7 +65,7 @@ begins_run m limits frame x args old new store run call deep stored room keeps a
           let e : Ended = exec (module_tree m) limits 1 f.body u fuel in
           ap (λ (c : Code). return (length (results m x)) (resting []) [] (exec (module_tree m) limits 1 c u fuel) finish) body
           ∙ ap (λ (z : ℕ). return z (resting []) [] e finish) (ap length gives)
-          ∙ same_return (length t.results) (resting []) s [] e.signal e.fuel finish refl
+          ∙ same_return (length t.results) (resting []) s [] e.0 e.1 finish refl
           ∙ ap (λ (below : List Val). return (length t.results) s below e finish) (sym none)
           ∙ ap (λ (ls : List Val). return (length t.results) s (drop n (reverse args)) (exec (module_tree m) limits 1 f.body (record { locals = ls ++ map zero_of zeros; operands = []; store = store }) fuel) finish) (sym arguments)
           ∙ ap (λ (g : FunctionTree). return (length t.results) s (drop n (reverse args)) (exec (module_tree m) limits 1 f.body (record { locals = reverse (take n (reverse args)) ++ map zero_of g.locals; operands = []; store = store }) fuel) finish) (sym tree)

@@ -12,7 +12,7 @@ use Rattle.wasm_types.specs.Tree.{Code, End, code_of, module_tree}
 use Rattle.wasm_spec.specs.Typing.{Context, type_of, result_types, Typed, under}
 use Rattle.wasm_spec.specs.Need.{highest, deepest}
 use Rattle.wasm_spec.specs.Store.{Store}
-use Rattle.wasm_spec.specs.Execution.{State, OutOfFuel, Ended, Continuation, ended, exec, leave, inside}
+use Rattle.wasm_spec.specs.Execution.{State, OutOfFuel, Ended, Continuation, exec, leave, inside}
 use Rattle.wasm_types.proofs.SequenceLemmas.{code_at-within, code_at-past}
 use Rattle.wasm_spec.proofs.NeedLaws.{highest-least, deepest-least}
 use Rattle.wasm_spec.proofs.Equations.{exec-End, exec-Block, exec-Loop, exec-zero}
@@ -206,7 +206,7 @@ module _ (m : Module) (limits : Terms) (frame : ℕ) where
   longer done (op.Call x) ops e = cc
   longer done (op.CallIndirect x) ops e = cc
 
-  pub no_fuel : (machine : Machine) (store : Store) (r : ℕ → Ended) (o : Op) → Simulates m limits frame machine store r → op_at m machine ≡ Some o → r 0 ≡ ended (OutOfFuel store) 0
+  pub no_fuel : (machine : Machine) (store : Store) (r : ℕ → Ended) (o : Op) → Simulates m limits frame machine store r → op_at m machine ≡ Some o → r 0 ≡ (OutOfFuel store, 0)
   no_fuel machine store r o e there =
       let k = e.configuration in
       let body = body_of m k in

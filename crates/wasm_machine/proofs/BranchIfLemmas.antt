@@ -15,7 +15,7 @@ use Rattle.wasm_types.specs.Tree.{Code, module_tree}
 use Rattle.wasm_spec.specs.Typing.{Context, Rule, Fixed, Takes, type_of, named, rule}
 use Rattle.wasm_spec.specs.Need.{height}
 use Rattle.wasm_spec.specs.Store.{Store}
-use Rattle.wasm_spec.specs.Execution.{State, Signal, Next, Branch, Ended, and_then, if_zero, plain}
+use Rattle.wasm_spec.specs.Execution.{State, Signal, Next, Branch, Ended, and_then, chosen, plain}
 use Rattle.wasm_types.specs.Sequences.{code_at}
 use Rattle.machine_steps.specs.declared.machine.Machine.{Machine}
 use Rattle.machine_steps.specs.Configuration.{Configuration, state}
@@ -76,10 +76,10 @@ module _ (m : Module) (limits : Terms) (frame : ℕ) where
   Pops32 old result new = (k : Configuration) (n : ℕ) (vs : List Val) → Represents k old → k.operands ≡ val.I32 n ∷ vs → (result ≡ n) × Represents (record k { operands = vs }) new
 
   branched : (l n : ℕ) (s : State) (vs : List Val) → s.operands ≡ val.I32 n ∷ vs
-      → plain (module_tree m) limits (instr.BrIf l) s ≡ (let t = record s { operands = vs } in if_zero n (Next t) (Branch l t))
+      → plain (module_tree m) limits (instr.BrIf l) s ≡ (let t = record s { operands = vs } in chosen n (Branch l t) (Next t))
   branched l n s vs e = rw e
 
-  nonzero : (n : ℕ) (a b : Signal) → n ≢ 0 → if_zero n a b ≡ b
+  nonzero : (n : ℕ) (a b : Signal) → n ≢ 0 → chosen n a b ≡ a
   nonzero zero a b h = absurd (h refl)
   nonzero (suc n) a b h = refl
 
@@ -98,7 +98,7 @@ module _ (m : Module) (limits : Terms) (frame : ℕ) where
         room = room_kept limits.depth frame old new b.room keeps;
         goes = λ g.
             ap (λ (e : Signal). after_sequence m limits k (and_then e g (resume_at m limits (length k.activations + 1) k.function k.sequence k.place)))
-            (sym (branched l c.n (state k store) c.rest c.are ∙ nonzero c.n (Next t) (Branch l t) (λ e. some (p.0 ∙ e))))
+            (sym (branched l c.n (state k store) c.rest c.are ∙ nonzero c.n (Branch l t) (Next t) (λ e. some (p.0 ∙ e))))
             ∙ jumps m limits frame old store here (instr.BrIf l) r b g;
       }
 
@@ -111,7 +111,7 @@ module _ (m : Module) (limits : Terms) (frame : ℕ) where
       let p = pops k c.n c.rest b.represents c.are in
       let t : State = record { locals = k.locals; operands = c.rest; store = store } in
       let zero_is : c.n ≡ 0 = sym p.0 ∙ none in
-      let e : plain (module_tree m) limits (instr.BrIf l) (state k store) ≡ Next t = branched l c.n (state k store) c.rest c.are ∙ ap (λ (z : ℕ). if_zero z (Next t) (Branch l t)) zero_is in
+      let e : plain (module_tree m) limits (instr.BrIf l) (state k store) ≡ Next t = branched l c.n (state k store) c.rest c.are ∙ ap (λ (z : ℕ). chosen z (Branch l t) (Next t)) zero_is in
       let good : HasResultTypes m C (instr.BrIf l) (map type_of k.operands) middle t = record { types = c.types ∙ sym c.gives; counted = c.counted; locals = b.around.locals; stored = b.stored } in
       done_as m limits frame (Next t) k (instr.BrIf l) middle None old new store store (paid r) good typed b.typed.fits b.typed.narrow b.around b.room keeps
       (λ g. ap (λ (s : Signal). after_sequence m limits k (and_then s g (resume_at m limits (length k.activations + 1) k.function k.sequence k.place))) (sym e) ∙ jumps m limits frame old store here (instr.BrIf l) r b g)

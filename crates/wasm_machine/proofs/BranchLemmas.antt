@@ -7,7 +7,7 @@ use Rattle.wasm_values.specs.declared.outcome.Val.{Val}
 use Rattle.wasm_types.specs.declared.module.Module.{Module}
 use Rattle.wasm_spec.specs.Typing.{type_of}
 use Rattle.wasm_spec.specs.Store.{Store}
-use Rattle.wasm_spec.specs.Execution.{State, Next, Ended, ended}
+use Rattle.wasm_spec.specs.Execution.{State, Next, Ended}
 use Rattle.machine_steps.specs.declared.machine.Position.{Position}
 use Rattle.machine_steps.specs.declared.machine.Label.{Label}
 use Rattle.machine_steps.specs.declared.machine.Machine.{Machine}
@@ -129,7 +129,7 @@ module _ (m : Module) (limits : Terms) (frame : ℕ) where
   closes : (x q p : ℕ) (ls vs : List Val) (os : List OpenBlock) (cs : List Activation) (old new : Machine) (label : Label) (store : Store) (r : ℕ → Ended)
       → Represents (configuration_of x q p ls vs os cs) old → IsTypedContext m frame limits.depth (configuration_of x q p ls vs os cs) → HasExitOperands m frame AtEnd (configuration_of x q p ls vs os cs)
       → IsTypedStore m store → HasRoom limits.depth frame old
-      → ((fuel : ℕ) → after_sequence m limits (configuration_of x q p ls vs os cs) (ended (Next (state (configuration_of x q p ls vs os cs) store)) fuel) ≡ r fuel)
+      → ((fuel : ℕ) → after_sequence m limits (configuration_of x q p ls vs os cs) (Next (state (configuration_of x q p ls vs os cs) store), fuel) ≡ r fuel)
       → length old.labels.items ≢ old.at.labels → old.labels.items ≡ new.labels.items ++ label ∷ [] → new.values.items ≡ old.values.items → new.frames.items ≡ old.frames.items
       → new.at ≡ record old.at { sequence = label.sequence; place = label.after } → KeepsRoom old new → Simulates m limits frame new store r
   closes x q p ls vs [] cs old new label store r sh ar ready stored room goes some labels values frames ats keeps =
@@ -169,7 +169,7 @@ module _ (m : Module) (limits : Terms) (frame : ℕ) where
   ends : (x q p : ℕ) (ls vs : List Val) (os : List OpenBlock) (cs : List Activation) (machine : Machine) (store : Store) (r : ℕ → Ended)
       → Represents (configuration_of x q p ls vs os cs) machine → IsTypedContext m frame limits.depth (configuration_of x q p ls vs os cs) → HasExitOperands m frame AtEnd (configuration_of x q p ls vs os cs)
       → IsTypedStore m store → HasRoom limits.depth frame machine
-      → ((fuel : ℕ) → after_sequence m limits (configuration_of x q p ls vs os cs) (ended (Next (state (configuration_of x q p ls vs os cs) store)) fuel) ≡ r fuel)
+      → ((fuel : ℕ) → after_sequence m limits (configuration_of x q p ls vs os cs) (Next (state (configuration_of x q p ls vs os cs) store), fuel) ≡ r fuel)
       → length os ≡ 0 → SimulatesExit ByReturn m limits frame machine store r
   ends x q p ls vs (o ∷ os) cs machine store r sh ar ready stored room goes none = absurd (omega arith)
   ends x q p ls vs [] cs machine store r sh ar ready stored room goes none =

@@ -16,12 +16,12 @@ use Rattle.wasm_values.specs.declared.outcome.TrapKind.TheVariants as trap
 use Rattle.wasm_types.specs.declared.module.Function.{Function}
 use Rattle.wasm_types.specs.declared.module.Module.{Module}
 use Rattle.wasm_types.specs.Tree.{Code, FunctionTree, function_tree, module_tree}
-use Rattle.wasm_spec.specs.Typing.{Context, Typed, type_of, params_or_none, results_or_none, body_context, IsTypedFunction}
+use Rattle.wasm_spec.specs.Typing.{Context, Typed, type_of, type_or_empty, body_context, IsTypedFunction}
 use Rattle.wasm_spec.specs.Need.{highest, deepest}
 use Rattle.wasm_values.specs.declared.profile.Profile.TheVariants.{Three}
 use Rattle.wasm_spec.specs.Validity.{IsSupported, has_float, code_uses_floats}
 use Rattle.wasm_spec.specs.Store.{Store}
-use Rattle.wasm_spec.specs.Execution.{State, Signal, Next, Branch, Returned, Trapped, OutOfFuel, Stuck, Ended, Continuation, ended, exec, return_by, return, invoke, entered, zero_of}
+use Rattle.wasm_spec.specs.Execution.{State, Signal, Next, Branch, Returned, Trapped, OutOfFuel, Stuck, Ended, Continuation, exec, return, invoke, entered, zero_of}
 use Rattle.wasm_types.specs.Sequences.{code_at}
 use Rattle.machine_steps.specs.declared.machine.Position.{Position}
 use Rattle.machine_steps.specs.declared.machine.Machine.{Machine}
@@ -82,7 +82,7 @@ map-reverse (v ∷ vs) = ap (map type_of) (reverse-append (v ∷ []) vs) ∙ map
 
 -- the context of a body, from the function's type and its declared locals
 abbrev context_of : Module → Option FuncType → List ValType → Context
-context_of m o ls = record { defined = module_tree m; locals = params_or_none o ++ ls; labels = results_or_none o ∷ []; results = results_or_none o }
+context_of m o ls = record { defined = module_tree m; locals = (type_or_empty o).params ++ ls; labels = (type_or_empty o).results ∷ []; results = (type_or_empty o).results }
 
 -- typed code that fits a frame by itself
 record Fits (m : Module) (frame : ℕ) (C : Context) (code : Code) : Type 0 where
@@ -116,7 +116,7 @@ module _ (m : Module) (frame x : ℕ) (f : FunctionTree) (t : FuncType) (run : I
 
 -- ---- the call
 
-pub same_return : (n : ℕ) (s s' : State) (below : List Val) (signal : Signal) (fuel : ℕ) (next : Continuation) → s.locals ≡ s'.locals → return_by n s below signal fuel next ≡ return_by n s' below signal fuel next
+pub same_return : (n : ℕ) (s s' : State) (below : List Val) (signal : Signal) (fuel : ℕ) (next : Continuation) → s.locals ≡ s'.locals → return n s below (signal, fuel) next ≡ return n s' below (signal, fuel) next
 same_return n s s' below (Next u) fuel next e = rw e
 same_return n s s' below (Branch zero u) fuel next e = rw e
 same_return n s s' below (Branch (suc l) u) fuel next e = refl
@@ -135,7 +135,7 @@ entered_by limits d f t run next s fuel enough deep =
 
 -- and one that may not
 exhausted_by : (limits : Terms) (d : ℕ) (f : FunctionTree) (t : FuncType) (run next : Continuation) (s : State) (fuel : ℕ) → length t.params ≤ length s.operands → limits.depth ≤ d
-    → invoke limits d f t run next s fuel ≡ ended (Trapped trap.Exhausted s.store) fuel
+    → invoke limits d f t run next s fuel ≡ (Trapped trap.Exhausted s.store, fuel)
 exhausted_by limits d f t run next s fuel enough deep =
     let short : nat_lt (length s.operands) (length t.params) ≡ false = not_below (length s.operands) (length t.params) enough in
     let shut : nat_le limits.depth d ≡ true = grind (arith, nat_tests) in
@@ -166,7 +166,7 @@ module _ (m : Module) (limits : Terms) (frame : ℕ) where
   pub enough_arguments : (old : Machine) (store : Store) (x : ℕ) (r : ℕ → Ended) (c : SimulatesCall m limits frame old store x r) → length c.type.params ≤ length c.configuration.operands
   enough_arguments old store x r c = let cut = arguments_cut c.configuration c.type c.below c.arguments in omega (arith, cut.enough, length-reverse c.type.params)
 
-  pub call_stops : (old : Machine) (store : Store) (x : ℕ) (r : ℕ → Ended) → SimulatesCall m limits frame old store x r → limits.depth ≤ length old.frames.items + 1 → (g : ℕ) → r g ≡ ended (Trapped trap.Exhausted store) g
+  pub call_stops : (old : Machine) (store : Store) (x : ℕ) (r : ℕ → Ended) → SimulatesCall m limits frame old store x r → limits.depth ≤ length old.frames.items + 1 → (g : ℕ) → r g ≡ (Trapped trap.Exhausted store, g)
   call_stops old store x r c deep g =
       let k = c.configuration in
       let d = length k.activations + 1 in
@@ -186,7 +186,7 @@ module _ (m : Module) (limits : Terms) (frame : ℕ) where
       let enough = enough_arguments old store x r c in
       let count : length (reverse t.params) ≡ n = length-reverse t.params in
       let known : body_type (module_tree m) x ≡ Some t = type_known m frame x f t run c.there c.typed in
-      let gives : results m x ≡ t.results = ap results_or_none known in
+      let gives : results m x ≡ t.results = ap (λ (o : Option FuncType). (type_or_empty o).results) known in
       let tree : f ≡ function_tree (function_of m x) = tree_known m frame x f t run c.there c.typed in
       let args : map type_of (take n k.operands) ≡ reverse t.params = ap (λ (z : ℕ). map type_of (take z k.operands)) (sym count) ∙ cut.upper in
       let left : map type_of (drop n k.operands) ≡ c.below = ap (λ (z : ℕ). map type_of (drop z k.operands)) (sym count) ∙ cut.lower in
@@ -194,8 +194,8 @@ module _ (m : Module) (limits : Terms) (frame : ℕ) where
       let floats : has_float zeros ≡ false = ap (λ (g : FunctionTree). has_float g.locals) (sym tree) ∙ no_floats m x f run.supported c.there in
       let locals : map type_of (reverse (take n k.operands) ++ map zero_of zeros) ≡ local_types m frame x =
       map-append (reverse (take n k.operands)) (map zero_of zeros)
-      ∙ ap (λ (l : List ValType). l ++ map type_of (map zero_of zeros)) (map-reverse (take n k.operands) ∙ ap reverse args ∙ reverse-reverse t.params ∙ ap params_or_none (sym known))
-      ∙ ap (λ (l : List ValType). params_or_none (body_type (module_tree m) x) ++ l) (zero_types zeros floats) in
+      ∙ ap (λ (l : List ValType). l ++ map type_of (map zero_of zeros)) (map-reverse (take n k.operands) ∙ ap reverse args ∙ reverse-reverse t.params ∙ ap (λ (o : Option FuncType). (type_or_empty o).params) (sym known))
+      ∙ ap (λ (l : List ValType). (type_or_empty (body_type (module_tree m) x)).params ++ l) (zero_types zeros floats) in
       let resumes : IsTypedAt m frame k.function k.blocks (results m x ++ map type_of (drop n k.operands)) k.sequence k.place =
       subst (λ (us : List ValType). IsTypedAt m frame k.function k.blocks us k.sequence k.place) (ap (λ (us : List ValType). us ++ c.below) (sym gives) ∙ ap (λ (us : List ValType). results m x ++ us) (sym left)) c.resumes in
       let next : Continuation = resume_at m limits d k.function k.sequence k.place in
@@ -217,7 +217,7 @@ module _ (m : Module) (limits : Terms) (frame : ℕ) where
             (ap (λ (z : ℕ). exec (module_tree m) limits z (code_at (function_of m x).body (start_of m x) 0) u fuel) (omega arith)
             ∙ ap (λ (z : Code). exec (module_tree m) limits (d + 1) z u fuel) body)
             ∙ ap (λ (z : ℕ). after_sequence m limits k (return z (resting k.locals) (drop n k.operands) e next)) (ap length gives)
-            ∙ ap (after_sequence m limits k) (same_return (length t.results) (resting k.locals) s (drop n k.operands) e.signal e.fuel next refl)
+            ∙ ap (after_sequence m limits k) (same_return (length t.results) (resting k.locals) s (drop n k.operands) e.0 e.1 next refl)
             ∙ ap (λ (g : FunctionTree). after_sequence m limits k (return (length t.results) s (drop n k.operands) (exec (module_tree m) limits (d + 1) f.body (record { locals = reverse (take n k.operands) ++ map zero_of g.locals; operands = []; store = store }) fuel) next)) (sym tree)
             ∙ ap (after_sequence m limits k) (sym (entered_by limits d f t (exec (module_tree m) limits (d + 1) f.body) next s fuel enough (omega (arith, deep_as k old c.represents))))
             ∙ c.goes fuel;
@@ -240,7 +240,7 @@ module _ (m : Module) (limits : Terms) (frame : ℕ) where
       omega (arith, ap length c.arguments, length-map k.operands type_of, length-append (reverse t.params) c.below, length-reverse t.params) in
       let as_many : length k.locals ≡ length (local_types m frame k.function) = sym (length-map k.locals type_of) ∙ ap length c.around.locals in
       let own : length (local_types m frame x) ≡ length t.params + length (function_tree (function_of m x)).locals =
-      ap (λ (o : Option FuncType). length (params_or_none o ++ (function_tree (function_of m x)).locals)) (type_known m frame x f t run c.there c.typed)
+      ap (λ (o : Option FuncType). length ((type_or_empty o).params ++ (function_tree (function_of m x)).locals)) (type_known m frame x f t run c.there c.typed)
       ∙ length-append t.params (function_tree (function_of m x)).locals in
       let all : length old.values.items ≡ length (frames_under k.activations) + length k.locals + operand_count k.blocks + length k.operands =
       omega (arith, count_values k old c.represents, length-append (frames_under k.activations) k.locals, length-under m frame (bottom_of k) k.blocks) in

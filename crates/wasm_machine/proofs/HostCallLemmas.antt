@@ -25,7 +25,8 @@ use Rattle.wasm_spec.proofs.NeedLaws.{highest-least}
 use Rattle.wasm_spec.specs.Typing.{type_of}
 use Rattle.wasm_spec.specs.Validity.{IsHostImport}
 use Rattle.wasm_spec.specs.Store.{Store, written}
-use Rattle.wasm_spec.specs.Execution.{Terms, Signal, Next, Branch, Returned, Trapped, OutOfFuel, Stuck, Ended, Continuation, ended, exec, call, and_then, given, with_operands, memory_set, answer_set, most_answer, lies_within, part, read_request, write_answer, host_call}
+use Rattle.wasm_spec.specs.Execution.{Terms, Signal, Next, Branch, Returned, Trapped, OutOfFuel, Stuck, Ended, Continuation, exec, call, and_then, given, with_operands, most_answer, lies_within, part, read_request, write_answer, host_call}
+use Rattle.machine_steps.specs.Lent.{memory_set, answer_set}
 use Rattle.wasm_types.specs.Sequences.{code_at}
 use Rattle.machine_steps.specs.declared.machine.Machine.{Machine}
 use Rattle.machine_steps.specs.Configuration.{Configuration, state}
@@ -187,7 +188,7 @@ module _ (m : Module) (limits : Terms) (frame : ℕ) where
   host_done (Next s) k types (Some t) old new store' r good resumes around room keeps goes after = absurd after
   host_done (Trapped t before) k types None old new store' r good resumes around room keeps goes after = absurd after
   host_done (Trapped t before) k types (Some u) old new store' r good resumes around room keeps goes (is, same) =
-      λ g. sym (goes g) ∙ after_sequence-Trapped m limits k t before g ∙ ap (λ (v : TrapKind). ended (Trapped v before) g) (sym is) ∙ ap (λ (st : Store). ended (Trapped u st) g) same
+      λ g. sym (goes g) ∙ after_sequence-Trapped m limits k t before g ∙ ap (λ (v : TrapKind). (Trapped v before, g)) (sym is) ∙ ap (λ (st : Store). (Trapped u st, g)) same
   host_done (Branch l s) k types o old new store' r good resumes around room keeps goes after = absurd good
   host_done (Returned s) k types o old new store' r good resumes around room keeps goes after = absurd good
   host_done (OutOfFuel s) k types o old new store' r good resumes around room keeps goes after = absurd good

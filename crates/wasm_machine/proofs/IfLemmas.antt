@@ -13,7 +13,7 @@ use Rattle.wasm_types.specs.Tree.{Code, module_tree}
 use Rattle.wasm_spec.specs.Typing.{Context, type_of, result_types, Typed, under}
 use Rattle.wasm_spec.specs.Need.{highest, deepest}
 use Rattle.wasm_spec.specs.Store.{Store}
-use Rattle.wasm_spec.specs.Execution.{State, Ended, Continuation, exec, leave, choose, pop_index, arm}
+use Rattle.wasm_spec.specs.Execution.{State, Ended, Continuation, exec, leave, pop_index, chosen, arm}
 use Rattle.wasm_spec.proofs.Equations.{exec-If}
 use Rattle.wasm_types.specs.Sequences.{code_at, named_in}
 use Rattle.machine_steps.specs.declared.machine.Position.{Position}
@@ -43,10 +43,10 @@ condition_of (val.I64 n ∷ vs) below e = absurd (cc)
 condition_of (val.I32 n ∷ vs) below e = record { n = n; rest = vs; are = refl; types = cc }
 
 module _ (m : Module) (limits : Terms) (frame : ℕ) where
-  chosen : (d c : ℕ) (trees : ℕ → Code) (n j : ℕ) (u : State) (fuel : ℕ)
-      → choose c (exec (module_tree m) limits d (trees n)) (exec (module_tree m) limits d (trees j)) u fuel ≡ exec (module_tree m) limits d (trees (chosen_arm c n j)) u fuel
-  chosen d zero trees n j u fuel = refl
-  chosen d (suc c) trees n j u fuel = refl
+  chosen_is : (d c : ℕ) (trees : ℕ → Code) (n j : ℕ) (u : State) (fuel : ℕ)
+      → chosen c (exec (module_tree m) limits d (trees n) u fuel) (exec (module_tree m) limits d (trees j) u fuel) ≡ exec (module_tree m) limits d (trees (chosen_arm c n j)) u fuel
+  chosen_is d zero trees n j u fuel = refl
+  chosen_is d (suc c) trees n j u fuel = refl
 
   either_one : (P : Code → Type 0) (c : ℕ) (trees : ℕ → Code) (n j : ℕ) → P (trees n) → P (trees j) → P (trees (chosen_arm c n j))
   either_one P zero trees n j p q = q
@@ -135,8 +135,8 @@ module _ (m : Module) (limits : Terms) (frame : ℕ) where
             let u : State = record { locals = k.locals; operands = []; store = store } in
             ap (after_sequence m limits k)
             (ap (λ (z : Code). leave (length (result_types t)) cond.rest (exec (module_tree m) limits d z u fuel) next next) named
-            ∙ ap (λ (z : Ended). leave (length (result_types t)) cond.rest z next next) (sym (chosen d c trees n j u fuel))
-            ∙ ap (λ (z : ℕ). leave (length (result_types t)) cond.rest (choose z (exec (module_tree m) limits d (trees n)) (exec (module_tree m) limits d (trees j)) u fuel) next next) p.0
+            ∙ ap (λ (z : Ended). leave (length (result_types t)) cond.rest z next next) (sym (chosen_is d c trees n j u fuel))
+            ∙ ap (λ (z : ℕ). leave (length (result_types t)) cond.rest (chosen z (exec (module_tree m) limits d (trees n) u fuel) (exec (module_tree m) limits d (trees j) u fuel)) next next) p.0
             ∙ ap (λ (vs : List Val). pop_index vs (arm t (exec (module_tree m) limits d (trees n)) (exec (module_tree m) limits d (trees j)) (exec (module_tree m) limits d rest)) s fuel) (sym cond.are)
             ∙ sym (exec-If (module_tree m) limits d t (trees n) (trees j) rest s fuel))
             ∙ b.goes (suc fuel);

@@ -2,7 +2,7 @@
 use Rattle.wasm_types.specs.SameTypes.{same_type}
 use Rattle.wasm_spec.specs.Execution.{Terms}
 use Rattle.std.proofs.Common.{◌≡◌, ℕ, suc, ◌+◌, ◌<◌, List, [], ◌∷◌, ◌++◌, length, map, reverse, Bool, true, false, Option, Some, None, refl, sym, ap, ◌∙◌, subst, arith, length-append}
-use Rattle.std.specs.Prelude.{slice_get, not, option_and_then, IsSome, ◌-◌}
+use Rattle.std.specs.Prelude.{slice_get, if◌then◌else◌, option_and_then, IsSome, ◌-◌}
 use Rattle.wasm_types.specs.declared.types.ValType.{ValType}
 use Rattle.wasm_types.specs.declared.types.ValType.TheVariants.{I32}
 use Rattle.wasm_types.specs.declared.types.FuncType.{FuncType}
@@ -19,7 +19,7 @@ use Rattle.wasm_types.specs.declared.module.Import.{Import}
 use Rattle.std.proofs.lemmas.List.{length-map}
 use Rattle.wasm_spec.specs.Need.{height, highest}
 use Rattle.wasm_spec.specs.Store.{Store}
-use Rattle.wasm_spec.specs.Execution.{State, Trapped, Ended, Continuation, ended, pop_index, unless, with_element, if_there, with_function, call, typed_call, element_call, exec}
+use Rattle.wasm_spec.specs.Execution.{State, Trapped, Ended, Continuation, pop_index, with_element, if_there, with_function, call, typed_call, element_call, exec}
 use Rattle.wasm_spec.proofs.Equations.{exec-CallIndirect}
 use Rattle.wasm_types.specs.Sequences.{code_at}
 use Rattle.machine_steps.specs.declared.machine.Machine.{Machine}
@@ -128,7 +128,7 @@ module _ (m : Module) (limits : Terms) (frame : ℕ) where
     index_is e = (pops b.configuration e.index.n e.index.rest b.represents e.index.are).0
 
     -- an element that can't be called
-    pub no_element : slice_get store.table i ≡ None → (g : ℕ) → paid r g ≡ ended (Trapped trap.Element store) g
+    pub no_element : slice_get store.table i ≡ None → (g : ℕ) → paid r g ≡ (Trapped trap.Element store, g)
     no_element got g =
         let e = element old store here x r b in
         let k = b.configuration in
@@ -137,7 +137,7 @@ module _ (m : Module) (limits : Terms) (frame : ℕ) where
         ∙ ap (λ (o : Option (Option ℕ)). after_sequence m limits k (with_element o next (state (record k { operands = e.index.rest }) store) g)) (ap (slice_get store.table) (sym (index_is e)) ∙ got)
         ∙ after_sequence-Trapped m limits k trap.Element store g
 
-    pub empty_element : slice_get store.table i ≡ Some None → (g : ℕ) → paid r g ≡ ended (Trapped trap.Uninit store) g
+    pub empty_element : slice_get store.table i ≡ Some None → (g : ℕ) → paid r g ≡ (Trapped trap.Uninit store, g)
     empty_element got g =
         let e = element old store here x r b in
         let k = b.configuration in
@@ -162,7 +162,7 @@ module _ (m : Module) (limits : Terms) (frame : ℕ) where
         ∙ e.goes g
 
     pub other_type : (y : ℕ) (h : Member m y) → slice_get store.table i ≡ Some (Some y) → (same : Bool) → ((t u : FuncType) → slice_get m.types x ≡ Some t → function_type (module_tree m) y ≡ Some u → same ≡ same_type t u) → same ≡ false
-        → (g : ℕ) → paid r g ≡ ended (Trapped trap.Signature store) g
+        → (g : ℕ) → paid r g ≡ (Trapped trap.Signature store, g)
     other_type y h got same tests differs g =
         let e = element old store here x r b in
         let k = b.configuration in
@@ -171,7 +171,7 @@ module _ (m : Module) (limits : Terms) (frame : ℕ) where
         let s : State = state (record k { operands = e.index.rest }) store in
         let differ : same_type e.type h.type ≡ false = sym (tests e.type h.type e.is h.known) ∙ differs in
         sym (typed_goes e y h got g)
-        ∙ ap (λ (t : Bool). after_sequence m limits k (unless (not t) (Trapped trap.Signature store) (call (module_tree m) limits d (exec (module_tree m) limits (d + 1)) (exec (module_tree m) limits d rest) h.callee h.type) s g)) differ
+        ∙ ap (λ (t : Bool). after_sequence m limits k (if t then call (module_tree m) limits d (exec (module_tree m) limits (d + 1)) (exec (module_tree m) limits d rest) h.callee h.type s g else (Trapped trap.Signature store, g))) differ
         ∙ after_sequence-Trapped m limits k trap.Signature store g
 
     pub element_calls : (y : ℕ) (h : Member m y) → slice_get store.table i ≡ Some (Some y) → (same : Bool) → ((t u : FuncType) → slice_get m.types x ≡ Some t → function_type (module_tree m) y ≡ Some u → same ≡ same_type t u) → same ≡ true
@@ -199,6 +199,6 @@ module _ (m : Module) (limits : Terms) (frame : ℕ) where
           stored = b.stored;
           room = room_kept limits.depth frame old mid b.room keeps;
           goes = λ fuel.
-              ap (λ (t : Bool). after_sequence m limits k (unless (not t) (Trapped trap.Signature store) (call (module_tree m) limits d (exec (module_tree m) limits (d + 1)) (exec (module_tree m) limits d rest) h.callee h.type) (state k' store) fuel)) (sym agree)
+              ap (λ (t : Bool). after_sequence m limits k (if t then call (module_tree m) limits d (exec (module_tree m) limits (d + 1)) (exec (module_tree m) limits d rest) h.callee h.type (state k' store) fuel else (Trapped trap.Signature store, fuel))) (sym agree)
               ∙ typed_goes e y h got fuel;
         }

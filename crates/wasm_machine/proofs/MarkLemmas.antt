@@ -1,6 +1,6 @@
 -- Marks by the instructions and the imports of a module.
-use Rattle.std.proofs.Common.{◌≡◌, ◌≢◌, ◌≤◌, ℕ, List, ◌∷◌, Bool, true, false, Option, Some, refl, sym, ap, subst, arith}
-use Rattle.std.specs.Prelude.{is_none, slice_get, if◌then◌else◌, option_and_then}
+use Rattle.std.proofs.Common.{◌≡◌, ◌≢◌, ◌≤◌, ℕ, List, ◌∷◌, Bool, true, false, Option, Some, None, refl, sym, ap, ◌∙◌, subst, arith}
+use Rattle.std.specs.Prelude.{All, is_none, slice_get, if◌then◌else◌, option_and_then}
 use Rattle.std.specs.Int.{byte_len}
 use Rattle.wasm_values.specs.declared.outcome.TrapKind.{TrapKind}
 use Rattle.wasm_values.specs.declared.outcome.Val.{Val}
@@ -13,7 +13,9 @@ use Rattle.wasm_types.specs.declared.instr.PackSize.{PackSize}
 use Rattle.wasm_types.specs.declared.instr.PackSize.TheVariants.{Pack8, Pack16, Pack32}
 use Rattle.wasm_types.specs.declared.instr.Width.{Width}
 use Rattle.wasm_types.specs.declared.instr.Width.TheVariants.{W32, W64}
+use Rattle.wasm_types.specs.declared.module.Import.{Import}
 use Rattle.wasm_types.specs.declared.module.Module.{Module}
+use Rattle.wasm_types.proofs.Found.{all_found}
 use Rattle.wasm_types.specs.Tree.{module_tree}
 use Rattle.wasm_spec.specs.Bulk.{HasFewMarks, is_bulk, uses_bulk}
 use Rattle.wasm_spec.specs.Functions.{host_function}
@@ -86,9 +88,14 @@ none_touched request host.Len vs false other = omega arith
 none_touched request host.Write vs true other = omega arith
 none_touched request host.Write vs false other = omega arith
 
+found_not_read : (imports : List Import) (x : ℕ) (h : HostFunction) (o : Option Import) → All (λ i. host_function i ≢ Some host.Read) imports
+    → slice_get imports x ≡ o → option_and_then host_function o ≡ Some h → h ≢ host.Read
+found_not_read imports x h (Some i) none there is e = all_found (λ j. host_function j ≢ Some host.Read) imports x i none there (is ∙ ap (λ f. Some f) e)
+found_not_read imports x h None none there is e = absurd (cc)
+
 -- a module with few marks imports none that writes to its memory
 pub not_read : (m : Module) (x : ℕ) (h : HostFunction) → option_and_then host_function (slice_get m.imports x) ≡ Some h → HasFewMarks (module_tree m) → h ≢ host.Read
-not_read m x h is few e = let none = few.imports in cc
+not_read m x h is few = found_not_read m.imports x h (slice_get m.imports x) few.imports refl is
 
 -- of such a module it marks no block
 pub marks_of_part : (m : Module) (request : List ℕ) (h : HostFunction) (vs : List Val) (done : Bool) (old new : Memory) → (HasFewMarks (module_tree m) → h ≢ host.Read)

@@ -21,7 +21,8 @@ use Rattle.wasm_spec.specs.Typing.{type_of}
 use Rattle.wasm_spec.specs.Validity.{IsStart, IsValid}
 use Rattle.wasm_spec.specs.Store.{Store}
 use Rattle.wasm_spec.specs.Typing.{number}
-use Rattle.wasm_spec.specs.Execution.{Terms, State, Signal, Next, Branch, Returned, Trapped, OutOfFuel, Stuck, and_then, given, call, exec, with_operands, memory_set, answer_set, host_call}
+use Rattle.wasm_spec.specs.Execution.{Terms, State, Signal, Next, Branch, Returned, Trapped, OutOfFuel, Stuck, and_then, given, call, exec, with_operands, host_call}
+use Rattle.machine_steps.specs.Lent.{memory_set, answer_set}
 use Rattle.wasm_spec.specs.Result.{finish, result_of, function_result}
 use Rattle.wasm_machine.specs.Calls.{GivesOutside, IsCall, IsOwnCall, outside}
 use Rattle.wasm_machine.specs.TypedConfiguration.{IsRunnable}

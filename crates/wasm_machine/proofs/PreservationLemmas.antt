@@ -20,10 +20,9 @@ use Rattle.wasm_types.specs.declared.module.Module.{Module}
 use Rattle.wasm_types.specs.Tree.{GlobalTree, module_tree}
 use Rattle.wasm_spec.specs.Typing.{Context, Rule, Fixed, Wrong, Takes, type_of, integer_type, rule, named, global_type, needs_one}
 use Rattle.wasm_spec.specs.Need.{height}
-use Rattle.wasm_spec.specs.Store.{Store, written, loaded}
+use Rattle.wasm_spec.specs.Store.{Store, loaded}
 use Rattle.wasm_spec.specs.Operators.{wrap, int_width, pack_width}
-use Rattle.wasm_spec.specs.Execution.{State, Signal, Next, Trapped, value, if_zero, with_operands, most_pages, pages_of, write_where, lies_within, plain}
-use Rattle.wasm_spec.specs.Execution as execution
+use Rattle.wasm_spec.specs.Execution.{State, Signal, Next, Trapped, value, chosen, with_operands, most_pages, pages_of, write_where, lies_within, plain}
 use Rattle.machine_steps.specs.Configuration.{Configuration, state}
 use Rattle.wasm_machine.specs.TypedConfiguration.{IsTypedStore}
 use Rattle.machine_steps.specs.InstructionKinds.{jumps, takes_width, gives_width, IsOfOne, of_one, IsOfTwo, of_two, IsLoad, IsStoring, address_offset, access_width, loaded_as, stored_as}
@@ -238,7 +237,7 @@ module _ (m : Module) (limits : Terms) (C : Context) (of_module : C.defined ≡ 
 
   select_as : (c : ℕ) (t : ValType) (x y : Val) (ts below middle : List ValType) (vs : List Val) (s : State) → type_of x ≡ t → type_of y ≡ t → map type_of vs ≡ below → middle ≡ t ∷ below
       → height (rule C instr.Select) (length ts) ≡ length middle → map type_of s.locals ≡ C.locals → IsTypedStore m s.store
-      → IsPreserved m C instr.Select ts middle (if_zero c (with_operands (y ∷ vs) s) (with_operands (x ∷ vs) s))
+      → IsPreserved m C instr.Select ts middle (chosen c (with_operands (x ∷ vs) s) (with_operands (y ∷ vs) s))
   select_as zero t x y ts below middle vs s first second types gives counted locals stored = record { types = cc; counted = counted; locals = locals; stored = stored }
   select_as (suc c) t x y ts below middle vs s first second types gives counted locals stored = record { types = cc; counted = counted; locals = locals; stored = stored }
 
@@ -306,10 +305,10 @@ module _ (m : Module) (limits : Terms) (C : Context) (of_module : C.defined ≡ 
   -- ---- memory
 
   load_as : (b : Bool) (i : Instr) (ts middle below : List ValType) (vs : List Val) (v : Val) (s : State) → middle ≡ type_of v ∷ below → map type_of vs ≡ below → height (rule C i) (length ts) ≡ length middle
-      → map type_of s.locals ≡ C.locals → IsTypedStore m s.store → IsPreserved m C i ts middle (if b then Trapped trap.Memory s.store else Next (record s { operands = v ∷ vs }))
-  load_as true i ts middle below vs v s e types counted locals stored = tt
-  load_as false i ts middle below vs v s e types counted locals stored =
+      → map type_of s.locals ≡ C.locals → IsTypedStore m s.store → IsPreserved m C i ts middle (if b then Next (record s { operands = v ∷ vs }) else Trapped trap.Memory s.store)
+  load_as true i ts middle below vs v s e types counted locals stored =
       record { types = ap (λ (l : List ValType). type_of v ∷ l) types ∙ sym e; counted = counted; locals = locals; stored = stored }
+  load_as false i ts middle below vs v s e types counted locals stored = tt
 
   load_preserved : (i : Instr) (k : Configuration) (store : Store) (middle : List ValType) → IsLoad i → Takes (rule C i) (map type_of k.operands) middle → map type_of k.locals ≡ C.locals → IsTypedStore m store
       → IsPreserved m C i (map type_of k.operands) middle (plain (module_tree m) limits i (state k store))
@@ -322,15 +321,15 @@ module _ (m : Module) (limits : Terms) (C : Context) (of_module : C.defined ≡ 
       let (t, types) = one_typed k.operands below before in
       let n = loaded_as i (loaded (access_width i) store.memory (t.n + address_offset i)) in
       subst (λ (e : Signal). IsPreserved m C i (map type_of k.operands) middle e) (sym (load_means (module_tree m) limits i k store h t))
-      (load_as (nat_lt (length store.memory) (t.n + address_offset i + byte_len (access_width i))) i (map type_of k.operands) middle below t.rest (value v n) (state k store)
+      (load_as (lies_within store (t.n + address_offset i) (byte_len (access_width i))) i (map type_of k.operands) middle below t.rest (value v n) (state k store)
       (after ∙ ap (λ (u : ValType). u ∷ below) (sym (value_type v n))) types
       (counted_by (rule C i) (type.I32 ∷ []) (integer_type v ∷ []) below (map type_of k.operands) middle (is ∙ a.is) before after) locals stored)
 
-  store_as : (b : Bool) (i : Instr) (ts middle : List ValType) (vs : List Val) (bytes : List ℕ) (s : State) → map type_of vs ≡ middle → height (rule C i) (length ts) ≡ length middle
-      → map type_of s.locals ≡ C.locals → IsTypedStore m s.store → IsPreserved m C i ts middle (if b then Trapped trap.Memory s.store else Next (record s { operands = vs; store = execution.memory_set bytes s.store }))
-  store_as true i ts middle vs bytes s types counted locals stored = tt
-  store_as false i ts middle vs bytes s types counted locals stored =
+  write_as : (b : Bool) (i : Instr) (ts middle : List ValType) (vs : List Val) (to : ℕ) (bytes : List ℕ) (s : State) → map type_of vs ≡ middle → height (rule C i) (length ts) ≡ length middle
+      → map type_of s.locals ≡ C.locals → IsTypedStore m s.store → IsPreserved m C i ts middle (write_where b to bytes vs s)
+  write_as true i ts middle vs to bytes s types counted locals stored =
       record { types = types; counted = counted; locals = locals; stored = record { globals = stored.globals; table = stored.table } }
+  write_as false i ts middle vs to bytes s types counted locals stored = tt
 
   store_preserved : (i : Instr) (k : Configuration) (store : Store) (middle : List ValType) → IsStoring i → Takes (rule C i) (map type_of k.operands) middle → map type_of k.locals ≡ C.locals → IsTypedStore m store
       → IsPreserved m C i (map type_of k.operands) middle (plain (module_tree m) limits i (state k store))
@@ -342,13 +341,13 @@ module _ (m : Module) (limits : Terms) (C : Context) (of_module : C.defined ≡ 
       let (below, before, after) = a.takes in
       let (t, types) = pair_typed w k.operands below before in
       subst (λ (e : Signal). IsPreserved m C i (map type_of k.operands) middle e) (sym (store_means (module_tree m) limits i k store h t))
-      (store_as (nat_lt (length store.memory) (t.base + address_offset i + byte_len (access_width i))) i (map type_of k.operands) middle t.rest
-      (written store.memory (t.base + address_offset i) (to_le_bytes (access_width i) (stored_as i t.n))) (state k store) (types ∙ sym after)
+      (write_as (lies_within store (t.base + address_offset i) (byte_len (access_width i))) i (map type_of k.operands) middle t.rest (t.base + address_offset i)
+      (to_le_bytes (access_width i) (stored_as i t.n)) (state k store) (types ∙ sym after)
       (counted_by (rule C i) (integer_type w ∷ type.I32 ∷ []) [] below (map type_of k.operands) middle (is ∙ a.is) before after) locals stored)
 
   grow_as : (b : Bool) (ts middle below : List ValType) (vs : List Val) (x y : ℕ) (bytes : List ℕ) (s : State) → middle ≡ type.I32 ∷ below → map type_of vs ≡ below → height (rule C instr.MemoryGrow) (length ts) ≡ length middle
       → map type_of s.locals ≡ C.locals → IsTypedStore m s.store
-      → IsPreserved m C instr.MemoryGrow ts middle (if b then with_operands (val.I32 x ∷ vs) s else Next (record s { operands = val.I32 y ∷ vs; store = execution.memory_set bytes s.store }))
+      → IsPreserved m C instr.MemoryGrow ts middle (if b then with_operands (val.I32 x ∷ vs) s else Next (record s { operands = val.I32 y ∷ vs; store = record s.store { memory = bytes } }))
   grow_as true ts middle below vs x y bytes s e types counted locals stored =
       record { types = ap (λ (l : List ValType). type.I32 ∷ l) types ∙ sym e; counted = counted; locals = locals; stored = stored }
   grow_as false ts middle below vs x y bytes s e types counted locals stored =
@@ -364,12 +363,6 @@ module _ (m : Module) (limits : Terms) (C : Context) (of_module : C.defined ≡ 
       subst (λ (e : Signal). IsPreserved m C instr.MemoryGrow (map type_of k.operands) middle e) (sym (grow_means (module_tree m) limits k store t))
       (grow_as (nat_lt (most_pages (module_tree m).memories limits.pages) (pages_of store + t.n)) (map type_of k.operands) middle below t.rest _ _ _ (state k store) after types
       (counted_by (rule C instr.MemoryGrow) (type.I32 ∷ []) (type.I32 ∷ []) below (map type_of k.operands) middle a.is before after) locals stored)
-
-  write_as : (b : Bool) (i : Instr) (ts middle : List ValType) (vs : List Val) (to : ℕ) (bytes : List ℕ) (s : State) → map type_of vs ≡ middle → height (rule C i) (length ts) ≡ length middle
-      → map type_of s.locals ≡ C.locals → IsTypedStore m s.store → IsPreserved m C i ts middle (write_where b to bytes vs s)
-  write_as true i ts middle vs to bytes s types counted locals stored =
-      record { types = types; counted = counted; locals = locals; stored = record { globals = stored.globals; table = stored.table } }
-  write_as false i ts middle vs to bytes s types counted locals stored = tt
 
   copy_preserved : (k : Configuration) (store : Store) (middle : List ValType) → Takes (rule C instr.MemoryCopy) (map type_of k.operands) middle → map type_of k.locals ≡ C.locals → IsTypedStore m store
       → IsPreserved m C instr.MemoryCopy (map type_of k.operands) middle (plain (module_tree m) limits instr.MemoryCopy (state k store))

@@ -11,10 +11,10 @@ use Rattle.wasm_values.specs.declared.outcome.Outcome.TheVariants as outcome
 use Rattle.wasm_types.specs.declared.module.Module.{Module}
 use Rattle.wasm_values.specs.declared.profile.Profile.TheVariants.{Three}
 use Rattle.wasm_types.specs.Tree.{function_tree, global_tree, module_tree}
-use Rattle.wasm_spec.specs.Typing.{params_or_none, type_of}
+use Rattle.wasm_spec.specs.Typing.{type_or_empty, type_of}
 use Rattle.wasm_spec.specs.Store.{Store}
 use Rattle.wasm_spec.specs.Validity.{IsSupported, IsValid}
-use Rattle.wasm_spec.specs.Execution.{Terms, Trapped, Ended, ended}
+use Rattle.wasm_spec.specs.Execution.{Terms, Trapped, Ended}
 use Rattle.wasm_spec.specs.Result.{CallResult, result_of}
 use Rattle.wasm_validate.specs.Locals.{HaveNoEmptyRun}
 use Rattle.linear_memory.specs.declared.memory.Memory.{Memory}
@@ -51,7 +51,7 @@ pub done_at : (m : Module) (machine : Machine) (store : Store) (r : ℕ → Ende
     → (more : ℕ) → result_of (r (spent + more)) ≡ Some (record { outcome = outcome.Done v; store = store; fuel = more })
 done_at m machine store r spent v top over more = ap result_of (over.goes more) ∙ ap (λ (o : Option Val). Some (record { outcome = outcome.Done o; store = store; fuel = more })) (sym top)
 
-pub trapped_at : (store : Store) (r : ℕ → Ended) (spent : ℕ) (t : TrapKind) → ((g : ℕ) → r (spent + g) ≡ ended (Trapped t store) g)
+pub trapped_at : (store : Store) (r : ℕ → Ended) (spent : ℕ) (t : TrapKind) → ((g : ℕ) → r (spent + g) ≡ (Trapped t store, g))
     → (more : ℕ) → result_of (r (spent + more)) ≡ Some (record { outcome = outcome.Trap t; store = store; fuel = more })
 trapped_at store r spent t h more = ap result_of (h more)
 
@@ -67,7 +67,7 @@ pub first_frame : (m : Module) (limits : Terms) (frame x : ℕ) (args : List Val
 first_frame m limits frame x args machine run call deep room =
     let there = frame_fits m frame x [] _ _ (body_resumes m frame x call.function call.type run call.there call.typed) in
     let own : length (local_types m frame x) ≡ length call.type.params + length (function_tree (function_of m x)).locals =
-    ap (λ (o : Option FuncType). length (params_or_none o ++ (function_tree (function_of m x)).locals)) (type_known m frame x call.function call.type run call.there call.typed)
+    ap (λ (o : Option FuncType). length ((type_or_empty o).params ++ (function_tree (function_of m x)).locals)) (type_known m frame x call.function call.type run call.there call.typed)
     ∙ length-append call.type.params (function_tree (function_of m x)).locals in
     let counted : length args ≡ length call.type.params = sym (length-map args type_of) ∙ ap length call.args_fit in
     let one : 1 * frame ≤ limits.depth * frame = mul-le-mul_right frame deep in

@@ -7,7 +7,7 @@ use Rattle.wasm_values.specs.declared.outcome.Val.{Val}
 use Rattle.wasm_types.specs.declared.module.Module.{Module}
 use Rattle.wasm_spec.specs.Typing.{type_of}
 use Rattle.wasm_spec.specs.Store.{Store}
-use Rattle.wasm_spec.specs.Execution.{State, Next, Returned, Ended, Continuation, ended}
+use Rattle.wasm_spec.specs.Execution.{State, Next, Returned, Ended, Continuation}
 use Rattle.wasm_spec.specs.Result.{finish}
 use Rattle.machine_steps.specs.declared.machine.Position.{Position}
 use Rattle.machine_steps.specs.declared.machine.Machine.{Machine}
@@ -65,7 +65,7 @@ module _ (m : Module) (limits : Terms) (frame : ℕ) where
   to_caller : (x q p : ℕ) (ls vs : List Val) (os : List OpenBlock) (cs : List Activation) (old new : Machine) (store : Store) (r : ℕ → Ended)
       → Represents (configuration_of x q p ls vs os cs) old → IsTypedContext m frame limits.depth (configuration_of x q p ls vs os cs) → HasExitOperands m frame ByReturn (configuration_of x q p ls vs os cs)
       → IsTypedStore m store → HasRoom limits.depth frame old
-      → ((fuel : ℕ) → after_sequence m limits (configuration_of x q p ls vs os cs) (ended (Returned (state (configuration_of x q p ls vs os cs) store)) fuel) ≡ r fuel)
+      → ((fuel : ℕ) → after_sequence m limits (configuration_of x q p ls vs os cs) (Returned (state (configuration_of x q p ls vs os cs) store), fuel) ≡ r fuel)
       → IsCut m old new → KeepsRoom old new → old.frames.items ≡ new.frames.items ++ new.at ∷ [] → Simulates m limits frame new store r
   to_caller x q p ls vs os [] old new store r sh ar ready stored room goes cut keeps fr =
       absurd (omega (arith, ap length (sym fr ∙ sh.frames), length-append new.frames.items (new.at ∷ [])))
@@ -104,8 +104,8 @@ module _ (m : Module) (limits : Terms) (frame : ℕ) where
 
   to_end : (x q p : ℕ) (ls vs : List Val) (os : List OpenBlock) (cs : List Activation) (old new : Machine) (store : Store) (r : ℕ → Ended)
       → Represents (configuration_of x q p ls vs os cs) old → HasExitOperands m frame ByReturn (configuration_of x q p ls vs os cs)
-      → ((fuel : ℕ) → after_sequence m limits (configuration_of x q p ls vs os cs) (ended (Returned (state (configuration_of x q p ls vs os cs) store)) fuel) ≡ r fuel)
-      → IsCut m old new → old.frames.items ≡ [] → (fuel : ℕ) → r fuel ≡ ended (Next (record { locals = []; operands = reverse new.values.items; store = store })) fuel
+      → ((fuel : ℕ) → after_sequence m limits (configuration_of x q p ls vs os cs) (Returned (state (configuration_of x q p ls vs os cs) store), fuel) ≡ r fuel)
+      → IsCut m old new → old.frames.items ≡ [] → (fuel : ℕ) → r fuel ≡ (Next (record { locals = []; operands = reverse new.values.items; store = store }), fuel)
   to_end x q p ls vs os (c ∷ cs) old new store r sh ready goes cut fr fuel =
       absurd (omega (arith, ap length (sym fr ∙ sh.frames), length-append (frames_of cs) (position_of c.function c.sequence c.after cs ∷ [])))
   to_end x q p ls vs os [] old new store r sh ready goes cut fr fuel =
@@ -117,7 +117,7 @@ module _ (m : Module) (limits : Terms) (frame : ℕ) where
       sym (goes fuel)
       ∙ ap (return_to m limits x []) (leave_blocks-Returned m limits 1 x os s fuel)
       ∙ kept_on n [] finish (record s { locals = [] }) fuel enough
-      ∙ ap (λ (l : List Val). ended (Next (record { locals = []; operands = l; store = store })) fuel) (append-nil (take n vs) ∙ sym (reverse-reverse (take n vs)) ∙ ap reverse (sym left))
+      ∙ ap (λ (l : List Val). (Next (record { locals = []; operands = l; store = store }), fuel)) (append-nil (take n vs) ∙ sym (reverse-reverse (take n vs)) ∙ ap reverse (sym left))
 
   pub shown_caller : (old new : Machine) (store : Store) (r : ℕ → Ended) → SimulatesExit ByReturn m limits frame old store r → IsCut m old new → KeepsRoom old new → old.frames.items ≡ new.frames.items ++ new.at ∷ [] → Simulates m limits frame new store r
   shown_caller old new store r e cut keeps fr =

@@ -11,7 +11,7 @@ use Rattle.wasm_types.specs.declared.instr.Op.{Op}
 use Rattle.wasm_types.specs.declared.instr.Op.TheVariants as op
 use Rattle.wasm_types.specs.declared.instr.Instr.TheVariants as instr
 use Rattle.wasm_spec.specs.Store.{Store}
-use Rattle.wasm_spec.specs.Execution.{Trapped, OutOfFuel, Ended, ended}
+use Rattle.wasm_spec.specs.Execution.{Trapped, OutOfFuel, Ended}
 use Rattle.wasm_spec.specs.Result.{CallResult, result_of}
 use Rattle.linear_memory.specs.declared.memory.Memory.{Memory}
 use Rattle.linear_memory.specs.Bytes.{IsMemory, shown}
@@ -61,7 +61,7 @@ module _ (r : ℕ → Ended) (old : Memory) where
 
 -- where the fuel ends there
 pub marked_out : (r : ℕ → Ended) (old : Memory) (store : Store) (spent bound most n : ℕ) (new : Memory) → AreMarkedBelow spent r old new → IsMemory most new → MarksChanges old new n
-    → store.memory ≡ shown new → bound ≤ spent + 1 → r spent ≡ ended (OutOfFuel store) 0 → AreMarkedBelow bound r old new
+    → store.memory ≡ shown new → bound ≤ spent + 1 → r spent ≡ (OutOfFuel store, 0) → AreMarkedBelow bound r old new
 marked_out r old store spent bound most n new below is changes memory le out =
     let y : CallResult = record { outcome = outcome.Fuel; store = store; fuel = 0 } in
     marked_from r old spent bound most n new (λ g. y) below is changes
@@ -76,7 +76,7 @@ marked_over r old m machine store spent bound most n new below is changes memory
 
 -- where it traps there
 pub marked_trap : (r : ℕ → Ended) (old : Memory) (t : TrapKind) (store : Store) (spent bound most n : ℕ) (new : Memory) → AreMarkedBelow spent r old new → IsMemory most new → MarksChanges old new n
-    → store.memory ≡ shown new → ((g : ℕ) → r (spent + g) ≡ ended (Trapped t store) g) → AreMarkedBelow bound r old new
+    → store.memory ≡ shown new → ((g : ℕ) → r (spent + g) ≡ (Trapped t store, g)) → AreMarkedBelow bound r old new
 marked_trap r old t store spent bound most n new below is changes memory traps =
     let y : ℕ → CallResult = λ g. record { outcome = outcome.Trap t; store = store; fuel = g } in
     marked_from r old spent bound most n new y below is changes (λ g lt. ap result_of (traps g)) (λ g. memory)
@@ -94,11 +94,11 @@ module _ (m : Module) (limits : Terms) (frame : ℕ) where
   pub over_paid : (machine : Machine) (store : Store) (r : ℕ → Ended) (spent spent' : ℕ) → spent + 1 ≡ spent' → IsOver m machine store (paid (after spent r)) → IsOver m machine store (after spent' r)
   over_paid machine store r spent spent' e h = record { stored = h.stored; goes = λ g. ap r (omega arith) ∙ h.goes g }
 
-  pub trap_paid : (t : TrapKind) (store : Store) (r : ℕ → Ended) (spent spent' : ℕ) → spent + 1 ≡ spent' → ((g : ℕ) → paid (after spent r) g ≡ ended (Trapped t store) g) → (g : ℕ) → r (spent' + g) ≡ ended (Trapped t store) g
+  pub trap_paid : (t : TrapKind) (store : Store) (r : ℕ → Ended) (spent spent' : ℕ) → spent + 1 ≡ spent' → ((g : ℕ) → paid (after spent r) g ≡ (Trapped t store, g)) → (g : ℕ) → r (spent' + g) ≡ (Trapped t store, g)
   trap_paid t store r spent spent' e h g = ap r (omega arith) ∙ h g
 
   -- at an instruction, where the fuel is used up
-  pub spent_all : (machine : Machine) (store : Store) (r : ℕ → Ended) (spent fuel : ℕ) → spent ≡ fuel → Simulates m limits frame machine store (after spent r) → machine.at.place < length (sequence_at m machine) → r fuel ≡ ended (OutOfFuel store) 0
+  pub spent_all : (machine : Machine) (store : Store) (r : ℕ → Ended) (spent fuel : ℕ) → spent ≡ fuel → Simulates m limits frame machine store (after spent r) → machine.at.place < length (sequence_at m machine) → r fuel ≡ (OutOfFuel store, 0)
   spent_all machine store r spent fuel e l lt =
       let o : Op = get_or (sequence_at m machine) machine.at.place (op.Plain instr.Nop) in
       ap r (omega arith) ∙ no_fuel m limits frame machine store (after spent r) o l (slice_get-get_or (sequence_at m machine) machine.at.place (op.Plain instr.Nop) lt)
@@ -107,5 +107,5 @@ module _ (m : Module) (limits : Terms) (frame : ℕ) where
   pub marked_next : (r : ℕ → Ended) (old : Memory) (machine : Machine) (store : Store) (spent most n k : ℕ) (mid new : Memory) → AreMarkedBelow spent r old mid → IsMemory most mid → MarksChanges old mid n
       → store.memory ≡ shown mid → Simulates m limits frame machine store (after spent r) → machine.at.place < length (sequence_at m machine) → MarksChanges mid new k → AreMarkedBelow (spent + 1) r old new
   marked_next r old machine store spent most n k mid new below is changes memory e there more =
-      let out : r spent ≡ ended (OutOfFuel store) 0 = spent_all machine store r spent spent refl e there in
+      let out : r spent ≡ (OutOfFuel store, 0) = spent_all machine store r spent spent refl e there in
       marked_on r old (spent + 1) k mid new more (marked_out r old store spent (spent + 1) most n mid below is changes memory (omega arith) out)

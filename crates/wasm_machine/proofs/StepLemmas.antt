@@ -14,7 +14,7 @@ use Rattle.wasm_spec.specs.Typing.{Context, Takes, Typed, type_of, named, Fixed,
 use Rattle.wasm_spec.specs.Functions.{Callee, callee_at, callee_type, function_type}
 use Rattle.wasm_spec.specs.Need.{highest, deepest, height}
 use Rattle.wasm_spec.specs.Store.{Store}
-use Rattle.wasm_spec.specs.Execution.{State, Signal, Next, Branch, Returned, Trapped, OutOfFuel, Stuck, Ended, Continuation, ended, and_then, plain, with_function, if_there, call, exec}
+use Rattle.wasm_spec.specs.Execution.{State, Signal, Next, Branch, Returned, Trapped, OutOfFuel, Stuck, Ended, Continuation, and_then, plain, with_function, if_there, call, exec}
 use Rattle.wasm_spec.proofs.Equations.{exec-Plain, exec-Call}
 use Rattle.wasm_types.specs.Sequences.{code_at}
 use Rattle.machine_steps.specs.declared.machine.Machine.{Machine}
@@ -160,7 +160,7 @@ module _ (m : Module) (limits : Terms) (frame : ℕ) where
   done_as (Next s) k i middle (Some t) old new store store' r good typed fits narrow around room keeps goes after = absurd after
   done_as (Trapped t before) k i middle None old new store store' r good typed fits narrow around room keeps goes after = absurd after
   done_as (Trapped t before) k i middle (Some u) old new store store' r good typed fits narrow around room keeps goes (is, same) =
-      λ g. sym (goes g) ∙ after_sequence-Trapped m limits k t before g ∙ ap (λ (v : TrapKind). ended (Trapped v before) g) (sym is) ∙ ap (λ (st : Store). ended (Trapped u st) g) same
+      λ g. sym (goes g) ∙ after_sequence-Trapped m limits k t before g ∙ ap (λ (v : TrapKind). (Trapped v before, g)) (sym is) ∙ ap (λ (st : Store). (Trapped u st, g)) same
   done_as (Branch l s) k i middle o old new store store' r good typed fits narrow around room keeps goes after = absurd after
   done_as (Returned s) k i middle o old new store store' r good typed fits narrow around room keeps goes after = absurd after
   done_as (OutOfFuel s) k i middle o old new store store' r good typed fits narrow around room keeps goes after = absurd after

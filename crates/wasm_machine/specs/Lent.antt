@@ -2,14 +2,14 @@
 use Rattle.std.specs.Prelude.{◌≤◌, ℕ, List, Option, length, take, drop}
 use Rattle.wasm_values.specs.declared.outcome.Val.{Val}
 use Rattle.wasm_types.specs.declared.module.Module.{Module}
-use Rattle.wasm_spec.specs.Execution.{Terms, terms}
+use Rattle.wasm_spec.specs.Execution.{Terms, terms_of}
 use Rattle.wasm_spec.specs.Store.{Store}
 use Rattle.linear_memory.specs.declared.memory.Memory.{Memory}
 use Rattle.linear_memory.specs.Marks.{MarksChanges}
 use Rattle.wasm_types.specs.Tree.{module_tree}
 use Rattle.machine_steps.specs.Lent.{store_of}
 use Rattle.wasm_spec.specs.Bulk.{HasFewMarks}
-use Rattle.wasm_machine.specs.declared.invocation.RunInputs.{RunInputs}
+use Rattle.wasm_machine.specs.declared.inputs.RunInputs.{RunInputs}
 
 -- the module's own globals
 abbrev pub own : Module → List Val → List Val
@@ -24,7 +24,7 @@ lent_store m memory table globals answer = store_of memory table (own m globals)
 
 -- the terms of a run that reads these inputs
 abbrev pub run_terms : RunInputs → Terms
-run_terms inputs = terms inputs.limits inputs.request.now
+run_terms inputs = terms_of inputs.limits inputs.request.now
 
 -- and its store, on what else is lent to it
 abbrev pub run_store : RunInputs → Memory → List Val → List ℕ → Store

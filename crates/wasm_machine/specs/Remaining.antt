@@ -7,7 +7,7 @@ use Rattle.wasm_types.specs.declared.module.Function.{Function}
 use Rattle.wasm_types.specs.declared.module.Module.{Module}
 use Rattle.wasm_types.specs.declared.types.FuncType.{FuncType}
 use Rattle.wasm_types.specs.Tree.{ModuleTree, module_tree}
-use Rattle.wasm_spec.specs.Typing.{results_or_none}
+use Rattle.wasm_spec.specs.Typing.{type_or_empty}
 use Rattle.wasm_spec.specs.Store.{Store}
 use Rattle.wasm_spec.specs.Execution.{State, Ended, Continuation, leave, return, exec}
 use Rattle.wasm_spec.specs.Result.{finish}
@@ -26,7 +26,7 @@ abbrev pub body_type : ModuleTree → ℕ → Option FuncType
 body_type m x = option_and_then (λ f. slice_get m.types f.type_index) (slice_get m.functions x)
 
 abbrev pub results : Module → ℕ → List ValType
-results m x = results_or_none (body_type (module_tree m) x)
+results m x = (type_or_empty (body_type (module_tree m) x)).results
 
 -- of a caller's state only its locals count once the call is made
 abbrev pub resting : List Val → State

@@ -14,7 +14,7 @@ use Rattle.wasm_spec.specs.Need.{height}
 use Rattle.wasm_spec.specs.Store.{Store}
 use Rattle.wasm_spec.specs.Result.{CallResult, result_of}
 use Rattle.wasm_spec.specs.Functions.{Callee, callee_at, callee_type}
-use Rattle.wasm_spec.specs.Execution.{Terms, call, State, Signal, Next, Branch, Returned, Trapped, OutOfFuel, Stuck, Ended, ended, exec, invoke, zero_of}
+use Rattle.wasm_spec.specs.Execution.{Terms, call, State, Signal, Next, Branch, Returned, Trapped, OutOfFuel, Stuck, Ended, exec, invoke, zero_of}
 use Rattle.wasm_types.specs.Sequences.{code_at, earlier, named_in, ops_of}
 use Rattle.machine_steps.specs.declared.machine.Machine.{Machine}
 use Rattle.wasm_machine.specs.declared.running.Step.{Step}
@@ -70,18 +70,18 @@ pub record SimulatesExit (way : Exit) (m : Module) (limits : Terms) (frame : ℕ
   pub ready : HasExitOperands m frame way configuration
   pub stored : IsTypedStore m store
   pub room : HasRoom limits.depth frame machine
-  pub goes : (fuel : ℕ) → after_sequence m limits configuration (ended (signal_of way (state configuration store)) fuel) ≡ r fuel
+  pub goes : (fuel : ℕ) → after_sequence m limits configuration (signal_of way (state configuration store), fuel) ≡ r fuel
 
 -- the run is over: its results are what is left of the values, and the store can be run on
 pub record IsOver (m : Module) (machine : Machine) (store : Store) (r : ℕ → Ended) : Type 0 where
   pub stored : IsTypedStore m store
-  pub goes : (fuel : ℕ) → r fuel ≡ ended (Next (record { locals = []; operands = reverse machine.values.items; store = store })) fuel
+  pub goes : (fuel : ℕ) → r fuel ≡ (Next (record { locals = []; operands = reverse machine.values.items; store = store }), fuel)
 
 abbrev pub SimulatesStep : Step → Module → Terms → ℕ → Machine → Store → (ℕ → Ended) → Type 0
 SimulatesStep step.Stays m limits frame machine store r = Simulates m limits frame machine store r
 SimulatesStep step.Continues m limits frame machine store r = Simulates m limits frame machine store r
 SimulatesStep step.Finishes m limits frame machine store r = IsOver m machine store r
-SimulatesStep (step.Traps t) m limits frame machine store r = (fuel : ℕ) → r fuel ≡ ended (Trapped t store) fuel
+SimulatesStep (step.Traps t) m limits frame machine store r = (fuel : ℕ) → r fuel ≡ (Trapped t store, fuel)
 
 -- with one unit of fuel paid
 abbrev pub paid : (ℕ → Ended) → ℕ → Ended
@@ -159,8 +159,8 @@ left_of halt.OutOfFuel = 0
 -- What a run from here on comes to. Where the fuel is used up it stands at an instruction, from which it may go on.
 abbrev pub HaltsAs : Halt → Module → Terms → ℕ → Machine → Store → ℕ → (ℕ → Ended) → Type 0
 HaltsAs (halt.Done left) m limits frame machine store fuel r = IsOver m machine store (after (fuel - left) r)
-HaltsAs (halt.Trapped t left) m limits frame machine store fuel r = (g : ℕ) → r ((fuel - left) + g) ≡ ended (Trapped t store) g
-HaltsAs halt.OutOfFuel m limits frame machine store fuel r = Simulates m limits frame machine store (after fuel r) × (r fuel ≡ ended (OutOfFuel store) 0)
+HaltsAs (halt.Trapped t left) m limits frame machine store fuel r = (g : ℕ) → r ((fuel - left) + g) ≡ (Trapped t store, g)
+HaltsAs halt.OutOfFuel m limits frame machine store fuel r = Simulates m limits frame machine store (after fuel r) × (r fuel ≡ (OutOfFuel store, 0))
 
 -- With any fuel below this bound, each byte that the run's store differs in from the old ones lies in a block that is marked
 -- now.
@@ -268,7 +268,7 @@ IsPreserved m C i ts middle Stuck = ⊥
 -- the run goes on, or traps
 abbrev pub SimulatesUnlessTrapped : Option TrapKind → Module → Terms → ℕ → Machine → Store → (ℕ → Ended) → Type 0
 SimulatesUnlessTrapped None m limits frame machine store r = Simulates m limits frame machine store r
-SimulatesUnlessTrapped (Some t) m limits frame machine store r = (fuel : ℕ) → r fuel ≡ ended (Trapped t store) fuel
+SimulatesUnlessTrapped (Some t) m limits frame machine store r = (fuel : ℕ) → r fuel ≡ (Trapped t store, fuel)
 
 abbrev pub step_unless_over : Bool → Step
 step_unless_over true = step.Finishes

@@ -3,7 +3,7 @@ use Rattle.std.specs.Prelude.{◌≡◌, ℕ, ◌+◌, ◌<◌, ◌≤◌, List,
 use Rattle.wasm_types.specs.declared.types.ValType.{ValType}
 use Rattle.wasm_types.specs.declared.module.Module.{Module}
 use Rattle.wasm_types.specs.Tree.{Code, FunctionTree, function_tree, module_tree}
-use Rattle.wasm_spec.specs.Typing.{Context, Typed, type_of, params_or_none}
+use Rattle.wasm_spec.specs.Typing.{Context, Typed, type_of, type_or_empty}
 use Rattle.wasm_spec.specs.Need.{highest, deepest, need}
 use Rattle.wasm_spec.specs.Store.{Store}
 use Rattle.wasm_values.specs.declared.profile.Profile.TheVariants.{Three}
@@ -28,7 +28,7 @@ pub record IsRunnable (m : Module) (frame : ℕ) : Type 0 where
 
 module _ (m : Module) (frame : ℕ) where
   abbrev pub local_types : ℕ → List ValType
-  local_types x = params_or_none (body_type (module_tree m) x) ++ (function_tree (function_of m x)).locals
+  local_types x = (type_or_empty (body_type (module_tree m) x)).params ++ (function_tree (function_of m x)).locals
 
   -- the context of code inside these blocks of a function
   abbrev pub context : ℕ → List OpenBlock → Context

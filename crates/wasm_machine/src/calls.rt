@@ -1,5 +1,5 @@
 //! Calls, from outside and of one function by another.
-ghost use Rattle.std.specs.Prelude.{◌≡◌, ◌≢◌, ℕ, ◌^◌, List, Option, ◌+◌, ◌-◌, ◌<◌, ◌≤◌, ◌++◌, All, length, map, replicate, slice_get, vec_len, vec_capacity};
+ghost use Rattle.std.specs.Prelude.{◌≡◌, ◌≢◌, ℕ, List, Option, ◌+◌, ◌-◌, ◌<◌, ◌≤◌, ◌++◌, All, length, map, replicate, slice_get, vec_len, vec_capacity};
 ghost use Rattle.std.specs.List.{flat_map};
 ghost use Rattle.wasm_types.specs.declared.limits.RunLimits.{RunLimits as Limits};
 ghost use Rattle.wasm_values.specs.declared.outcome.Val.{Val as AVal};
@@ -7,7 +7,7 @@ ghost use Rattle.linear_memory.specs.Bytes.{IsMemory};
 ghost use Rattle.machine_steps.specs.Lent.{store_of};
 ghost use Rattle.wasm_machine.specs.Lent.{MarksWithin};
 ghost use Rattle.wasm_types.specs.Tree.{function_tree, locals_of, module_tree};
-ghost use Rattle.wasm_spec.specs.Execution.{Ended, Terms, terms, zero_of};
+ghost use Rattle.wasm_spec.specs.Execution.{Ended, Terms, terms_of, zero_of};
 ghost use Rattle.wasm_spec.specs.Store.{Store};
 ghost use Rattle.wasm_spec.specs.Result.{run_function};
 ghost use Rattle.wasm_validate.specs.Locals.{HasLocals, HasNoEmptyRun};
@@ -19,8 +19,8 @@ ghost use Rattle.wasm_machine.specs.TypedConfiguration.{IsRunnable, IsTypedStore
 ghost use Rattle.wasm_types.specs.declared.instr.Op.TheVariants as op;
 ghost use Rattle.wasm_machine.specs.Simulation.{HasFetched, CanCall, CanCallNumber, CanCallElement, Simulates, SimulatesCall, SimulatesCalling, SimulatesUnlessTrapped, in_function, paid};
 
+use crate::inputs::Inputs;
 use crate::lookup::{has_type, host_of, local_runs, param_count, start_of};
-use crate::running::Inputs;
 use call_payload::AnswerBuf;
 use linear_memory::Memory;
 use machine_steps::{Frame, Machine, Position, ValueStack};
@@ -108,10 +108,10 @@ fn enter_function(machine: &mut Machine, m: &Module, x: usize, count: usize)
 // Calls one of the module's own functions, if one more call may be open.
 #[inline(always)]
 fn invoke(machine: &mut Machine, inputs: &Inputs, x: usize) -> Option<TrapKind>
-    requires { (request : List ℕ) × CanCall inputs.now.m.now (terms inputs.now.limits request) machine.old x }
+    requires { (request : List ℕ) × CanCall inputs.now.m.now (terms_of inputs.now.limits request) machine.old x }
     ensures steps { (request : List ℕ) (frame : ℕ) (store : Store) (r : ℕ → Ended) → IsRunnable inputs.now.m.now frame
-        → SimulatesCall inputs.now.m.now (terms inputs.now.limits request) frame machine.old store x r
-        → SimulatesUnlessTrapped result inputs.now.m.now (terms inputs.now.limits request) frame machine.new store r }
+        → SimulatesCall inputs.now.m.now (terms_of inputs.now.limits request) frame machine.old store x r
+        → SimulatesUnlessTrapped result inputs.now.m.now (terms_of inputs.now.limits request) frame machine.new store r }
     ensures room { KeepsRoom machine.old machine.new }
 {
     if machine.frames.len() + 1 >= inputs.limits.depth as usize {
@@ -131,13 +131,12 @@ fn call_import(
     x: usize,
 ) -> Option<TrapKind>
     requires import { x < length inputs.now.m.now.imports }
-    requires can { CanCallNumber inputs.now.m.now (terms inputs.now.limits inputs.now.request.now) machine.old x }
+    requires can { CanCallNumber inputs.now.m.now (terms_of inputs.now.limits inputs.now.request.now) machine.old x }
     requires memory { (most : ℕ) × IsMemory most memory.old }
-    requires short { length inputs.now.request.now < 2 ^ 32 }
     ensures steps { (frame : ℕ) (table : List (Option ℕ)) (globals : List AVal) (r : ℕ → Ended) → IsRunnable inputs.now.m.now frame
-        → SimulatesCalling inputs.now.m.now (terms inputs.now.limits inputs.now.request.now) frame machine.old
+        → SimulatesCalling inputs.now.m.now (terms_of inputs.now.limits inputs.now.request.now) frame machine.old
         (store_of memory.old table globals answer.old) x r
-        → SimulatesUnlessTrapped result inputs.now.m.now (terms inputs.now.limits inputs.now.request.now) frame machine.new
+        → SimulatesUnlessTrapped result inputs.now.m.now (terms_of inputs.now.limits inputs.now.request.now) frame machine.new
         (store_of memory.new table globals answer.new) r }
     ensures room { KeepsRoom machine.old machine.new }
     ensures memory { (most : ℕ) → IsMemory most memory.old → IsMemory most memory.new }
@@ -158,13 +157,12 @@ pub(crate) fn call(
     answer: &mut AnswerBuf,
     x: u32,
 ) -> Option<TrapKind>
-    requires can { CanCallNumber inputs.now.m.now (terms inputs.now.limits inputs.now.request.now) machine.old x }
+    requires can { CanCallNumber inputs.now.m.now (terms_of inputs.now.limits inputs.now.request.now) machine.old x }
     requires memory { (most : ℕ) × IsMemory most memory.old }
-    requires short { length inputs.now.request.now < 2 ^ 32 }
     ensures steps { (frame : ℕ) (table : List (Option ℕ)) (globals : List AVal) (r : ℕ → Ended) → IsRunnable inputs.now.m.now frame
-        → SimulatesCalling inputs.now.m.now (terms inputs.now.limits inputs.now.request.now) frame machine.old
+        → SimulatesCalling inputs.now.m.now (terms_of inputs.now.limits inputs.now.request.now) frame machine.old
         (store_of memory.old table globals answer.old) x r
-        → SimulatesUnlessTrapped result inputs.now.m.now (terms inputs.now.limits inputs.now.request.now) frame machine.new
+        → SimulatesUnlessTrapped result inputs.now.m.now (terms_of inputs.now.limits inputs.now.request.now) frame machine.new
         (store_of memory.new table globals answer.new) r }
     ensures room { KeepsRoom machine.old machine.new }
     ensures memory { (most : ℕ) → IsMemory most memory.old → IsMemory most memory.new }
@@ -188,13 +186,12 @@ pub(crate) fn call_indirect(
     answer: &mut AnswerBuf,
     x: u32,
 ) -> Option<TrapKind>
-    requires can { CanCallElement inputs.now.m.now (terms inputs.now.limits inputs.now.request.now) inputs.now.table.now machine.old x }
+    requires can { CanCallElement inputs.now.m.now (terms_of inputs.now.limits inputs.now.request.now) inputs.now.table.now machine.old x }
     requires memory { (most : ℕ) × IsMemory most memory.old }
-    requires short { length inputs.now.request.now < 2 ^ 32 }
     ensures steps { (frame : ℕ) (globals : List AVal) (here : ℕ) (r : ℕ → Ended) → IsRunnable inputs.now.m.now frame
-        → HasFetched inputs.now.m.now (terms inputs.now.limits inputs.now.request.now) frame machine.old
+        → HasFetched inputs.now.m.now (terms_of inputs.now.limits inputs.now.request.now) frame machine.old
         (store_of memory.old inputs.now.table.now globals answer.old) here (op.CallIndirect x) r
-        → SimulatesUnlessTrapped result inputs.now.m.now (terms inputs.now.limits inputs.now.request.now) frame machine.new
+        → SimulatesUnlessTrapped result inputs.now.m.now (terms_of inputs.now.limits inputs.now.request.now) frame machine.new
         (store_of memory.new inputs.now.table.now globals answer.new) (paid r) }
     ensures room { KeepsRoom machine.old machine.new }
     ensures memory { (most : ℕ) → IsMemory most memory.old → IsMemory most memory.new }

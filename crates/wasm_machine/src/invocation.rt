@@ -6,7 +6,7 @@ ghost use Rattle.wasm_types.specs.declared.instr.Width.TheVariants.{W32};
 ghost use Rattle.wasm_spec.specs.Functions.{host_type};
 ghost use Rattle.wasm_spec.specs.Typing.{type_of};
 ghost use Rattle.wasm_spec.specs.Typing.{number};
-ghost use Rattle.wasm_spec.specs.Execution.{Ended, Terms, host_call, terms};
+ghost use Rattle.wasm_spec.specs.Execution.{Ended, Terms, host_call, terms_of};
 ghost use Rattle.wasm_spec.specs.Store.{Store};
 ghost use Rattle.wasm_types.specs.Tree.{module_tree};
 ghost use Rattle.wasm_spec.specs.Bulk.{HasFewMarks};
@@ -25,8 +25,9 @@ ghost use Rattle.wasm_machine.specs.Simulation.{Simulates, after};
 ghost use Rattle.wasm_machine.specs.TypedConfiguration.{IsRunnable, IsTypedStore};
 
 use crate::calls::begin;
+use crate::inputs::{Inputs, RunInputs};
 use crate::lookup::host_of;
-use crate::running::{Halt, Inputs, advance};
+use crate::running::{Halt, advance};
 use crate::stacks::Stacks;
 use call_payload::AnswerBuf;
 use linear_memory::Memory;
@@ -34,16 +35,6 @@ use machine_steps::{Machine, append_memory, copy_request};
 use wasm_types::{HostFunction, Module, RunLimits};
 use wasm_validate::Valid;
 use wasm_values::{Outcome, TrapKind, Val};
-
-/// What a run reads and does not change: the module, the limits of its pages and its depth, the request of at most 65,536 bytes, and
-/// the table, in which an entry is a function's number or none.
-#[derive(Clone, Copy)]
-pub struct RunInputs<'a> {
-    pub valid: &'a Valid,
-    pub limits: RunLimits,
-    pub request: &'a [u8],
-    pub table: &'a [Option<u32>],
-}
 
 /// How a run ended, and the fuel that it left.
 #[derive(Clone, Copy, Debug, PartialEq, Eq)]
@@ -111,7 +102,7 @@ fn run_import(
     requires memory { (most : ℕ) × IsMemory most memory.old }
     requires short { length request.now < 2 ^ 32 }
     ensures result { (limits : Limits) (table : List (Option ℕ)) (globals : List AVal) (turns : ℕ)
-        → function_result (module_tree m.now) (terms limits request.now) x args.now (store_of memory.old table globals answer.old) turns
+        → function_result (module_tree m.now) (terms_of limits request.now) x args.now (store_of memory.old table globals answer.old) turns
         ≡ Some (record { outcome = result.outcome; store = store_of memory.new table globals answer.new; fuel = turns }) }
     ensures ended { HasEnded result.outcome }
     ensures left { result.left ≡ fuel }
@@ -144,29 +135,28 @@ fn go_on(
     machine: &mut Machine,
 ) -> RunEnd
     requires runs { (frame : ℕ) × (r : ℕ → Ended) × IsRunnable inputs.now.m.now frame
-        × Simulates inputs.now.m.now (terms inputs.now.limits inputs.now.request.now) frame machine.old
+        × Simulates inputs.now.m.now (terms_of inputs.now.limits inputs.now.request.now) frame machine.old
         (store_of memory.old inputs.now.table.now globals.old answer.old) r }
     requires memory { IsMemory (room_for inputs.now.m.now.memories inputs.now.limits.pages) memory.old }
-    requires short { length inputs.now.request.now < 2 ^ 32 }
     ensures result { (frame : ℕ) (r : ℕ → Ended) → IsRunnable inputs.now.m.now frame
-        → Simulates inputs.now.m.now (terms inputs.now.limits inputs.now.request.now) frame machine.old
+        → Simulates inputs.now.m.now (terms_of inputs.now.limits inputs.now.request.now) frame machine.old
         (store_of memory.old inputs.now.table.now globals.old answer.old) r
         → result_of (r fuel) ≡ Some
         (record { outcome = result.outcome; store = store_of memory.new inputs.now.table.now globals.new answer.new; fuel = result.left }) }
     ensures ended { HasEnded result.outcome → (frame : ℕ) (r : ℕ → Ended) → IsRunnable inputs.now.m.now frame
-        → Simulates inputs.now.m.now (terms inputs.now.limits inputs.now.request.now) frame machine.old
+        → Simulates inputs.now.m.now (terms_of inputs.now.limits inputs.now.request.now) frame machine.old
         (store_of memory.old inputs.now.table.now globals.old answer.old) r → (more : ℕ)
         → result_of (r (fuel - result.left + more))
         ≡ Some (record { outcome = result.outcome; store = store_of memory.new inputs.now.table.now globals.new answer.new; fuel = more }) }
     ensures stands { IsOutOfFuel result.outcome → (frame : ℕ) (r : ℕ → Ended) → IsRunnable inputs.now.m.now frame
-        → Simulates inputs.now.m.now (terms inputs.now.limits inputs.now.request.now) frame machine.old
+        → Simulates inputs.now.m.now (terms_of inputs.now.limits inputs.now.request.now) frame machine.old
         (store_of memory.old inputs.now.table.now globals.old answer.old) r
-        → Simulates inputs.now.m.now (terms inputs.now.limits inputs.now.request.now) frame machine.new
+        → Simulates inputs.now.m.now (terms_of inputs.now.limits inputs.now.request.now) frame machine.new
         (store_of memory.new inputs.now.table.now globals.new answer.new) (after fuel r) }
     ensures left { result.left ≤ fuel }
     ensures store { IsDone result.outcome → IsTypedStore inputs.now.m.now (store_of memory.new inputs.now.table.now globals.new answer.new) }
     ensures marked { (frame : ℕ) (r : ℕ → Ended) → IsRunnable inputs.now.m.now frame
-        → Simulates inputs.now.m.now (terms inputs.now.limits inputs.now.request.now) frame machine.old
+        → Simulates inputs.now.m.now (terms_of inputs.now.limits inputs.now.request.now) frame machine.old
         (store_of memory.old inputs.now.table.now globals.old answer.old) r
         → (turns : ℕ) (x : CallResult) → turns ≤ fuel → result_of (r turns) ≡ Some x
         → KeepsUnmarked memory.old.bytes.items x.store.memory memory.old.marks.items memory.new.marks.items }
@@ -220,7 +210,6 @@ impl Stacks {
         requires resumes { CanResume inputs.now.valid.now (run_terms inputs.now) self.old (run_store inputs.now memory.old globals.old answer.old) }
         requires frame { FitsFrame inputs.now.valid.now self.old.room.frame }
         requires memory { IsMemory (room_for inputs.now.valid.now.memories inputs.now.limits.pages) memory.old }
-        requires request { length inputs.now.request.now ≤ 65536 }
         ensures result { (r : ℕ → Ended)
             → Resumes inputs.now.valid.now (run_terms inputs.now) self.old (run_store inputs.now memory.old globals.old answer.old) r
             → result_of (r fuel)
@@ -282,7 +271,6 @@ impl Stacks {
         requires depth { 0 < inputs.now.limits.depth }
         requires memory { IsMemory (room_for inputs.now.valid.now.memories inputs.now.limits.pages) memory.old }
         requires store { IsTypedStore inputs.now.valid.now (run_store inputs.now memory.old globals.old answer.old) }
-        requires request { length inputs.now.request.now ≤ 65536 }
         requires frames { inputs.now.limits.depth ≤ self.old.room.depth }
         requires frame { FitsFrame inputs.now.valid.now self.old.room.frame }
         ensures result { function_result (module_tree inputs.now.valid.now) (run_terms inputs.now) function args.now
@@ -352,7 +340,7 @@ pub fn run(
     requires request { length request.now ≤ 65536 }
     requires frames { limits.depth ≤ stacks.old.room.depth }
     requires frame { FitsFrame valid.now stacks.old.room.frame }
-    ensures result { function_result (module_tree valid.now) (terms limits request.now) function args.now
+    ensures result { function_result (module_tree valid.now) (terms_of limits request.now) function args.now
         (lent_store valid.now memory.old table.now globals.old answer.old) fuel
         ≡ Some (record { outcome = result.outcome; store = lent_store valid.now memory.new table.now globals.new answer.new; fuel = result.left }) }
     ensures left { result.left ≤ fuel }
@@ -360,7 +348,7 @@ pub fn run(
     ensures store { IsDone result.outcome → IsTypedStore valid.now (lent_store valid.now memory.new table.now globals.new answer.new) }
 
     ensures marked { (turns : ℕ) (r : CallResult) → turns ≤ fuel
-        → function_result (module_tree valid.now) (terms limits request.now) function args.now
+        → function_result (module_tree valid.now) (terms_of limits request.now) function args.now
         (lent_store valid.now memory.old table.now globals.old answer.old) turns ≡ Some r
         → KeepsUnmarked memory.old.bytes.items r.store.memory memory.old.marks.items memory.new.marks.items }
     ensures unspent { length valid.now.imports ≤ function → result.left ≡ fuel → memory.new.marks.items ≡ memory.old.marks.items }

@@ -4,12 +4,14 @@
 mod calls;
 mod control;
 mod entering;
+mod inputs;
 mod invocation;
 mod lookup;
 mod running;
 mod stacks;
 
-pub use invocation::{RunEnd, RunInputs, run};
+pub use inputs::RunInputs;
+pub use invocation::{RunEnd, run};
 pub use linear_memory::Memory;
 pub use stacks::Stacks;
 pub use wasm_types::RunLimits;

@@ -4,7 +4,7 @@ ghost use Rattle.std.specs.Prelude.{◌≡◌, ◌<◌, Some, length, option_and
 ghost use Rattle.wasm_types.specs.declared.types.FuncType.{FuncType};
 ghost use Rattle.wasm_spec.specs.Execution as execution;
 ghost use Rattle.wasm_spec.specs.Functions.{function_type, host_function as named_function};
-ghost use Rattle.wasm_spec.specs.Typing.{params_or_none, result_types};
+ghost use Rattle.wasm_spec.specs.Typing.{type_or_empty, result_types};
 ghost use Rattle.wasm_types.specs.Tree.{module_tree};
 ghost use Rattle.wasm_machine.specs.Simulation.{start_of as start};
 ghost use Rattle.wasm_types.specs.Sequences.{code_at, named_in, ops_of};
@@ -83,7 +83,7 @@ pub(crate) fn named_by(m: &Module, at: Position, inner: usize) -> usize
 // How many parameters a function takes.
 pub(crate) fn param_count(m: &Module, x: usize) -> usize
     requires { x < length m.now.functions }
-    ensures { result ≡ length (params_or_none (body_type (module_tree m.now) x)) }
+    ensures { result ≡ length (type_or_empty (body_type (module_tree m.now) x)).params }
 {
     match type_at(m, x) {
         Some(t) => t.params.len(),

@@ -3,7 +3,7 @@ ghost use Rattle.std.specs.Prelude.{◌≡◌, ◌≢◌, ℕ, List, ◌+◌, �
 ghost use Rattle.wasm_values.specs.declared.outcome.Val.{Val as AVal};
 ghost use Rattle.wasm_types.specs.declared.instr.Op.TheVariants as op;
 ghost use Rattle.wasm_machine.specs.declared.running.Step.TheVariants as step;
-ghost use Rattle.wasm_spec.specs.Execution.{Ended, Terms, terms, most_pages as pages_at_most};
+ghost use Rattle.wasm_spec.specs.Execution.{Ended, Terms, terms_of, most_pages as pages_at_most};
 ghost use Rattle.wasm_spec.specs.Store.{Store};
 ghost use Rattle.machine_steps.specs.StackLayout.{KeepsRoom};
 ghost use Rattle.linear_memory.specs.Bytes.{IsMemory};
@@ -16,21 +16,13 @@ ghost use Rattle.wasm_machine.specs.Simulation.{AreMarkedBelow, HasFetched, CanC
 use crate::calls::{call, call_indirect};
 use crate::control::{end_sequence, jump};
 use crate::entering::{enter_arm, enter_named};
+use crate::inputs::Inputs;
 use crate::lookup::{most_pages, named_by, sequence_of};
 use call_payload::AnswerBuf;
 use linear_memory::Memory;
 use machine_steps::{Effect, Machine};
-use wasm_types::{Instr, Module, Op, RunLimits};
+use wasm_types::{Instr, Module, Op};
 use wasm_values::{TrapKind, Val};
-
-/// What a run reads and does not change.
-#[derive(Clone, Copy)]
-pub(crate) struct Inputs<'a> {
-    pub m: &'a Module,
-    pub limits: RunLimits,
-    pub request: &'a [u8],
-    pub table: &'a [Option<u32>],
-}
 
 // What a step comes to: the run goes on in the same sequence, or wherever it stands then, is over, or traps.
 #[derive(Clone, Copy, Debug, PartialEq, Eq)]
@@ -141,14 +133,13 @@ fn execute_structured(
     requires structured { IsStructured op.now }
     requires fits { machine.old.at.place + 1 < 2 ^ 64 }
     requires runs { (frame : ℕ) × (globals : List AVal) × (r : ℕ → Ended) × IsRunnable inputs.now.m.now frame
-        × Simulates inputs.now.m.now (terms inputs.now.limits inputs.now.request.now) frame machine.old
+        × Simulates inputs.now.m.now (terms_of inputs.now.limits inputs.now.request.now) frame machine.old
         (store_of memory.old inputs.now.table.now globals answer.old) r }
     requires memory { IsMemory (room_for inputs.now.m.now.memories inputs.now.limits.pages) memory.old }
-    requires short { length inputs.now.request.now < 2 ^ 32 }
     ensures steps { (frame : ℕ) (globals : List AVal) (r : ℕ → Ended) → IsRunnable inputs.now.m.now frame
-        → Simulates inputs.now.m.now (terms inputs.now.limits inputs.now.request.now) frame machine.old
+        → Simulates inputs.now.m.now (terms_of inputs.now.limits inputs.now.request.now) frame machine.old
         (store_of memory.old inputs.now.table.now globals answer.old) r
-        → SimulatesUnlessTrapped result inputs.now.m.now (terms inputs.now.limits inputs.now.request.now) frame machine.new
+        → SimulatesUnlessTrapped result inputs.now.m.now (terms_of inputs.now.limits inputs.now.request.now) frame machine.new
         (store_of memory.new inputs.now.table.now globals answer.new) (paid r) }
     ensures room { KeepsRoom machine.old machine.new }
     ensures memory { IsMemory (room_for inputs.now.m.now.memories inputs.now.limits.pages) memory.new }
@@ -192,14 +183,13 @@ fn execute(
     requires fits { machine.old.at.place + 1 < 2 ^ 64 }
     requires most { most ≡ pages_at_most inputs.now.m.now.memories inputs.now.limits.pages }
     requires runs { (frame : ℕ) × (r : ℕ → Ended) × IsRunnable inputs.now.m.now frame
-        × Simulates inputs.now.m.now (terms inputs.now.limits inputs.now.request.now) frame machine.old
+        × Simulates inputs.now.m.now (terms_of inputs.now.limits inputs.now.request.now) frame machine.old
         (store_of memory.old inputs.now.table.now globals.old answer.old) r }
     requires memory { IsMemory (room_for inputs.now.m.now.memories inputs.now.limits.pages) memory.old }
-    requires short { length inputs.now.request.now < 2 ^ 32 }
     ensures steps { (frame : ℕ) (r : ℕ → Ended) → IsRunnable inputs.now.m.now frame
-        → Simulates inputs.now.m.now (terms inputs.now.limits inputs.now.request.now) frame machine.old
+        → Simulates inputs.now.m.now (terms_of inputs.now.limits inputs.now.request.now) frame machine.old
         (store_of memory.old inputs.now.table.now globals.old answer.old) r
-        → SimulatesStep result inputs.now.m.now (terms inputs.now.limits inputs.now.request.now) frame machine.new
+        → SimulatesStep result inputs.now.m.now (terms_of inputs.now.limits inputs.now.request.now) frame machine.new
         (store_of memory.new inputs.now.table.now globals.new answer.new) (paid r) }
     ensures room { KeepsRoom machine.old machine.new }
     ensures memory { IsMemory (room_for inputs.now.m.now.memories inputs.now.limits.pages) memory.new }
@@ -230,13 +220,13 @@ fn execute_plain(
 ) -> Step
     requires most { most ≡ pages_at_most inputs.now.m.now.memories inputs.now.limits.pages }
     requires runs { (frame : ℕ) × (answer : List ℕ) × (r : ℕ → Ended) × IsRunnable inputs.now.m.now frame
-        × HasFetched inputs.now.m.now (terms inputs.now.limits inputs.now.request.now) frame machine.old
+        × HasFetched inputs.now.m.now (terms_of inputs.now.limits inputs.now.request.now) frame machine.old
         (store_of memory.old inputs.now.table.now globals.old answer) here (op.Plain instr.now) r }
     requires memory { IsMemory (room_for inputs.now.m.now.memories inputs.now.limits.pages) memory.old }
     ensures steps { (frame : ℕ) (answer : List ℕ) (r : ℕ → Ended) → IsRunnable inputs.now.m.now frame
-        → HasFetched inputs.now.m.now (terms inputs.now.limits inputs.now.request.now) frame machine.old
+        → HasFetched inputs.now.m.now (terms_of inputs.now.limits inputs.now.request.now) frame machine.old
         (store_of memory.old inputs.now.table.now globals.old answer) here (op.Plain instr.now) r
-        → SimulatesStep result inputs.now.m.now (terms inputs.now.limits inputs.now.request.now) frame machine.new
+        → SimulatesStep result inputs.now.m.now (terms_of inputs.now.limits inputs.now.request.now) frame machine.new
         (store_of memory.new inputs.now.table.now globals.new answer) (paid r) }
     ensures room { KeepsRoom machine.old machine.new }
     ensures memory { IsMemory (room_for inputs.now.m.now.memories inputs.now.limits.pages) memory.new }
@@ -261,17 +251,16 @@ pub(crate) fn advance(
     fuel: u64,
 ) -> Halt
     requires runs { (frame : ℕ) × (r : ℕ → Ended) × IsRunnable inputs.now.m.now frame
-        × Simulates inputs.now.m.now (terms inputs.now.limits inputs.now.request.now) frame machine.old
+        × Simulates inputs.now.m.now (terms_of inputs.now.limits inputs.now.request.now) frame machine.old
         (store_of memory.old inputs.now.table.now globals.old answer.old) r }
     requires memory { IsMemory (room_for inputs.now.m.now.memories inputs.now.limits.pages) memory.old }
-    requires short { length inputs.now.request.now < 2 ^ 32 }
     ensures halts { (frame : ℕ) (r : ℕ → Ended) → IsRunnable inputs.now.m.now frame
-        → Simulates inputs.now.m.now (terms inputs.now.limits inputs.now.request.now) frame machine.old
+        → Simulates inputs.now.m.now (terms_of inputs.now.limits inputs.now.request.now) frame machine.old
         (store_of memory.old inputs.now.table.now globals.old answer.old) r
-        → HaltsAs result inputs.now.m.now (terms inputs.now.limits inputs.now.request.now) frame machine.new
+        → HaltsAs result inputs.now.m.now (terms_of inputs.now.limits inputs.now.request.now) frame machine.new
         (store_of memory.new inputs.now.table.now globals.new answer.new) fuel r }
     ensures marked { (frame : ℕ) (r : ℕ → Ended) → IsRunnable inputs.now.m.now frame
-        → Simulates inputs.now.m.now (terms inputs.now.limits inputs.now.request.now) frame machine.old
+        → Simulates inputs.now.m.now (terms_of inputs.now.limits inputs.now.request.now) frame machine.old
         (store_of memory.old inputs.now.table.now globals.old answer.old) r
         → AreMarkedBelow (fuel + 1) r memory.old memory.new }
     ensures left { left_of result ≤ fuel }

@@ -7,7 +7,8 @@ use Rattle.std.proofs.Math.ListN.{replicate}
 use Rattle.std.proofs.Math.Nat.{mod-lt, div-eq_of_lt, pow-le-pow_right}
 use Rattle.wasm_types.specs.declared.instr.PackSize.{PackSize}
 use Rattle.wasm_types.specs.declared.instr.PackSize.TheVariants.{Pack8, Pack16, Pack32}
-use Rattle.wasm_spec.specs.Operators.{pack_bits, binary_digits, signed, unsigned, extend_low, wrap}
+use Rattle.wasm_spec.specs.Operators.{pack_bits, binary_digits, signed, unsigned, wrap}
+use Rattle.wasm_numeric.specs.Operators.{extend_low}
 use Rattle.wasm_numeric.proofs.Signed.{by_sign, twice, signed-unsigned, mag-signed}
 use Rattle.wasm_numeric.proofs.Digits.{digits-zero, digits-ones, digits-add, lowest-digits}
 

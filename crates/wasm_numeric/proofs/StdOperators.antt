@@ -16,7 +16,8 @@ use Rattle.std.proofs.Math.Pow.{shr_lt}
 use Rattle.wasm_types.specs.declared.instr.Width.{Width}
 use Rattle.wasm_types.specs.declared.instr.Width.TheVariants.{W32, W64}
 use Rattle.wasm_spec.specs.Operators.{int_width}
-use Rattle.wasm_spec.specs.Operators.{bit_width, binary_digits, rotl, rotr, clz, ctz, popcnt}
+use Rattle.wasm_spec.specs.Operators.{bit_width, binary_digits, rotl, rotr}
+use Rattle.wasm_numeric.specs.Operators.{clz, ctz, popcnt}
 
 -- ---- counts
 

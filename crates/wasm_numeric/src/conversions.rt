@@ -3,7 +3,8 @@
 //! Source: WebAssembly Core Specification 1.0, section 4.3.4; for the latter version 2.0, section 4.3.2.
 
 ghost use Rattle.std.specs.Prelude.{◌≡◌};
-ghost use Rattle.wasm_spec.specs.Operators.{extend_low, extend_s, wrap};
+ghost use Rattle.wasm_spec.specs.Operators.{extend_s, wrap};
+ghost use Rattle.wasm_numeric.specs.Operators.{extend_low};
 
 /// The lowest 32 digits. Standard: `wrap`.
 pub fn i32_wrap_i64(a: u64) -> u32

@@ -5,7 +5,8 @@
 
 ghost use Rattle.std.specs.Prelude.{◌≡◌, bit_and, bit_or, bit_xor};
 ghost use Rattle.wasm_types.specs.declared.instr.CompareOp.TheVariants as compare_op;
-ghost use Rattle.wasm_spec.specs.Operators.{add, clz, compare, ctz, div_s, div_u, eqz, mul, popcnt, rem_s, rem_u, rotl, rotr, shl, shr_s, shr_u, sub};
+ghost use Rattle.wasm_spec.specs.Operators.{compare, div_s, eqz, rem_s, rotl, rotr, shl, shr_s, shr_u};
+ghost use Rattle.wasm_numeric.specs.Operators.{add, clz, ctz, div_u, mul, popcnt, rem_u, sub};
 
 use wasm_values::TrapKind;
 

@@ -7,7 +7,8 @@ ghost use Rattle.std.specs.Prelude.{◌≡◌, ◌↔◌, ℕ, ◌-◌, ◌/◌,
 ghost use Rattle.wasm_types.specs.declared.instr.Width.{Width};
 ghost use Rattle.wasm_types.specs.declared.instr.PackSize.{PackSize};
 ghost use Rattle.wasm_values.specs.declared.outcome.TrapKind.TheVariants as trap;
-ghost use Rattle.wasm_spec.specs.Operators.{binary_digits, bit_width, div_s, extend_low, pack_bits, rem_s, rotl, rotr, shl, shr_s, shr_u, signed, wrap};
+ghost use Rattle.wasm_spec.specs.Operators.{binary_digits, bit_width, div_s, pack_bits, rem_s, rotl, rotr, shl, shr_s, shr_u, signed, wrap};
+ghost use Rattle.wasm_numeric.specs.Operators.{extend_low};
 
 /// A rotation by k places: the k digits that leave at one end come in at the other, in their order.
 pub fn rotations_move_the_digits()

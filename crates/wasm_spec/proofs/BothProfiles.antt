@@ -6,7 +6,7 @@ use Rattle.wasm_values.specs.declared.profile.Profile.TheVariants.{One, Two}
 use Rattle.wasm_types.specs.declared.instr.Instr.{Instr}
 use Rattle.wasm_types.specs.Tree.{Code, End, Plain, Block, Loop, If, Call, CallIndirect, ModuleTree}
 use Rattle.wasm_spec.specs.Numbers.{TakesEach}
-use Rattle.wasm_spec.specs.InstrGrammar.{Shape, NotPlain, Closer, ByEnd, ByElse, TakesShape, TakesInstr, TakesCode, control, parametric, variable, memory, numeric, added, shape}
+use Rattle.wasm_spec.specs.InstrGrammar.{Shape, NotPlain, Closer, ByEnd, ByElse, TakesShape, TakesInstr, TakesCode, first_opcodes, numeric, added, shape}
 use Rattle.wasm_spec.specs.Grammar.{Section, IsOrderedAbove, TakesGlobal, TakesElement, TakesSizedBody, TakesData, SpellsVec, Spells, body_of, place, section}
 
 abbrev Row : Type 0
@@ -30,7 +30,7 @@ among_more (row ∷ rows) others opcode i bytes rest t =
 
 shape_in_both : (opcode : ℕ) (i : Instr) (bytes rest : List ℕ) → TakesShape (shape One opcode) i bytes rest → TakesShape (shape Two opcode) i bytes rest
 unfolding shape
-shape_in_both opcode i bytes rest t = among_more (control ++ parametric ++ variable ++ memory ++ numeric) (added Two) opcode i bytes rest t
+shape_in_both opcode i bytes rest t = among_more (first_opcodes ++ numeric) (added Two) opcode i bytes rest t
 
 instr_in_both : (i : Instr) (bytes rest : List ℕ) → TakesInstr One i bytes rest → TakesInstr Two i bytes rest
 instr_in_both i bytes rest t = record { opcode = t.opcode; after = t.after; leads = t.leads; follows = shape_in_both t.opcode i t.after rest t.follows }

@@ -1,27 +1,27 @@
 -- The equations of `exec`, one for each form of code. All that is proved about execution stands on these, and `exec` stays
 -- shut.
 use Rattle.std.proofs.Common.{◌≡◌, ◌≢◌, ℕ, suc, ◌+◌, ◌<◌, length, Option, refl, ap, ◌∙◌, arith}
-use Rattle.std.specs.Prelude.{slice_get, not}
+use Rattle.std.specs.Prelude.{slice_get}
 use Rattle.wasm_types.specs.declared.types.ValType.{ValType}
 use Rattle.wasm_types.specs.declared.instr.Instr.{Instr}
 use Rattle.wasm_values.specs.declared.outcome.TrapKind.TheVariants as trap
 use Rattle.wasm_types.specs.SameTypes.{same_type}
 use Rattle.wasm_types.specs.Tree.{Code, End, Plain, Block, Loop, If, Call, CallIndirect, ModuleTree}
 use Rattle.wasm_spec.specs.Typing.{result_types}
-use Rattle.wasm_spec.specs.Execution.{Terms, State, Next, Trapped, OutOfFuel, Ended, ended, Continuation, plain, and_then, leave, pop_index, choose, inside, arm, with_function, call, typed_call, element_call, exec_within, exec}
-use Rattle.wasm_spec.proofs.FuelLaws.{Spends, Agree, within-spends, within-exec, and_then-same, leave-same, call-same, within_body, with_function-same, if_there-same, with_element-same, pop_index-same, choose-same, choose-spends, unless-same}
+use Rattle.wasm_spec.specs.Execution.{Terms, State, Next, Trapped, OutOfFuel, Ended, Continuation, plain, and_then, leave, pop_index, inside, arm, with_function, call, typed_call, element_call, exec_within, exec}
+use Rattle.wasm_spec.proofs.FuelLaws.{Spends, Agree, within-spends, within-exec, and_then-same, leave-same, call-same, within_body, with_function-same, if_there-same, with_element-same, pop_index-same, choose, choose-same, choose-spends, if_so-same}
 
 module _ (m : ModuleTree) (limits : Terms) where
   -- below k, any index from k on goes on as `exec` does
   agree : (n k : ℕ) (c : Code) (depth : ℕ) → k < n + 1 → Agree k (exec_within m limits n c depth) (exec m limits depth c)
   agree n k c depth le s fuel lt = within-exec m limits n c depth s fuel (omega arith)
 
-  pub exec-End : (depth : ℕ) (s : State) (fuel : ℕ) → exec m limits depth End s fuel ≡ ended (Next s) fuel
+  pub exec-End : (depth : ℕ) (s : State) (fuel : ℕ) → exec m limits depth End s fuel ≡ (Next s, fuel)
   unfolding exec
   exec-End depth s fuel = refl
 
   -- nothing but the end of a sequence is executed without fuel
-  pub exec-zero : (depth : ℕ) (c : Code) (s : State) → c ≢ End → exec m limits depth c s 0 ≡ ended (OutOfFuel s.store) 0
+  pub exec-zero : (depth : ℕ) (c : Code) (s : State) → c ≢ End → exec m limits depth c s 0 ≡ (OutOfFuel s.store, 0)
   unfolding exec
   exec-zero depth End s h = absurd (h refl)
   exec-zero depth (Plain i rest) s h = refl
@@ -48,7 +48,7 @@ module _ (m : ModuleTree) (limits : Terms) where
       let go' : Continuation = exec m limits depth rest in
       let h : Agree (suc fuel) go go' = agree n (suc fuel) rest depth (omega arith) in
       let inner : Ended = exec_within m limits n body depth (inside s) fuel in
-      leave-same (length (result_types t)) s.operands inner.signal inner.fuel (suc fuel) go go' go go' (omega (arith, within-spends m limits n body depth (inside s) fuel)) h h
+      leave-same (length (result_types t)) s.operands inner.0 inner.1 (suc fuel) go go' go go' (omega (arith, within-spends m limits n body depth (inside s) fuel)) h h
       ∙ ap (λ (r : Ended). leave (length (result_types t)) s.operands r go' go') (within-exec m limits n body depth (inside s) fuel (omega arith))
 
   -- a branch to a loop goes back to the loop instruction
@@ -65,7 +65,7 @@ module _ (m : ModuleTree) (limits : Terms) where
       let h : Agree (suc fuel) go go' = agree n (suc fuel) rest depth (omega arith) in
       let back : Agree (suc fuel) again again' = agree (suc fuel) (suc fuel) (Loop t body rest) depth (omega arith) in
       let inner : Ended = exec_within m limits n body depth (inside s) fuel in
-      leave-same 0 s.operands inner.signal inner.fuel (suc fuel) go go' again again' (omega (arith, within-spends m limits n body depth (inside s) fuel)) h back
+      leave-same 0 s.operands inner.0 inner.1 (suc fuel) go go' again again' (omega (arith, within-spends m limits n body depth (inside s) fuel)) h back
       ∙ ap (λ (r : Ended). leave 0 s.operands r go' again') (within-exec m limits n body depth (inside s) fuel (omega arith))
 
   pub exec-If : (depth : ℕ) (t : Option ValType) (first second rest : Code) (s : State) (fuel : ℕ)
@@ -83,7 +83,7 @@ module _ (m : ModuleTree) (limits : Terms) where
       pop_index-same s.operands (suc fuel) _ (arm t (exec m limits depth first) (exec m limits depth second) (exec m limits depth rest)) (λ c s g l.
       let arm_spends : Spends (choose c a b) = choose-spends c a b (within-spends m limits n first depth) (within-spends m limits n second depth) in
       let arms : Agree (suc fuel) (choose c a b) (choose c a' b') = choose-same c (suc fuel) a a' b b' (agree n (suc fuel) first depth (omega arith)) (agree n (suc fuel) second depth (omega arith)) in
-      leave-same (length (result_types t)) s.operands (choose c a b (inside s) g).signal (choose c a b (inside s) g).fuel (suc fuel) go go' go go' (omega (arith, arm_spends (inside s) g)) h h
+      leave-same (length (result_types t)) s.operands (choose c a b (inside s) g).0 (choose c a b (inside s) g).1 (suc fuel) go go' go go' (omega (arith, arm_spends (inside s) g)) h h
       ∙ ap (λ (r : Ended). leave (length (result_types t)) s.operands r go' go') (arms (inside s) g l)) s fuel (omega arith)
 
   pub exec-Call : (depth x : ℕ) (rest : Code) (s : State) (fuel : ℕ)
@@ -106,5 +106,5 @@ module _ (m : ModuleTree) (limits : Terms) where
       let run' : Code → Continuation = exec m limits (depth + 1) in
       let go : Continuation = exec_within m limits (suc n) rest depth in
       let go' : Continuation = exec m limits depth rest in
-      unless-same (not (same_type u t)) (Trapped trap.Signature s.store) n (call m limits depth run go c t) (call m limits depth run' go' c t)
+      if_so-same (same_type u t) (Trapped trap.Signature s.store) n (call m limits depth run go c t) (call m limits depth run' go' c t)
       (call-same m limits depth n run run' go go' c t (λ code. within-spends m limits n code (depth + 1)) (λ code. agree n n code (depth + 1) (omega arith)) (agree (suc n) n rest depth (omega arith))) s))) s) s fuel (omega arith)

@@ -1,6 +1,6 @@
 -- Fuel only falls, and an index above the fuel is enough.
 use Rattle.std.proofs.Common.{◌≡◌, ℕ, zero, suc, ◌+◌, ◌<◌, ◌≤◌, List, [], ◌∷◌, ◌++◌, length, take, drop, Option, Some, None, Bool, true, false, refl, ap, ◌∙◌, arith}
-use Rattle.std.specs.Prelude.{nat_lt, nat_le, slice_get, not}
+use Rattle.std.specs.Prelude.{nat_lt, nat_le, slice_get, if◌then◌else◌}
 use Rattle.wasm_types.specs.declared.types.FuncType.{FuncType}
 use Rattle.wasm_types.specs.declared.types.ValType.{ValType}
 use Rattle.wasm_values.specs.declared.outcome.Val.{Val}
@@ -11,19 +11,35 @@ use Rattle.wasm_types.specs.Tree.{Code, End, Plain, Block, Loop, If, Call, CallI
 use Rattle.wasm_spec.specs.Store.{Store}
 use Rattle.wasm_spec.specs.Functions.{Callee, Imported, Own, callee_at, callee_type}
 use Rattle.wasm_spec.specs.Typing.{result_types}
-use Rattle.wasm_spec.specs.Execution.{Terms, element_call, import_call, typed_call, call, State, Signal, Next, Branch, Returned, Trapped, OutOfFuel, Stuck, Ended, Continuation, plain, pay, and_then, unless, keep, leave_by, leave, pop_index, choose, inside, arm, return_by, return, entered, callee, invoke, if_there, with_function, with_element, exec_within, exec}
+use Rattle.wasm_spec.specs.Execution.{Terms, element_call, import_call, typed_call, call, State, Signal, Next, Branch, Returned, Trapped, OutOfFuel, Stuck, Ended, Continuation, plain, pay, and_then, chosen, keep, leave, pop_index, inside, arm, return, entered, invoke, if_there, with_function, with_element, exec_within, exec}
+
+-- this end where the test holds, and else what goes on
+abbrev pub unless : Bool → Signal → Continuation → Continuation
+unless test signal next s fuel = if test then (signal, fuel) else next s fuel
+
+-- and the other way round
+abbrev pub if_so : Bool → Signal → Continuation → Continuation
+if_so test signal next s fuel = if test then next s fuel else (signal, fuel)
+
+-- the first where the condition is not 0, and else the second
+abbrev pub choose : ℕ → Continuation → Continuation → Continuation
+choose n first second s fuel = chosen n (first s fuel) (second s fuel)
+
+-- a function's body, and then the caller again
+abbrev pub callee : FunctionTree → FuncType → Continuation → Continuation → Continuation
+callee f t run next s fuel = return (length t.results) s (drop (length t.params) s.operands) (run (entered f t s) fuel) next
 
 -- ---- fuel only falls
 
 -- it leaves at most the fuel that it was given
 abbrev pub Spends : Continuation → Type 0
-Spends next = (s : State) (fuel : ℕ) → (next s fuel).fuel ≤ fuel
+Spends next = (s : State) (fuel : ℕ) → (next s fuel).1 ≤ fuel
 
-pay-spends : (store : Store) (fuel : ℕ) (next : ℕ → Ended) → ((g : ℕ) → (next g).fuel ≤ g) → (pay store fuel next).fuel ≤ fuel
+pay-spends : (store : Store) (fuel : ℕ) (next : ℕ → Ended) → ((g : ℕ) → (next g).1 ≤ g) → (pay store fuel next).1 ≤ fuel
 pay-spends store zero next h = omega arith
 pay-spends store (suc fuel) next h = omega (arith, h fuel)
 
-and_then-spends : (signal : Signal) (next : Continuation) → Spends next → (fuel : ℕ) → (and_then signal fuel next).fuel ≤ fuel
+and_then-spends : (signal : Signal) (next : Continuation) → Spends next → (fuel : ℕ) → (and_then signal fuel next).1 ≤ fuel
 and_then-spends (Next s) next h fuel = h s fuel
 and_then-spends (Branch l s) next h fuel = omega arith
 and_then-spends (Returned s) next h fuel = omega arith
@@ -35,12 +51,16 @@ unless-spends : (test : Bool) (signal : Signal) (next : Continuation) → Spends
 unless-spends true signal next h s fuel = omega arith
 unless-spends false signal next h s fuel = h s fuel
 
+if_so-spends : (test : Bool) (signal : Signal) (next : Continuation) → Spends next → Spends (if_so test signal next)
+if_so-spends true signal next h s fuel = h s fuel
+if_so-spends false signal next h s fuel = omega arith
+
 pub keep-spends : (n : ℕ) (below : List Val) (next : Continuation) → Spends next → Spends (keep n below next)
 keep-spends n below next h s fuel =
     unless-spends (nat_lt (length s.operands) n) Stuck next h (record s { operands = take n s.operands ++ below }) fuel
 
 pub leave-spends : (n : ℕ) (below : List Val) (signal : Signal) (fuel g : ℕ) (next target : Continuation)
-    → Spends next → Spends target → g ≤ fuel → (leave_by n below signal g next target).fuel ≤ fuel
+    → Spends next → Spends target → g ≤ fuel → (leave n below (signal, g) next target).1 ≤ fuel
 leave-spends n below (Next s) fuel g next target h k le = omega (arith, h (record s { operands = s.operands ++ below }) g)
 leave-spends n below (Branch zero s) fuel g next target h k le = omega (arith, keep-spends n below target k s g)
 leave-spends n below (Branch (suc l) s) fuel g next target h k le = le
@@ -50,7 +70,7 @@ leave-spends n below (OutOfFuel store) fuel g next target h k le = le
 leave-spends n below Stuck fuel g next target h k le = le
 
 pub return-spends : (n : ℕ) (caller : State) (below : List Val) (signal : Signal) (fuel g : ℕ) (next : Continuation)
-    → Spends next → g ≤ fuel → (return_by n caller below signal g next).fuel ≤ fuel
+    → Spends next → g ≤ fuel → (return n caller below (signal, g) next).1 ≤ fuel
 return-spends n caller below (Next s) fuel g next h le = omega (arith, keep-spends n below next h (record s { locals = caller.locals }) g)
 return-spends n caller below (Branch zero s) fuel g next h le = omega (arith, keep-spends n below next h (record s { locals = caller.locals }) g)
 return-spends n caller below (Branch (suc l) s) fuel g next h le = le
@@ -62,7 +82,7 @@ return-spends n caller below Stuck fuel g next h le = le
 callee-spends : (f : FunctionTree) (t : FuncType) (run next : Continuation) → Spends run → Spends next → Spends (callee f t run next)
 callee-spends f t run next hr h s fuel =
     let inner : Ended = run (entered f t s) fuel in
-    return-spends (length t.results) s (drop (length t.params) s.operands) inner.signal fuel inner.fuel next h (hr (entered f t s) fuel)
+    return-spends (length t.results) s (drop (length t.params) s.operands) inner.0 fuel inner.1 next h (hr (entered f t s) fuel)
 
 pub invoke-spends : (limits : Terms) (depth : ℕ) (f : FunctionTree) (t : FuncType) (run next : Continuation)
     → Spends run → Spends next → Spends (invoke limits depth f t run next)
@@ -132,19 +152,19 @@ module _ (m : ModuleTree) (limits : Terms) where
       pay-spends s.store fuel (within_block n depth t body rest s) (λ g.
       let go : Continuation = exec_within m limits n rest depth in
       let inner : Ended = exec_within m limits n body depth (inside s) g in
-      leave-spends (length (result_types t)) s.operands inner.signal g inner.fuel go go (within-spends n rest depth) (within-spends n rest depth) (within-spends n body depth (inside s) g))
+      leave-spends (length (result_types t)) s.operands inner.0 g inner.1 go go (within-spends n rest depth) (within-spends n rest depth) (within-spends n body depth (inside s) g))
   within-spends n (If t first second rest) depth s fuel =
       pay-spends s.store fuel (pop_index s.operands (within_arm n depth t first second rest) s)
       (pop_index-spends s.operands (within_arm n depth t first second rest) (λ c s g.
       let go : Continuation = exec_within m limits n rest depth in
       let arm : Continuation = choose c (exec_within m limits n first depth) (exec_within m limits n second depth) in
       let arm_spends : Spends arm = choose-spends c (exec_within m limits n first depth) (exec_within m limits n second depth) (within-spends n first depth) (within-spends n second depth) in
-      leave-spends (length (result_types t)) s.operands (arm (inside s) g).signal g (arm (inside s) g).fuel go go (within-spends n rest depth) (within-spends n rest depth) (arm_spends (inside s) g)) s)
+      leave-spends (length (result_types t)) s.operands (arm (inside s) g).0 g (arm (inside s) g).1 go go (within-spends n rest depth) (within-spends n rest depth) (arm_spends (inside s) g)) s)
   within-spends zero (Loop t body rest) depth s fuel = omega arith
   within-spends (suc n) (Loop t body rest) depth s fuel =
       pay-spends s.store fuel _ (λ g.
       let inner : Ended = exec_within m limits (suc n) body depth (inside s) g in
-      leave-spends 0 s.operands inner.signal g inner.fuel (exec_within m limits (suc n) rest depth) (exec_within m limits n (Loop t body rest) depth)
+      leave-spends 0 s.operands inner.0 g inner.1 (exec_within m limits (suc n) rest depth) (exec_within m limits n (Loop t body rest) depth)
       (within-spends (suc n) rest depth) (within-spends n (Loop t body rest) depth) (within-spends (suc n) body depth (inside s) g))
   within-spends zero (Call x rest) depth s fuel = omega arith
   within-spends (suc n) (Call x rest) depth s fuel =
@@ -159,7 +179,7 @@ module _ (m : ModuleTree) (limits : Terms) where
       with_element-spends (slice_get s.store.table i) (within_element n depth x rest) (λ y.
       if_there-spends (slice_get m.types x) (λ u. with_function m y (within_typed_call n depth rest u)) (λ u.
       with_function-spends m y (within_typed_call n depth rest u) (λ c t s.
-      unless-spends (not (same_type u t)) (Trapped trap.Signature s.store) (within_call n depth rest c t)
+      if_so-spends (same_type u t) (Trapped trap.Signature s.store) (within_call n depth rest c t)
       (call-spends m limits depth (within_body n depth) (exec_within m limits (suc n) rest depth) c t
       (λ code. within-spends n code (depth + 1)) (within-spends (suc n) rest depth)) s))) s) s)
 
@@ -189,12 +209,16 @@ pub unless-same : (test : Bool) (signal : Signal) (k : ℕ) (next next' : Contin
 unless-same true signal k next next' h s fuel lt = refl
 unless-same false signal k next next' h s fuel lt = h s fuel lt
 
+pub if_so-same : (test : Bool) (signal : Signal) (k : ℕ) (next next' : Continuation) → Agree k next next' → Agree k (if_so test signal next) (if_so test signal next')
+if_so-same true signal k next next' h s fuel lt = h s fuel lt
+if_so-same false signal k next next' h s fuel lt = refl
+
 keep-same : (n : ℕ) (below : List Val) (k : ℕ) (next next' : Continuation) → Agree k next next' → Agree k (keep n below next) (keep n below next')
 keep-same n below k next next' h s fuel lt =
     unless-same (nat_lt (length s.operands) n) Stuck k next next' h (record s { operands = take n s.operands ++ below }) fuel lt
 
 pub leave-same : (n : ℕ) (below : List Val) (signal : Signal) (fuel k : ℕ) (next next' target target' : Continuation)
-    → fuel < k → Agree k next next' → Agree k target target' → leave_by n below signal fuel next target ≡ leave_by n below signal fuel next' target'
+    → fuel < k → Agree k next next' → Agree k target target' → leave n below (signal, fuel) next target ≡ leave n below (signal, fuel) next' target'
 leave-same n below (Next s) fuel k next next' target target' lt h h' = h (record s { operands = s.operands ++ below }) fuel lt
 leave-same n below (Branch zero s) fuel k next next' target target' lt h h' = keep-same n below k target target' h' s fuel lt
 leave-same n below (Branch (suc l) s) fuel k next next' target target' lt h h' = refl
@@ -204,7 +228,7 @@ leave-same n below (OutOfFuel store) fuel k next next' target target' lt h h' = 
 leave-same n below Stuck fuel k next next' target target' lt h h' = refl
 
 pub return-same : (n : ℕ) (caller : State) (below : List Val) (signal : Signal) (fuel k : ℕ) (next next' : Continuation)
-    → fuel < k → Agree k next next' → return_by n caller below signal fuel next ≡ return_by n caller below signal fuel next'
+    → fuel < k → Agree k next next' → return n caller below (signal, fuel) next ≡ return n caller below (signal, fuel) next'
 return-same n caller below (Next s) fuel k next next' lt h = keep-same n below k next next' h (record s { locals = caller.locals }) fuel lt
 return-same n caller below (Branch zero s) fuel k next next' lt h = keep-same n below k next next' h (record s { locals = caller.locals }) fuel lt
 return-same n caller below (Branch (suc l) s) fuel k next next' lt h = refl
@@ -219,7 +243,7 @@ callee-same f t k run run' next next' spends hr h s fuel lt =
     let n : ℕ = length t.results in
     let below : List Val = drop (length t.params) s.operands in
     let inner : Ended = run (entered f t s) fuel in
-    return-same n s below inner.signal inner.fuel k next next' (omega (arith, spends (entered f t s) fuel)) h
+    return-same n s below inner.0 inner.1 k next next' (omega (arith, spends (entered f t s) fuel)) h
     ∙ ap (λ (r : Ended). return n s below r next') (hr (entered f t s) fuel lt)
 
 pub invoke-same : (limits : Terms) (depth : ℕ) (f : FunctionTree) (t : FuncType) (k : ℕ) (run run' next next' : Continuation)
@@ -275,7 +299,7 @@ module _ (m : ModuleTree) (limits : Terms) where
       let go' : Continuation = exec_within m limits n' rest depth in
       let h : Agree fuel go go' = λ u j l. within-enough n n' rest depth u j (omega arith) (omega arith) in
       pay-same s.store fuel _ _ (λ g l.
-      leave-same (length (result_types t)) s.operands (exec_within m limits n body depth (inside s) g).signal (exec_within m limits n body depth (inside s) g).fuel fuel go go' go go'
+      leave-same (length (result_types t)) s.operands (exec_within m limits n body depth (inside s) g).0 (exec_within m limits n body depth (inside s) g).1 fuel go go' go go'
       (omega (arith, within-spends m limits n body depth (inside s) g)) h h
       ∙ ap (λ (r : Ended). leave (length (result_types t)) s.operands r go' go') (within-enough n n' body depth (inside s) g (omega arith) (omega arith)))
   within-enough n n' (If t first second rest) depth s fuel lt lt' =
@@ -289,7 +313,7 @@ module _ (m : ModuleTree) (limits : Terms) where
       let b' : Continuation = exec_within m limits n' second depth in
       let arm_spends : Spends (choose c a b) = choose-spends c a b (within-spends m limits n first depth) (within-spends m limits n second depth) in
       let arms : Agree fuel (choose c a b) (choose c a' b') = choose-same c fuel a a' b b' (λ u j l. within-enough n n' first depth u j (omega arith) (omega arith)) (λ u j l. within-enough n n' second depth u j (omega arith) (omega arith)) in
-      leave-same (length (result_types t)) s.operands (choose c a b (inside s) g).signal (choose c a b (inside s) g).fuel fuel go go' go go' (omega (arith, arm_spends (inside s) g)) h h
+      leave-same (length (result_types t)) s.operands (choose c a b (inside s) g).0 (choose c a b (inside s) g).1 fuel go go' go go' (omega (arith, arm_spends (inside s) g)) h h
       ∙ ap (λ (r : Ended). leave (length (result_types t)) s.operands r go' go') (arms (inside s) g l')) s g l)
   within-enough zero n' (Loop t body rest) depth s fuel lt lt' = absurd (omega arith)
   within-enough (suc n) zero (Loop t body rest) depth s fuel lt lt' = absurd (omega arith)
@@ -301,7 +325,7 @@ module _ (m : ModuleTree) (limits : Terms) where
       let again' : Continuation = exec_within m limits n' (Loop t body rest) depth in
       let back : Agree fuel again again' = λ u j l. within-enough n n' (Loop t body rest) depth u j (omega arith) (omega arith) in
       pay-same s.store fuel _ _ (λ g l.
-      leave-same 0 s.operands (exec_within m limits (suc n) body depth (inside s) g).signal (exec_within m limits (suc n) body depth (inside s) g).fuel fuel go go' again again'
+      leave-same 0 s.operands (exec_within m limits (suc n) body depth (inside s) g).0 (exec_within m limits (suc n) body depth (inside s) g).1 fuel go go' again again'
       (omega (arith, within-spends m limits (suc n) body depth (inside s) g)) h back
       ∙ ap (λ (r : Ended). leave 0 s.operands r go' again') (within-enough (suc n) (suc n') body depth (inside s) g (omega arith) (omega arith)))
   within-enough zero n' (Call x rest) depth s fuel lt lt' = absurd (omega arith)
@@ -321,7 +345,7 @@ module _ (m : ModuleTree) (limits : Terms) where
       if_there-same (slice_get m.types x) fuel _ _ (λ u. with_function-same m y fuel _ _ (λ c t s.
       let run : Code → Continuation = within_body m limits n depth in
       let run' : Code → Continuation = within_body m limits n' depth in
-      unless-same (not (same_type u t)) (Trapped trap.Signature s.store) fuel (call m limits depth run go c t) (call m limits depth run' go' c t)
+      if_so-same (same_type u t) (Trapped trap.Signature s.store) fuel (call m limits depth run go c t) (call m limits depth run' go' c t)
       (call-same m limits depth fuel run run' go go' c t (λ code. within-spends m limits n code (depth + 1)) (λ code u j l. within-enough n n' code (depth + 1) u j (omega arith) (omega arith)) h) s))) s) s g l)
 
   -- so the index of `exec` is of no account

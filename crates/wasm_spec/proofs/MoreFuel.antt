@@ -1,6 +1,6 @@
 -- A run that does not end for want of fuel ends the same on more fuel, and leaves what it was given more.
 use Rattle.std.proofs.Common.{◌≡◌, ℕ, zero, suc, ◌+◌, ◌<◌, ◌≤◌, List, [], ◌∷◌, ◌++◌, length, take, drop, Option, Some, None, Bool, true, false, refl, sym, ap, ◌∙◌, subst, arith, true≢false}
-use Rattle.std.specs.Prelude.{nat_lt, nat_le, slice_get, not, reverse}
+use Rattle.std.specs.Prelude.{nat_lt, nat_le, slice_get, reverse, if◌then◌else◌}
 use Rattle.wasm_types.specs.declared.types.FuncType.{FuncType}
 use Rattle.wasm_values.specs.declared.outcome.Val.{Val}
 use Rattle.wasm_values.specs.declared.outcome.Val.TheVariants as val
@@ -12,10 +12,14 @@ use Rattle.wasm_types.specs.SameTypes.{same_type}
 use Rattle.wasm_spec.specs.Functions.{Callee, Imported, Own, callee_at, callee_type}
 use Rattle.wasm_spec.specs.Store.{Store}
 use Rattle.wasm_spec.specs.Typing.{result_types}
-use Rattle.wasm_spec.specs.Execution.{Terms, call, import_call, State, Signal, Next, Branch, Returned, Trapped, OutOfFuel, Stuck, Ended, ended, Continuation, plain, pay, and_then, unless, keep, leave_by, leave, pop_index, choose, inside, return_by, return, entered, callee, invoke, if_there, with_function, with_element, exec_within, exec}
-use Rattle.wasm_spec.specs.Result.{CallResult, finish, run_function, result_by, result_of, function_result, if_done_by, if_done, after_start, result_from}
+use Rattle.wasm_spec.specs.Execution.{Terms, call, import_call, State, Signal, Next, Branch, Returned, Trapped, OutOfFuel, Stuck, Ended, Continuation, plain, pay, and_then, keep, leave, pop_index, inside, return, entered, invoke, if_there, with_function, with_element, exec_within, exec}
+use Rattle.wasm_spec.specs.Result.{CallResult, is_done, finish, run_function, result_of, function_result, if_done, after_start, result_from}
 use Rattle.wasm_spec.specs.MoreFuel.{is_fuel, is_fuel_end, with_more}
-use Rattle.wasm_spec.proofs.FuelLaws.{Spends, within_body, within_call, within-spends, within-exec, choose-spends, exec-spends}
+use Rattle.wasm_spec.proofs.FuelLaws.{unless, if_so, choose, callee, Spends, within_body, within_call, within-spends, within-exec, choose-spends, exec-spends}
+
+-- what follows a run that ended so, and else its own result
+abbrev pub if_done_by : Outcome → CallResult → (Store → ℕ → Option CallResult) → Option CallResult
+if_done_by o r next = if is_done o then next r.store r.fuel else Some r
 
 abbrev pub is_out : Signal → Bool
 is_out (OutOfFuel store) = true
@@ -23,19 +27,19 @@ is_out signal = false
 
 -- the same end with so much more fuel left
 abbrev pub more : ℕ → Ended → Ended
-more d e = ended e.signal (e.fuel + d)
+more d e = (e.0, e.1 + d)
 
 module _ (d : ℕ) where
   -- on so much more fuel it ends the same, where no more than k is left
   abbrev pub Grows : ℕ → Continuation → Type 0
-  Grows k next = (s : State) (fuel : ℕ) → fuel + d < k → is_out (next s fuel).signal ≡ false → next s (fuel + d) ≡ more d (next s fuel)
+  Grows k next = (s : State) (fuel : ℕ) → fuel + d < k → is_out (next s fuel).0 ≡ false → next s (fuel + d) ≡ more d (next s fuel)
 
-  pay-more : (store : Store) (fuel : ℕ) (next : ℕ → Ended) → ((g : ℕ) → fuel ≡ suc g → is_out (next g).signal ≡ false → next (g + d) ≡ more d (next g))
-      → is_out (pay store fuel next).signal ≡ false → pay store (fuel + d) next ≡ more d (pay store fuel next)
+  pay-more : (store : Store) (fuel : ℕ) (next : ℕ → Ended) → ((g : ℕ) → fuel ≡ suc g → is_out (next g).0 ≡ false → next (g + d) ≡ more d (next g))
+      → is_out (pay store fuel next).0 ≡ false → pay store (fuel + d) next ≡ more d (pay store fuel next)
   pay-more store zero next h out = absurd (true≢false out)
   pay-more store (suc g) next h out = let up : suc g + d ≡ suc (g + d) = omega arith in ap (λ (n : ℕ). pay store n next) up ∙ h g refl out
 
-  and_then-more : (k : ℕ) (signal : Signal) (fuel : ℕ) (next : Continuation) → Grows k next → fuel + d < k → is_out (and_then signal fuel next).signal ≡ false
+  and_then-more : (k : ℕ) (signal : Signal) (fuel : ℕ) (next : Continuation) → Grows k next → fuel + d < k → is_out (and_then signal fuel next).0 ≡ false
       → and_then signal (fuel + d) next ≡ more d (and_then signal fuel next)
   and_then-more k (Next s) fuel next h lt out = h s fuel lt out
   and_then-more k (Branch l s) fuel next h lt out = refl
@@ -48,11 +52,15 @@ module _ (d : ℕ) where
   unless-more k true signal next h s fuel lt out = refl
   unless-more k false signal next h s fuel lt out = h s fuel lt out
 
+  if_so-more : (k : ℕ) (test : Bool) (signal : Signal) (next : Continuation) → Grows k next → Grows k (if_so test signal next)
+  if_so-more k true signal next h s fuel lt out = h s fuel lt out
+  if_so-more k false signal next h s fuel lt out = refl
+
   keep-more : (k n : ℕ) (below : List Val) (next : Continuation) → Grows k next → Grows k (keep n below next)
   keep-more k n below next h s fuel lt out = unless-more k (nat_lt (length s.operands) n) Stuck next h (record s { operands = take n s.operands ++ below }) fuel lt out
 
   leave-more : (k n : ℕ) (below : List Val) (signal : Signal) (fuel : ℕ) (next target : Continuation) → Grows k next → Grows k target → fuel + d < k
-      → is_out (leave_by n below signal fuel next target).signal ≡ false → leave_by n below signal (fuel + d) next target ≡ more d (leave_by n below signal fuel next target)
+      → is_out (leave n below (signal, fuel) next target).0 ≡ false → leave n below (signal, fuel + d) next target ≡ more d (leave n below (signal, fuel) next target)
   leave-more k n below (Next s) fuel next target h h' lt out = h (record s { operands = s.operands ++ below }) fuel lt out
   leave-more k n below (Branch zero s) fuel next target h h' lt out = keep-more k n below target h' s fuel lt out
   leave-more k n below (Branch (suc l) s) fuel next target h h' lt out = refl
@@ -61,7 +69,7 @@ module _ (d : ℕ) where
   leave-more k n below (OutOfFuel store) fuel next target h h' lt out = absurd (true≢false out)
   leave-more k n below Stuck fuel next target h h' lt out = refl
 
-  leave-in : (n : ℕ) (below : List Val) (signal : Signal) (fuel : ℕ) (next target : Continuation) → is_out (leave_by n below signal fuel next target).signal ≡ false → is_out signal ≡ false
+  leave-in : (n : ℕ) (below : List Val) (signal : Signal) (fuel : ℕ) (next target : Continuation) → is_out (leave n below (signal, fuel) next target).0 ≡ false → is_out signal ≡ false
   leave-in n below (Next s) fuel next target out = refl
   leave-in n below (Branch l s) fuel next target out = refl
   leave-in n below (Returned s) fuel next target out = refl
@@ -70,13 +78,13 @@ module _ (d : ℕ) where
   leave-in n below Stuck fuel next target out = refl
 
   -- a block whose inner sequence ends the same on more fuel
-  block-more : (k n : ℕ) (below : List Val) (inner inner' : Ended) (next target : Continuation) → Grows k next → Grows k target → inner.fuel + d < k
-      → (is_out inner.signal ≡ false → inner' ≡ more d inner) → is_out (leave n below inner next target).signal ≡ false → leave n below inner' next target ≡ more d (leave n below inner next target)
+  block-more : (k n : ℕ) (below : List Val) (inner inner' : Ended) (next target : Continuation) → Grows k next → Grows k target → inner.1 + d < k
+      → (is_out inner.0 ≡ false → inner' ≡ more d inner) → is_out (leave n below inner next target).0 ≡ false → leave n below inner' next target ≡ more d (leave n below inner next target)
   block-more k n below inner inner' next target h h' lt same out =
-      ap (λ (e : Ended). leave n below e next target) (same (leave-in n below inner.signal inner.fuel next target out)) ∙ leave-more k n below inner.signal inner.fuel next target h h' lt out
+      ap (λ (e : Ended). leave n below e next target) (same (leave-in n below inner.0 inner.1 next target out)) ∙ leave-more k n below inner.0 inner.1 next target h h' lt out
 
   return-more : (k n : ℕ) (caller : State) (below : List Val) (signal : Signal) (fuel : ℕ) (next : Continuation) → Grows k next → fuel + d < k
-      → is_out (return_by n caller below signal fuel next).signal ≡ false → return_by n caller below signal (fuel + d) next ≡ more d (return_by n caller below signal fuel next)
+      → is_out (return n caller below (signal, fuel) next).0 ≡ false → return n caller below (signal, fuel + d) next ≡ more d (return n caller below (signal, fuel) next)
   return-more k n caller below (Next s) fuel next h lt out = keep-more k n below next h (record s { locals = caller.locals }) fuel lt out
   return-more k n caller below (Branch zero s) fuel next h lt out = keep-more k n below next h (record s { locals = caller.locals }) fuel lt out
   return-more k n caller below (Branch (suc l) s) fuel next h lt out = refl
@@ -85,7 +93,7 @@ module _ (d : ℕ) where
   return-more k n caller below (OutOfFuel store) fuel next h lt out = absurd (true≢false out)
   return-more k n caller below Stuck fuel next h lt out = refl
 
-  return-in : (n : ℕ) (caller : State) (below : List Val) (signal : Signal) (fuel : ℕ) (next : Continuation) → is_out (return_by n caller below signal fuel next).signal ≡ false → is_out signal ≡ false
+  return-in : (n : ℕ) (caller : State) (below : List Val) (signal : Signal) (fuel : ℕ) (next : Continuation) → is_out (return n caller below (signal, fuel) next).0 ≡ false → is_out signal ≡ false
   return-in n caller below (Next s) fuel next out = refl
   return-in n caller below (Branch l s) fuel next out = refl
   return-in n caller below (Returned s) fuel next out = refl
@@ -98,8 +106,8 @@ module _ (d : ℕ) where
       let n : ℕ = length t.results in
       let below : List Val = drop (length t.params) s.operands in
       let inner : Ended = run (entered f t s) fuel in
-      ap (λ (e : Ended). return n s below e next) (hr (entered f t s) fuel lt (return-in n s below inner.signal inner.fuel next out))
-      ∙ return-more k n s below inner.signal inner.fuel next h (omega (arith, spends (entered f t s) fuel)) out
+      ap (λ (e : Ended). return n s below e next) (hr (entered f t s) fuel lt (return-in n s below inner.0 inner.1 next out))
+      ∙ return-more k n s below inner.0 inner.1 next h (omega (arith, spends (entered f t s) fuel)) out
 
   invoke-more : (k : ℕ) (limits : Terms) (depth : ℕ) (f : FunctionTree) (t : FuncType) (run next : Continuation) → Spends run → Grows k run → Grows k next → Grows k (invoke limits depth f t run next)
   invoke-more k limits depth f t run next spends hr h s fuel lt out =
@@ -167,16 +175,16 @@ module _ (d : ℕ) where
     within-more (suc n) (CallIndirect x rest) depth k le s fuel lt out =
         pay-more s.store fuel _ (λ g e out. let j : ℕ = suc (g + d) in pop_index-more j s.operands _ (λ i s. with_element-more j (slice_get s.store.table i) _ (λ y.
         if_there-more j (slice_get m.types x) _ (λ u. with_function-more j m y _ (λ c t s.
-        unless-more j (not (same_type u t)) (Trapped trap.Signature s.store) (within_call m limits n depth rest c t)
+        if_so-more j (same_type u t) (Trapped trap.Signature s.store) (within_call m limits n depth rest c t)
         (call-more j m limits depth (within_body m limits n depth) (exec_within m limits (suc n) rest depth) c t
         (λ code. within-spends m limits n code (depth + 1)) (λ code. within-more n code (depth + 1) j (omega arith)) (λ u f l. within-more (suc n) rest depth k le u f (omega arith))) s))) s) s g (omega arith) out) out
 
-    pub exec-more : (depth : ℕ) (code : Code) (s : State) (fuel : ℕ) → is_out (exec m limits depth code s fuel).signal ≡ false → exec m limits depth code s (fuel + d) ≡ more d (exec m limits depth code s fuel)
+    pub exec-more : (depth : ℕ) (code : Code) (s : State) (fuel : ℕ) → is_out (exec m limits depth code s fuel).0 ≡ false → exec m limits depth code s (fuel + d) ≡ more d (exec m limits depth code s fuel)
     exec-more depth code s fuel out =
         let n : ℕ = suc (fuel + d) in
         let less = within-exec m limits n code depth s fuel (omega arith) in
         sym (within-exec m limits n code depth s (fuel + d) (omega arith))
-        ∙ within-more n code depth n (omega arith) s fuel (omega arith) (subst (λ (e : Ended). is_out e.signal ≡ false) (sym less) out) ∙ ap (more d) less
+        ∙ within-more n code depth n (omega arith) s fuel (omega arith) (subst (λ (e : Ended). is_out e.0 ≡ false) (sym less) out) ∙ ap (more d) less
 
 -- ---- results
 
@@ -185,7 +193,7 @@ with_more-end d None = refl
 with_more-end d (Some r) = refl
 
 module _ (d : ℕ) where
-  out-is : (signal : Signal) (fuel : ℕ) → is_fuel_end (result_by signal fuel) ≡ false → is_out signal ≡ false
+  out-is : (signal : Signal) (fuel : ℕ) → is_fuel_end (result_of (signal, fuel)) ≡ false → is_out signal ≡ false
   out-is (Next s) fuel e = refl
   out-is (Branch l s) fuel e = refl
   out-is (Returned s) fuel e = refl
@@ -193,7 +201,7 @@ module _ (d : ℕ) where
   out-is (OutOfFuel store) fuel e = e
   out-is Stuck fuel e = refl
 
-  by-more : (signal : Signal) (fuel : ℕ) → result_by signal (fuel + d) ≡ with_more d (result_by signal fuel)
+  by-more : (signal : Signal) (fuel : ℕ) → result_of (signal, fuel + d) ≡ with_more d (result_of (signal, fuel))
   by-more (Next s) fuel = refl
   by-more (Branch l s) fuel = refl
   by-more (Returned s) fuel = refl
@@ -215,8 +223,8 @@ module _ (d : ℕ) where
         let r : Ended = run_function m limits x arguments store fuel in
         let k : ℕ = suc (fuel + d) in
         ap result_of (with_function-more d k m x (call m limits 0 (exec m limits 1) finish)
-        (λ c t. call-more d k m limits 0 (exec m limits 1) finish c t (exec-spends m limits 1) (λ code. body-more code k) (finish-more k)) s fuel (omega arith) (out-is r.signal r.fuel e))
-        ∙ by-more r.signal r.fuel
+        (λ c t. call-more d k m limits 0 (exec m limits 1) finish c t (exec-spends m limits 1) (λ code. body-more code k) (finish-more k)) s fuel (omega arith) (out-is r.0 r.1 e))
+        ∙ by-more r.0 r.1
 
     two-more : (x : ℕ) (arguments : List Val) (o : Outcome) (first : CallResult) → is_fuel_end (if_done_by o first (function_result m limits x arguments)) ≡ false → is_fuel first.outcome ≡ is_fuel o
         → if_done_by o (record first { fuel = first.fuel + d }) (function_result m limits x arguments) ≡ with_more d (if_done_by o first (function_result m limits x arguments))

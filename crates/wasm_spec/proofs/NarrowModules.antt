@@ -1,16 +1,20 @@
 -- Modules that copy and fill nothing; those of profile 1 are such.
-use Rattle.std.proofs.Common.{◌≡◌, ℕ, inl, inr, zero, suc, List, [], ◌∷◌, Bool, true, false, map, Option, Some, None, refl, ap, ◌∙◌, subst}
-use Rattle.std.specs.Prelude.{◌||◌, ◌==◌, if◌then◌else◌, find, slice_get}
+use Rattle.std.proofs.Common.{◌≡◌, ◌≢◌, ℕ, inl, inr, zero, suc, List, [], ◌∷◌, Bool, true, false, map, Option, Some, None, refl, sym, ap, ◌∙◌, subst}
+use Rattle.std.specs.Prelude.{◌||◌, ◌==◌, if◌then◌else◌, find, slice_get, All}
+use Rattle.std.proofs.lemmas.List.Elements.{All-nil}
 use Rattle.std.specs.List.{list_any}
 use Rattle.std.specs.Option.{option_map_or}
 use Rattle.wasm_values.specs.declared.profile.Profile.TheVariants.{One}
 use Rattle.wasm_types.specs.declared.instr.Instr.{Instr}
 use Rattle.wasm_types.specs.declared.instr.MemArg.{MemArg}
+use Rattle.wasm_types.specs.declared.module.Import.{Import}
+use Rattle.wasm_types.specs.declared.host.HostFunction.TheVariants as host
 use Rattle.wasm_types.specs.Tree.{Code, End, Plain, Block, Loop, If, Call, CallIndirect, FunctionTree, ModuleTree}
 use Rattle.wasm_spec.specs.Numbers.{TakesEach}
 use Rattle.wasm_spec.specs.InstrGrammar.{Shape, Alone, WithIndex, WithLabels, WithAddress, WithZero, WithI32, WithI64, WithBytes, Prefixed, NotPlain, Closer, ByEnd, ByElse, TakesShape, TakesCode, opcodes, shape}
 use Rattle.wasm_spec.specs.Grammar.{Section, Spells, SpellsVec, TakesSizedBody, body_of, section}
 use Rattle.wasm_spec.specs.Validity.{IsSupported}
+use Rattle.wasm_spec.specs.Functions.{host_function}
 use Rattle.wasm_spec.specs.Bulk.{HasFewMarks, is_bulk, code_uses_bulk, uses_bulk}
 
 -- a shape of instructions that neither copy nor fill
@@ -557,7 +561,10 @@ spelled_narrow bytes m spells = functions_narrow m.functions (section 10 spells.
 
 -- so its instructions mark at most two blocks each
 pub few_marks_of : (bytes : List ℕ) (m : ModuleTree) → Spells One bytes m → IsSupported One m → HasFewMarks m
-few_marks_of bytes m spells supported = record { imports = supported.imports; bulk = spelled_narrow bytes m spells }
+few_marks_of bytes m spells supported = record {
+  imports = subst (λ (imports : List Import). All (λ i. host_function i ≢ Some host.Read) imports) (sym supported.imports) (All-nil (λ i. host_function i ≢ Some host.Read));
+  bulk = spelled_narrow bytes m spells;
+}
 
 -- ---- what a module that copies and fills nothing has
 

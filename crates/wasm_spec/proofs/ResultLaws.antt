@@ -10,17 +10,18 @@ use Rattle.wasm_values.specs.declared.outcome.Val.{Val}
 use Rattle.wasm_values.specs.declared.outcome.Outcome.{Outcome}
 use Rattle.wasm_values.specs.declared.outcome.Outcome.TheVariants as outcome
 use Rattle.wasm_types.specs.Tree.{Code, End, Plain, Block, Loop, If, Call, CallIndirect, FunctionTree, ModuleTree}
-use Rattle.wasm_spec.specs.Store.{Store, Extent, page_size, minimum_of, memory_size, table_size, element_extent, data_extent, first_misfit, write_data, write_elements, fresh_store, offset_of}
+use Rattle.wasm_spec.specs.Store.{Store, Extent, page_size, minimum_of, memory_size, table_size, element_extent, data_extent, first_misfit, written, fresh_store, offset_of}
 use Rattle.wasm_types.specs.declared.module.Import.{Import}
 use Rattle.wasm_types.specs.declared.host.HostFunction.{HostFunction}
 use Rattle.wasm_types.specs.declared.host.HostFunction.TheVariants as host
 use Rattle.wasm_spec.specs.Functions.{Callee, Imported, Own, callee_at, host_function}
 use Rattle.wasm_spec.specs.Execution.{Terms, host_call, import_call, call, State, Signal, Next, Branch, Returned, Trapped, OutOfFuel, Stuck, pages_of, most_pages, entered, exec}
-use Rattle.wasm_spec.specs.Result.{CallResult, finish, run_function, result_by, function_result, if_done_by, if_done, after_start, result_from}
+use Rattle.wasm_spec.specs.Result.{CallResult, finish, run_function, result_of, function_result, if_done, after_start, result_from}
 use Rattle.wasm_spec.specs.MoreFuel.{is_fuel, is_fuel_end}
 use Rattle.wasm_spec.specs.Instances.{IsInstance, room_for}
 use Rattle.wasm_spec.proofs.FuelLaws.{with_function-spends, call-spends, exec-spends}
 use Rattle.wasm_spec.proofs.StoreSizes.{length-written, whole_pages}
+use Rattle.wasm_spec.proofs.MoreFuel.{if_done_by}
 use Rattle.wasm_spec.proofs.ImportLaws.{imported-ends}
 use Rattle.wasm_spec.proofs.StoreLaws.{KeptIn, Keeps, IsKeptByChanges, given-keeps, and_then-keeps, import-keeps, invoke-keeps_at, with_function-keeps_at, exec-keeps}
 
@@ -40,7 +41,7 @@ abbrev fuel_in : ℕ → Option CallResult → ℕ
 fuel_in other None = other
 fuel_in other (Some r) = r.fuel
 
-same_fuel : (signal : Signal) (fuel : ℕ) (r : CallResult) → result_by signal fuel ≡ Some r → r.fuel ≡ fuel
+same_fuel : (signal : Signal) (fuel : ℕ) (r : CallResult) → result_of (signal, fuel) ≡ Some r → r.fuel ≡ fuel
 same_fuel (Next s) fuel r e = sym (ap (fuel_in fuel) e)
 same_fuel (Trapped t store) fuel r e = sym (ap (fuel_in fuel) e)
 same_fuel (OutOfFuel store) fuel r e = sym (ap (fuel_in fuel) e)
@@ -48,7 +49,7 @@ same_fuel (Branch l s) fuel r e = absurd (cc)
 same_fuel (Returned s) fuel r e = absurd (cc)
 same_fuel Stuck fuel r e = absurd (cc)
 
-result-has : (P : Store → Type 0) (signal : Signal) (fuel : ℕ) (r : CallResult) → KeptIn P signal → result_by signal fuel ≡ Some r → P r.store
+result-has : (P : Store → Type 0) (signal : Signal) (fuel : ℕ) (r : CallResult) → KeptIn P signal → result_of (signal, fuel) ≡ Some r → P r.store
 result-has P (Next s) fuel r p e = subst P (same_store (record { outcome = outcome.Done (slice_get s.operands 0); store = s.store; fuel = fuel }) r e) p
 result-has P (Trapped t store) fuel r p e = subst P (same_store (record { outcome = outcome.Trap t; store = store; fuel = fuel }) r e) p
 result-has P (OutOfFuel store) fuel r p e = subst P (same_store (record { outcome = outcome.Fuel; store = store; fuel = fuel }) r e) p
@@ -63,14 +64,14 @@ module _ (m : ModuleTree) (limits : Terms) where
 
   -- what one function keeps, where its body does, or the import
   function-has : (P : Store → Type 0) (x : ℕ) (arguments : List Val) (store : Store) (fuel : ℕ) (r : CallResult) → P store
-      → ((f : FunctionTree) (t : FuncType) (s : State) → s.store ≡ store → KeptIn P (exec m limits 1 f.body (entered f t s) fuel).signal)
+      → ((f : FunctionTree) (t : FuncType) (s : State) → s.store ≡ store → KeptIn P (exec m limits 1 f.body (entered f t s) fuel).0)
       → ((i : Import) → callee_at m x ≡ Some (Imported i) → KeptIn P (import_call limits.request i (outside arguments store)))
       → function_result m limits x arguments store fuel ≡ Some r → P r.store
   function-has P x arguments store fuel r p h hi e =
       let s : State = outside arguments store in
-      result-has P (run_function m limits x arguments store fuel).signal (run_function m limits x arguments store fuel).fuel r
+      result-has P (run_function m limits x arguments store fuel).0 (run_function m limits x arguments store fuel).1 r
       (with_function-keeps_at P m x (call m limits 0 (exec m limits 1) finish) s fuel kept) e where
-        kept : (c : Callee) (t : FuncType) → callee_at m x ≡ Some c → KeptIn P (call m limits 0 (exec m limits 1) finish c t (outside arguments store) fuel).signal
+        kept : (c : Callee) (t : FuncType) → callee_at m x ≡ Some c → KeptIn P (call m limits 0 (exec m limits 1) finish c t (outside arguments store) fuel).0
         kept (Own f) t there = invoke-keeps_at P limits 0 f t (exec m limits 1 f.body) finish (outside arguments store) fuel p (h f t (outside arguments store) refl) (finish-keeps P)
         kept (Imported i) t there = and_then-keeps P (import_call limits.request i (outside arguments store)) finish (finish-keeps P) fuel (hi i there)
 
@@ -105,7 +106,7 @@ module _ (m : ModuleTree) (limits : Terms) where
 
   -- ---- no fuel
 
-  code-at_zero : (depth : ℕ) (code : Code) (s : State) → KeptIn (λ t. t ≡ s.store) (exec m limits depth code s 0).signal
+  code-at_zero : (depth : ℕ) (code : Code) (s : State) → KeptIn (λ t. t ≡ s.store) (exec m limits depth code s 0).0
   unfolding exec
   code-at_zero depth End s = refl
   code-at_zero depth (Plain i rest) s = refl
@@ -120,7 +121,7 @@ module _ (m : ModuleTree) (limits : Terms) where
       → ((i : Import) → callee_at m x ≡ Some (Imported i) → KeptIn (λ t. t ≡ store) (import_call limits.request i (outside arguments store)))
       → function_result m limits x arguments store 0 ≡ Some r → r.store ≡ store
   at_zero x arguments store r hi e =
-      function-has (λ t. t ≡ store) x arguments store 0 r refl (λ f t s same. subst (λ (u : Store). KeptIn (λ t. t ≡ u) (exec m limits 1 f.body (entered f t s) 0).signal) same (code-at_zero 1 f.body (entered f t s))) hi e
+      function-has (λ t. t ≡ store) x arguments store 0 r refl (λ f t s same. subst (λ (u : Store). KeptIn (λ t. t ≡ u) (exec m limits 1 f.body (entered f t s) 0).0) same (code-at_zero 1 f.body (entered f t s))) hi e
 
   own-no_import : (x : ℕ) (f : FunctionTree) (i : Import) → callee_at m x ≡ Some (Own f) → callee_at m x ≡ Some (Imported i) → ⊥
   own-no_import x f i own there = cc (own, there)
@@ -141,10 +142,10 @@ module _ (m : ModuleTree) (limits : Terms) where
   pub function-spends : (x : ℕ) (arguments : List Val) (store : Store) (fuel : ℕ) (r : CallResult) → function_result m limits x arguments store fuel ≡ Some r → r.fuel ≤ fuel
   function-spends x arguments store fuel r e =
       let s : State = record { locals = []; operands = reverse arguments; store = store } in
-      let spent : (run_function m limits x arguments store fuel).fuel ≤ fuel =
+      let spent : (run_function m limits x arguments store fuel).1 ≤ fuel =
       with_function-spends m x (call m limits 0 (exec m limits 1) finish)
       (λ c t. call-spends m limits 0 (exec m limits 1) finish c t (exec-spends m limits 1) (λ s g. omega arith)) s fuel in
-      let same = same_fuel (run_function m limits x arguments store fuel).signal (run_function m limits x arguments store fuel).fuel r e in omega arith
+      let same = same_fuel (run_function m limits x arguments store fuel).0 (run_function m limits x arguments store fuel).1 r e in omega arith
 
   two-spend : (next : Store → ℕ → Option CallResult) → ((s : Store) (g : ℕ) (r : CallResult) → next s g ≡ Some r → r.fuel ≤ g)
       → (o : Outcome) (first r : CallResult) (fuel : ℕ) → first.fuel ≤ fuel → if_done_by o first next ≡ Some r → r.fuel ≤ fuel
@@ -255,11 +256,11 @@ find-right test (x ∷ xs) ys e = let split : (b : Bool) → ◌≡◌ {A = Opti
 
 module _ (m : ModuleTree) (fits : first_misfit m ≡ None) where
   pub length-fresh_memory : length (fresh_store m).memory ≡ memory_size m
-  length-fresh_memory = fits-from (data_extent m) (write_data m) (memory_size m) (λ i s list h long. length-written list (offset_of m s.offset) s.bytes (omega arith)) 0 m.data_segments (replicate (memory_size m) 0) (length-replicate (memory_size m) 0)
+  length-fresh_memory = fits-from (data_extent m) (λ bytes s. written bytes (offset_of m s.offset) s.bytes) (memory_size m) (λ i s list h long. length-written list (offset_of m s.offset) s.bytes (omega arith)) 0 m.data_segments (replicate (memory_size m) 0) (length-replicate (memory_size m) 0)
       (find-right (λ e. nat_lt e.size e.end) (map (element_extent m) (enumerate_from 0 m.element_segments)) (map (data_extent m) (enumerate_from 0 m.data_segments)) fits)
 
   pub length-fresh_table : length (fresh_store m).table ≡ table_size m
-  length-fresh_table = fits-from (element_extent m) (write_elements m) (table_size m) (λ i s list h long. length-written list (offset_of m s.offset) (map (λ f. Some f) s.functions) (rw length-map (omega arith))) 0 m.element_segments (replicate (table_size m) None) (length-replicate (table_size m) None)
+  length-fresh_table = fits-from (element_extent m) (λ table s. written table (offset_of m s.offset) (map (λ f. Some f) s.functions)) (table_size m) (λ i s list h long. length-written list (offset_of m s.offset) (map (λ f. Some f) s.functions) (rw length-map (omega arith))) 0 m.element_segments (replicate (table_size m) None) (length-replicate (table_size m) None)
       (find-left (λ e. nat_lt e.size e.end) (map (element_extent m) (enumerate_from 0 m.element_segments)) (map (data_extent m) (enumerate_from 0 m.data_segments)) fits)
 
   pub fresh-instance : (pages : ℕ) → minimum_of m.memories ≤ pages → IsInstance m pages (fresh_store m).table (fresh_store m)

@@ -54,8 +54,8 @@ range-unique low None low' None bytes r s a b =
 range-unique low None low' (Some high') bytes r s a b = absurd (omega (arith, same_first a.1 b.1))
 range-unique low (Some high) low' None bytes r s a b = absurd (omega (arith, same_first a.1 b.1))
 range-unique low (Some high) low' (Some high') bytes r s a b =
-    let i = unsigned-unique 32 low low' a.0 a.2 b.2 a.3 (subst (λ (l : List ℕ). TakesUnsigned 32 low' l b.2) (sym (same_others a.1 b.1)) b.3) in
-    let j = unsigned-unique 32 high high' a.2 r s a.4 (subst (λ (l : List ℕ). TakesUnsigned 32 high' l s) (sym i.1) b.4) in
+    let i = unsigned-unique 32 low low' a.0 a.2.0 b.2.0 a.2.1 (subst (λ (l : List ℕ). TakesUnsigned 32 low' l b.2.0) (sym (same_others a.1 b.1)) b.2.1) in
+    let j = unsigned-unique 32 high high' a.2.0 r s a.2.2 (subst (λ (l : List ℕ). TakesUnsigned 32 high' l s) (sym i.1) b.2.2) in
     (i.0, ap (λ (n : ℕ). Some n) j.0, j.1)
 
 pub limits-unique : IsUnambiguous TakesLimits

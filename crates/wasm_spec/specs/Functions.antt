@@ -2,7 +2,7 @@
 -- ones, and the module's own follow.
 --
 -- A module may import three functions of the host, under the names `len`, `read` and `write` of `host`.
-use Rattle.std.specs.Prelude.{ℕ, List, [], ◌∷◌, ◌++◌, Option, Some, None, map, slice_get, codes, if◌then◌else◌, option_and_then}
+use Rattle.std.specs.Prelude.{ℕ, List, [], ◌∷◌, ◌++◌, Option, Some, None, map, find, slice_get, codes, if◌then◌else◌, option_and_then}
 use Rattle.std.specs.Str.{bytes_eq}
 use Rattle.wasm_types.specs.declared.host.HostFunction.{HostFunction}
 use Rattle.wasm_types.specs.declared.host.HostFunction.TheVariants as host
@@ -15,21 +15,21 @@ use Rattle.wasm_types.specs.Tree.{FunctionTree, ModuleTree}
 
 -- ---- the functions of the host
 
+-- the name under which each is imported, and its type
+abbrev pub host_row : HostFunction → List ℕ × FuncType
+host_row host.Len = (codes "len", record { params = []; results = I32 ∷ [] })
+host_row host.Read = (codes "read", record { params = I32 ∷ I32 ∷ I32 ∷ []; results = I32 ∷ [] })
+host_row host.Write = (codes "write", record { params = I32 ∷ I32 ∷ []; results = I32 ∷ [] })
+
+abbrev pub host_type : HostFunction → FuncType
+host_type h = (host_row h).1
+
 abbrev pub host_item : List ℕ → Option HostFunction
-host_item name =
-    if bytes_eq name (codes "len") then Some host.Len
-    else if bytes_eq name (codes "read") then Some host.Read
-    else if bytes_eq name (codes "write") then Some host.Write
-    else None
+host_item name = find (λ h. bytes_eq name (host_row h).0) (host.Len ∷ host.Read ∷ host.Write ∷ [])
 
 -- the function of the host that an import names
 abbrev pub host_function : Import → Option HostFunction
 host_function i = if bytes_eq i.module_name (codes "host") then host_item i.item_name else None
-
-abbrev pub host_type : HostFunction → FuncType
-host_type host.Len = record { params = []; results = I32 ∷ [] }
-host_type host.Read = record { params = I32 ∷ I32 ∷ I32 ∷ []; results = I32 ∷ [] }
-host_type host.Write = record { params = I32 ∷ I32 ∷ []; results = I32 ∷ [] }
 
 -- ---- numbers of functions
 

@@ -12,16 +12,16 @@ use Rattle.wasm_types.specs.declared.module.Export.{Export}
 use Rattle.wasm_types.specs.declared.module.ExportDesc.{ExportDesc}
 use Rattle.wasm_types.specs.declared.module.ExportDesc.TheVariants as export
 use Rattle.wasm_types.specs.Tree.{Code, FunctionTree, GlobalTree, ElementTree, DataTree, ModuleTree, locals_of}
-use Rattle.wasm_spec.specs.Numbers.{TakesUnsigned, TakesEach, TakesVec, TakesBytes, TakesName}
+use Rattle.wasm_spec.specs.Numbers.{TakesUnsigned, Behind, TakesEach, TakesVec, TakesBytes, TakesName}
 use Rattle.wasm_spec.specs.TypeGrammar.{TakesValType, TakesFuncType, TakesLimits, TakesTableType, TakesGlobalType}
 use Rattle.wasm_spec.specs.InstrGrammar.{TakesExpr}
 
 -- section 5.5.5
 abbrev pub TakesImportDesc : ImportDesc → List ℕ → List ℕ → Type 0
-TakesImportDesc (import.Func x) bytes rest = (after : List ℕ) × (bytes ≡ 0 ∷ after) × TakesUnsigned 32 x after rest
-TakesImportDesc (import.Table t) bytes rest = (after : List ℕ) × (bytes ≡ 1 ∷ after) × TakesTableType t after rest
-TakesImportDesc (import.Memory m) bytes rest = (after : List ℕ) × (bytes ≡ 2 ∷ after) × TakesLimits m after rest
-TakesImportDesc (import.Global g) bytes rest = (after : List ℕ) × (bytes ≡ 3 ∷ after) × TakesGlobalType g after rest
+TakesImportDesc (import.Func x) bytes rest = Behind 0 (λ after. TakesUnsigned 32 x after rest) bytes
+TakesImportDesc (import.Table t) bytes rest = Behind 1 (λ after. TakesTableType t after rest) bytes
+TakesImportDesc (import.Memory m) bytes rest = Behind 2 (λ after. TakesLimits m after rest) bytes
+TakesImportDesc (import.Global g) bytes rest = Behind 3 (λ after. TakesGlobalType g after rest) bytes
 
 pub record TakesImport (i : Import) (bytes rest : List ℕ) : Type 0 where
   pub after_module : List ℕ
@@ -38,10 +38,10 @@ pub record TakesGlobal (profile : Profile) (g : GlobalTree) (bytes rest : List �
 
 -- section 5.5.10
 abbrev pub TakesExportDesc : ExportDesc → List ℕ → List ℕ → Type 0
-TakesExportDesc (export.Func x) bytes rest = (after : List ℕ) × (bytes ≡ 0 ∷ after) × TakesUnsigned 32 x after rest
-TakesExportDesc (export.Table x) bytes rest = (after : List ℕ) × (bytes ≡ 1 ∷ after) × TakesUnsigned 32 x after rest
-TakesExportDesc (export.Memory x) bytes rest = (after : List ℕ) × (bytes ≡ 2 ∷ after) × TakesUnsigned 32 x after rest
-TakesExportDesc (export.Global x) bytes rest = (after : List ℕ) × (bytes ≡ 3 ∷ after) × TakesUnsigned 32 x after rest
+TakesExportDesc (export.Func x) bytes rest = Behind 0 (λ after. TakesUnsigned 32 x after rest) bytes
+TakesExportDesc (export.Table x) bytes rest = Behind 1 (λ after. TakesUnsigned 32 x after rest) bytes
+TakesExportDesc (export.Memory x) bytes rest = Behind 2 (λ after. TakesUnsigned 32 x after rest) bytes
+TakesExportDesc (export.Global x) bytes rest = Behind 3 (λ after. TakesUnsigned 32 x after rest) bytes
 
 pub record TakesExport (e : Export) (bytes rest : List ℕ) : Type 0 where
   pub mid : List ℕ

@@ -1,6 +1,6 @@
 -- Instructions in the binary format, by profile. Source: WebAssembly Core Specification 1.0, section 5.4; for what profile 2
 -- adds, version 2.0, section 5.4.
-use Rattle.std.specs.Prelude.{◌≡◌, ℕ, ◌≤◌, ◌⊎◌, ◌==◌, List, [], ◌∷◌, ◌++◌, Option, Some, drop, find, length, replicate, ℤ}
+use Rattle.std.specs.Prelude.{◌≡◌, ℕ, ◌≤◌, ◌⊎◌, ◌==◌, List, [], ◌∷◌, ◌++◌, Option, Some, drop, find, length, map, replicate, ℤ}
 use Rattle.std.specs.Option.{option_map_or}
 use Rattle.std.specs.List.{enumerate_from}
 use Rattle.std.specs.Int.{cast_unsigned, w32, w64}
@@ -11,6 +11,7 @@ use Rattle.wasm_types.specs.declared.instr.MemArg.{MemArg}
 use Rattle.wasm_types.specs.declared.instr.Width.{Width}
 use Rattle.wasm_types.specs.declared.instr.Width.TheVariants.{W32, W64}
 use Rattle.wasm_types.specs.declared.instr.Sign.TheVariants.{Signed, Unsigned}
+use Rattle.wasm_types.specs.declared.instr.PackSize.{PackSize}
 use Rattle.wasm_types.specs.declared.instr.PackSize.TheVariants.{Pack8, Pack16, Pack32}
 use Rattle.wasm_types.specs.declared.instr.UnaryOp.TheVariants.{Clz, Ctz, Popcnt, ExtendS}
 use Rattle.wasm_types.specs.declared.instr.BinaryOp.TheVariants as binary
@@ -35,104 +36,50 @@ pub data Shape : Type 0 where
   Prefixed : Shape
   NotPlain : Shape
 
--- section 5.4.1: control instructions that are plain
-abbrev pub control : List (ℕ × Shape)
-control =
-    (0x00, Alone instr.Unreachable)
-    ∷ (0x01, Alone instr.Nop)
-    ∷ (0x0C, WithIndex (λ l. instr.Br l))
-    ∷ (0x0D, WithIndex (λ l. instr.BrIf l))
-    ∷ (0x0E, WithLabels)
-    ∷ (0x0F, Alone instr.Return)
-    ∷ []
+-- section 5.4.4: an access to each type of numbers, and to part of a number by its sign and without one
+abbrev pub whole_accesses : (Width → MemArg → Instr) → List Shape
+whole_accesses make = WithAddress (make W32) ∷ WithAddress (make W64) ∷ replicate 2 (WithAddress (λ m. instr.Float))
 
--- section 5.4.2
-abbrev pub parametric : List (ℕ × Shape)
-parametric =
-    (0x1A, Alone instr.Drop)
-    ∷ (0x1B, Alone instr.Select)
-    ∷ []
+abbrev pub narrow_loads : Width → PackSize → List Shape
+narrow_loads w p = WithAddress (λ m. instr.LoadPacked w p Signed m) ∷ WithAddress (λ m. instr.LoadPacked w p Unsigned m) ∷ []
 
--- section 5.4.3
-abbrev pub variable : List (ℕ × Shape)
-variable =
-    (0x20, WithIndex (λ x. instr.LocalGet x))
-    ∷ (0x21, WithIndex (λ x. instr.LocalSet x))
-    ∷ (0x22, WithIndex (λ x. instr.LocalTee x))
-    ∷ (0x23, WithIndex (λ x. instr.GlobalGet x))
-    ∷ (0x24, WithIndex (λ x. instr.GlobalSet x))
-    ∷ []
-
--- section 5.4.4
-abbrev pub memory : List (ℕ × Shape)
-memory =
-    (0x28, WithAddress (λ m. instr.Load W32 m))
-    ∷ (0x29, WithAddress (λ m. instr.Load W64 m))
-    ∷ (0x2A, WithAddress (λ m. instr.Float))
-    ∷ (0x2B, WithAddress (λ m. instr.Float))
-    ∷ (0x2C, WithAddress (λ m. instr.LoadPacked W32 Pack8 Signed m))
-    ∷ (0x2D, WithAddress (λ m. instr.LoadPacked W32 Pack8 Unsigned m))
-    ∷ (0x2E, WithAddress (λ m. instr.LoadPacked W32 Pack16 Signed m))
-    ∷ (0x2F, WithAddress (λ m. instr.LoadPacked W32 Pack16 Unsigned m))
-    ∷ (0x30, WithAddress (λ m. instr.LoadPacked W64 Pack8 Signed m))
-    ∷ (0x31, WithAddress (λ m. instr.LoadPacked W64 Pack8 Unsigned m))
-    ∷ (0x32, WithAddress (λ m. instr.LoadPacked W64 Pack16 Signed m))
-    ∷ (0x33, WithAddress (λ m. instr.LoadPacked W64 Pack16 Unsigned m))
-    ∷ (0x34, WithAddress (λ m. instr.LoadPacked W64 Pack32 Signed m))
-    ∷ (0x35, WithAddress (λ m. instr.LoadPacked W64 Pack32 Unsigned m))
-    ∷ (0x36, WithAddress (λ m. instr.Store W32 m))
-    ∷ (0x37, WithAddress (λ m. instr.Store W64 m))
-    ∷ (0x38, WithAddress (λ m. instr.Float))
-    ∷ (0x39, WithAddress (λ m. instr.Float))
-    ∷ (0x3A, WithAddress (λ m. instr.StorePacked W32 Pack8 m))
-    ∷ (0x3B, WithAddress (λ m. instr.StorePacked W32 Pack16 m))
-    ∷ (0x3C, WithAddress (λ m. instr.StorePacked W64 Pack8 m))
-    ∷ (0x3D, WithAddress (λ m. instr.StorePacked W64 Pack16 m))
-    ∷ (0x3E, WithAddress (λ m. instr.StorePacked W64 Pack32 m))
-    ∷ (0x3F, WithZero instr.MemorySize)
-    ∷ (0x40, WithZero instr.MemoryGrow)
-    ∷ []
+abbrev pub narrow_stores : Width → List PackSize → List Shape
+narrow_stores w sizes = map (λ p. WithAddress (λ m. instr.StorePacked w p m)) sizes
 
 -- section 5.4.5: eqz and the comparisons of a width, which are eleven
 abbrev pub comparisons : Width → List Shape
-comparisons w =
-    Alone (instr.Eqz w) ∷ Alone (instr.Compare w compare.Eq) ∷ Alone (instr.Compare w compare.Ne)
-    ∷ Alone (instr.Compare w compare.LtS) ∷ Alone (instr.Compare w compare.LtU)
-    ∷ Alone (instr.Compare w compare.GtS) ∷ Alone (instr.Compare w compare.GtU)
-    ∷ Alone (instr.Compare w compare.LeS) ∷ Alone (instr.Compare w compare.LeU)
-    ∷ Alone (instr.Compare w compare.GeS) ∷ Alone (instr.Compare w compare.GeU) ∷ []
+comparisons w = Alone (instr.Eqz w) ∷ map (λ op. Alone (instr.Compare w op))
+    (compare.Eq ∷ compare.Ne ∷ compare.LtS ∷ compare.LtU ∷ compare.GtS ∷ compare.GtU ∷ compare.LeS ∷ compare.LeU ∷ compare.GeS ∷ compare.GeU ∷ [])
 
 -- section 5.4.5: the operators of a width, which are eighteen
 abbrev pub operators : Width → List Shape
-operators w =
-    Alone (instr.Unary w Clz) ∷ Alone (instr.Unary w Ctz) ∷ Alone (instr.Unary w Popcnt)
-    ∷ Alone (instr.Binary w binary.Add) ∷ Alone (instr.Binary w binary.Sub) ∷ Alone (instr.Binary w binary.Mul)
-    ∷ Alone (instr.Binary w binary.DivS) ∷ Alone (instr.Binary w binary.DivU)
-    ∷ Alone (instr.Binary w binary.RemS) ∷ Alone (instr.Binary w binary.RemU)
-    ∷ Alone (instr.Binary w binary.And) ∷ Alone (instr.Binary w binary.Or) ∷ Alone (instr.Binary w binary.Xor)
-    ∷ Alone (instr.Binary w binary.Shl) ∷ Alone (instr.Binary w binary.ShrS) ∷ Alone (instr.Binary w binary.ShrU)
-    ∷ Alone (instr.Binary w binary.Rotl) ∷ Alone (instr.Binary w binary.Rotr) ∷ []
-
--- section 5.4.5: constants and conversions
-abbrev pub constants_and_conversions : List (ℕ × Shape)
-constants_and_conversions =
-    (0x41, WithI32)
-    ∷ (0x42, WithI64)
-    ∷ (0x43, WithBytes 4 instr.Float)
-    ∷ (0x44, WithBytes 8 instr.Float)
-    ∷ (0xA7, Alone instr.Wrap)
-    ∷ (0xAC, Alone (instr.Extend Signed))
-    ∷ (0xAD, Alone (instr.Extend Unsigned))
-    ∷ []
+operators w = map (λ op. Alone (instr.Unary w op)) (Clz ∷ Ctz ∷ Popcnt ∷ []) ++ map (λ op. Alone (instr.Binary w op))
+    (binary.Add ∷ binary.Sub ∷ binary.Mul ∷ binary.DivS ∷ binary.DivU ∷ binary.RemS ∷ binary.RemU
+    ∷ binary.And ∷ binary.Or ∷ binary.Xor ∷ binary.Shl ∷ binary.ShrS ∷ binary.ShrU ∷ binary.Rotl ∷ binary.Rotr ∷ [])
 
 -- so many instructions on floats
-abbrev floats : ℕ → List Shape
+abbrev pub floats : ℕ → List Shape
 floats n = replicate n (Alone instr.Float)
 
--- section 5.4.5: rows in a run, from their first opcode on
+-- the opcodes of version 1.0, each run of them by its first: sections 5.4.1 to 5.4.4, and 5.4.5
+abbrev pub first_opcodes : List (ℕ × Shape)
+first_opcodes =
+    enumerate_from 0x00 (Alone instr.Unreachable ∷ Alone instr.Nop ∷ [])
+    ++ enumerate_from 0x0C (WithIndex (λ l. instr.Br l) ∷ WithIndex (λ l. instr.BrIf l) ∷ WithLabels ∷ Alone instr.Return ∷ [])
+    ++ enumerate_from 0x1A (Alone instr.Drop ∷ Alone instr.Select ∷ [])
+    ++ enumerate_from 0x20 (WithIndex (λ x. instr.LocalGet x) ∷ WithIndex (λ x. instr.LocalSet x) ∷ WithIndex (λ x. instr.LocalTee x) ∷ [])
+    ++ enumerate_from 0x23 (WithIndex (λ x. instr.GlobalGet x) ∷ WithIndex (λ x. instr.GlobalSet x) ∷ [])
+    ++ enumerate_from 0x28 (whole_accesses (λ w m. instr.Load w m))
+    ++ enumerate_from 0x2C (narrow_loads W32 Pack8 ++ narrow_loads W32 Pack16)
+    ++ enumerate_from 0x30 (narrow_loads W64 Pack8 ++ narrow_loads W64 Pack16 ++ narrow_loads W64 Pack32)
+    ++ enumerate_from 0x36 (whole_accesses (λ w m. instr.Store w m))
+    ++ enumerate_from 0x3A (narrow_stores W32 (Pack8 ∷ Pack16 ∷ []) ++ narrow_stores W64 (Pack8 ∷ Pack16 ∷ Pack32 ∷ []))
+    ++ enumerate_from 0x3F (WithZero instr.MemorySize ∷ WithZero instr.MemoryGrow ∷ [])
+
 abbrev pub numeric : List (ℕ × Shape)
 numeric =
-    constants_and_conversions
+    enumerate_from 0x41 (WithI32 ∷ WithI64 ∷ WithBytes 4 instr.Float ∷ WithBytes 8 instr.Float ∷ [])
+    ++ (0xA7, Alone instr.Wrap) ∷ enumerate_from 0xAC (Alone (instr.Extend Signed) ∷ Alone (instr.Extend Unsigned) ∷ [])
     ++ enumerate_from 0x45 (comparisons W32)
     ++ enumerate_from 0x50 (comparisons W64)
     ++ enumerate_from 0x5B (floats 12)
@@ -144,9 +91,7 @@ numeric =
 
 -- what profile 2 adds: the five operators that extend the lowest bits by their sign, and the prefix
 abbrev pub extensions : List Shape
-extensions =
-    Alone (instr.Unary W32 (ExtendS Pack8)) ∷ Alone (instr.Unary W32 (ExtendS Pack16))
-    ∷ Alone (instr.Unary W64 (ExtendS Pack8)) ∷ Alone (instr.Unary W64 (ExtendS Pack16)) ∷ Alone (instr.Unary W64 (ExtendS Pack32)) ∷ []
+extensions = map (λ p. Alone (instr.Unary W32 (ExtendS p))) (Pack8 ∷ Pack16 ∷ []) ++ map (λ p. Alone (instr.Unary W64 (ExtendS p))) (Pack8 ∷ Pack16 ∷ Pack32 ∷ [])
 
 abbrev pub added : Profile → List (ℕ × Shape)
 added One = []
@@ -154,7 +99,7 @@ added _ = enumerate_from 0xC0 extensions ++ (0xFC, Prefixed) ∷ []
 
 -- the opcodes of plain instructions
 abbrev pub opcodes : Profile → List (ℕ × Shape)
-opcodes profile = control ++ parametric ++ variable ++ memory ++ numeric ++ added profile
+opcodes profile = first_opcodes ++ numeric ++ added profile
 
 -- what an opcode stands for
 unfoldable pub shape : Profile → ℕ → Shape
@@ -166,14 +111,9 @@ pub record PrefixedRow : Type 0 where
   pub instr : Instr
   pub zeros : ℕ
 
-abbrev pub prefixed_rows : List PrefixedRow
-prefixed_rows =
-    record { number = 10; instr = instr.MemoryCopy; zeros = 2 }
-    ∷ record { number = 11; instr = instr.MemoryFill; zeros = 1 }
-    ∷ []
-
 abbrev pub prefixed_row : ℕ → Option PrefixedRow
-prefixed_row n = find (λ row. row.number == n) prefixed_rows
+prefixed_row n = find (λ row. row.number == n)
+    (record { number = 10; instr = instr.MemoryCopy; zeros = 2 } ∷ record { number = 11; instr = instr.MemoryFill; zeros = 1 } ∷ [])
 
 -- what follows the prefix: a number of a row, and its zero bytes
 pub record TakesPrefixed (i : Instr) (bytes rest : List ℕ) : Type 0 where

@@ -58,8 +58,7 @@ module _ (Runs : ModuleTree → Type 0) (limits : LoadLimits) where
   Answers m (Err Malformed) = ⊥
   Answers m (Err Unsupported) = ¬ (Runs m)
   Answers m (Err Invalid) = Runs m × ¬ (IsValid m)
-  Answers m (Err (OverLimit demand)) = IsChecked m (Some (OverLimit demand))
-  Answers m (Err (Segment extent)) = IsChecked m (Some (Segment extent))
+  Answers m (Err late) = IsChecked m (Some late)
 
   -- the module that the bytes spell, and its answer
   pub record IsAnswered (profile : Profile) (bytes : List ℕ) (answer : Result ModuleTree Refusal) : Type 0 where

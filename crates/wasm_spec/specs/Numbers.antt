@@ -20,6 +20,10 @@ TakesSigned n x (b ∷ bytes) rest =
     ⊎ ((2 ^ 6 ≤ b) × (b < 2 ^ 7) × (2 ^ 7 ≤ b + 2 ^ (n - 1)) × (x ≡ pos b -ℤ pos (2 ^ 7)) × (rest ≡ bytes))
     ⊎ ((2 ^ 7 ≤ b) × (7 < n) × (m : ℤ) × TakesSigned (n - 7) m bytes rest × (x ≡ (pos (2 ^ 7) *ℤ m) +ℤ pos (b - 2 ^ 7)))
 
+-- this byte, and behind it what is said of the bytes that follow
+abbrev pub Behind : ℕ → (List ℕ → Type 0) → List ℕ → Type 0
+Behind b Is bytes = (after : List ℕ) × (bytes ≡ b ∷ after) × Is after
+
 -- these items, one after the other
 abbrev pub TakesEach : {A : Type 0} → (A → List ℕ → List ℕ → Type 0) → (xs : List A) → (bytes rest : List ℕ) → Type 0
 TakesEach Takes [] bytes rest = rest ≡ bytes

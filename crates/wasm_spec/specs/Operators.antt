@@ -60,24 +60,7 @@ abbrev pub bool : Bool → ℕ
 bool true = 1
 bool false = 0
 
--- ---- arithmetic (section 4.3.2)
-
--- `iadd`, `isub` and `imul`, modulo 2 ^ n.
-abbrev pub add : ℕ → ℕ → ℕ → ℕ
-add n a b = (a + b) % 2 ^ n
-
-abbrev pub sub : ℕ → ℕ → ℕ → ℕ
-sub n a b = (a + 2 ^ n - b) % 2 ^ n
-
-abbrev pub mul : ℕ → ℕ → ℕ → ℕ
-mul n a b = a * b % 2 ^ n
-
--- `idiv_u` and `irem_u`: the quotient towards zero, and what it leaves. Neither is defined at the divisor 0.
-abbrev pub div_u : ℕ → ℕ → Result ℕ TrapKind
-div_u a b = if b == 0 then Err trap.Divide else Ok (a / b)
-
-abbrev pub rem_u : ℕ → ℕ → Result ℕ TrapKind
-rem_u a b = if b == 0 then Err trap.Divide else Ok (a % b)
+-- ---- signed division (section 4.3.2)
 
 -- The least signed number divided by -1, whose quotient 2 ^ (n - 1) no signed number of n bits is.
 abbrev pub overflows : ℕ → ℕ → ℕ → Bool
@@ -115,18 +98,6 @@ rotl n a b = let k = b % n in a * 2 ^ k % 2 ^ n + a / 2 ^ (n - k)
 abbrev pub rotr : ℕ → ℕ → ℕ → ℕ
 rotr n a b = let k = b % n in a / 2 ^ k + a * 2 ^ (n - k) % 2 ^ n
 
--- ---- counts of binary digits (section 4.3.2)
-
--- `iclz`, `ictz` and `ipopcnt`: the zeros at the upper end, the zeros at the lower end, and the ones.
-abbrev pub clz : ℕ → ℕ → ℕ
-clz n i = suffix_len (λ d. d == 0) (binary_digits n i)
-
-abbrev pub ctz : ℕ → ℕ → ℕ
-ctz n i = prefix_len (λ d. d == 0) (binary_digits n i)
-
-abbrev pub popcnt : ℕ → ℕ → ℕ
-popcnt n i = sum (binary_digits n i)
-
 -- ---- conversions (section 4.3.4)
 
 -- from m bits to n more: `extend_s` keeps the signed value, and `extend_u` the number itself
@@ -137,26 +108,25 @@ extend_s m n i = unsigned n (signed m i)
 abbrev pub wrap : ℕ → ℕ → ℕ
 wrap n i = i % 2 ^ n
 
--- `extendM_s` of a later version: the lowest m bits, by their sign
-abbrev pub extend_low : ℕ → ℕ → ℕ → ℕ
-extend_low m n i = extend_s m n (wrap m i)
-
 -- ---- all of them by name
 
+-- `iclz`, `ictz` and `ipopcnt` count the zeros at the upper end, the zeros at the lower end, and the ones. `extendM_s` of a
+-- later version takes the lowest m bits by their sign.
 abbrev pub unary : ℕ → UnaryOp → ℕ → ℕ
-unary n unary_op.Clz i = clz n i
-unary n unary_op.Ctz i = ctz n i
-unary n unary_op.Popcnt i = popcnt n i
-unary n (unary_op.ExtendS p) i = extend_low (pack_bits p) n i
+unary n unary_op.Clz i = suffix_len (λ d. d == 0) (binary_digits n i)
+unary n unary_op.Ctz i = prefix_len (λ d. d == 0) (binary_digits n i)
+unary n unary_op.Popcnt i = sum (binary_digits n i)
+unary n (unary_op.ExtendS p) i = extend_s (pack_bits p) n (wrap (pack_bits p) i)
 
+-- `iadd`, `isub` and `imul` are modulo 2 ^ n. No quotient is defined at the divisor 0, and none is its rest.
 abbrev pub binary : ℕ → BinaryOp → ℕ → ℕ → Result ℕ TrapKind
-binary n binary_op.Add a b = Ok (add n a b)
-binary n binary_op.Sub a b = Ok (sub n a b)
-binary n binary_op.Mul a b = Ok (mul n a b)
+binary n binary_op.Add a b = Ok ((a + b) % 2 ^ n)
+binary n binary_op.Sub a b = Ok ((a + 2 ^ n - b) % 2 ^ n)
+binary n binary_op.Mul a b = Ok (a * b % 2 ^ n)
 binary n binary_op.DivS a b = div_s n a b
-binary n binary_op.DivU a b = div_u a b
+binary n binary_op.DivU a b = if b == 0 then Err trap.Divide else Ok (a / b)
 binary n binary_op.RemS a b = rem_s n a b
-binary n binary_op.RemU a b = rem_u a b
+binary n binary_op.RemU a b = if b == 0 then Err trap.Divide else Ok (a % b)
 binary n binary_op.And a b = Ok (bit_and a b)
 binary n binary_op.Or a b = Ok (bit_or a b)
 binary n binary_op.Xor a b = Ok (bit_xor a b)

@@ -80,18 +80,12 @@ first_misfit m = find (λ e. nat_lt e.size e.end) (extents m)
 
 -- ---- the fresh store (sections 4.5.3 and 4.5.4)
 
-abbrev pub write_elements : ModuleTree → List (Option ℕ) → ElementTree → List (Option ℕ)
-write_elements m table s = written table (offset_of m s.offset) (map (λ f. Some f) s.functions)
-
-abbrev pub write_data : ModuleTree → List ℕ → DataTree → List ℕ
-write_data m memory s = written memory (offset_of m s.offset) s.bytes
-
 -- What a new instance begins with, where no segment is a misfit: a table of empty elements and a memory of zeros, at their
 -- minimum sizes, and then the segments, each in order; and no answer yet.
 abbrev pub fresh_store : ModuleTree → Store
 fresh_store m = record {
-  memory = fold (write_data m) (replicate (memory_size m) 0) m.data_segments;
-  table = fold (write_elements m) (replicate (table_size m) None) m.element_segments;
+  memory = fold (λ bytes s. written bytes (offset_of m s.offset) s.bytes) (replicate (memory_size m) 0) m.data_segments;
+  table = fold (λ table s. written table (offset_of m s.offset) (map (λ f. Some f) s.functions)) (replicate (table_size m) None) m.element_segments;
   globals = initial_globals m;
   answer = [];
 }

@@ -5,7 +5,7 @@ use Rattle.wasm_types.specs.declared.types.ValType.TheVariants.{I32, I64, F32, F
 use Rattle.wasm_types.specs.declared.types.FuncType.{FuncType}
 use Rattle.wasm_types.specs.declared.types.Limits.{Limits}
 use Rattle.wasm_types.specs.declared.types.GlobalType.{GlobalType}
-use Rattle.wasm_spec.specs.Numbers.{TakesUnsigned, TakesVec}
+use Rattle.wasm_spec.specs.Numbers.{TakesUnsigned, Behind, TakesVec}
 
 -- section 5.3.1
 abbrev pub value_type_byte : ValType → ℕ
@@ -35,16 +35,15 @@ pub record TakesFuncType (t : FuncType) (bytes rest : List ℕ) : Type 0 where
 
 -- sections 5.3.4 and 5.3.5: limits, which are a memory's type
 abbrev pub TakesRange : ℕ → Option ℕ → List ℕ → List ℕ → Type 0
-TakesRange low None bytes rest = (after : List ℕ) × (bytes ≡ 0 ∷ after) × TakesUnsigned 32 low after rest
-TakesRange low (Some high) bytes rest =
-    (after : List ℕ) × (bytes ≡ 1 ∷ after) × (mid : List ℕ) × TakesUnsigned 32 low after mid × TakesUnsigned 32 high mid rest
+TakesRange low None bytes rest = Behind 0 (λ after. TakesUnsigned 32 low after rest) bytes
+TakesRange low (Some high) bytes rest = Behind 1 (λ after. (mid : List ℕ) × TakesUnsigned 32 low after mid × TakesUnsigned 32 high mid rest) bytes
 
 abbrev pub TakesLimits : Limits → List ℕ → List ℕ → Type 0
 TakesLimits l bytes rest = TakesRange l.min l.max bytes rest
 
 -- section 5.3.6
 abbrev pub TakesTableType : Limits → List ℕ → List ℕ → Type 0
-TakesTableType l bytes rest = (after : List ℕ) × (bytes ≡ 0x70 ∷ after) × TakesLimits l after rest
+TakesTableType l bytes rest = Behind 0x70 (λ after. TakesLimits l after rest) bytes
 
 -- section 5.3.7
 abbrev pub mutability_byte : Bool → ℕ

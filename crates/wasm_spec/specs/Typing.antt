@@ -1,7 +1,7 @@
 -- The types of instructions: WebAssembly Core Specification 1.0, section 3.3.
 --
 -- Lists of operands have the top first, and are those of the innermost block alone.
-use Rattle.std.specs.Prelude.{◌≡◌, ℕ, ◌^◌, List, [], ◌∷◌, ◌++◌, Bool, false, Option, Some, None, slice_get, reverse, nat_le, if◌then◌else◌, option_map, option_to_list, IsSome}
+use Rattle.std.specs.Prelude.{◌≡◌, ℕ, ◌^◌, List, [], ◌∷◌, ◌++◌, Bool, false, Option, Some, None, slice_get, reverse, nat_le, if◌then◌else◌, option_map, option_to_list, IsSome, unwrap_or}
 use Rattle.std.specs.Option.{option_map_or}
 use Rattle.std.specs.List.{list_all}
 use Rattle.std.specs.Int.{byte_len}
@@ -118,6 +118,7 @@ rule C instr.Wrap = Fixed (I64 ∷ []) (I32 ∷ [])
 rule C (instr.Extend s) = Fixed (I32 ∷ []) (I64 ∷ [])
 rule C instr.Float = Wrong
 
+-- A function takes its arguments, the last one on the top. It has one result at most, so results are not turned round.
 abbrev pub call_rule : Context → ℕ → Rule
 call_rule C x = named (function_type C.defined x) (λ t. Fixed (reverse t.params) t.results)
 
@@ -144,26 +145,19 @@ Typed C (If t first second rest) before after =
     (below : List ValType) × (before ≡ I32 ∷ below) × Typed (under (result_types t) C) first [] (result_types t) × Typed (under (result_types t) C) second [] (result_types t)
     × Typed C rest (result_types t ++ below) after
 Typed C (Call x rest) before after = (middle : List ValType) × Takes (call_rule C x) before middle × Typed C rest middle after
-Typed C (CallIndirect x rest) before after =
-    (middle : List ValType) × Takes (call_indirect_rule C x) before middle × Typed C rest middle after
+Typed C (CallIndirect x rest) before after = (middle : List ValType) × Takes (call_indirect_rule C x) before middle × Typed C rest middle after
 
--- section 3.4.1: functions. Parameters and declared locals are numbered together.
-abbrev pub params_or_none : Option FuncType → List ValType
-params_or_none o = option_map_or (λ t. t.params) o []
+-- section 3.4.1: functions. One whose type is not there is taken as one without parameters and results.
+abbrev pub type_or_empty : Option FuncType → FuncType
+type_or_empty o = unwrap_or o (record { params = []; results = [] })
 
-abbrev pub results_or_none : Option FuncType → List ValType
-results_or_none o = option_map_or (λ t. t.results) o []
+abbrev pub own_type : ModuleTree → FunctionTree → FuncType
+own_type m f = type_or_empty (slice_get m.types f.type_index)
 
-abbrev pub params_of : ModuleTree → FunctionTree → List ValType
-params_of m f = params_or_none (slice_get m.types f.type_index)
-
-abbrev pub results_of : ModuleTree → FunctionTree → List ValType
-results_of m f = results_or_none (slice_get m.types f.type_index)
-
--- a body's own label is the outermost one
+-- Parameters and declared locals are numbered together. A body's own label is the outermost one.
 abbrev pub body_context : ModuleTree → FunctionTree → Context
-body_context m f = record { defined = m; locals = params_of m f ++ f.locals; labels = results_of m f ∷ []; results = results_of m f }
+body_context m f = let t = own_type m f in record { defined = m; locals = t.params ++ f.locals; labels = t.results ∷ []; results = t.results }
 
 -- its type is there, and its body takes nothing to its results
 abbrev pub IsTypedFunction : ModuleTree → FunctionTree → Type 0
-IsTypedFunction m f = IsSome (slice_get m.types f.type_index) × Typed (body_context m f) f.body [] (results_of m f)
+IsTypedFunction m f = IsSome (slice_get m.types f.type_index) × Typed (body_context m f) f.body [] (own_type m f).results

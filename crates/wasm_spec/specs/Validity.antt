@@ -158,7 +158,4 @@ pub record IsValid (m : ModuleTree) : Type 0 where
 -- the function that is exported under a name
 pub record Exports (exports : List Export) (name : List ℕ) (x : ℕ) : Type 0 where
   pub place : ℕ
-  pub export : Export
-  pub there : slice_get exports place ≡ Some export
-  pub named : export.name ≡ name
-  pub function : export.desc ≡ desc.Func x
+  pub there : slice_get exports place ≡ Some (record { name = name; desc = desc.Func x })

@@ -9,7 +9,7 @@ ghost use Rattle.wasm_types.specs.declared.limits.LoadLimits.{LoadLimits};
 ghost use Rattle.wasm_types.specs.Tree.{Code, End, Plain, Block, Loop, If, Call, CallIndirect, FunctionTree, ModuleTree};
 ghost use Rattle.wasm_spec.specs.Functions.{Own, callee_at};
 ghost use Rattle.wasm_spec.specs.Typing.{result_types};
-ghost use Rattle.wasm_spec.specs.Execution.{Terms, State, Next, OutOfFuel, ended, plain, and_then, leave, pop_index, inside, arm, with_function, call, element_call, exec, exec_within};
+ghost use Rattle.wasm_spec.specs.Execution.{Terms, State, Next, OutOfFuel, plain, and_then, leave, pop_index, inside, arm, with_function, call, element_call, exec, exec_within};
 ghost use Rattle.wasm_spec.specs.Store.{Store, minimum_of, first_misfit, fresh_store};
 ghost use Rattle.wasm_spec.specs.Result.{CallResult, result_from, call_result};
 ghost use Rattle.wasm_spec.specs.Instances.{IsInstance};
@@ -25,7 +25,7 @@ pub use crate::grammar_laws::{
 /// No code leaves more fuel than it was given.
 pub fn fuel_only_falls()
     ensures { (m : ModuleTree) (limits : Terms) (depth : ℕ) (code : Code) (s : State) (fuel : ℕ)
-        → (exec m limits depth code s fuel).fuel ≤ fuel }
+        → (exec m limits depth code s fuel).1 ≤ fuel }
 {}
 
 /// The index to which execution is bounded is of no account once it is above the fuel: every such index gives what `exec`
@@ -39,9 +39,9 @@ pub fn any_index_above_the_fuel_gives_the_same()
 /// Source: Core Specification 1.0, sections 4.4.5 to 4.4.7.
 pub fn execution_obeys_its_equations()
     ensures end { (m : ModuleTree) (limits : Terms) (depth : ℕ) (s : State) (fuel : ℕ)
-        → exec m limits depth End s fuel ≡ ended (Next s) fuel }
+        → exec m limits depth End s fuel ≡ (Next s, fuel) }
     ensures without_fuel { (m : ModuleTree) (limits : Terms) (depth : ℕ) (code : Code) (s : State)
-        → code ≢ End → exec m limits depth code s 0 ≡ ended (OutOfFuel s.store) 0 }
+        → code ≢ End → exec m limits depth code s 0 ≡ (OutOfFuel s.store, 0) }
     ensures plain_instruction { (m : ModuleTree) (limits : Terms) (depth : ℕ) (i : Instr) (rest : Code) (s : State) (fuel : ℕ)
         → exec m limits depth (Plain i rest) s (suc fuel)
         ≡ and_then (plain m limits i s) fuel (exec m limits depth rest) }

@@ -37,9 +37,9 @@ fn an_image_is_built(rt: HostRuntime) -> Result<(), Fail> {
     let module = decode(rt.alloc(), Profile::One, INSTANCE)?;
     let valid = validate(rt.alloc(), Profile::One, module)?;
     let image = build(rt.alloc(), &valid)?;
-    let mut bytes = [9; 65];
-    image.memory.copy_to(0, &mut bytes);
-    assert_eq!(rt; &bytes[62..], b"\0ab".as_slice());
+    let mut bytes = [9; 4096];
+    image.memory.copy_block(0, &mut bytes);
+    assert_eq!(rt; &bytes[62..66], b"\0ab\0".as_slice());
     assert_eq!(rt; image.globals.as_slice(), [Val::I32(5)].as_slice());
     assert_eq!(rt; image.start, Some(0));
     Ok(())

@@ -54,6 +54,10 @@ at_map [] k = refl
 at_map (e ∷ es) zero = refl
 at_map (e ∷ es) (suc k) = at_map es k
 
+-- an export of this name that is this
+exported_as : (e : Export) (n : List ℕ) (d : ExportDesc) → e.name ≡ n → e.desc ≡ d → e ≡ record { name = n; desc = d }
+exported_as e n d named is = ap (λ (m : List ℕ). record e { name = m }) named ∙ ap (λ (c : ExportDesc). record e { name = n; desc = c }) is
+
 module _ (exports : List Export) where
   name_at : (i : ℕ) (e : Export) → slice_get exports i ≡ Some e → name_of exports i ≡ e.name
   name_at i e at = ap (λ (o : Option Export). option_map_or (λ e. e.name) o []) at
@@ -135,9 +139,9 @@ module _ (exports : List Export) where
       -- no export has this name
       pub none_found : (i : ℕ) → IsPartitionPoint (λ n. compare (name_of exports n) name ≡ Less) (λ n. compare (name_of exports n) name ≡ Greater) numbers i → (x : ℕ) → Exports exports name x → ⊥
       none_found i point x h =
-          let p = place h.place (slice_get_within exports h.place h.export h.there) in
+          let p = place h.place (slice_get_within exports h.place (record { name = name; desc = desc.Func x }) h.there) in
           let here : compare (name_of exports (get_or numbers p.at 0)) name ≡ compare (name_of exports h.place) name = ap (λ n. compare (name_of exports n) name) (p.is 0) in
-          let t : is_eq (compare (name_of exports (get_or numbers p.at 0)) name) ≡ true = ap is_eq here ∙ named h.place h.export h.there h.named in
+          let t : is_eq (compare (name_of exports (get_or numbers p.at 0)) name) ≡ true = ap is_eq here ∙ named h.place (record { name = name; desc = desc.Func x }) h.there refl in
           elim (cases_order p.at i) [
             | inl e ↦ let g = point.1 p.at 0 (omega (arith, e)) p.within in let z : false ≡ true = ap is_eq (sym g) ∙ t in cc (z)
             | inr (inl lt) ↦ let l = point.0 p.at 0 (omega arith) lt in let z : false ≡ true = ap is_eq (sym l) ∙ t in cc (z)
@@ -150,7 +154,7 @@ module _ (exports : List Export) where
         number = get_or numbers at 0
 
         found_as : (e : Export) (d : ExportDesc) → slice_get exports number ≡ Some e → e.desc ≡ d → IfSome (function_of_desc d) (Exports exports name)
-        found_as e (desc.Func x) here is = record { place = number; export = e; there = here; named = sym (name_at number e here) ∙ equal_names (name_of exports number) name (equal 0); function = is }
+        found_as e (desc.Func x) here is = record { place = number; there = here ∙ ap Some (exported_as e name (desc.Func x) (sym (name_at number e here) ∙ equal_names (name_of exports number) name (equal 0)) is) }
         found_as e (desc.Table x) here is = tt
         found_as e (desc.Memory x) here is = tt
         found_as e (desc.Global x) here is = tt
@@ -186,10 +190,10 @@ module _ (exports : List Export) where
 
         pub only_found : (x : ℕ) → Exports exports name x → option_and_then function_exported (slice_get exports number) ≡ Some x
         only_found x e =
-            let p = place e.place (slice_get_within exports e.place e.export e.there) in
-            let k = one_place p.at p.within (ap (λ n. is_eq (compare (name_of exports n) name)) (p.is 0) ∙ named e.place e.export e.there e.named) in
+            let p = place e.place (slice_get_within exports e.place (record { name = name; desc = desc.Func x }) e.there) in
+            let k = one_place p.at p.within (ap (λ n. is_eq (compare (name_of exports n) name)) (p.is 0) ∙ named e.place (record { name = name; desc = desc.Func x }) e.there refl) in
             let n : number ≡ e.place = ap (λ i. get_or numbers i 0) (sym k) ∙ p.is 0 in
-            ap (λ i. option_and_then function_exported (slice_get exports i)) n ∙ ap (λ o. option_and_then function_exported o) e.there ∙ ap function_of_desc e.function
+            ap (λ i. option_and_then function_exported (slice_get exports i)) n ∙ ap (λ o. option_and_then function_exported o) e.there
 
         none_exported : option_and_then function_exported (slice_get exports number) ≡ None → (x : ℕ) → Exports exports name x → ⊥
         none_exported none x e = let s = only_found x e in cc (none, s)

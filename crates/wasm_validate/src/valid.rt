@@ -146,7 +146,10 @@ impl Valid {
         &self.module
     }
 
-    /// How many operands, locals and labels the frame of one of the module's own functions holds at most, by its number among these.
+    /// How many operands, locals and labels the frame of one of the module's own functions holds at most.
+    ///
+    /// The number is that among the module's own functions: 0 is the first one, whatever is imported. It is not the number that
+    /// `function` gives, which is greater by the number of imports.
     pub fn frame_need(&self, function: u32) -> u64
         requires { function < length self.now.functions }
         ensures { IfSome (slice_get (module_tree self.now).functions function) (λ f. result ≡ need (module_tree self.now) f) }
@@ -162,7 +165,7 @@ impl Valid {
     }
 
     /// The function that is exported under a name, if there is one, found in steps that grow with the logarithm of the number
-    /// of exports.
+    /// of exports. Its number counts the imported functions first, as the standard's do (section 2.5.1), and as `run` takes it.
     pub fn function(&self, export: &[u8]) -> Option<u32>
         ensures found { IfSome result (Exports self.now.exports export.now) }
         ensures none { IfNone result ((x : ℕ) → ¬ (Exports self.now.exports export.now x)) }

@@ -2,4 +2,10 @@
 #![tactic(auto)]
 
 #[cfg(test)]
-mod tests;
+mod ends;
+#[cfg(test)]
+mod files;
+#[cfg(test)]
+mod running;
+#[cfg(test)]
+mod tenants;

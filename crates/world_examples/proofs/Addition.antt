@@ -47,7 +47,7 @@ is_module = record { on_shelf = refl; profile = One; bytes = add_bytes; loads = 
 callable : IsCallable request
 callable = record {
   export = 0x61 ∷ 0x64 ∷ 0x64 ∷ [];
-  exported = record { place = 0; export = _; there = refl; named = refl; function = refl };
+  exported = record { place = 0; there = refl };
   type = add_type;
   typed = refl;
   fitting = refl;

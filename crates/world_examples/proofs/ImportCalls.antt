@@ -17,7 +17,7 @@ use Rattle.pool_core.specs.declared.events.Event.TheVariants.{Claim, Out}
 use Rattle.pool_worlds.specs.Contents.{Contents, filled}
 use Rattle.pool_worlds.specs.declared.kinds.Kind.{Kind}
 use Rattle.pool_worlds.specs.declared.kinds.Kind.TheVariants.{Instance, Memory, Table}
-use Rattle.pool_worlds.specs.PoolMachine.{World, Request, Running, Machine, WorldEvent, Step, Begin, Turn, End as Ends, caller_contents, answer, after, after_all, AllMayHappen, CanTurn, MarksEnd, MayHappen}
+use Rattle.pool_worlds.specs.PoolMachine.{World, Request, Running, Machine, WorldEvent, Step, Begin, Turn, End as Ends, caller_contents, answer, after, after_all, AllMayHappen, CanTurn, MayHappen, MarksStore, last_store}
 use Rattle.pool_worlds.specs.FreshMachine.{FreshCall, fresh_answer, fresh_after_all, fresh_store_after, fresh_store_on, nothing_runs}
 use Rattle.pool_worlds.specs.Runs.{AreItsTurns}
 use Rattle.pool_worlds.specs.Worlds.{Shadows, answers, in_slots}
@@ -78,7 +78,7 @@ read_may_end : MayHappen world (begun_by reads) (Ends 0 (true ∷ []))
 unfolding exec
 read_may_end = (_, refl, no_turn_of_an_import, λ h. record { bytes = beyond_four 7 98 0 0 97 98 0 0 zeros; marks = λ i m. refl })
 
-read_needs_its_mark : MarksEnd world (begun_by reads) 0 (running reads 0) (false ∷ []) → ⊥
+read_needs_its_mark : MarksStore world (begun_by reads) 0 (running reads 0) (last_store world (running reads 0)) (false ∷ []) → ⊥
 unfolding exec
 read_needs_its_mark marks = let seven : 7 ≡ 97 = (marks refl).bytes 0 refl in omega (arith, seven)
 
@@ -116,7 +116,7 @@ no_turns = record { count = 0; happen = tt; ends = read_may_end; contents = λ k
 -- an end that marks nothing comes after no number of turns
 no_end_without_its_mark : MayHappen world (begun_by reads) (Ends 0 (false ∷ [])) → ⊥
 no_end_without_its_mark (r, calls, stuck, marks) =
-    read_needs_its_mark (subst (λ (x : Running). MarksEnd world (begun_by reads) 0 x (false ∷ [])) (sym (same_call calls)) marks)
+    read_needs_its_mark (subst (λ (x : Running). MarksStore world (begun_by reads) 0 x (last_store world x) (false ∷ [])) (sym (same_call calls)) marks)
 
 no_turn_may_come : MayHappen world (begun_by reads) (Turn 0 (false ∷ [])) → ⊥
 no_turn_may_come (r, calls, can, marks) = no_turn_of_an_import (subst (λ (x : Running). CanTurn world x) (sym (same_call calls)) can)

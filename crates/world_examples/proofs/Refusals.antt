@@ -1,5 +1,6 @@
 -- Events that may not come.
-use Rattle.std.proofs.Common.{◌≡◌, true, true≢false, List, [], ◌∷◌, refl, sym, ap, subst, arith}
+use Rattle.wasm_types.specs.declared.types.FuncType.{FuncType}
+use Rattle.std.proofs.Common.{◌≡◌, ◌+◌, true, true≢false, List, [], ◌∷◌, refl, sym, ap, subst, arith}
 use Rattle.std.specs.Prelude.{Option, Some, None}
 use Rattle.wasm_values.specs.declared.outcome.Val.TheVariants.{I32}
 use Rattle.wasm_values.specs.declared.outcome.Outcome.{Outcome}
@@ -9,10 +10,10 @@ use Rattle.pool_core.specs.declared.words.State.TheVariants.{Warm}
 use Rattle.pool_core.specs.declared.events.Event.TheVariants.{Claim, Home, Release, Stamp}
 use Rattle.pool_core.specs.StateWords.{cold_target}
 use Rattle.wasm_spec.specs.Store.{fresh_store}
-use Rattle.wasm_spec.specs.Typing.{params_or_none}
+use Rattle.wasm_spec.specs.Typing.{type_or_empty}
 use Rattle.pool_worlds.specs.Contents.{Named}
 use Rattle.pool_worlds.specs.declared.kinds.Kind.TheVariants.{Memory, Table}
-use Rattle.pool_worlds.specs.PoolMachine.{Running, Machine, Step, Prepare, Restore, Clear, Begin, Turn, End, after, CanTurn, MarksEnd, MarksTurn, MayHappen}
+use Rattle.pool_worlds.specs.PoolMachine.{Running, Machine, Step, Prepare, Restore, Clear, Begin, Turn, End, after, CanTurn, MayHappen, MarksStore, last_store, store_after}
 use Rattle.pool_worlds.specs.Fitting.{ReleaseFits}
 use Rattle.world_examples.proofs.Keeper.{keeper}
 use Rattle.world_examples.proofs.Scenes.{first, world, request_of, cold, opened, done, call_is_there, same_call}
@@ -62,13 +63,13 @@ no_call_without_slots : MayHappen world opened (Begin 0 (request_of first 5)) �
 no_call_without_slots may = let e = (may.1 Table refl).holds in cc
 
 no_call_with_an_argument : MayHappen world taken (Begin 0 (record (request_of first 5) { arguments = I32 1 ∷ [] })) → ⊥
-no_call_with_an_argument may = let none : [] ≡ may.3.type.params = ap params_or_none may.3.typed in let some = may.3.fitting in cc
+no_call_with_an_argument may = let none : [] ≡ may.3.type.params = ap (λ (o : Option FuncType). (type_or_empty o).params) may.3.typed in let some = may.3.fitting in cc
 
 -- a turn marks what it changes
 no_unmarked_change : MayHappen world read (Turn 0 []) → ⊥
 unfolding exec
 no_unmarked_change (r, calls, can, marks) =
-    let m = subst (λ (x : Running). MarksTurn world read 0 x []) (sym (same_call calls)) marks in
+    let m = subst (λ (x : Running). MarksStore world read 0 x (store_after world x (x.turns + 1)) []) (sym (same_call calls)) marks in
     let seven : 7 ≡ 0 = (m refl).bytes 0 refl in omega (arith, seven)
 
 -- there is none after the last, and the call ends no sooner
@@ -87,7 +88,7 @@ no_end_before_the_last (r, calls, stuck, marks) = stuck (subst (λ (x : Running)
 no_end_without_its_marks : MayHappen world ended (End 0 []) → ⊥
 unfolding exec
 no_end_without_its_marks (r, calls, stuck, marks) =
-    let m = subst (λ (x : Running). MarksEnd world ended 0 x []) (sym (same_call calls)) marks in true≢false ((m refl).marks 0 refl)
+    let m = subst (λ (x : Running). MarksStore world ended 0 x (last_store world x) []) (sym (same_call calls)) marks in true≢false ((m refl).marks 0 refl)
 
 no_turn_without_fuel : CanTurn world (record { request = record (request_of first 5) { fuel = 4 }; begun = fresh_store keeper; turns = 4 }) → ⊥
 no_turn_without_fuel can = let lt = can.fuel in omega (arith, lt)

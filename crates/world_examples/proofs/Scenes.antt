@@ -19,7 +19,7 @@ use Rattle.pool_worlds.specs.declared.kinds.Kind.TheVariants.{Instance, Memory, 
 use Rattle.pool_worlds.specs.PoolMachine.{World, Request, Running, Machine, WorldEvent, Step, Prepare, Restore, Clear, Begin, Turn, End, Cancel, IsFree, IsModule, IsCallable, after, after_all, AllMayHappen, IsOpening}
 use Rattle.pool_worlds.specs.Fitting.{ReleaseFits, AllReleasesFit}
 use Rattle.world_examples.proofs.NoCode.{no_code}
-use Rattle.world_examples.proofs.Keeper.{keeper, keeper_bytes, keeper_loads, f_export, f_type}
+use Rattle.world_examples.proofs.Keeper.{keeper, keeper_bytes, keeper_loads, f_type}
 
 -- Each number on the shelf has the same module, under a tag of its own.
 abbrev pub module_at : ℕ → Named
@@ -45,7 +45,7 @@ request_of m fuel = record { named = m; function = 0; arguments = []; sent = [];
 pub callable : (n fuel : ℕ) → IsCallable (request_of (module_at n) fuel)
 callable n fuel = record {
   export = 0x66 ∷ [];
-  exported = record { place = 0; export = f_export; there = refl; named = refl; function = refl };
+  exported = record { place = 0; there = refl };
   type = f_type;
   typed = refl;
   fitting = refl;

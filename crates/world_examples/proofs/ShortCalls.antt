@@ -1,12 +1,13 @@
 -- Two callers call a module that has one global and no memory: what each event makes of the machine, which may not come, and the answers.
-use Rattle.std.proofs.Common.{◌≡◌, ℕ, true, true≢false, List, [], ◌∷◌, ◌++◌, refl, sym, ap, subst, arith}
+use Rattle.std.proofs.Common.{◌+◌, ◌≡◌, ℕ, true, true≢false, List, [], ◌∷◌, ◌++◌, refl, sym, ap, subst, arith}
 use Rattle.std.specs.Prelude.{Option, Some, None}
 use Rattle.wasm_values.specs.declared.outcome.Val.TheVariants.{I32}
 use Rattle.wasm_values.specs.declared.outcome.Outcome.{Outcome}
 use Rattle.wasm_values.specs.declared.outcome.Outcome.TheVariants as outcome
+use Rattle.wasm_types.specs.declared.types.FuncType.{FuncType}
 use Rattle.wasm_types.specs.Tree.{ModuleTree}
 use Rattle.wasm_spec.specs.Execution.{exec}
-use Rattle.wasm_spec.specs.Typing.{params_or_none}
+use Rattle.wasm_spec.specs.Typing.{type_or_empty}
 use Rattle.pool_core.specs.declared.words.State.TheVariants.{Warm}
 use Rattle.pool_core.specs.declared.events.Event.TheVariants.{Claim, Home, Load, Out, Release, Split, Stamp, WarmLoad}
 use Rattle.pool_core.specs.PoolCore.{opening_core}
@@ -14,7 +15,7 @@ use Rattle.pool_core.specs.RefusalRules.{refusal_of}
 use Rattle.pool_worlds.specs.Contents.{Named, TableContents, Contents, memory_image}
 use Rattle.pool_worlds.specs.declared.kinds.Kind.{Kind}
 use Rattle.pool_worlds.specs.declared.kinds.Kind.TheVariants.{Instance, Memory, Table}
-use Rattle.pool_worlds.specs.PoolMachine.{World, Request, Running, Machine, WorldEvent, Step, Prepare, Restore, Clear, Begin, Turn, End, Cancel, after, after_all, IsCallable, CanTurn, MarksTurn, MayHappen}
+use Rattle.pool_worlds.specs.PoolMachine.{World, Request, Running, Machine, WorldEvent, Step, Prepare, Restore, Clear, Begin, Turn, End, Cancel, after, after_all, IsCallable, CanTurn, MayHappen, MarksStore, store_after}
 use Rattle.pool_worlds.specs.Fitting.{ReleaseFits}
 use Rattle.pool_worlds.specs.Histories.{steps_of}
 use Rattle.pool_worlds.specs.Worlds.{IsSameRequest, answers}
@@ -219,7 +220,7 @@ of_one_byte = record opened {
   ];
 }
 
-no_unmarked_change : MarksTurn world of_one_byte 0 with_memory [] → ⊥
+no_unmarked_change : MarksStore world of_one_byte 0 with_memory (store_after world with_memory (with_memory.turns + 1)) [] → ⊥
 unfolding exec
 no_unmarked_change marks = let zero_is : 0 ≡ 1 = (marks refl).bytes 0 refl in omega (arith, zero_is)
 
@@ -300,7 +301,7 @@ no_call_without_its_memory : MayHappen (world_of with_pages) taken (Begin 0 (req
 no_call_without_its_memory may = let e = (may.1 Memory refl).holds in cc
 
 no_call_with_an_argument : MayHappen world taken (Begin 0 (record (request_of 0 2) { arguments = I32 1 ∷ [] })) → ⊥
-no_call_with_an_argument may = let none : [] ≡ may.3.type.params = ap params_or_none may.3.typed in let some = may.3.fitting in cc
+no_call_with_an_argument may = let none : [] ≡ may.3.type.params = ap (λ (o : Option FuncType). (type_or_empty o).params) may.3.typed in let some = may.3.fitting in cc
 
 no_call_of_what_is_not_there : IsCallable (request_in (record set_module { functions = [] })) → ⊥
 no_call_of_what_is_not_there is = let e = is.typed in cc (e)

@@ -15,7 +15,7 @@ use Rattle.memory_blocks.specs.Blocks.{KeepsUnmarked, is_marked}
 use Rattle.pool_worlds.specs.Contents.{MemoryContents, Contents, filled, turned}
 use Rattle.pool_worlds.specs.declared.kinds.Kind.{Kind}
 use Rattle.pool_worlds.specs.declared.kinds.Kind.TheVariants.{Instance, Memory, Table}
-use Rattle.pool_worlds.specs.PoolMachine.{World, Request, Running, Machine, WorldEvent, Step, Begin, Turn, End as Ends, caller_contents, result, store_or, IsFuelEnd, after_all, AllMayHappen, CanTurn, MarksTurn, MayHappen}
+use Rattle.pool_worlds.specs.PoolMachine.{World, Request, Running, Machine, WorldEvent, Step, Begin, Turn, End as Ends, caller_contents, result, store_or, IsFuelEnd, after_all, AllMayHappen, CanTurn, MayHappen, MarksStore, store_after}
 use Rattle.pool_worlds.specs.Runs.{LeavesFrom, HostResumes, AreTurnsTo}
 use Rattle.pool_worlds.specs.Worlds.{Calls, IsPaused, AreTurnsOf, SlicesAreTurns}
 use Rattle.world_examples.proofs.ShortCalls.{opened, world_of}
@@ -225,12 +225,12 @@ one_turn : AreTurnsTo world at_three 0 (running 3) 4 (slots written marked_block
 one_turn = record { count = 1; reach = refl; happen = may_make_its_fourth; calls = refl; contents = λ k needed. lies_at_four k }
 
 -- a turn that marks nothing may not come
-fourth_needs_its_mark : MarksTurn world at_three 0 (running 3) unmarked_block → ⊥
+fourth_needs_its_mark : MarksStore world at_three 0 (running 3) (store_after world (running 3) ((running 3).turns + 1)) unmarked_block → ⊥
 unfolding exec
 fourth_needs_its_mark marks = seven_is_not_a ((marks refl).bytes 0 refl)
 
 no_fourth_unmarked : MayHappen world at_three (Turn 0 unmarked_block) → ⊥
-no_fourth_unmarked (r, calls, can, marks) = fourth_needs_its_mark (subst (λ (x : Running). MarksTurn world at_three 0 x unmarked_block) (sym (same_call calls)) marks)
+no_fourth_unmarked (r, calls, can, marks) = fourth_needs_its_mark (subst (λ (x : Running). MarksStore world at_three 0 x (store_after world x (x.turns + 1)) unmarked_block) (sym (same_call calls)) marks)
 
 no_turn_without_its_mark : AreTurnsTo world at_three 0 (running 3) 4 (slots written unmarked_block) unmarked_block → ⊥
 no_turn_without_its_mark are = by are.count are.reach are.happen where

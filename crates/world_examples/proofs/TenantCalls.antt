@@ -13,7 +13,8 @@ use Rattle.pool_core.specs.PoolCore.{PoolCore, is_live, opening_core, seat_at}
 use Rattle.pool_worlds.specs.declared.kinds.Kind.{Kind}
 use Rattle.pool_worlds.specs.declared.kinds.Kind.TheVariants.{Instance, Memory, Table}
 use Rattle.pool_worlds.specs.PoolMachine.{World, InstanceLimits, Request, Running, Machine, WorldEvent, Step, Begin, Turn, End, Cancel}
-use Rattle.pool_worlds.specs.Tenants.{TenantEvent, Tenants, Pools, pools_after, pools_after_all, AllMayCome, own_events, claim_read, tenant_reads, tenant_answers, IsSameCall, AreSameCalls, LookSame, OpenAlike, SeesSame, free_warm, all_free_warm, OpenWithin}
+use Rattle.pool_worlds.specs.Worlds.{OfBoth}
+use Rattle.pool_worlds.specs.Tenants.{TenantEvent, Tenants, Pools, pools_after, pools_after_all, AllMayCome, own_events, claim_read, tenant_reads, tenant_answers, IsSameCall, LookSame, OpenAlike, SeesSame, free_warm, all_free_warm, OpenWithin}
 use Rattle.world_examples.proofs.ShortCalls.{world, opened, taken, begun, request_of, running, turned_twice, used, with_memory}
 use Rattle.world_examples.proofs.Scenes.{call_is_there}
 use Rattle.world_examples.proofs.Callers.{beside, no_opening_with_contents}
@@ -135,7 +136,7 @@ another_turn s = one_is_two s.turns
 
 another_global : IsSameCall world world turned_twice begun 0 (running 0 2 0) (running 0 2 0) → ⊥
 unfolding exec
-another_global s = let e = ap (λ (t : Store). t.globals) s.store in cc (e)
+another_global s = let e = ap (λ (t : Store). t.globals) (s.same.stores s.turns) in cc (e)
 
 another_size : IsSameCall world world used (record used {
   contents = elim [
@@ -144,7 +145,7 @@ another_size : IsSameCall world world used (record used {
     | Table ↦ λ n. record { entries = []; holds = None }
   ];
 }) 0 with_memory with_memory → ⊥
-another_size s = let e : 3 ≡ 4 = s.size refl in omega (arith, e)
+another_size s = let e : 3 ≡ 4 = s.same.sizes s.turns refl in omega (arith, e)
 
 -- it began without its global, so that it is stuck
 abbrev without_globals : Running
@@ -152,15 +153,15 @@ without_globals = record (running 0 2 0) { begun = record { memory = []; table =
 
 another_answer : IsSameCall world world begun begun 0 (running 0 2 0) without_globals → ⊥
 unfolding exec
-another_answer s = let e = s.answer in cc (e)
+another_answer s = let e = s.same.answers in cc (e)
 
-nothing_runs_there : AreSameCalls world world begun begun 0 (Some (running 0 2 0)) None → ⊥
+nothing_runs_there : OfBoth (IsSameCall world world begun begun 0) (Some (running 0 2 0)) None → ⊥
 nothing_runs_there s = s
 
-nothing_runs_here : AreSameCalls world world begun begun 0 None (Some (running 0 2 0)) → ⊥
+nothing_runs_here : OfBoth (IsSameCall world world begun begun 0) None (Some (running 0 2 0)) → ⊥
 nothing_runs_here s = s
 
-nothing_runs : AreSameCalls world world begun begun 0 None None
+nothing_runs : OfBoth (IsSameCall world world begun begun 0) None None
 nothing_runs = tt
 
 other_words : LookSame world world (record taken { core = λ k. opening_core 1 0 2 }) (record taken { core = λ k. opening_core 2 0 2 }) → ⊥

@@ -1,6 +1,9 @@
 use Rattle.std.proofs.Common.{◌∙◌, List, ℕ, ap, sym}
 use Rattle.std.proofs.lemmas.Option.{same_Some}
 use Rattle.request_text.specs.Invocations.{shown_of}
+use Rattle.request_text.proofs.InvocationLemmas.{asked_so}
+use Rattle.instance_calls.specs.CallWords.{run_limits}
+use Rattle.pool_host.specs.CallWords.{IsHostAnswer}
 use Rattle.tenant_share.specs.Tenants.{answer_of}
 use Rattle.call_workers.specs.Made.{HasCalled}
 use Rattle.call_workers.proofs.PassLemmas.{from_passes, same_at_host}
@@ -9,14 +12,17 @@ use Rattle.call_workers.proofs.calls.made.Goals as goal
 pub returns-clause-answered : goal.returns-clause-answered
 returns-clause-answered g c =
     let shown = c.in_ok-shown.ensures ∙ ap (λ (b : List ℕ). shown_of c.args.due.now.invocation b) c.answer.ensures in
-    (answer_of c.send_for-answer.new.caller c.args.due.now.tenant, rw (c.as_slice.ensures, c.as_slice-2.ensures, c.sent.ensures.bytes) at c.send_for-answer.ensures.answer, shown)
+    let bytes = answer_of c.invoke_for-answer.new.caller c.args.due.now.tenant in
+    let answer = asked_so (λ export args request fuel. IsHostAnswer c.args.called.now.tree (run_limits g.N.Naming.config) export args request fuel c.invoke_for-answer.result bytes)
+    c.args.due.now.invocation c.call-call.result c.call-call.ensures c.invoke_for-answer.ensures.answer in
+    (bytes, answer, shown)
 
 pub returns-clause-call : goal.returns-clause-call
 returns-clause-call g c = λ tenant host before after there had has.
-    let e = c.send_for-answer.ensures in
+    let e = c.invoke_for-answer.ensures in
     let was = c.args.caller.now in
-    let now = c.send_for-answer.new.caller in record {
-      own = λ is. from_passes (HasCalled g.N.Naming.config host c.args.called.now c.send_for-answer.result) was now tenant before after had has (λ b a at_b at_a. record {
+    let now = c.invoke_for-answer.new.caller in record {
+      own = λ is. from_passes (HasCalled g.N.Naming.config host c.args.called.now c.invoke_for-answer.result) was now tenant before after had has (λ b a at_b at_a. record {
         trails = e.trails host b a (rw is there) (rw is at_b) (rw is at_a);
         full = e.full host b a (rw is there) (rw is at_b) (rw is at_a);
         looked = e.looked host b a (rw is there) (rw is at_b) (rw is at_a);

@@ -8,8 +8,8 @@ use Rattle.counted_blocks.proofs.blocks.restore_group.Given as goal
 abbrev pub invariant-loop-block : goal.invariant-loop-block
 invariant-loop-block g l = record {
   references : AreSame l.initial.counted l.counted;
-  room : length l.counted.bytes.now ≡ length l.initial.counted.bytes.now;
-  outside : KeepsImage l.counted.bytes.now l.marks (byte_of l.image);
+  room : length l.counted.bytes.now.items ≡ length l.initial.counted.bytes.now.items;
+  outside : KeepsImage l.counted.bytes.now.items l.marks (byte_of l.image);
   clean : (k : ℕ) → l.first ≤ k → k < l.block → slice_index_or l.marks k false ≡ false;
   before : (k : ℕ) → k < l.first → slice_index_or l.marks k false ≡ slice_index_or l.initial.marks k false;
   later : (k : ℕ) → l.block ≤ k → slice_index_or l.marks k false ≡ slice_index_or l.initial.marks k false;

@@ -9,8 +9,8 @@ abbrev pub invariant-loop-first : goal.invariant-loop-first
 invariant-loop-first g l = record {
   within : l.first ≤ length l.marks;
   references : AreSame l.initial.counted l.counted;
-  room : length l.counted.bytes.now ≡ length l.initial.counted.bytes.now;
-  outside : KeepsImage l.counted.bytes.now l.marks (byte_of l.image);
+  room : length l.counted.bytes.now.items ≡ length l.initial.counted.bytes.now.items;
+  outside : KeepsImage l.counted.bytes.now.items l.marks (byte_of l.image);
   clean : (k : ℕ) → k < l.first → slice_index_or l.marks k false ≡ false;
   later : (k : ℕ) → l.first ≤ k → slice_index_or l.marks k false ≡ slice_index_or l.initial.marks k false;
   steps : l.counted.steps.now ≡ l.initial.counted.steps.now + count (take l.first l.initial.marks);

@@ -1,5 +1,5 @@
 use Rattle.request_text.specs.Text.{modules_of}
-use Rattle.host_report.specs.Report.{limits_in}
+use Rattle.run_books.specs.Lines.{limits_in}
 use Rattle.host_report.proofs.LineLemmas.{one_report}
 use Rattle.host_report.proofs.laws.at_most_one_report.Goals as goal
 

@@ -1,5 +1,5 @@
 use Rattle.request_text.specs.Text.{modules_of}
-use Rattle.host_report.specs.Report.{limits_in}
+use Rattle.run_books.specs.Lines.{limits_in}
 use Rattle.host_report.proofs.LineLemmas.{line_at}
 use Rattle.host_report.proofs.laws.each_call_has_its_line.Goals as goal
 

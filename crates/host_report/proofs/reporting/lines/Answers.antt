@@ -1,7 +1,7 @@
 use Rattle.std.proofs.Common.{◌≡◌, [], ◌∷◌, ◌++◌, rules}
 use Rattle.std.proofs.lemmas.List.{drop_all}
-use Rattle.host_report.specs.Report.{limits_in}
-use Rattle.host_report.proofs.CallLemmas.{next_directive}
+use Rattle.run_books.specs.Lines.{limits_in}
+use Rattle.host_report.proofs.AnswerLemmas.{next_directive}
 use Rattle.host_report.proofs.ReportLemmas.{has_source, lines_end, next_told}
 use Rattle.host_report.proofs.reporting.lines.Goals as goal
 

@@ -1,6 +1,6 @@
 use Rattle.std.proofs.Common.{drop}
-use Rattle.host_report.specs.Collected.{lines_on}
-use Rattle.host_report.specs.Report.{limits_in}
+use Rattle.host_report.specs.Answers.{lines_on}
+use Rattle.run_books.specs.Lines.{limits_in}
 use Rattle.host_report.proofs.ReportLemmas.{LinesLeft}
 use Rattle.host_report.proofs.reporting.lines.Given as goal
 

@@ -1,8 +1,7 @@
 use Rattle.std.proofs.Common.{refl}
 use Rattle.request_text.specs.Text.{modules_of}
-use Rattle.host_report.specs.Report.{limits_in}
-use Rattle.host_report.proofs.BoardLemmas.{lines_all}
-use Rattle.host_report.proofs.CallLemmas.{all_told}
+use Rattle.run_books.specs.Lines.{limits_in}
+use Rattle.host_report.proofs.AnswerLemmas.{all_told, lines_all}
 use Rattle.host_report.proofs.reporting.report_in.Goals as goal
 
 pub lines-requires-clause-all : goal.lines-requires-clause-all

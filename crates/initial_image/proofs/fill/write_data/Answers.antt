@@ -5,8 +5,9 @@ use Rattle.sparse_bytes.specs.SparseBytes.{IsWritten}
 use Rattle.std.proofs.lemmas.List.{length-replicate}
 use Rattle.wasm_types.specs.declared.module.DataSegment.{DataSegment}
 use Rattle.wasm_types.specs.Tree.{DataTree, ModuleTree, data_tree, module_tree}
-use Rattle.wasm_spec.specs.Store.{data_extent, memory_size, offset_of, write_data, written}
+use Rattle.wasm_spec.specs.Store.{data_extent, memory_size, offset_of, written}
 use Rattle.wasm_spec.proofs.StoreSizes.{length-written}
+use Rattle.initial_image.specs.Segments.{write_data}
 use Rattle.initial_image.proofs.MemoryLemmas.{shows-written}
 use Rattle.wasm_spec.proofs.StoreSizes.{zeros-at}
 use Rattle.initial_image.proofs.SegmentLemmas.{misfit_from-none, fold-next}
@@ -18,7 +19,7 @@ loop-segment-init c = let size : ℕ = memory_size (module_tree c.args.m.now) in
   bytes = replicate size 0;
   long = length-replicate size 0;
   shows = λ i. c.requires.zeros i ∙ sym (zeros-at size i);
-  cells = λ number has. absurd (c.requires.cells number has);
+  blocks = λ number has. absurd (c.requires.blocks number has);
   left = refl;
 }
 
@@ -44,6 +45,6 @@ loop-segment-preserved c =
       bytes = written inv.bytes at tree.bytes;
       long = length-written inv.bytes at tree.bytes fits ∙ inv.long;
       shows = shows-written at tree.bytes inv.bytes fits c.loop-segment.memory c.write.new.self inv.shows written_there;
-      cells = λ number has. ⊎_elim (inv.cells number) (λ touches. record { place = i; segment = tree; is_there = here; touches = touches }) (written_there.cells number has);
+      blocks = λ number has. ⊎_elim (inv.blocks number) (λ touches. record { place = i; segment = tree; is_there = here; touches = touches }) (written_there.blocks number has);
       left = fold-next data_tree (write_data m) segments i s lt is inv.bytes ∙ inv.left;
     }

@@ -1,9 +1,10 @@
 use Rattle.std.proofs.Common.{◌≡◌, ℕ, None, List, length, map, drop}
 use Rattle.std.specs.Prelude.{fold}
 use Rattle.wasm_types.specs.Tree.{data_tree, module_tree}
-use Rattle.wasm_spec.specs.Store.{data_extent, fresh_store, memory_size, write_data}
-use Rattle.sparse_bytes.specs.SparseBytes.{HasCell}
+use Rattle.wasm_spec.specs.Store.{data_extent, fresh_store, memory_size}
+use Rattle.sparse_bytes.specs.SparseBytes.{HasBlock}
 use Rattle.initial_image.specs.Image.{IsNeeded, ShowsBytes}
+use Rattle.initial_image.specs.Segments.{write_data}
 use Rattle.initial_image.proofs.SegmentLemmas.{misfit_from}
 use Rattle.initial_image.proofs.fill.write_data.Given as goal
 
@@ -14,6 +15,6 @@ invariant-loop-segment l = record {
   bytes : List ℕ;
   long : length bytes ≡ memory_size (module_tree l.m);
   shows : ShowsBytes l.memory bytes;
-  cells : (number : ℕ) → HasCell l.memory number → IsNeeded (module_tree l.m) number;
+  blocks : (number : ℕ) → HasBlock l.memory number → IsNeeded (module_tree l.m) number;
   left : fold (write_data (module_tree l.m)) bytes (map data_tree (drop l.segment-index l.m.data_segments)) ≡ (fresh_store (module_tree l.m)).memory;
 }

@@ -1,7 +1,8 @@
 use Rattle.std.proofs.Common.{◌≡◌, None, length, map, drop}
 use Rattle.std.specs.Prelude.{fold}
 use Rattle.wasm_types.specs.Tree.{element_tree, module_tree}
-use Rattle.wasm_spec.specs.Store.{element_extent, table_size, write_elements}
+use Rattle.wasm_spec.specs.Store.{element_extent, table_size}
+use Rattle.initial_image.specs.Segments.{write_elements}
 use Rattle.initial_image.proofs.SegmentLemmas.{misfit_from}
 use Rattle.initial_image.proofs.fill.write_elements.Given as goal
 

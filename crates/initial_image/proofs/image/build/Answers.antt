@@ -37,7 +37,7 @@ returns-clause-image c =
     subst (λ (m : Module). IsImageOf (module_tree m) (record { memory = c.in_ok-memory.memory; globals = c.new.result; start = c.module-m.result.now.start })) c.module-m.ensures.same
     (record {
       memory = c.in_ok-memory.ensures.memory;
-      cells = c.in_ok-memory.ensures.cells;
+      blocks = c.in_ok-memory.ensures.blocks;
       globals = values;
       start = refl;
     })

@@ -2,6 +2,8 @@ use Rattle.std.proofs.Common.{◌≡◌, [], subst}
 use Rattle.std.proofs.lemmas.Bool.{not-false}
 use Rattle.wasm_types.specs.declared.module.Module.{Module}
 use Rattle.wasm_types.specs.Tree.{ModuleTree}
+use Rattle.wasm_spec.proofs.ResultLaws.{length-fresh_memory}
+use Rattle.loaded_modules.proofs.WithinLemmas.{loaded-within}
 use Rattle.pool_limits.specs.Limits.{load_limits}
 use Rattle.instance_calls.proofs.InstanceLemmas.{bare_memory}
 use Rattle.instance_calls.proofs.needs.needs_memory.Goals as goal
@@ -9,10 +11,10 @@ use Rattle.instance_calls.proofs.needs.needs_memory.Goals as goal
 pub returns-clause-none : goal.returns-clause-none
 returns-clause-none g c = λ absent.
     let config = g.N.Naming.config in
-    let tree = c.args.module.now.tree in
+    let tree = c.args.loaded.now.module.now.tree in
     let loaded = c.valid.ensures.loaded in
-    let within = c.a_loaded_module_is_within_its_limits.ensures loaded.profile loaded.bytes (load_limits config) tree loaded.loads in
+    let within = loaded-within loaded.profile loaded.bytes (load_limits config) tree loaded.loads in
     let none : c.module.result.now.memories ≡ [] = c.is_empty.ensures.0 (not-false c.is_empty.result absent) in
     let of_valid : c.valid.result.now.memories ≡ [] = subst (λ (m : Module). m.memories ≡ []) c.module.ensures.same none in
     bare_memory config tree (subst (λ (m : ModuleTree). m.memories ≡ []) c.valid.ensures.tree of_valid)
-    (c.a_fresh_store_has_the_least_sizes.ensures.memory (load_limits config) tree within)
+    (length-fresh_memory tree within.segments)

@@ -1,8 +1,8 @@
-use Rattle.std.proofs.Common.{◌≡◌, ◌∙◌, Bool, false, List, length, drop, refl, ap, arith}
+use Rattle.std.proofs.Common.{◌≡◌, ◌≤◌, ◌*◌, ◌∙◌, ℕ, Bool, false, List, length, drop, refl, ap, arith}
 use Rattle.std.specs.Prelude.{Some, slice_index_or}
 use Rattle.std.proofs.lemmas.List.{take_at}
 use Rattle.wasm_types.specs.Tree.{ModuleTree}
-use Rattle.wasm_spec.specs.Store.{minimum_of}
+use Rattle.wasm_spec.specs.Store.{minimum_of, page_size}
 use Rattle.pool_limits.specs.Limits.{load_limits}
 use Rattle.pool_worlds.proofs.Images.{clean_is}
 use Rattle.loaded_modules.proofs.WithinLemmas.{loaded-within}
@@ -14,43 +14,59 @@ use Rattle.memory_slots.proofs.images.restore_memory.Goals as goal
 pub restore_marked-requires-clause-outside : goal.restore_marked-requires-clause-outside
 restore_marked-requires-clause-outside g c =
     let is = c.valid.ensures.loaded in
-    rw (c.deref_mut.ensures.value, c.deref_mut-2.ensures.value)
-    (image_kept (load_limits g.N.Naming.config) c.args.own.now.tree c.image-image.result.now (loaded-within is.profile is.bytes _ _ is.loads) c.image-image.ensures c.args.memory.now.bytes.items c.args.memory.now.marks.items c.requires.outside)
+    rw c.deref_mut.ensures.value
+    (image_kept (load_limits g.N.Naming.config) c.args.own.now.module.now.tree c.image-image.result.now (loaded-within is.profile is.bytes _ _ is.loads) c.image-image.ensures.image c.args.memory.now.bytes.items c.args.memory.now.marks.items c.requires.outside)
+
+pub set_size-requires-clause-fits : goal.set_size-requires-clause-fits
+set_size-requires-clause-fits g c =
+    let is = c.valid.ensures.loaded in
+    let within = (loaded-within is.profile is.bytes _ _ is.loads).pages in
+    let least : c.least_pages-pages.result ≡ minimum_of c.args.own.now.module.now.tree.memories = c.least_pages-pages.ensures ∙ ap (λ (t : ModuleTree). minimum_of t.memories) c.valid.ensures.tree in
+    omega (arith, within, least, c.restore_marked.ensures.room.0, c.requires.room)
+
+pub set_size-requires-clause-few : goal.set_size-requires-clause-few
+set_size-requires-clause-few g c =
+    let is = c.valid.ensures.loaded in
+    let within = (loaded-within is.profile is.bytes _ _ is.loads).pages in
+    let least : c.least_pages-pages.result ≡ minimum_of c.args.own.now.module.now.tree.memories = c.least_pages-pages.ensures ∙ ap (λ (t : ModuleTree). minimum_of t.memories) c.valid.ensures.tree in
+    omega (arith, within, least, c.requires.few)
 
 pub returns-clause-fresh : goal.returns-clause-fresh
 returns-clause-fresh g c =
     let config = g.N.Naming.config in
-    let m = c.args.own.now in
+    let m = c.args.own.now.module.now in
     let is = c.valid.ensures.loaded in
-    let bytes = c.restore_marked.new.bytes in
+    let set = c.set_size.ensures in
     let marks = c.restore_marked.new.marks in
-    let all : length bytes ≡ c.args.memory.now.bytes.len = omega arith in
     let blocks : length marks ≡ c.args.memory.now.marks.len = omega arith in
-    let room = c.restore_marked.ensures.room.0 ∙ ap length c.deref_mut.ensures.value ∙ c.requires.room in
+    let marks_are : c.set_size.new.memory.marks.items ≡ marks = set.marks ∙ take_at marks (drop (length marks) c.args.memory.now.marks.items) c.args.memory.now.marks.len blocks in
+    let room = c.restore_marked.ensures.room.0 ∙ c.requires.room in
     record {
       holds = refl;
-      size = c.least_pages-pages.ensures ∙ ap (λ (t : ModuleTree). minimum_of t.memories) c.valid.ensures.tree;
-      bytes = take_at bytes (drop (length bytes) c.args.memory.now.bytes.items) c.args.memory.now.bytes.len all
-          ∙ image_written (load_limits config) m.tree c.image-image.result.now (loaded-within is.profile is.bytes _ _ is.loads) c.image-image.ensures bytes room c.restore_marked.ensures.bytes;
-      clean = λ k. ap (λ (l : List Bool). slice_index_or l k false) (take_at marks (drop (length marks) c.args.memory.now.marks.items) c.args.memory.now.marks.len blocks) ∙ c.restore_marked.ensures.marks k;
+      size = set.size ∙ c.least_pages-pages.ensures ∙ ap (λ (t : ModuleTree). minimum_of t.memories) c.valid.ensures.tree;
+      bytes = set.bytes
+          ∙ image_written (load_limits config) m.tree c.image-image.result.now (loaded-within is.profile is.bytes _ _ is.loads) c.image-image.ensures.image c.restore_marked.new.bytes.items room c.restore_marked.ensures.bytes;
+      clean = λ k. ap (λ (l : List Bool). slice_index_or l k false) marks_are ∙ c.restore_marked.ensures.marks k;
     }
 
 pub returns-clause-marks : goal.returns-clause-marks
 returns-clause-marks g c =
     let marks = c.restore_marked.new.marks in
     let blocks : length marks ≡ c.args.memory.now.marks.len = omega arith in
-    take_at marks (drop (length marks) c.args.memory.now.marks.items) c.args.memory.now.marks.len blocks
-    ∙ clean_is c.args.memory.now.marks.items marks (c.restore_marked.ensures.room.1 ∙ ap length c.deref_mut-2.ensures.value) c.restore_marked.ensures.marks
+    c.set_size.ensures.marks ∙ take_at marks (drop (length marks) c.args.memory.now.marks.items) c.args.memory.now.marks.len blocks
+    ∙ clean_is c.args.memory.now.marks.items marks (c.restore_marked.ensures.room.1 ∙ ap length c.deref_mut.ensures.value) c.restore_marked.ensures.marks
+
+pub returns-clause-accessible : goal.returns-clause-accessible
+returns-clause-accessible g c = omega (arith, c.set_size.ensures.size, c.set_size.ensures.accessible)
 
 pub returns-clause-kept : goal.returns-clause-kept
 returns-clause-kept g c =
     let is = c.valid.ensures.loaded in
-    let bytes = c.restore_marked.new.bytes in
+    let set = c.set_size.ensures in
     let marks = c.restore_marked.new.marks in
-    let all : length bytes ≡ c.args.memory.now.bytes.len = omega arith in
     let blocks : length marks ≡ c.args.memory.now.marks.len = omega arith in
-    fresh_kept g.N.Naming.config c.args.own.now (contents_of c.args.memory.now (Some c.args.own.now)) _ c.requires (returns-clause-fresh g c)
+    fresh_kept g.N.Naming.config c.args.own.now.module.now (contents_of c.args.memory.now (Some c.args.own.now.module.now)) _ c.requires (returns-clause-fresh g c)
     (record {
-      bytes = ap length (take_at bytes (drop (length bytes) c.args.memory.now.bytes.items) c.args.memory.now.bytes.len all) ∙ c.restore_marked.ensures.room.0 ∙ ap length c.deref_mut.ensures.value;
-      marks = ap length (take_at marks (drop (length marks) c.args.memory.now.marks.items) c.args.memory.now.marks.len blocks) ∙ c.restore_marked.ensures.room.1 ∙ ap length c.deref_mut-2.ensures.value;
+      bytes = ap length set.bytes ∙ c.restore_marked.ensures.room.0;
+      marks = ap length set.marks ∙ ap length (take_at marks (drop (length marks) c.args.memory.now.marks.items) c.args.memory.now.marks.len blocks) ∙ c.restore_marked.ensures.room.1 ∙ ap length c.deref_mut.ensures.value;
     }) (loaded-within is.profile is.bytes _ _ is.loads).pages

@@ -1,9 +1,9 @@
 use Rattle.std.proofs.Common.{ap, ◌∙◌}
 use Rattle.slot_words.specs.Passes.{trail}
 use Rattle.pool_worlds.specs.Contents.{needs}
-use Rattle.pool_worlds.specs.declared.kinds.Kind.TheVariants.{Memory, Table}
+use Rattle.pool_worlds.specs.declared.kinds.Kind.TheVariants.{Instance, Memory, Table}
 use Rattle.instance_calls.specs.Parts.{memory_slot}
-use Rattle.pool_host.specs.Trails.{IsFullMemoryTake, IsFullTableTake, IsFullTicketTake, IsMemoryGive, IsMemoryTake, IsTableGive, IsTableTake, IsTicketGive, IsTicketTake}
+use Rattle.pool_host.specs.Kinds.{IsFullTakeOf, IsGiveOf, IsTakeOf}
 use Rattle.pool_host.proofs.VisitLemmas.{grew_from, grew_to, memory_slot_some, nothing_if, served, turned_away, visited}
 use Rattle.pool_host.proofs.slots.take_slots.Goals as goal
 
@@ -11,28 +11,28 @@ pub returns-in_default-take_memory-clause-trails : goal.returns-in_default-take_
 returns-in_default-take_memory-clause-trails g c =
     let config = g.N.Naming.config in
     let host = c.args.host.now in
-    let m = c.args.module.now in
+    let m = c.args.loaded.now.module.now in
     let full = c.in_default-take_memory.ensures.full in
     let back = c.give_ticket.ensures.others in record {
-      ticket = served (IsTicketTake config host m) (IsTicketGive config host m) (IsFullTicketTake config host m) _ _ _ _ _ c.in-Ok.ensures.trail (c.give_ticket.ensures.gave m);
-      memory = grew_to _ _ _ _ (turned_away (IsMemoryTake config host m) (IsMemoryGive config host m) (IsFullMemoryTake config host m) (needs Memory m.tree) _ _ full.needed_is full.full)
+      ticket = served (IsTakeOf Instance host.tickets m) (IsGiveOf Instance host.tickets m config.batch) (IsFullTakeOf Instance host.tickets m) _ _ _ _ _ c.in-Ok.ensures.trail (c.give_ticket.ensures.gave m);
+      memory = grew_to _ _ _ _ (turned_away (IsTakeOf Memory host.memories m) (IsGiveOf Memory host.memories m config.batch) (IsFullTakeOf Memory host.memories m) (needs Memory m.tree) _ _ full.needed_is full.full)
           (ap (λ p. trail p.memory) back);
-      table = nothing_if (IsTableTake config host m) (IsTableGive config host m) (IsFullTableTake config host m) (needs Table m.tree) _ _ (ap (λ p. trail p.table) back);
+      table = nothing_if (IsTakeOf Table host.tables m) (IsGiveOf Table host.tables m config.batch) (IsFullTakeOf Table host.tables m) (needs Table m.tree) _ _ (ap (λ p. trail p.table) back);
     }
 
 pub returns-in_default-take_table-clause-trails : goal.returns-in_default-take_table-clause-trails
 returns-in_default-take_table-clause-trails g c =
     let config = g.N.Naming.config in
     let host = c.args.host.now in
-    let m = c.args.module.now in
+    let m = c.args.loaded.now.module.now in
     let full = c.in_default-take_table.ensures.full in
     let memory = c.in-Ok-take_memory in
     let first = c.give_memory.ensures.others in
     let then = c.give_ticket-in_default-take_table.ensures.others in record {
-      ticket = served (IsTicketTake config host m) (IsTicketGive config host m) (IsFullTicketTake config host m) _ _ _ _ _ c.in-Ok.ensures.trail
+      ticket = served (IsTakeOf Instance host.tickets m) (IsGiveOf Instance host.tickets m config.batch) (IsFullTakeOf Instance host.tickets m) _ _ _ _ _ c.in-Ok.ensures.trail
           (grew_from _ _ _ _ (c.give_ticket-in_default-take_table.ensures.gave m) (ap (λ p. trail p.ticket) first));
-      memory = grew_to _ _ _ _ (visited (IsMemoryTake config host m) (IsMemoryGive config host m) (IsFullMemoryTake config host m) (memory_slot memory.memory) (needs Memory m.tree) _ _ _
+      memory = grew_to _ _ _ _ (visited (IsTakeOf Memory host.memories m) (IsGiveOf Memory host.memories m config.batch) (IsFullTakeOf Memory host.memories m) (memory_slot memory.memory) (needs Memory m.tree) _ _ _
           (memory_slot_some memory.memory _ memory.ensures.fresh.had) memory.ensures.took (c.give_memory.ensures.gave m memory.ensures.belongs)) (ap (λ p. trail p.memory) then);
-      table = grew_to _ _ _ _ (turned_away (IsTableTake config host m) (IsTableGive config host m) (IsFullTableTake config host m) (needs Table m.tree) _ _ full.needed_is full.full)
+      table = grew_to _ _ _ _ (turned_away (IsTakeOf Table host.tables m) (IsGiveOf Table host.tables m config.batch) (IsFullTakeOf Table host.tables m) (needs Table m.tree) _ _ full.needed_is full.full)
           (ap (λ p. trail p.table) then ∙ ap (λ p. trail p.table) first);
     }

@@ -1,27 +1,28 @@
-use Rattle.std.proofs.Common.{◌==◌, rules, arith, tests}
-use Rattle.std.proofs.lemmas.Iterator.Splits.{YieldsList-from_slice_split}
-use Rattle.std.proofs.lemmas.Iterator.Consumers.{YieldsList-turn, YieldsList-end}
-use Rattle.std.proofs.lemmas.List.{length_push}
-use Rattle.request_words.specs.Words.{text_lines}
-use Rattle.request_text.proofs.LineLemmas.{one_read, one_refused, all_read}
+use Rattle.std.proofs.Common.{◌+◌, ◌∙◌, ap, arith}
+use Rattle.request_text.specs.Text.{requests_from}
+use Rattle.request_text.proofs.LineLemmas.{bytes_left, fewer_left, first_line, lines_left, one_read, one_refused}
 use Rattle.request_text.proofs.parser.read_lines.Goals as goal
 
-pub loop-line-preserved : goal.loop-line-preserved
-loop-line-preserved c =
-    let turn = YieldsList-turn (YieldsList-from_slice_split _ (λ b. b == 10) c.args.text.now (cc) (cc) (cc) (λ x b q k. search (rules, tests))) c.loop-line.yielded _ c.loop-line.yielded_by _ _ c.in-Some.line c.in-Some.is c.next.ensures.steps in
-    let same = c.loop-line.invariant.0 in (
-      omega (arith, length_push c.loop-line.yielded c.in-Some.line),
-      one_read c.args.config.now (text_lines c.args.text.now) _ _ _ _ _ _ same turn c.loop-line.invariant.1 c.in-Ok.ensures,
-    )
+pub loop-left-preserved : goal.loop-left-preserved
+loop-left-preserved c =
+    let n = c.args.config.now in
+    let rest = c.in-Some.rest.now in
+    let is = ap lines_left c.in-Some.is ∙ first_line rest _ _ c.next_line.ensures.lines in
+    let fewer = fewer_left rest _ c.next_line.ensures.shorter in
+    let size = ap bytes_left c.in-Some.is in
+    record {
+      lines = one_read n c.loop-left.number c.loop-left.reading c.in-Ok.reading _ _ _ (c.loop-left.invariant.lines ∙ ap (requests_from n (c.loop-left.number + 1) c.loop-left.reading) is) c.in-Ok.ensures;
+      room = omega (arith, fewer, size, c.loop-left.invariant.room);
+    }
 
 pub returns-in-Err-clause-refused : goal.returns-in-Err-clause-refused
 returns-in-Err-clause-refused c =
-    let turn = YieldsList-turn (YieldsList-from_slice_split _ (λ b. b == 10) c.args.text.now (cc) (cc) (cc) (λ x b q k. search (rules, tests))) c.loop-line.yielded _ c.loop-line.yielded_by _ _ c.in-Some.line c.in-Some.is c.next.ensures.steps in
-    let is = c.at_line.ensures in
-    rw is (one_refused c.args.config.now (text_lines c.args.text.now) _ _ _ _ c.in-Err.fault _ c.loop-line.invariant.0 turn c.loop-line.invariant.1 c.in-Err.ensures)
+    let n = c.args.config.now in
+    let is = ap lines_left c.in-Some.is ∙ first_line c.in-Some.rest.now _ _ c.next_line.ensures.lines in
+    rw c.at_line.ensures
+    (one_refused n c.loop-left.number c.loop-left.reading _ _ c.in-Err.fault _ (c.loop-left.invariant.lines ∙ ap (requests_from n (c.loop-left.number + 1) c.loop-left.reading) is) c.in-Err.ensures)
 
 pub returns-clause-read : goal.returns-clause-read
 returns-clause-read c =
-    let end = YieldsList-end (YieldsList-from_slice_split _ (λ b. b == 10) c.args.text.now (cc) (cc) (cc) (λ x b q k. search (rules, tests))) c.loop-line.yielded _ c.loop-line.yielded_by _ _ c.in-None.is c.next.ensures.steps in
-    let whole = all_read c.args.config.now (text_lines c.args.text.now) _ _ _ _ c.loop-line.invariant.0 end.1 c.loop-line.invariant.1 in
-    cc
+    let none = ap lines_left c.in_default.is in
+    c.loop-left.invariant.lines ∙ ap (requests_from c.args.config.now (c.loop-left.number + 1) c.loop-left.reading) none

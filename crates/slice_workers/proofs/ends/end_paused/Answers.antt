@@ -22,13 +22,3 @@ loop-preserved g c =
       sliced = ended_paused g.N.Naming.config _ _ _ _ _ _ _ _ _ c.in-Some-Paused.paused _ c.end_call-worked.result.0 i.sliced c.next-in-loop.ensures.own took came c.end_call-worked.ensures
           (rw c.reserve.ensures.items at c.push_reserved.ensures.items);
     }
-
-pub loop-preserved-in-Some-Paused : goal.loop-preserved-in-Some-Paused
-loop-preserved-in-Some-Paused g c =
-    let i = c.loop.invariant in
-    let took = rw c.in-Some-Paused.field-0-is at c.in-Some-Paused.ensures.given in
-    let came = came_round g.A.Admits.fits _ _ _ c.in-Some-Paused.field-0 _ c.requires.fits c.in-Some-Paused.field-0-is c.in-Some-Paused.ensures.fits in record {
-      whole = ap (λ r. r.share) c.in-Some-Paused.ensures.given ∙ i.whole;
-      sliced = ended_paused g.N.Naming.config _ _ _ _ _ _ _ _ _ c.in-Some-Paused.paused _ c.end_call-worked.result.0 i.sliced c.next-in-loop.ensures.own took came c.end_call-worked.ensures
-          (rw c.reserve.ensures.items at c.push_reserved.ensures.items);
-    }

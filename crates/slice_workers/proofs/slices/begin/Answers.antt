@@ -1,58 +1,66 @@
-use Rattle.std.proofs.Common.{Some, [], refl, rules}
+use Rattle.std.proofs.Common.{◌∙◌, ℕ, List, [], Option, Some, ap, refl, rules}
+use Rattle.std.specs.Prelude.{unwrap_or}
 use Rattle.slice_workers.specs.declared.queued.Queued.TheVariants as queued
-use Rattle.slice_workers.proofs.SliceLemmas.{answered_slice, begun_full, begun_lacking, begun_retired, begun_slice, begun_unfit}
+use Rattle.slice_workers.proofs.SliceLemmas.{answered_slice, begun_refused, begun_slice}
 use Rattle.slice_workers.proofs.slices.begin.Goals as goal
+
+pub begin_call-begun-requires-clause-unsent : goal.begin_call-begun-requires-clause-unsent
+begin_call-begun-requires-clause-unsent g c κs within = c.call-call.ensures.request ∙ ap (λ (request : Option (List ℕ)). unwrap_or request []) c.requires.unsent
 
 pub returns-in-NoExport : goal.returns-in-NoExport
 returns-in-NoExport g c = λ turns.
     let begun = c.in-NoExport.ensures.begun in
+    let refused = begun_refused g.N.Naming.config c.args.shared.now.host c.args.called.now _ _ c.args.pass c.in-NoExport.pass _ begun c.in-NoExport.ensures.looked in
     answered_slice g.N.Naming.config c.args.shared.now.host c.args.shared.now.calls.items turns (queued.Idle c.args.pass) (c.args.due.now.number, Some c.args.called.now) _ _ _
-    c.answered.ensures.queued c.answered.ensures.entry begun.0.own (record {
+    c.answered.ensures.queued c.answered.ensures.entry begun.own (record {
       number_is = refl;
       due = c.args.due.now;
       due_is = c.requires.due;
-      answered = ([], (rw c.as_slice.ensures at begun.1, refl), rw c.requires.unsent refl);
+      answered = ([], (rw c.call-call.ensures.export at begun.cause.0, refl), rw c.requires.unsent refl);
     })
-    (begun_lacking g.N.Naming.config c.args.shared.now.host c.args.called.now c.args.pass c.in-NoExport.pass begun.0 c.in-NoExport.ensures.looked)
+    refused
 
 pub returns-in-BadArgs : goal.returns-in-BadArgs
 returns-in-BadArgs g c = λ turns.
     let begun = c.in-BadArgs.ensures.begun in
+    let refused = begun_refused g.N.Naming.config c.args.shared.now.host c.args.called.now _ _ c.args.pass c.in-BadArgs.pass _ begun c.in-BadArgs.ensures.looked in
     answered_slice g.N.Naming.config c.args.shared.now.host c.args.shared.now.calls.items turns (queued.Idle c.args.pass) (c.args.due.now.number, Some c.args.called.now) _ _ _
-    c.answered-in-BadArgs.ensures.queued c.answered-in-BadArgs.ensures.entry begun.0.own (record {
+    c.answered-in-BadArgs.ensures.queued c.answered-in-BadArgs.ensures.entry begun.own (record {
       number_is = refl;
       due = c.args.due.now;
       due_is = c.requires.due;
-      answered = ([], (rw (c.as_slice.ensures, c.as_slice-2.ensures) at begun.1, refl), rw c.requires.unsent refl);
+      answered = ([], (rw (c.call-call.ensures.export, c.call-call.ensures.args) at begun.cause.0, refl), rw c.requires.unsent refl);
     })
-    (begun_unfit g.N.Naming.config c.args.shared.now.host c.args.called.now c.args.pass c.in-BadArgs.pass begun.0 c.in-BadArgs.ensures.looked)
+    refused
 
 pub returns-in-Retired : goal.returns-in-Retired
 returns-in-Retired g c = λ turns.
     let begun = c.in-Retired.ensures.begun in
+    let refused = begun_refused g.N.Naming.config c.args.shared.now.host c.args.called.now _ _ c.args.pass c.in-Retired.pass _ begun c.in-Retired.ensures.looked in
     answered_slice g.N.Naming.config c.args.shared.now.host c.args.shared.now.calls.items turns (queued.Idle c.args.pass) (c.args.due.now.number, Some c.args.called.now) _ _ _
-    c.answered-in-Retired.ensures.queued c.answered-in-Retired.ensures.entry begun.untouched.own (record {
+    c.answered-in-Retired.ensures.queued c.answered-in-Retired.ensures.entry begun.own (record {
       number_is = refl;
       due = c.args.due.now;
       due_is = c.requires.due;
-      answered = ([], (begun.function, rw (c.as_slice.ensures, c.as_slice-2.ensures) at begun.may, refl), rw c.requires.unsent refl);
+      answered = ([], (begun.cause.0.0, rw (c.call-call.ensures.export, c.call-call.ensures.args) at begun.cause.0.1, refl), rw c.requires.unsent refl);
     })
-    (begun_retired g.N.Naming.config c.args.shared.now.host c.args.called.now c.args.pass c.in-Retired.pass begun.untouched c.in-Retired.ensures.looked)
+    refused
 
 pub returns-in-Full : goal.returns-in-Full
 returns-in-Full g c = λ turns.
     let begun = c.in-Full.ensures.begun in
+    let refused = begun_refused g.N.Naming.config c.args.shared.now.host c.args.called.now _ _ c.args.pass c.in-Full.pass _ begun c.in-Full.ensures.looked in
     answered_slice g.N.Naming.config c.args.shared.now.host c.args.shared.now.calls.items turns (queued.Idle c.args.pass) (c.args.due.now.number, Some c.args.called.now) _ _ _
     c.answered-in-Full.ensures.queued c.answered-in-Full.ensures.entry begun.own (record {
       number_is = refl;
       due = c.args.due.now;
       due_is = c.requires.due;
-      answered = ([], (begun.function, rw (c.as_slice.ensures, c.as_slice-2.ensures) at begun.may, refl), rw c.requires.unsent refl);
+      answered = ([], (begun.cause.0.0, rw (c.call-call.ensures.export, c.call-call.ensures.args) at begun.cause.0.1, refl), rw c.requires.unsent refl);
     })
-    (begun_full g.N.Naming.config c.args.shared.now.host c.args.called.now _ _ c.args.pass c.in-Full.pass _ begun c.in-Full.ensures.looked)
+    refused
 
 pub returns-in-Ready : goal.returns-in-Ready
 returns-in-Ready g c = λ turns.
-    let begun = rw (c.as_slice.ensures, c.as_slice-2.ensures) at c.in-Ready.ensures.begun in
+    let begun = rw (c.call-call.ensures.export, c.call-call.ensures.args, c.call-call.ensures.fuel) at c.in-Ready.ensures.begun in
     begun_slice g.N.Naming.config c.args.shared.now.host c.args.shared.now.calls.items turns c.args.called.now c.args.due.now c.args.pass c.in-Ready.paused begun c.in-Ready.ensures.looked
     c.requires.counted c.requires.due c.requires.unsent (search rules)

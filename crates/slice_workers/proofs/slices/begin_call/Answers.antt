@@ -17,5 +17,5 @@ begin-requires-clause-counted g c κs within =
     let counted = c.requires.counted in
     omega arith
 
-pub returns : goal.returns
-returns g c = rw (c.in-Some.is, sym c.due_at-due.ensures.number) c.begin.ensures
+pub returns-in-None-request : goal.returns-in-None-request
+returns-in-None-request g c = rw (c.in-Some.is, sym c.due_at-due.ensures.number) c.begin.ensures

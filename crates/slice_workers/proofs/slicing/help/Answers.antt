@@ -1,17 +1,27 @@
-use Rattle.std.proofs.Common.{ap, arith, length}
-use Rattle.job_queue.specs.RunPasses.{run_account_of}
-use Rattle.slice_workers.proofs.SliceLemmas.{helped_if}
+use Rattle.std.proofs.Common.{◌∙◌, [], refl}
+use Rattle.slice_workers.proofs.SliceLemmas.{nothing_more, worked_more}
 use Rattle.slice_workers.proofs.slicing.help.Goals as goal
 
-pub put_kept-requires-clause-room : goal.put_kept-requires-clause-room
-put_kept-requires-clause-room g c =
-    let room = c.help_keeping-helped.ensures.room in
-    let none = ap length c.new-kept.ensures.items in omega arith
+pub loop-init : goal.loop-init
+loop-init g c =
+    record { at_work = c.requires.at_work; own = refl; did = nothing_more g.N.Naming.config c.args.shared.now.host c.args.shared.now.calls.items g.A.InSlices.slice _ _ _ _ refl refl }
 
-pub returns-clause-did : goal.returns-clause-did
-returns-clause-did g c =
-    let room = c.help_keeping-helped.ensures.room in
-    let none = ap length c.new-kept.ensures.items in
-    let back = c.put_kept.ensures.room in
-    helped_if g.N.Naming.config c.args.shared.now.host c.args.shared.now.calls.items g.A.InSlices.slice _ (run_account_of c.args.worker.now.place) (run_account_of c.help_keeping-helped.new.worker.place)
-    (run_account_of c.put_kept.new.worker.place) _ _ c.help_keeping-helped.result c.help_keeping-helped.ensures.did (rw (c.put_kept.ensures.own, c.help_keeping-helped.ensures.own) at c.put_kept.ensures.put) (omega arith)
+pub returns-then-idle-worker-clause-did : goal.returns-then-idle-worker-clause-did
+returns-then-idle-worker-clause-did g c =
+    worked_more g.N.Naming.config c.args.shared.now.host c.args.shared.now.calls.items g.A.InSlices.slice [] _ _ _ _ _ _ c.loop.invariant.did c.in_ok-go_on.ensures.did
+
+pub loop-preserved-in-Nothing : goal.loop-preserved-in-Nothing
+loop-preserved-in-Nothing g c =
+    let i = c.loop.invariant in record {
+      at_work = c.go_on.ensures.at_work;
+      own = c.go_on.ensures.own ∙ i.own;
+      did = worked_more g.N.Naming.config c.args.shared.now.host c.args.shared.now.calls.items g.A.InSlices.slice [] _ _ _ _ _ _ i.did c.in_ok-go_on.ensures.did;
+    }
+
+pub loop-preserved : goal.loop-preserved
+loop-preserved g c =
+    let i = c.loop.invariant in record {
+      at_work = c.go_on.ensures.at_work;
+      own = c.go_on.ensures.own ∙ i.own;
+      did = worked_more g.N.Naming.config c.args.shared.now.host c.args.shared.now.calls.items g.A.InSlices.slice [] _ _ _ _ _ _ i.did c.in_ok-go_on.ensures.did;
+    }

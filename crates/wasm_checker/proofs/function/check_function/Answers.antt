@@ -5,7 +5,7 @@ use Rattle.wasm_types.specs.declared.types.ValType.{ValType}
 use Rattle.wasm_types.specs.declared.module.LocalRun.{LocalRun}
 use Rattle.wasm_types.specs.Tree.{module_tree, function_tree}
 use Rattle.wasm_types.specs.Tree.{locals_of as run_locals}
-use Rattle.wasm_spec.specs.Typing.{params_of}
+use Rattle.wasm_spec.specs.Typing.{own_type}
 use Rattle.wasm_checker.specs.Subject.{all_locals}
 use Rattle.wasm_checker.specs.Walk.{whole}
 use Rattle.wasm_checker.proofs.Functions.{untyped, typed, found_within, refused_by}
@@ -25,5 +25,5 @@ returns c =
     let h = typed m f c.requires (c.in_ok-peak_operands.peak_operands, c.in_ok-peak_operands.peak_labels) there c.in_ok-peak_operands.ensures in
     let locals : c.in_ok-locals.locals ≡ all_locals m f =
     c.in_ok-locals.ensures ∙ ap (λ (ts : List ValType). ts ++ flat_map run_locals c.as_slice.result.now) c.params_of.ensures
-    ∙ ap (λ (runs : List LocalRun). params_of (module_tree m) (function_tree f) ++ flat_map run_locals runs) c.as_slice.ensures in
+    ∙ ap (λ (runs : List LocalRun). (own_type (module_tree m) (function_tree f)).params ++ flat_map run_locals runs) c.as_slice.ensures in
     record { typed = h.0; need = omega (arith, h.1, c.len-2.ensures.count, ap length locals); invalid = λ e. cc (e) }

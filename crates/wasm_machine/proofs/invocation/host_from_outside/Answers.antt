@@ -6,9 +6,9 @@ use Rattle.wasm_types.specs.declared.host.HostFunction.{HostFunction}
 use Rattle.wasm_types.specs.declared.host.HostFunction.TheVariants as host
 use Rattle.wasm_spec.specs.Functions.{host_type}
 use Rattle.wasm_spec.specs.Store.{Store, written}
-use Rattle.wasm_spec.specs.Execution.{host_call, memory_set, answer_set, most_answer, part, lies_within}
+use Rattle.wasm_spec.specs.Execution.{host_call, most_answer, part, lies_within}
 use Rattle.linear_memory.specs.Bytes.{shown}
-use Rattle.machine_steps.specs.Lent.{store_of}
+use Rattle.machine_steps.specs.Lent.{answer_set, memory_set, store_of}
 use Rattle.machine_steps.specs.WrittenParts.{part_read}
 use Rattle.machine_steps.proofs.HostLemmas.{memory_where, answer_where}
 use Rattle.machine_steps.proofs.PartLemmas.{count_given, marks_if, nothing_read}

@@ -3,7 +3,7 @@ use Rattle.std.specs.Prelude.{is_some}
 use Rattle.wasm_types.specs.declared.host.HostFunction.{HostFunction}
 use Rattle.wasm_spec.specs.Functions.{Imported, host_type}
 use Rattle.wasm_spec.specs.Store.{Store}
-use Rattle.wasm_spec.specs.Execution.{Terms, terms, host_call}
+use Rattle.wasm_spec.specs.Execution.{Terms, terms_of, host_call}
 use Rattle.machine_steps.specs.Lent.{store_of}
 use Rattle.wasm_machine.specs.Calls.{GivesOutside, outside}
 use Rattle.wasm_machine.proofs.HostCallLemmas.{found_function, some_same}
@@ -24,7 +24,7 @@ pub returns-in-Some-host_from_outside-clause-result : goal.returns-in-Some-host_
 returns-in-Some-host_from_outside-clause-result c limits table globals turns =
     let (frame, run) = c.requires.runs in
     let m = c.args.m.now in
-    let t : Terms = terms limits c.args.request.now in
+    let t : Terms = terms_of limits c.args.request.now in
     let before : Store = store_of c.args.memory.now table globals c.args.answer.now in
     let after : Store = store_of c.host_from_outside.new.memory table globals c.host_from_outside.new.answer in
     let h = outside_callee m t frame c.args.x c.args.args.now run c.requires.call c.requires.import in
@@ -36,7 +36,7 @@ pub returns-in-None-host_from_outside-clause-result : goal.returns-in-None-host_
 returns-in-None-host_from_outside-clause-result c limits table globals turns =
     let (frame, run) = c.requires.runs in
     let m = c.args.m.now in
-    let t : Terms = terms limits c.args.request.now in
+    let t : Terms = terms_of limits c.args.request.now in
     let before : Store = store_of c.args.memory.now table globals c.args.answer.now in
     let after : Store = store_of c.host_from_outside.new.memory table globals c.host_from_outside.new.answer in
     let h = outside_callee m t frame c.args.x c.args.args.now run c.requires.call c.requires.import in

@@ -2,7 +2,7 @@ use Rattle.std.proofs.Common.{◌≡◌, ◌+◌, ◌-◌, ◌*◌, ℕ, List, r
 use Rattle.std.specs.Prelude.{slice_get}
 use Rattle.wasm_types.specs.declared.instr.Op.{Op}
 use Rattle.wasm_spec.specs.Instances.{room_for}
-use Rattle.wasm_spec.specs.Execution.{terms}
+use Rattle.wasm_spec.specs.Execution.{terms_of}
 use Rattle.wasm_machine.specs.Lent.{MarksWithin}
 use Rattle.linear_memory.proofs.MarkedBlocks.{changes_more, changes_none}
 use Rattle.machine_steps.specs.Lent.{store_of}
@@ -15,7 +15,7 @@ pub fetch-requires-clause-can : goal.fetch-requires-clause-can
 fetch-requires-clause-can c =
     let (frame, r, run, simulates) = c.requires.runs in
     record {
-      limits = terms c.args.inputs.now.limits c.args.inputs.now.request.now;
+      limits = terms_of c.args.inputs.now.limits c.args.inputs.now.request.now;
       frame = frame;
       store = store_of c.loop-left.memory c.args.inputs.now.table.now c.loop-left.globals c.loop-left.answer;
       to = after (c.args.fuel - c.loop-left.left) r;
@@ -26,7 +26,7 @@ pub fetch-requires-2-clause-can : goal.fetch-requires-2-clause-can
 fetch-requires-2-clause-can c =
     let (frame, r, run, simulates) = c.requires.runs in
     record {
-      limits = terms c.args.inputs.now.limits c.args.inputs.now.request.now;
+      limits = terms_of c.args.inputs.now.limits c.args.inputs.now.request.now;
       frame = frame;
       store = store_of c.loop-left.memory c.args.inputs.now.table.now c.loop-left.globals c.loop-left.answer;
       to = after (c.args.fuel - c.loop-left.left) r;
@@ -37,7 +37,7 @@ pub execute-requires-clause-runs : goal.execute-requires-clause-runs
 execute-requires-clause-runs c =
     let (frame, r, run, simulates) = c.requires.runs in
     let m = c.args.inputs.now.m.now in
-    let limits = terms c.args.inputs.now.limits c.args.inputs.now.request.now in
+    let limits = terms_of c.args.inputs.now.limits c.args.inputs.now.request.now in
     let i = c.loop-left.invariant in
     let spent : ℕ = c.args.fuel - c.loop-left.left in
     let store = store_of c.loop-left.memory c.args.inputs.now.table.now c.loop-left.globals c.loop-left.answer in
@@ -51,7 +51,7 @@ execute-requires-clause-there c = ap (λ (ops : List Op). slice_get ops c.fetch.
 pub returns-then-fetch-clause-halts : goal.returns-then-fetch-clause-halts
 returns-then-fetch-clause-halts c frame r run simulates =
     let m = c.args.inputs.now.m.now in
-    let limits = terms c.args.inputs.now.limits c.args.inputs.now.request.now in
+    let limits = terms_of c.args.inputs.now.limits c.args.inputs.now.request.now in
     let i = c.loop-left.invariant in
     let spent : ℕ = c.args.fuel - c.loop-left.left in
     let store = store_of c.loop-left.memory c.args.inputs.now.table.now c.loop-left.globals c.loop-left.answer in
@@ -60,7 +60,7 @@ returns-then-fetch-clause-halts c frame r run simulates =
 pub returns-then-fetch-clause-marked : goal.returns-then-fetch-clause-marked
 returns-then-fetch-clause-marked c frame r run simulates =
     let m = c.args.inputs.now.m.now in
-    let limits = terms c.args.inputs.now.limits c.args.inputs.now.request.now in
+    let limits = terms_of c.args.inputs.now.limits c.args.inputs.now.request.now in
     let i = c.loop-left.invariant in
     let spent : ℕ = c.args.fuel - c.loop-left.left in
     let store = store_of c.loop-left.memory c.args.inputs.now.table.now c.loop-left.globals c.loop-left.answer in
@@ -72,7 +72,7 @@ returns-then-fetch-clause-marked c frame r run simulates =
 pub returns-in-Finishes-clause-halts : goal.returns-in-Finishes-clause-halts
 returns-in-Finishes-clause-halts c frame r run simulates =
     let m = c.args.inputs.now.m.now in
-    let limits = terms c.args.inputs.now.limits c.args.inputs.now.request.now in
+    let limits = terms_of c.args.inputs.now.limits c.args.inputs.now.request.now in
     let i = c.loop-left.invariant in
     let spent : ℕ = c.args.fuel - c.loop-left.left in
     let store = store_of c.loop-left.memory c.args.inputs.now.table.now c.loop-left.globals c.loop-left.answer in
@@ -83,7 +83,7 @@ returns-in-Finishes-clause-halts c frame r run simulates =
 pub returns-in-Finishes-clause-marked : goal.returns-in-Finishes-clause-marked
 returns-in-Finishes-clause-marked c frame r run simulates =
     let m = c.args.inputs.now.m.now in
-    let limits = terms c.args.inputs.now.limits c.args.inputs.now.request.now in
+    let limits = terms_of c.args.inputs.now.limits c.args.inputs.now.request.now in
     let i = c.loop-left.invariant in
     let spent : ℕ = c.args.fuel - c.loop-left.left in
     let store = store_of c.loop-left.memory c.args.inputs.now.table.now c.loop-left.globals c.loop-left.answer in
@@ -105,7 +105,7 @@ returns-in-Finishes-clause-unspent c e = absurd (omega (arith, e, c.loop-left.in
 pub returns-in-Traps-clause-halts : goal.returns-in-Traps-clause-halts
 returns-in-Traps-clause-halts c frame r run simulates =
     let m = c.args.inputs.now.m.now in
-    let limits = terms c.args.inputs.now.limits c.args.inputs.now.request.now in
+    let limits = terms_of c.args.inputs.now.limits c.args.inputs.now.request.now in
     let i = c.loop-left.invariant in
     let spent : ℕ = c.args.fuel - c.loop-left.left in
     let store = store_of c.loop-left.memory c.args.inputs.now.table.now c.loop-left.globals c.loop-left.answer in
@@ -116,7 +116,7 @@ returns-in-Traps-clause-halts c frame r run simulates =
 pub returns-in-Traps-clause-marked : goal.returns-in-Traps-clause-marked
 returns-in-Traps-clause-marked c frame r run simulates =
     let m = c.args.inputs.now.m.now in
-    let limits = terms c.args.inputs.now.limits c.args.inputs.now.request.now in
+    let limits = terms_of c.args.inputs.now.limits c.args.inputs.now.request.now in
     let i = c.loop-left.invariant in
     let spent : ℕ = c.args.fuel - c.loop-left.left in
     let store = store_of c.loop-left.memory c.args.inputs.now.table.now c.loop-left.globals c.loop-left.answer in
@@ -140,7 +140,7 @@ returns-in-Traps-clause-unspent c e = absurd (omega (arith, e, c.loop-left.invar
 pub loop-left-preserved-in-Stays : goal.loop-left-preserved-in-Stays
 loop-left-preserved-in-Stays c =
     let m = c.args.inputs.now.m.now in
-    let limits = terms c.args.inputs.now.limits c.args.inputs.now.request.now in
+    let limits = terms_of c.args.inputs.now.limits c.args.inputs.now.request.now in
     let i = c.loop-left.invariant in
     let spent : ℕ = c.args.fuel - c.loop-left.left in
     let store = store_of c.loop-left.memory c.args.inputs.now.table.now c.loop-left.globals c.loop-left.answer in
@@ -170,7 +170,7 @@ loop-left-preserved-in-Stays c =
 pub loop-left-preserved : goal.loop-left-preserved
 loop-left-preserved c =
     let m = c.args.inputs.now.m.now in
-    let limits = terms c.args.inputs.now.limits c.args.inputs.now.request.now in
+    let limits = terms_of c.args.inputs.now.limits c.args.inputs.now.request.now in
     let i = c.loop-left.invariant in
     let spent : ℕ = c.args.fuel - c.loop-left.left in
     let store = store_of c.loop-left.memory c.args.inputs.now.table.now c.loop-left.globals c.loop-left.answer in
@@ -202,7 +202,7 @@ loop-left-preserved c =
 pub returns-then-fetch-2-clause-halts : goal.returns-then-fetch-2-clause-halts
 returns-then-fetch-2-clause-halts c frame r run simulates =
     let m = c.args.inputs.now.m.now in
-    let limits = terms c.args.inputs.now.limits c.args.inputs.now.request.now in
+    let limits = terms_of c.args.inputs.now.limits c.args.inputs.now.request.now in
     let i = c.loop-left.invariant in
     let spent : ℕ = c.args.fuel - c.loop-left.left in
     let store = store_of c.loop-left.memory c.args.inputs.now.table.now c.loop-left.globals c.loop-left.answer in
@@ -211,7 +211,7 @@ returns-then-fetch-2-clause-halts c frame r run simulates =
 pub returns-then-fetch-2-clause-marked : goal.returns-then-fetch-2-clause-marked
 returns-then-fetch-2-clause-marked c frame r run simulates =
     let m = c.args.inputs.now.m.now in
-    let limits = terms c.args.inputs.now.limits c.args.inputs.now.request.now in
+    let limits = terms_of c.args.inputs.now.limits c.args.inputs.now.request.now in
     let i = c.loop-left.invariant in
     let spent : ℕ = c.args.fuel - c.loop-left.left in
     let store = store_of c.loop-left.memory c.args.inputs.now.table.now c.loop-left.globals c.loop-left.answer in
@@ -229,7 +229,7 @@ returns-then-fetch-2-clause-unspent c e = c.loop-left.invariant.unspent (omega (
 pub returns-else-fetch-2-clause-halts : goal.returns-else-fetch-2-clause-halts
 returns-else-fetch-2-clause-halts c frame r run simulates =
     let m = c.args.inputs.now.m.now in
-    let limits = terms c.args.inputs.now.limits c.args.inputs.now.request.now in
+    let limits = terms_of c.args.inputs.now.limits c.args.inputs.now.request.now in
     let i = c.loop-left.invariant in
     let spent : ℕ = c.args.fuel - c.loop-left.left in
     let store = store_of c.loop-left.memory c.args.inputs.now.table.now c.loop-left.globals c.loop-left.answer in
@@ -242,7 +242,7 @@ returns-else-fetch-2-clause-halts c frame r run simulates =
 pub returns-else-fetch-2-clause-marked : goal.returns-else-fetch-2-clause-marked
 returns-else-fetch-2-clause-marked c frame r run simulates =
     let m = c.args.inputs.now.m.now in
-    let limits = terms c.args.inputs.now.limits c.args.inputs.now.request.now in
+    let limits = terms_of c.args.inputs.now.limits c.args.inputs.now.request.now in
     let i = c.loop-left.invariant in
     let spent : ℕ = c.args.fuel - c.loop-left.left in
     let store = store_of c.loop-left.memory c.args.inputs.now.table.now c.loop-left.globals c.loop-left.answer in
@@ -263,7 +263,7 @@ returns-else-fetch-2-clause-unspent c e = c.loop-left.invariant.unspent (omega (
 
 pub loop-left-init : goal.loop-left-init
 loop-left-init c =
-    let limits = terms c.args.inputs.now.limits c.args.inputs.now.request.now in
+    let limits = terms_of c.args.inputs.now.limits c.args.inputs.now.request.now in
     let none : c.args.fuel - c.args.fuel ≡ 0 = omega arith in
     record {
       within = omega arith;
@@ -281,7 +281,7 @@ pub sequence_of-ops-requires-in-Continues : goal.sequence_of-ops-requires-in-Con
 sequence_of-ops-requires-in-Continues c =
     let (frame, r, run, simulates) = c.requires.runs in
     let m = c.args.inputs.now.m.now in
-    let limits = terms c.args.inputs.now.limits c.args.inputs.now.request.now in
+    let limits = terms_of c.args.inputs.now.limits c.args.inputs.now.request.now in
     let i = c.loop-left.invariant in
     let spent : ℕ = c.args.fuel - c.loop-left.left in
     let store = store_of c.loop-left.memory c.args.inputs.now.table.now c.loop-left.globals c.loop-left.answer in

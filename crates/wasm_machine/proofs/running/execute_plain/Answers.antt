@@ -30,7 +30,7 @@ use Rattle.wasm_machine.specs.Remaining.{function_of}
 use Rattle.wasm_machine.specs.declared.running.Step.TheVariants as step
 use Rattle.wasm_machine.proofs.PreservationLemmas.{plain_preserved}
 use Rattle.wasm_machine.proofs.ReadyLemmas.{plain_can, plain_ready}
-use Rattle.wasm_spec.specs.Execution.{terms}
+use Rattle.wasm_spec.specs.Execution.{terms_of}
 use Rattle.wasm_machine.proofs.running.execute_plain.Goals as goal
 
 turned : (b : Bool) (t : Step) (m : Module) (limits : Terms) (frame : ℕ) (machine : Machine) (store : Store) (r : ℕ → Ended) → t ≡ step_unless_over b → SimulatesUnlessOver b m limits frame machine store r → SimulatesStep t m limits frame machine store r
@@ -63,13 +63,13 @@ pub plain-requires-clause-can : goal.plain-requires-clause-can
 plain-requires-clause-can c stays =
     let (frame, answer, r, run, b) = c.requires.runs in
     let store = store_of c.args.memory.now c.args.inputs.now.table.now c.args.globals.now answer in
-    plain_can c.args.inputs.now.m.now (terms c.args.inputs.now.limits c.args.inputs.now.request.now) frame c.args.machine.now store c.args.here r c.args.instr.now b stays
+    plain_can c.args.inputs.now.m.now (terms_of c.args.inputs.now.limits c.args.inputs.now.request.now) frame c.args.machine.now store c.args.here r c.args.instr.now b stays
 
 pub plain-requires-clause-ready : goal.plain-requires-clause-ready
 plain-requires-clause-ready c stays =
     let (frame, answer, r, run, b) = c.requires.runs in
     let store = store_of c.args.memory.now c.args.inputs.now.table.now c.args.globals.now answer in
-    plain_ready c.args.inputs.now.m.now (terms c.args.inputs.now.limits c.args.inputs.now.request.now) frame c.args.machine.now store c.args.here r c.args.instr.now b stays
+    plain_ready c.args.inputs.now.m.now (terms_of c.args.inputs.now.limits c.args.inputs.now.request.now) frame c.args.machine.now store c.args.here r c.args.instr.now b stays
 
 pub plain-requires-clause-memory : goal.plain-requires-clause-memory
 plain-requires-clause-memory c =
@@ -81,7 +81,7 @@ plain-requires-clause-memory c =
 pub returns-in-Stays-clause-steps : goal.returns-in-Stays-clause-steps
 returns-in-Stays-clause-steps c frame answer r run b =
     let m = c.args.inputs.now.m.now in
-    let limits = terms c.args.inputs.now.limits c.args.inputs.now.request.now in
+    let limits = terms_of c.args.inputs.now.limits c.args.inputs.now.request.now in
     let store = store_of c.args.memory.now c.args.inputs.now.table.now c.args.globals.now answer in
     let after = store_of c.plain.new.memory c.args.inputs.now.table.now c.plain.new.globals answer in
     let i = c.args.instr.now in
@@ -95,7 +95,7 @@ returns-in-Stays-clause-steps c frame answer r run b =
 pub returns-in-Traps-clause-steps : goal.returns-in-Traps-clause-steps
 returns-in-Traps-clause-steps c frame answer r run b =
     let m = c.args.inputs.now.m.now in
-    let limits = terms c.args.inputs.now.limits c.args.inputs.now.request.now in
+    let limits = terms_of c.args.inputs.now.limits c.args.inputs.now.request.now in
     let store = store_of c.args.memory.now c.args.inputs.now.table.now c.args.globals.now answer in
     let after = store_of c.plain.new.memory c.args.inputs.now.table.now c.plain.new.globals answer in
     let i = c.args.instr.now in
@@ -119,7 +119,7 @@ returns-in-Stays-clause-marks c =
     let k = b.configuration in
     let i = c.args.instr.now in
     let store = store_of c.args.memory.now c.args.inputs.now.table.now c.args.globals.now answer in
-    let can = plain_can m (terms c.args.inputs.now.limits c.args.inputs.now.request.now) frame c.args.machine.now store c.args.here r i b (c.plain.ensures.stays (stays_apart c.plain.result c.in-Stays.is)) in
+    let can = plain_can m (terms_of c.args.inputs.now.limits c.args.inputs.now.request.now) frame c.args.machine.now store c.args.here r i b (c.plain.ensures.stays (stays_apart c.plain.result c.in-Stays.is)) in
     marks_of m i c.args.machine.now (trap_of c.plain.result) c.args.memory.now c.plain.new.memory
     (λ e. (neither (is_bulk i) (code_uses_bulk (code_at (body_of m k) k.sequence k.place)) (b.typed.narrow e)).0) can c.plain.ensures.marks
 
@@ -136,7 +136,7 @@ returns-in-Traps-clause-marks c =
     let k = b.configuration in
     let i = c.args.instr.now in
     let store = store_of c.args.memory.now c.args.inputs.now.table.now c.args.globals.now answer in
-    let can = plain_can m (terms c.args.inputs.now.limits c.args.inputs.now.request.now) frame c.args.machine.now store c.args.here r i b (c.plain.ensures.stays (traps_apart c.plain.result c.in-Traps.t c.in-Traps.is)) in
+    let can = plain_can m (terms_of c.args.inputs.now.limits c.args.inputs.now.request.now) frame c.args.machine.now store c.args.here r i b (c.plain.ensures.stays (traps_apart c.plain.result c.in-Traps.t c.in-Traps.is)) in
     marks_of m i c.args.machine.now (trap_of c.plain.result) c.args.memory.now c.plain.new.memory
     (λ e. (neither (is_bulk i) (code_uses_bulk (code_at (body_of m k) k.sequence k.place)) (b.typed.narrow e)).0) can c.plain.ensures.marks
 
@@ -155,7 +155,7 @@ pub returns-in-Stays-clause-stays : goal.returns-in-Stays-clause-stays
 returns-in-Stays-clause-stays c e =
     let (frame, answer, r, run, b) = c.requires.runs in
     let m = c.args.inputs.now.m.now in
-    let limits = terms c.args.inputs.now.limits c.args.inputs.now.request.now in
+    let limits = terms_of c.args.inputs.now.limits c.args.inputs.now.request.now in
     let store = store_of c.args.memory.now c.args.inputs.now.table.now c.args.globals.now answer in
     let after = store_of c.plain.new.memory c.args.inputs.now.table.now c.plain.new.globals answer in
     let i = c.args.instr.now in
@@ -173,7 +173,7 @@ jump-requires-clause-kind c = (c.plain.ensures.jumps c.in-Jumps.is).0
 pub jump-requires-clause-can : goal.jump-requires-clause-can
 jump-requires-clause-can c =
     let (frame, answer, r, run, b) = c.requires.runs in
-    let limits = terms c.args.inputs.now.limits c.args.inputs.now.request.now in
+    let limits = terms_of c.args.inputs.now.limits c.args.inputs.now.request.now in
     let store = store_of c.args.memory.now c.args.inputs.now.table.now c.args.globals.now answer in
     record {
       limits = limits;
@@ -186,7 +186,7 @@ jump-requires-clause-can c =
 
 pub returns-in-Jumps-clause-steps : goal.returns-in-Jumps-clause-steps
 returns-in-Jumps-clause-steps c frame answer r run b =
-    let limits = terms c.args.inputs.now.limits c.args.inputs.now.request.now in
+    let limits = terms_of c.args.inputs.now.limits c.args.inputs.now.request.now in
     let store = store_of c.args.memory.now c.args.inputs.now.table.now c.args.globals.now answer in
     let after = store_of c.plain.new.memory c.args.inputs.now.table.now c.plain.new.globals answer in
     let (kind, machine, memory, globals) = c.plain.ensures.jumps c.in-Jumps.is in

@@ -8,7 +8,7 @@ use Rattle.wasm_machine.proofs.IfLemmas.{if_number, if_label, if_goes}
 use Rattle.machine_steps.specs.StackLayout.{KeepsRoom}
 use Rattle.wasm_machine.proofs.StepLemmas.{call_calls}
 use Rattle.wasm_machine.proofs.RoomLemmas.{begun, fetched, block_label, loop_label, named_at, opened_after}
-use Rattle.wasm_spec.specs.Execution.{terms}
+use Rattle.wasm_spec.specs.Execution.{terms_of}
 use Rattle.machine_steps.specs.declared.machine.Position.{Position}
 use Rattle.wasm_machine.proofs.running.execute_structured.Goals as goal
 
@@ -16,7 +16,7 @@ pub enter_named-requires-clause-free : goal.enter_named-requires-clause-free
 enter_named-requires-clause-free c =
     let (frame, globals, r, run, simulates) = c.requires.runs in
     let store = store_of c.args.memory.now c.args.inputs.now.table.now globals c.args.answer.now in
-    let limits = terms c.args.inputs.now.limits c.args.inputs.now.request.now in
+    let limits = terms_of c.args.inputs.now.limits c.args.inputs.now.request.now in
     let b = begun c.args.inputs.now.m.now limits frame c.args.machine.now store c.args.op.now (op.Block c.in-Block.t c.in-Block.q) r simulates c.requires.there c.in-Block.is in
     omega (arith, block_label c.args.inputs.now.m.now limits frame (fetched c.args.machine.now) store c.args.machine.now.at.place c.in-Block.q c.in-Block.t r b)
 
@@ -24,7 +24,7 @@ pub enter_block-requires : goal.enter_block-requires
 enter_block-requires c =
     let (frame, globals, r, run, simulates) = c.requires.runs in
     let store = store_of c.args.memory.now c.args.inputs.now.table.now globals c.args.answer.now in
-    let limits = terms c.args.inputs.now.limits c.args.inputs.now.request.now in
+    let limits = terms_of c.args.inputs.now.limits c.args.inputs.now.request.now in
     let b = begun c.args.inputs.now.m.now limits frame c.args.machine.now store c.args.op.now (op.Loop c.in-Loop.field-0 c.in-Loop.q) r simulates c.requires.there c.in-Loop.is in
     omega (arith, loop_label c.args.inputs.now.m.now limits frame (fetched c.args.machine.now) store c.args.machine.now.at.place c.in-Loop.q c.in-Loop.field-0 r b)
 
@@ -33,7 +33,7 @@ returns-in-Block-clause-steps c frame globals r run simulates =
     let m = c.args.inputs.now.m.now in
     let old = c.args.machine.now in
     let store = store_of c.args.memory.now c.args.inputs.now.table.now globals c.args.answer.now in
-    let limits = terms c.args.inputs.now.limits c.args.inputs.now.request.now in
+    let limits = terms_of c.args.inputs.now.limits c.args.inputs.now.request.now in
     let t = c.in-Block.t in
     let new = c.enter_named.new.machine in
     let inner : ℕ = new.at.sequence in
@@ -48,7 +48,7 @@ returns-in-Loop-clause-steps c frame globals r run simulates =
     let m = c.args.inputs.now.m.now in
     let old = c.args.machine.now in
     let store = store_of c.args.memory.now c.args.inputs.now.table.now globals c.args.answer.now in
-    let limits = terms c.args.inputs.now.limits c.args.inputs.now.request.now in
+    let limits = terms_of c.args.inputs.now.limits c.args.inputs.now.request.now in
     let t = c.in-Loop.field-0 in
     let b = begun m limits frame old store c.args.op.now (op.Loop t c.in-Loop.q) r simulates c.requires.there c.in-Loop.is in
     loop_goes m limits frame (fetched old) c.enter_block.new.self store old.at.place c.named_by-inner.result c.in-Loop.q t r b
@@ -60,14 +60,14 @@ pub call-requires-clause-can : goal.call-requires-clause-can
 call-requires-clause-can c =
     let (frame, globals, r, run, simulates) = c.requires.runs in
     let store = store_of c.args.memory.now c.args.inputs.now.table.now globals c.args.answer.now in
-    let limits = terms c.args.inputs.now.limits c.args.inputs.now.request.now in
+    let limits = terms_of c.args.inputs.now.limits c.args.inputs.now.request.now in
     let b = begun c.args.inputs.now.m.now limits frame c.args.machine.now store c.args.op.now (op.Call c.in-Call.x) r simulates c.requires.there c.in-Call.is in
     record { frame = frame; store = store; to = _; runnable = run; calling = call_calls c.args.inputs.now.m.now limits frame (fetched c.args.machine.now) store c.args.machine.now.at.place c.in-Call.x r b }
 
 pub returns-in-Call-clause-steps : goal.returns-in-Call-clause-steps
 returns-in-Call-clause-steps c frame globals r run simulates =
     let store = store_of c.args.memory.now c.args.inputs.now.table.now globals c.args.answer.now in
-    let limits = terms c.args.inputs.now.limits c.args.inputs.now.request.now in
+    let limits = terms_of c.args.inputs.now.limits c.args.inputs.now.request.now in
     let b = begun c.args.inputs.now.m.now limits frame c.args.machine.now store c.args.op.now (op.Call c.in-Call.x) r simulates c.requires.there c.in-Call.is in
     c.call.ensures.steps frame c.args.inputs.now.table.now globals _ run (call_calls c.args.inputs.now.m.now limits frame (fetched c.args.machine.now) store c.args.machine.now.at.place c.in-Call.x r b)
 
@@ -75,7 +75,7 @@ pub pop32-condition-requires : goal.pop32-condition-requires
 pop32-condition-requires c =
     let (frame, globals, r, run, simulates) = c.requires.runs in
     let store = store_of c.args.memory.now c.args.inputs.now.table.now globals c.args.answer.now in
-    let limits = terms c.args.inputs.now.limits c.args.inputs.now.request.now in
+    let limits = terms_of c.args.inputs.now.limits c.args.inputs.now.request.now in
     let b = begun c.args.inputs.now.m.now limits frame c.args.machine.now store c.args.op.now (op.If c.in-If.t c.in-If.first c.in-If.second) r simulates c.requires.there c.in-If.is in
     if_number c.args.inputs.now.m.now limits frame (fetched c.args.machine.now) store c.args.machine.now.at.place c.in-If.first c.in-If.second c.in-If.t r b
 
@@ -83,7 +83,7 @@ pub enter_arm-requires-clause-free : goal.enter_arm-requires-clause-free
 enter_arm-requires-clause-free c =
     let (frame, globals, r, run, simulates) = c.requires.runs in
     let store = store_of c.args.memory.now c.args.inputs.now.table.now globals c.args.answer.now in
-    let limits = terms c.args.inputs.now.limits c.args.inputs.now.request.now in
+    let limits = terms_of c.args.inputs.now.limits c.args.inputs.now.request.now in
     let b = begun c.args.inputs.now.m.now limits frame c.args.machine.now store c.args.op.now (op.If c.in-If.t c.in-If.first c.in-If.second) r simulates c.requires.there c.in-If.is in
     omega (arith, if_label c.args.inputs.now.m.now limits frame (fetched c.args.machine.now) c.pop32-condition.new.self store c.args.machine.now.at.place c.in-If.first c.in-If.second c.pop32-condition.result c.in-If.t r b c.pop32-condition.ensures.represents c.pop32-condition.ensures.room)
 
@@ -92,7 +92,7 @@ returns-in-If-clause-steps c frame globals r run simulates =
     let m = c.args.inputs.now.m.now in
     let old = c.args.machine.now in
     let store = store_of c.args.memory.now c.args.inputs.now.table.now globals c.args.answer.now in
-    let limits = terms c.args.inputs.now.limits c.args.inputs.now.request.now in
+    let limits = terms_of c.args.inputs.now.limits c.args.inputs.now.request.now in
     let t = c.in-If.t in
     let first : ℕ = c.in-If.first in
     let second : ℕ = c.in-If.second in
@@ -111,7 +111,7 @@ pub call_indirect-requires-clause-can : goal.call_indirect-requires-clause-can
 call_indirect-requires-clause-can c =
     let (frame, globals, r, run, simulates) = c.requires.runs in
     let store = store_of c.args.memory.now c.args.inputs.now.table.now globals c.args.answer.now in
-    let limits = terms c.args.inputs.now.limits c.args.inputs.now.request.now in
+    let limits = terms_of c.args.inputs.now.limits c.args.inputs.now.request.now in
     record {
       frame = frame;
       store = store;
@@ -125,7 +125,7 @@ call_indirect-requires-clause-can c =
 pub returns-in-CallIndirect-clause-steps : goal.returns-in-CallIndirect-clause-steps
 returns-in-CallIndirect-clause-steps c frame globals r run simulates =
     let store = store_of c.args.memory.now c.args.inputs.now.table.now globals c.args.answer.now in
-    let limits = terms c.args.inputs.now.limits c.args.inputs.now.request.now in
+    let limits = terms_of c.args.inputs.now.limits c.args.inputs.now.request.now in
     c.call_indirect.ensures.steps frame globals c.args.machine.now.at.place r run
     (begun c.args.inputs.now.m.now limits frame c.args.machine.now store c.args.op.now (op.CallIndirect c.in-CallIndirect.x) r simulates c.requires.there c.in-CallIndirect.is)
 
@@ -140,7 +140,7 @@ enter_arm-requires-clause-there c =
     let (frame, globals, r, run, simulates) = c.requires.runs in
     let m = c.args.inputs.now.m.now in
     let store = store_of c.args.memory.now c.args.inputs.now.table.now globals c.args.answer.now in
-    let limits = terms c.args.inputs.now.limits c.args.inputs.now.request.now in
+    let limits = terms_of c.args.inputs.now.limits c.args.inputs.now.request.now in
     let b = begun m limits frame c.args.machine.now store c.args.op.now (op.If c.in-If.t c.in-If.first c.in-If.second) r simulates c.requires.there c.in-If.is in
     let h = if_number m limits frame (fetched c.args.machine.now) store c.args.machine.now.at.place c.in-If.first c.in-If.second c.in-If.t r b in
     let popped = c.pop32-condition.ensures.represents h.configuration h.top h.rest h.represents h.are in

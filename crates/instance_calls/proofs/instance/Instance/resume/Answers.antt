@@ -3,7 +3,8 @@ use Rattle.std.specs.Prelude.{is_some}
 use Rattle.wasm_types.specs.declared.module.Module.{Module}
 use Rattle.wasm_values.specs.declared.outcome.Val.{Val}
 use Rattle.wasm_types.specs.Tree.{module_tree}
-use Rattle.wasm_spec.specs.Execution.{answer_set, terms}
+use Rattle.wasm_spec.specs.Execution.{terms_of}
+use Rattle.machine_steps.specs.Lent.{answer_set}
 use Rattle.wasm_spec.specs.Instances.{room_for}
 use Rattle.wasm_spec.specs.Store.{Store, fresh_store}
 use Rattle.slot_words.specs.declared.leases.Lease.{Lease}
@@ -22,12 +23,12 @@ use Rattle.instance_calls.proofs.instance.Instance.resume.Goals.{After-entries_o
 
 -- what both arms are lent
 lent : (g : Over) (c : After-entries_of-table g)
-    → IsLent g.N.Naming.config c.args.module.now c.args.request.now c.args.call.now c.args.answer.now c.args.self.now c.valid-valid.result.now c.limits_of-limits.result c.entries_of-table.result.now
-lent g c = record { paused = c.requires.paused; code = c.valid-valid.ensures.code; limits_are = c.limits_of-limits.ensures.is; entries_are = c.entries_of-table.ensures }
+    → IsLent g.N.Naming.config c.args.loaded.now.module.now c.args.request.now c.args.call.now c.args.answer.now c.args.self.now c.valid-valid.result.now c.limits_of-limits.result c.entries_of-table.result.now
+lent g c = record { paused = c.requires.paused; code = c.valid-valid.ensures.code; limits_are = c.limits_of-limits.ensures; entries_are = c.entries_of-table.ensures }
 
 -- the store that the call began from
 abbrev from : (g : Over) → After-entries_of-table g → Store
-from g c = fresh_store c.args.module.now.tree
+from g c = fresh_store c.args.loaded.now.module.now.tree
 
 -- the contents that a slice leaves: these of a memory and globals, and the table's
 abbrev left : (g : Over) → After-entries_of-table g → MemoryContents → List Val → (k : Kind) → Contents k
@@ -47,7 +48,7 @@ returns-in-Some-clause-sliced g c =
     let turned = turned_there (lent g at) c.args.slice c.resume_with_memory-turned.result _ new.answer (left g at new.memory new.ticket.globals)
     (shown_with (lent g at) c.in-Some.memory new.memory new.ticket.globals new.answer c.in-Some.is)
     (c.resume_with_memory-turned.ensures.turned (from g at) (stands_with_memory (lent g at) c.in-Some.memory c.in-Some.is)) in
-    sliced (comes_of g.N.Naming.config c.args.module.now.tree c.args.request.now c.args.call.now.function c.args.self.now.ticket.value.args) c.args.call.now c.args.slice _ c.resume_with_memory-turned.result _ c.keep.ensures turned
+    sliced (comes_of g.N.Naming.config c.args.loaded.now.module.now.tree c.args.request.now c.args.call.now.function c.args.self.now.ticket.value.args) c.args.call.now c.args.slice _ c.resume_with_memory-turned.result _ c.keep.ensures turned
 
 pub returns-in-Some-clause-paused : goal.returns-in-Some-clause-paused
 returns-in-Some-clause-paused g c again =
@@ -56,8 +57,8 @@ returns-in-Some-clause-paused g c again =
     let valid = c.valid-valid.result.now in
     let ready = subst (λ (k : Module). IsReady (room_for k.memories g.N.Naming.config.pages) new.memory) c.valid-valid.ensures.code c.resume_with_memory-turned.ensures.ready in
     paused_there (lent g at) new.call c.keep.new.answer _ refl (ap (λ (o : Option (Lease MemoryContents)). is_some o) (sym c.in-Some.is)) (λ some. ready)
-    (subst (λ (says : List ℕ). Stands valid (terms c.limits_of-limits.result c.args.request.now) (from g at) new.ticket.args new.call new.ticket.stacks (answer_set says (shown_store (module_tree valid) (left g at new.memory new.ticket.globals)))) (sym (c.keep.ensures ∙ kept_on c.resume_with_memory-turned.result new.answer again))
-    (subst (λ (s : Store). Stands valid (terms c.limits_of-limits.result c.args.request.now) (from g at) new.ticket.args new.call new.ticket.stacks s)
+    (subst (λ (says : List ℕ). Stands valid (terms_of c.limits_of-limits.result c.args.request.now) (from g at) new.ticket.args new.call new.ticket.stacks (answer_set says (shown_store (module_tree valid) (left g at new.memory new.ticket.globals)))) (sym (c.keep.ensures ∙ kept_on c.resume_with_memory-turned.result new.answer again))
+    (subst (λ (s : Store). Stands valid (terms_of c.limits_of-limits.result c.args.request.now) (from g at) new.ticket.args new.call new.ticket.stacks s)
     (shown_with (lent g at) c.in-Some.memory new.memory new.ticket.globals new.answer c.in-Some.is)
     (c.resume_with_memory-turned.ensures.stands again (from g at) (stands_with_memory (lent g at) c.in-Some.memory c.in-Some.is))))
 
@@ -73,7 +74,7 @@ returns-in-Some-clause-went g c =
     let new = c.resume_with_memory-turned.new in
     let (r, leaves) = c.resume_with_memory-turned.ensures.leaves (from g at) (stands_with_memory (lent g at) c.in-Some.memory c.in-Some.is) holds in
     went_there (lent g at) c.args.slice new.memory new.ticket.globals new.memory.marks r
-    (subst (λ (x : MemoryContents). LeavesFrom config.pages (module_tree valid) (whole valid (terms c.limits_of-limits.result c.args.request.now) call self.ticket.value.args (from g at)) call.turns (upto call c.args.slice)
+    (subst (λ (x : MemoryContents). LeavesFrom config.pages (module_tree valid) (whole valid (terms_of c.limits_of-limits.result c.args.request.now) call self.ticket.value.args (from g at)) call.turns (upto call c.args.slice)
     (parts x holds entries self.ticket.value.globals) (parts new.memory holds entries new.ticket.globals) new.memory.marks r)
     (ap (λ (o : Option (Lease MemoryContents)). memory_in o) (sym c.in-Some.is)) leaves)
 
@@ -91,7 +92,7 @@ returns-in-None-clause-sliced g c =
     let turned = turned_there (lent g at) c.args.slice c.resume_without_memory-turned.result _ new.answer (left g at (memory_in c.args.self.now.memory) new.ticket.globals)
     (shown_bare (lent g at) new.ticket.globals new.answer c.in-None.is)
     (c.resume_without_memory-turned.ensures.turned (from g at) (stands_without_memory (lent g at) c.in-None.is)) in
-    sliced (comes_of g.N.Naming.config c.args.module.now.tree c.args.request.now c.args.call.now.function c.args.self.now.ticket.value.args) c.args.call.now c.args.slice _ c.resume_without_memory-turned.result _ c.keep-in-None.ensures turned
+    sliced (comes_of g.N.Naming.config c.args.loaded.now.module.now.tree c.args.request.now c.args.call.now.function c.args.self.now.ticket.value.args) c.args.call.now c.args.slice _ c.resume_without_memory-turned.result _ c.keep-in-None.ensures turned
 
 pub returns-in-None-clause-paused : goal.returns-in-None-clause-paused
 returns-in-None-clause-paused g c again =
@@ -99,8 +100,8 @@ returns-in-None-clause-paused g c again =
     let new = c.resume_without_memory-turned.new in
     let valid = c.valid-valid.result.now in
     paused_there (lent g at) new.call c.keep-in-None.new.answer _ refl refl c.requires.paused.memory
-    (subst (λ (says : List ℕ). Stands valid (terms c.limits_of-limits.result c.args.request.now) (from g at) new.ticket.args new.call new.ticket.stacks (answer_set says (shown_store (module_tree valid) (left g at (memory_in c.args.self.now.memory) new.ticket.globals)))) (sym (c.keep-in-None.ensures ∙ kept_on c.resume_without_memory-turned.result new.answer again))
-    (subst (λ (s : Store). Stands valid (terms c.limits_of-limits.result c.args.request.now) (from g at) new.ticket.args new.call new.ticket.stacks s)
+    (subst (λ (says : List ℕ). Stands valid (terms_of c.limits_of-limits.result c.args.request.now) (from g at) new.ticket.args new.call new.ticket.stacks (answer_set says (shown_store (module_tree valid) (left g at (memory_in c.args.self.now.memory) new.ticket.globals)))) (sym (c.keep-in-None.ensures ∙ kept_on c.resume_without_memory-turned.result new.answer again))
+    (subst (λ (s : Store). Stands valid (terms_of c.limits_of-limits.result c.args.request.now) (from g at) new.ticket.args new.call new.ticket.stacks s)
     (shown_bare (lent g at) new.ticket.globals new.answer c.in-None.is)
     (c.resume_without_memory-turned.ensures.stands again (from g at) (stands_without_memory (lent g at) c.in-None.is))))
 

@@ -10,17 +10,17 @@ use Rattle.instance_calls.proofs.paused_instance.PausedInstance.begin.Goals as g
 pub invariant_of-result : goal.invariant_of-result
 invariant_of-result g c =
     let config = g.N.Naming.config in
-    let m = c.args.module.now in
+    let m = c.args.loaded.now.module.now in
     let x = c.begin-call.new.self in
     let call = c.begin-call.result in
-    let (export, may) = c.requires.call in
+    let asked = c.args.call.now in
     let kept : IsPausedInstance config x m call c.args.answer = record {
       paused = subst (λ (bytes : List ℕ). IsPausedOn config m [] call bytes x) (sym c.requires.none) (c.begin-call.ensures.paused []);
       memory_belongs = subst (BelongsTo m) (sym c.begin-call.ensures.slots.memory) c.requires.memory;
       table_belongs = subst (BelongsTo m) (ap table_slot (sym c.begin-call.ensures.slots.table)) c.requires.table;
-      export = export;
-      may = subst (λ (l : List Val). MayCall m.tree export call.function l) (sym c.begin-call.ensures.args)
-          (subst (λ (f : ℕ). MayCall m.tree export f c.args.args.now) (sym c.begin-call.ensures.function) may);
+      export = asked.export.now;
+      may = subst (λ (l : List Val). MayCall m.tree asked.export.now call.function l) (sym c.begin-call.ensures.args)
+          (subst (λ (f : ℕ). MayCall m.tree asked.export.now f asked.args.now) (sym c.begin-call.ensures.function) c.requires.call);
     } in
     subst (λ (n : Named). IsPausedInstance config x n call c.args.answer) (sym c.again.ensures) kept
 

@@ -14,12 +14,12 @@ invariant_of-result g c =
     let x = c.self.inside.instance in
     let m = c.self.inside.module in
     record {
-      paused = c.resume.ensures.paused c.in-Again.is;
-      memory_belongs = subst (BelongsTo m) (sym c.resume.ensures.slots.memory) c.self.invariant.memory_belongs;
-      table_belongs = subst (BelongsTo m) (ap table_slot (sym c.resume.ensures.slots.table)) c.self.invariant.table_belongs;
+      paused = c.resume-turned.ensures.paused c.in-Again.is;
+      memory_belongs = subst (BelongsTo m) (sym c.resume-turned.ensures.slots.memory) c.self.invariant.memory_belongs;
+      table_belongs = subst (BelongsTo m) (ap table_slot (sym c.resume-turned.ensures.slots.table)) c.self.invariant.table_belongs;
       export = c.self.invariant.export;
-      may = subst (λ (l : List Val). MayCall m.tree c.self.invariant.export c.resume.new.call.function l) (sym c.resume.ensures.args)
-          (subst (λ (f : ℕ). MayCall m.tree c.self.invariant.export f x.ticket.value.args) (sym c.resume.ensures.same.0) c.self.invariant.may);
+      may = subst (λ (l : List Val). MayCall m.tree c.self.invariant.export c.resume-turned.new.call.function l) (sym c.resume-turned.ensures.args)
+          (subst (λ (f : ℕ). MayCall m.tree c.self.invariant.export f x.ticket.value.args) (sym c.resume-turned.ensures.same.0) c.self.invariant.may);
     }
 
 pub returns-in-Again : goal.returns-in-Again
@@ -28,20 +28,20 @@ returns-in-Again g c =
     let m = c.self.inside.module in
     let call = c.self.inside.call in
     let v = paused_view c.self.inside.instance m call c.self.inside.answer in
-    let w = paused_view c.resume.new.self m c.resume.new.call c.resume.new.answer in
+    let w = paused_view c.resume-turned.new.self m c.resume-turned.new.call c.resume-turned.new.answer in
     let more : HasMore config v c.args.slice w = record {
-      waits = subst (λ (t : Turned). HasSliced (comes_to config v) call.fuel (call.turns + c.args.slice) t c.resume.new.answer) c.in-Again.is c.resume.ensures.sliced;
+      waits = subst (λ (t : Turned). HasSliced (comes_to config v) call.fuel (call.turns + c.args.slice) t c.resume-turned.new.answer) c.in-Again.is c.resume-turned.ensures.sliced;
       goes_on = record {
-        ticket = c.resume.ensures.slots.ticket;
-        memory = c.resume.ensures.slots.memory;
-        table = ap table_slot c.resume.ensures.slots.table;
+        ticket = c.resume-turned.ensures.slots.ticket;
+        memory = c.resume-turned.ensures.slots.memory;
+        table = ap table_slot c.resume-turned.ensures.slots.table;
         named = refl;
-        function = c.resume.ensures.same.0;
-        fuel = c.resume.ensures.same.1;
-        args = c.resume.ensures.args;
-        turns = c.resume.ensures.turns c.in-Again.is;
+        function = c.resume-turned.ensures.same.0;
+        fuel = c.resume-turned.ensures.same.1;
+        args = c.resume-turned.ensures.args;
+        turns = c.resume-turned.ensures.turns c.in-Again.is;
       };
-      went = c.resume.ensures.went;
+      went = c.resume-turned.ensures.went;
     } in
     subst (λ (v : PausedView). HasMore config v c.args.slice w) c.self.view_is more
 
@@ -51,14 +51,14 @@ returns-in-Done g c =
     let m = c.self.inside.module in
     let call = c.self.inside.call in
     let v = paused_view c.self.inside.instance m call c.self.inside.answer in
-    let sliced : HasSliced (comes_to config v) call.fuel (call.turns + c.args.slice) (turned.Done c.in-Done.outcome) c.resume.new.answer =
-    subst (λ (t : Turned). HasSliced (comes_to config v) call.fuel (call.turns + c.args.slice) t c.resume.new.answer) c.in-Done.is c.resume.ensures.sliced in
-    let over : IsOver config v c.args.slice c.resume.new.self = record {
+    let sliced : HasSliced (comes_to config v) call.fuel (call.turns + c.args.slice) (turned.Done c.in-Done.outcome) c.resume-turned.new.answer =
+    subst (λ (t : Turned). HasSliced (comes_to config v) call.fuel (call.turns + c.args.slice) t c.resume-turned.new.answer) c.in-Done.is c.resume-turned.ensures.sliced in
+    let over : IsOver config v c.args.slice c.resume-turned.new.self = record {
       over = sliced.0;
-      slots = record { ticket = sym c.resume.ensures.slots.ticket; memory = sym c.resume.ensures.slots.memory; table = ap table_slot (sym c.resume.ensures.slots.table) };
+      slots = record { ticket = sym c.resume-turned.ensures.slots.ticket; memory = sym c.resume-turned.ensures.slots.memory; table = ap table_slot (sym c.resume-turned.ensures.slots.table) };
       belongs = record { memory = c.self.invariant.memory_belongs; table = c.self.invariant.table_belongs };
-      went = c.resume.ensures.went;
+      went = c.resume-turned.ensures.went;
     } in (
-      subst (λ (v : PausedView). IsOver config v c.args.slice c.resume.new.self) c.self.view_is over,
-      subst (λ (v : PausedView). EndsAs (comes_to config v) v.call.fuel c.in-Done.outcome c.resume.new.answer) c.self.view_is sliced.1,
+      subst (λ (v : PausedView). IsOver config v c.args.slice c.resume-turned.new.self) c.self.view_is over,
+      subst (λ (v : PausedView). EndsAs (comes_to config v) v.call.fuel c.in-Done.outcome c.resume-turned.new.answer) c.self.view_is sliced.1,
     )

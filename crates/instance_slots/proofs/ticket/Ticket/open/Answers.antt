@@ -13,6 +13,7 @@ invariant_of-result g c =
       args_fit = omega (arith, c.in_ok-args.ensures, c.most_args.ensures.own, ap (λ (n : Numbers). n.frame) (c.numbers-numbers.ensures.same ∙ c.config.ensures.name));
       imports_fit = omega (arith, c.in_ok-args.ensures, c.most_args.ensures.imports);
       stacks_are = c.in_ok-stacks.ensures ∙ ap room (c.numbers-numbers.ensures.same ∙ c.config.ensures.name);
+      deep = omega (arith, c.numbers-numbers.ensures.in_range.depth.0, ap (λ (n : Numbers). n.depth) (c.numbers-numbers.ensures.same ∙ c.config.ensures.name));
       memory_is = c.in_ok-memory.ensures.memory;
       no_bytes = ap length c.in_ok-memory.ensures.zeroed.bytes;
     }

@@ -12,10 +12,10 @@ returns-clause-after c =
     let room = is.bytes in
     let size = is.size in
     let old : Memory = c.args.self.now in
-    let new : Memory = record { bytes = c.copy_over.new.bytes; pages = old.pages; marks = c.mark_touched.new.marks } in
+    let new : Memory = record { bytes = c.copy.new.self; pages = old.pages; marks = c.mark_touched.new.marks } in
     let piece : List ℕ = take c.args.count (drop c.args.from c.args.self.now.bytes.items) in
     let long : length piece ≡ c.args.count = part-length c.args.from c.args.count c.args.self.now.bytes.items (omega arith) in
-    shown_written old new c.args.to piece (omega arith) c.copy_over.ensures most is refl
+    shown_written old new c.args.to piece (omega arith) c.copy.ensures.items most is refl
     ∙ ap (written (shown old) c.args.to) (sym (part-of_first c.args.from c.args.count (size_of old) old.bytes.items (omega arith)))
 
 pub returns-clause-memory : goal.returns-clause-memory
@@ -24,10 +24,11 @@ returns-clause-memory c most is =
     let size = is.size in
     let marks = is.marks in
     let old : Memory = c.args.self.now in
-    let new : Memory = record { bytes = c.copy_over.new.bytes; pages = old.pages; marks = c.mark_touched.new.marks } in
+    let new : Memory = record { bytes = c.copy.new.self; pages = old.pages; marks = c.mark_touched.new.marks } in
     let piece : List ℕ = take c.args.count (drop c.args.from c.args.self.now.bytes.items) in
     let long : length piece ≡ c.args.count = part-length c.args.from c.args.count c.args.self.now.bytes.items (omega arith) in
-    memory_written old new c.args.to piece (omega arith) c.copy_over.ensures most is refl (ap length c.mark_touched.ensures ∙ row_length old.marks.items c.args.to c.args.count (omega arith))
+    memory_written old new c.args.to piece (omega arith) c.copy.ensures.items most is refl (ap length c.mark_touched.ensures ∙ row_length old.marks.items c.args.to c.args.count (omega arith))
+    c.copy.ensures.accessible
 
 pub returns-clause-marks : goal.returns-clause-marks
 returns-clause-marks c =
@@ -35,7 +36,7 @@ returns-clause-marks c =
     let room = is.bytes in
     let size = is.size in
     let old : Memory = c.args.self.now in
-    let new : Memory = record { bytes = c.copy_over.new.bytes; pages = old.pages; marks = c.mark_touched.new.marks } in
+    let new : Memory = record { bytes = c.copy.new.self; pages = old.pages; marks = c.mark_touched.new.marks } in
     let piece : List ℕ = take c.args.count (drop c.args.from c.args.self.now.bytes.items) in
     let long : length piece ≡ c.args.count = part-length c.args.from c.args.count c.args.self.now.bytes.items (omega arith) in
-    marks_part old new c.args.to piece (omega arith) c.copy_over.ensures most c.args.count is long c.mark_touched.ensures
+    marks_part old new c.args.to piece (omega arith) c.copy.ensures.items most c.args.count is long c.mark_touched.ensures

@@ -22,14 +22,15 @@ pub returns-clause-after : goal.returns-clause-after
 returns-clause-after c =
     let (most, is) = c.requires.memory in
     let old : Memory = c.args.self.now in
-    let new : Memory = record { bytes = c.put.new.bytes; pages = old.pages; marks = c.mark.new.marks } in
-    shown_written old new c.args.at c.args.piece.now (omega arith) c.put.ensures most is refl
+    let new : Memory = record { bytes = c.put.new.self; pages = old.pages; marks = c.mark.new.marks } in
+    shown_written old new c.args.at c.args.piece.now (omega arith) c.put.ensures.items most is refl
 
 pub returns-clause-memory : goal.returns-clause-memory
 returns-clause-memory c most is =
     let old : Memory = c.args.self.now in
-    let new : Memory = record { bytes = c.put.new.bytes; pages = old.pages; marks = c.mark.new.marks } in
-    memory_written old new c.args.at c.args.piece.now (omega arith) c.put.ensures most is refl (ap length c.mark.ensures ∙ simp length-set)
+    let new : Memory = record { bytes = c.put.new.self; pages = old.pages; marks = c.mark.new.marks } in
+    memory_written old new c.args.at c.args.piece.now (omega arith) c.put.ensures.items most is refl (ap length c.mark.ensures ∙ simp length-set)
+    c.put.ensures.accessible
 
 pub returns-clause-marks : goal.returns-clause-marks
 returns-clause-marks c =
@@ -38,6 +39,6 @@ returns-clause-marks c =
     let s = is.size in
     let n = length c.args.piece.now in
     let old : Memory = c.args.self.now in
-    let new : Memory = record { bytes = c.put.new.bytes; pages = old.pages; marks = c.mark.new.marks } in
-    marks_part old new c.args.at c.args.piece.now (omega arith) c.put.ensures most n is refl
+    let new : Memory = record { bytes = c.put.new.self; pages = old.pages; marks = c.mark.new.marks } in
+    marks_part old new c.args.at c.args.piece.now (omega arith) c.put.ensures.items most n is refl
     (c.mark.ensures ∙ pair_is_part old.marks.items c.args.at n c.requires.some c.requires.short (omega arith))

@@ -1,5 +1,5 @@
 use Rattle.std.proofs.Common.{◌≡◌, ◌+◌, ℕ, Some, None, length, refl, ap, ◌∙◌, subst}
-use Rattle.std.specs.Prelude.{nat_lt, if◌then◌else◌}
+use Rattle.std.specs.Prelude.{nat_lt, nat_le, if◌then◌else◌}
 use Rattle.std.specs.Int.{byte_len}
 use Rattle.wasm_values.specs.declared.outcome.Val.{Val}
 use Rattle.wasm_values.specs.declared.outcome.Val.TheVariants as val
@@ -9,7 +9,7 @@ use Rattle.wasm_spec.specs.Execution.{value}
 use Rattle.machine_steps.specs.InstructionKinds.{address_offset, access_width, gives_width, loaded_as}
 use Rattle.machine_steps.specs.Lent.{store_of}
 use Rattle.machine_steps.proofs.KindLemmas.{after_as, has_top}
-use Rattle.machine_steps.proofs.AccessLemmas.{load_of, load_means, load_after, load_traps}
+use Rattle.machine_steps.proofs.AccessLemmas.{fits_unless, load_of, load_means, load_after, load_traps}
 use Rattle.machine_steps.proofs.machine.Machine.load.Goals as goal
 
 pub last32-base-requires : goal.last32-base-requires
@@ -35,7 +35,8 @@ returns-in-Some-clause-does c m limits table globals answer k sh fine =
     let e : Some c.in-Some.v ≡ (if nat_lt (length store.memory) (t.n + address_offset i + byte_len (access_width i)) then None else Some (given (t.n + address_offset i))) =
     subst (λ (a : ℕ). Some c.in-Some.v ≡ (if nat_lt (length store.memory) (a + byte_len (access_width i)) then None else Some (given a))) at c.in-Some.ensures in
     after_as m limits i k store store _ None c.replace.new.self (load_means m limits i k store c.requires.kind t)
-    (load_after (nat_lt (length store.memory) (t.n + address_offset i + byte_len (access_width i))) c.in-Some.v (Some (given (t.n + address_offset i))) k t.rest c.replace.new.self store e
+    (load_after (nat_lt (length store.memory) (t.n + address_offset i + byte_len (access_width i))) (nat_le (t.n + address_offset i + byte_len (access_width i)) (length store.memory)) c.in-Some.v (Some (given (t.n + address_offset i))) k t.rest c.replace.new.self store
+    (fits_unless (nat_lt (length store.memory) (t.n + address_offset i + byte_len (access_width i))) (t.n + address_offset i + byte_len (access_width i)) (length store.memory) refl) e
     (c.replace.ensures.represents k (val.I32 t.n) t.rest sh t.are) (given (t.n + address_offset i)) refl)
 
 pub returns-in-None-clause-does : goal.returns-in-None-clause-does
@@ -49,4 +50,5 @@ returns-in-None-clause-does c m limits table globals answer k sh fine =
     let e : None ≡ (if nat_lt (length store.memory) (t.n + address_offset i + byte_len (access_width i)) then None else Some (given (t.n + address_offset i))) =
     subst (λ (a : ℕ). None ≡ (if nat_lt (length store.memory) (a + byte_len (access_width i)) then None else Some (given a))) at c.in-None.ensures in
     after_as m limits i k store store _ (Some trap.Memory) c.args.self.now (load_means m limits i k store c.requires.kind t)
-    (load_traps (nat_lt (length store.memory) (t.n + address_offset i + byte_len (access_width i))) (Some (given (t.n + address_offset i))) k t.rest c.args.self.now store e (given (t.n + address_offset i)) refl)
+    (load_traps (nat_lt (length store.memory) (t.n + address_offset i + byte_len (access_width i))) (nat_le (t.n + address_offset i + byte_len (access_width i)) (length store.memory)) (Some (given (t.n + address_offset i))) k t.rest c.args.self.now store
+    (fits_unless (nat_lt (length store.memory) (t.n + address_offset i + byte_len (access_width i))) (t.n + address_offset i + byte_len (access_width i)) (length store.memory) refl) e (given (t.n + address_offset i)) refl)

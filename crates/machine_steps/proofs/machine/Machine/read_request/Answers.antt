@@ -4,10 +4,10 @@ use Rattle.wasm_values.specs.declared.outcome.Val.{Val}
 use Rattle.wasm_values.specs.declared.outcome.Val.TheVariants as val
 use Rattle.wasm_values.specs.declared.outcome.TrapKind.TheVariants as trap
 use Rattle.wasm_spec.specs.Store.{Store, written}
-use Rattle.wasm_spec.specs.Execution.{Signal, memory_set, part, lies_within, read_request}
+use Rattle.wasm_spec.specs.Execution.{Signal, part, lies_within, read_request}
 use Rattle.linear_memory.specs.Bytes.{shown}
 use Rattle.machine_steps.specs.Configuration.{state}
-use Rattle.machine_steps.specs.Lent.{store_of}
+use Rattle.machine_steps.specs.Lent.{memory_set, store_of}
 use Rattle.machine_steps.specs.PlainSteps.{EndsAs}
 use Rattle.machine_steps.proofs.HostLemmas.{three_there, at_three, read_ends, read_traps, memory_where}
 use Rattle.wasm_types.specs.declared.host.HostFunction.TheVariants as host

@@ -1,5 +1,5 @@
 use Rattle.std.proofs.Common.{◌≡◌, ◌+◌, ℕ, List, ◌∷◌, true, false, Option, Some, None, length, refl, ap, sym, ◌∙◌, subst}
-use Rattle.std.specs.Prelude.{nat_lt, not}
+use Rattle.std.specs.Prelude.{nat_lt, nat_le, not}
 use Rattle.std.specs.Int.{byte_len, to_le_bytes}
 use Rattle.wasm_values.specs.declared.outcome.Val.{Val}
 use Rattle.wasm_values.specs.declared.outcome.Val.TheVariants as val
@@ -11,7 +11,7 @@ use Rattle.linear_memory.specs.Bytes.{shown}
 use Rattle.machine_steps.specs.Lent.{store_of}
 use Rattle.machine_steps.proofs.OperandLemmas.{is_number}
 use Rattle.machine_steps.proofs.KindLemmas.{after_as, has_top}
-use Rattle.machine_steps.proofs.AccessLemmas.{store_of_pair, store_means, store_after, store_traps}
+use Rattle.machine_steps.proofs.AccessLemmas.{fits_unless, store_of_pair, store_means, store_after, store_traps}
 use Rattle.machine_steps.specs.WrittenParts.{part_written}
 use Rattle.machine_steps.proofs.PartLemmas.{marks_if, store_part}
 use Rattle.machine_steps.proofs.machine.Machine.store.Goals as goal
@@ -53,7 +53,8 @@ returns-then-store_value-clause-does c m limits table globals answer k sh fine =
     let is : shown c.store_value.new.memory ≡ written store.memory (t.base + address_offset i) bytes =
     c.if-store_value.ensures.after t.n (subst (λ (x : Val). number (takes_width i) x ≡ Some t.n) (sym p.0) t.is) ∙ ap (λ (a : ℕ). written store.memory a bytes) at in
     after_as m limits i k store after _ None c.pop32-base.new.self (store_means m limits i k store c.requires.kind t)
-    (store_after (nat_lt (length store.memory) (t.base + address_offset i + byte_len (access_width i))) k t.rest c.pop32-base.new.self store after (written store.memory (t.base + address_offset i) bytes) test
+    (store_after (nat_le (t.base + address_offset i + byte_len (access_width i)) (length store.memory)) k t.rest c.pop32-base.new.self store after (t.base + address_offset i) bytes
+    (fits_unless (nat_lt (length store.memory) (t.base + address_offset i + byte_len (access_width i))) (t.base + address_offset i + byte_len (access_width i)) (length store.memory) refl ∙ test)
     (ap (λ (l : List ℕ). stored l table globals answer) (sym is)) q.1)
 
 pub returns-else-store_value-clause-does : goal.returns-else-store_value-clause-does
@@ -70,7 +71,8 @@ returns-else-store_value-clause-does c m limits table globals answer k sh fine =
     ap (λ (a : ℕ). not (nat_lt (length store.memory) (a + byte_len (access_width i)))) (sym at) ∙ sym c.if-store_value.ensures.fits in
     let same : shown c.store_value.new.memory ≡ store.memory = c.if-store_value.ensures.after t.n (subst (λ (x : Val). number (takes_width i) x ≡ Some t.n) (sym p.0) t.is) in
     after_as m limits i k store after _ (Some trap.Memory) c.pop32-base.new.self (store_means m limits i k store c.requires.kind t)
-    (store_traps (nat_lt (length store.memory) (t.base + address_offset i + byte_len (access_width i))) k t.rest c.pop32-base.new.self store after (written store.memory (t.base + address_offset i) bytes) test
+    (store_traps (nat_le (t.base + address_offset i + byte_len (access_width i)) (length store.memory)) k t.rest c.pop32-base.new.self store after (t.base + address_offset i) bytes
+    (fits_unless (nat_lt (length store.memory) (t.base + address_offset i + byte_len (access_width i))) (t.base + address_offset i + byte_len (access_width i)) (length store.memory) refl ∙ test)
     (ap (λ (l : List ℕ). stored l table globals answer) (sym same)))
 
 pub returns-then-store_value-clause-marks : goal.returns-then-store_value-clause-marks

@@ -4,10 +4,10 @@ use Rattle.wasm_values.specs.declared.outcome.Val.{Val}
 use Rattle.wasm_values.specs.declared.outcome.Val.TheVariants as val
 use Rattle.wasm_values.specs.declared.outcome.TrapKind.TheVariants as trap
 use Rattle.wasm_spec.specs.Store.{Store}
-use Rattle.wasm_spec.specs.Execution.{Signal, answer_set, most_answer, part, lies_within, write_answer}
+use Rattle.wasm_spec.specs.Execution.{Signal, most_answer, part, lies_within, write_answer}
 use Rattle.linear_memory.specs.Bytes.{shown}
 use Rattle.machine_steps.specs.Configuration.{state}
-use Rattle.machine_steps.specs.Lent.{store_of}
+use Rattle.machine_steps.specs.Lent.{answer_set, store_of}
 use Rattle.machine_steps.specs.PlainSteps.{EndsAs}
 use Rattle.machine_steps.proofs.HostLemmas.{two_there, at_two, write_ends, write_traps, answer_where}
 use Rattle.machine_steps.proofs.machine.Machine.write_answer.Goals as goal

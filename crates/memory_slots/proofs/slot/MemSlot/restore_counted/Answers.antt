@@ -11,4 +11,4 @@ returns-clause-restored g c =
     let new = c.restore_memory.new.memory in
     let P : MemoryContents → Type 0 = λ x. contents_of new c.self.inside.holds ≡ restored config.pages kind.Memory x in
     subst P c.self.view_is
-    (restored_is config c.in-Some.own c.self.inside.holds c.self.inside.memory new c.in-Some.is c.self.invariant.kept c.restore_memory.ensures.fresh c.restore_memory.ensures.kept c.restore_memory.ensures.marks)
+    (restored_is config c.in-Some.own c.self.inside.holds c.self.inside.memory new c.in-Some.is c.self.invariant.image.kept c.restore_memory.ensures.fresh c.restore_memory.ensures.kept c.restore_memory.ensures.marks)

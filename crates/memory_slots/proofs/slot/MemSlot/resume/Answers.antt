@@ -25,8 +25,8 @@ pub resume-requires-clause-memory : goal.resume-requires-clause-memory
 resume-requires-clause-memory g c =
     let config = g.N.Naming.config in
     let most : ℕ = room_for c.args.inputs.now.valid.now.memories c.args.inputs.now.limits.pages in
-    is_memory config most c.self.inside.memory c.self.inside.holds c.self.invariant.kept (room_within c.args.inputs.now.valid.now.memories c.args.inputs.now.limits.pages config.pages c.requires.pages)
-    (subst (IsReady most) (sym c.self.view_is) c.requires.ready)
+    is_memory config most c.self.inside.memory c.self.inside.holds c.self.invariant.image.kept (room_within c.args.inputs.now.valid.now.memories c.args.inputs.now.limits.pages config.pages c.requires.pages)
+    (subst (IsReady most) (sym c.self.view_is) c.requires.ready) c.self.invariant.accessible
 
 pub invariant_of-self : goal.invariant_of-self
 invariant_of-self g c =
@@ -43,12 +43,15 @@ invariant_of-self g c =
     let all : KeepsUnmarked old.bytes.items went.at.store.memory old.marks.items new.marks.items =
     went.marked (upto c.args.call.now c.args.slice) went.at (omega arith) (omega arith) went.gives in
     record {
-      kept = is_kept config (room_for m.memories c.args.inputs.now.limits.pages) old new c.self.inside.holds c.self.invariant.kept c.resume.ensures.memory room
-          (room_within m.memories c.args.inputs.now.limits.pages config.pages c.requires.pages)
-          (subst (λ (s : Store). KeepsUnmarked old.bytes.items s.memory old.marks.items new.marks.items) went.shows all);
-      blocks = c.self.invariant.blocks ∙ sym room.marks;
-      zeros = λ i lt free. c.self.invariant.zeros i (omega (arith, lt, room.bytes)) free;
-      least = c.self.invariant.least;
+      image = record {
+        kept = is_kept config (room_for m.memories c.args.inputs.now.limits.pages) old new c.self.inside.holds c.self.invariant.image.kept c.resume.ensures.memory room
+            (room_within m.memories c.args.inputs.now.limits.pages config.pages c.requires.pages)
+            (subst (λ (s : Store). KeepsUnmarked old.bytes.items s.memory old.marks.items new.marks.items) went.shows all);
+        blocks = c.self.invariant.image.blocks ∙ sym room.marks;
+        zeros = λ i lt free. c.self.invariant.image.zeros i (omega (arith, lt, room.bytes)) free;
+        least = c.self.invariant.image.least;
+      };
+      accessible = c.resume.ensures.memory.accessible;
     }
 
 pub returns-clause-turned : goal.returns-clause-turned
@@ -69,7 +72,7 @@ returns-clause-ready g c =
     let limits = run_terms c.args.inputs.now in
     let (begun, h) = c.requires.stands in
     let inside = subst (λ (x : MemoryContents). Stands m limits begun c.args.args.now c.args.call.now c.args.stacks.now (store_in m x c.args.inputs.now.table.now c.args.globals.now c.args.answer.now)) (sym c.self.view_is) h in
-    is_ready g.N.Naming.config (room_for m.memories c.args.inputs.now.limits.pages) c.self.inside.memory c.resume.new.memory c.self.inside.holds c.self.invariant.kept c.resume.ensures.memory (c.resume.ensures.went begun inside).marks.changes.room
+    is_ready g.N.Naming.config (room_for m.memories c.args.inputs.now.limits.pages) c.self.inside.memory c.resume.new.memory c.self.inside.holds c.self.invariant.image.kept c.resume.ensures.memory (c.resume.ensures.went begun inside).marks.changes.room
 
 pub returns-clause-counted : goal.returns-clause-counted
 returns-clause-counted g c few begun h r is =
@@ -104,7 +107,7 @@ returns-clause-leaves g c begun h owner =
       subst P c.self.view_is (record {
         gives = went.gives;
         left = subst Q (sym went.shows) (parts_left config.pages (module_tree m) store (contents_of old holds) (contents_of new holds) owner table globals c.resume.new.globals
-            (memory_left config most old new holds c.self.invariant.kept c.resume.ensures.memory went.marks.changes.room store refl) refl
+            (memory_left config most old new holds c.self.invariant.image.kept c.resume.ensures.memory went.marks.changes.room store refl) refl
             (globals_left (length m.globals) globals c.resume.new.globals there c.resume.ensures.globals c.resume.ensures.others));
         marked = λ needed turns r late early is. marks_are config.pages old.bytes.items r.store.memory old.marks.items new.marks.items (went.marked turns r late early is);
         still = λ needed out same. went.still out same;

@@ -5,13 +5,13 @@ use Rattle.pool_host.proofs.host.Host.answer.Goals as goal
 
 pub give-requires-clause-have : goal.give-requires-clause-have
 give-requires-clause-have g c =
-    (c.args.module.now, still_have g.N.Naming.config c.args.self.now c.args.module.now c.in-Ok.instance c.run-outcome.result.1.instance c.run-outcome.ensures.slots c.start.new.passes c.in-Ok.ensures.have)
+    (c.args.loaded.now.module.now, still_have g.N.Naming.config c.args.self.now c.args.loaded.now.module.now c.in-Ok.instance c.run-outcome.result.1.instance c.run-outcome.ensures.slots c.start.new.passes c.in-Ok.ensures.have)
 
 pub returns-in-Ok-clause-trails : goal.returns-in-Ok-clause-trails
 returns-in-Ok-clause-trails g c =
     let config = g.N.Naming.config in
     let host = c.args.self.now in
-    let m = c.args.module.now in
+    let m = c.args.loaded.now.module.now in
     let x = c.in-Ok.instance in
     let y = c.run-outcome.result.1.instance in
     let keeps = c.run-outcome.ensures.slots in
@@ -21,21 +21,21 @@ returns-in-Ok-clause-trails g c =
 
 pub returns-in-Ok-clause-answer : goal.returns-in-Ok-clause-answer
 returns-in-Ok-clause-answer g c =
-    let asked = c.args.asked.now in
-    ends_with g.N.Naming.config c.args.module.now.tree asked.export.now c.in-Ok.function asked.args.now asked.request.now asked.fuel c.run-outcome.result.0 c.run-outcome.new.said c.in-Ok.ensures.may c.run-outcome.ensures.ends
+    let call = c.args.call.now in
+    ends_with g.N.Naming.config c.args.loaded.now.module.now.tree call.export.now c.in-Ok.function call.args.now call.request.now call.fuel c.run-outcome.result.0 c.run-outcome.new.said c.in-Ok.ensures.may c.run-outcome.ensures.ends
 
 pub returns-in-Err-clause-answer : goal.returns-in-Err-clause-answer
 returns-in-Err-clause-answer g c =
-    let asked = c.args.asked.now in
-    rw c.answer.ensures (refused_so g.N.Naming.config c.args.self.now c.args.module.now asked.export.now asked.args.now c.args.passes.now asked.request.now asked.fuel c.start.new.passes c.start.new.said c.in-Err.refused c.start.ensures.none c.in-Err.ensures.refused)
+    let call = c.args.call.now in
+    rw c.answer.ensures (refused_so g.N.Naming.config c.args.self.now c.args.loaded.now.module.now call.export.now call.args.now c.args.passes.now call.request.now call.fuel c.start.new.passes c.start.new.said c.in-Err.refused c.start.ensures.none c.in-Err.ensures.refused)
 
 pub returns-in-Err-clause-trails : goal.returns-in-Err-clause-trails
 returns-in-Err-clause-trails g c =
-    rw c.answer.ensures (refused_trails g.N.Naming.config c.args.self.now c.args.module.now c.args.asked.now.export.now c.args.asked.now.args.now c.args.passes.now c.start.new.passes c.in-Err.refused c.in-Err.ensures.refused)
+    rw c.answer.ensures (refused_trails g.N.Naming.config c.args.self.now c.args.loaded.now.module.now c.args.call.now.export.now c.args.call.now.args.now c.args.passes.now c.start.new.passes c.in-Err.refused c.in-Err.ensures.refused)
 
 pub returns-in-Err-clause-full : goal.returns-in-Err-clause-full
 returns-in-Err-clause-full g c =
-    rw c.answer.ensures (refused_cause g.N.Naming.config c.args.self.now c.args.module.now c.args.asked.now.export.now c.args.asked.now.args.now c.args.passes.now c.start.new.passes c.in-Err.refused c.in-Err.ensures.refused)
+    rw c.answer.ensures (refused_cause g.N.Naming.config c.args.self.now c.args.loaded.now.module.now c.args.call.now.export.now c.args.call.now.args.now c.args.passes.now c.start.new.passes c.in-Err.refused c.in-Err.ensures.refused)
 
 pub returns-in-Err-clause-looked : goal.returns-in-Err-clause-looked
 returns-in-Err-clause-looked g c = rw c.answer.ensures (rw (look_is c.in-Err.refused) c.in-Err.ensures.looked)

@@ -1,6 +1,9 @@
+use Rattle.std.proofs.Common.{is_some, ◌≡◌, true}
+use Rattle.std.specs.Ordering.{nat_cmp}
+use Rattle.std.specs.BTreeMap.{get}
 use Rattle.sparse_bytes.proofs.MarkedBlocks.{IsMarkedBut}
 use Rattle.sparse_bytes.proofs.bytes.SparseBytes.mark_blocks.Given as goal
 
--- the blocks of the cells so far are marked
+-- the blocks so far that are kept whole are marked
 abbrev pub invariant-loop-number : goal.invariant-loop-number
-invariant-loop-number l = IsMarkedBut l.self l.cells l.number-iterator l.initial.marks l.marks
+invariant-loop-number l = IsMarkedBut (λ q. is_some (get nat_cmp l.self.whole q) ≡ true) 1 l.number-iterator l.initial.marks l.marks

@@ -11,8 +11,8 @@ use Rattle.wasm_decode.proofs.types.LimitsItem.decode.Goals as goal
 most-is : (low n : ℕ) (high : Option ℕ) (bytes a mid after : List ℕ) → bytes ≡ 1 ∷ a → TakesUnsigned 32 n a mid → TakesRange low high bytes after → (x : ℕ) × TakesUnsigned 32 x mid after
 most-is low n None bytes a mid after e count h = absurd (omega (arith, same_first e h.1))
 most-is low n (Some x) bytes a mid after e count h =
-    let u = unsigned-unique 32 low n a h.2 mid (subst (λ (l : List ℕ). TakesUnsigned 32 low l h.2) (same_others h.1 e) h.3) count in
-    (x, subst (λ (l : List ℕ). TakesUnsigned 32 x l after) u.1 h.4)
+    let u = unsigned-unique 32 low n a h.2.0 mid (subst (λ (l : List ℕ). TakesUnsigned 32 low l h.2.0) (same_others h.1 e) h.2.1) count in
+    (x, subst (λ (l : List ℕ). TakesUnsigned 32 x l after) u.1 h.2.2)
 
 pub returns-in_err-max-in-1-clause-read : goal.returns-in_err-max-in-1-clause-read
 returns-in_err-max-in-1-clause-read c =

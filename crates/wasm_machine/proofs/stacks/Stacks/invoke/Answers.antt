@@ -1,7 +1,7 @@
 use Rattle.std.proofs.Common.{◌≡◌, ℕ, ◌+◌, ◌-◌, ◌*◌, length, Option, Some, refl, ap, ◌∙◌, sym, subst, arith}
 use Rattle.wasm_types.specs.declared.module.Module.{Module}
 use Rattle.wasm_types.specs.Tree.{module_tree}
-use Rattle.wasm_spec.specs.Execution.{Stuck, ended}
+use Rattle.wasm_spec.specs.Execution.{Stuck}
 use Rattle.wasm_spec.specs.Result.{CallResult, function_result, run_function}
 use Rattle.wasm_spec.specs.Instances.{room_for}
 use Rattle.machine_steps.specs.Lent.{store_of}
@@ -60,7 +60,7 @@ returns-then-x-imported-clause-marked c turns r le e =
     let there : function_result (module_tree valid) limits c.args.function c.args.args.now before turns ≡ Some y =
     subst (λ (n : Module). function_result (module_tree n) limits c.args.function c.args.args.now before turns ≡ Some y) c.module-m.ensures.same (c.run_import.ensures.result c.args.inputs.now.limits c.args.inputs.now.table.now globals turns) in
     let marks = c.run_import.ensures.marks in
-    marked_at (λ g. ended Stuck g) c.args.memory.now (room_for valid.memories c.args.inputs.now.limits.pages) marks.added c.run_import.new.memory r y
+    marked_at (λ g. (Stuck, g)) c.args.memory.now (room_for valid.memories c.args.inputs.now.limits.pages) marks.added c.run_import.new.memory r y
     (function_result (module_tree valid) limits c.args.function c.args.args.now before turns) (c.run_import.ensures.memory (room_for valid.memories c.args.inputs.now.limits.pages) c.requires.memory) marks.changes there refl e
 
 pub returns-then-x-imported-clause-marks : goal.returns-then-x-imported-clause-marks

@@ -1,0 +1,4 @@
+pub mod LaneLemmas
+pub mod LeftLemmas
+pub mod RunLemmas
+pub mod WorkedLemmas

@@ -1,0 +1,4 @@
+pub mod Left
+pub mod Rounds
+pub mod Runs
+pub mod Worked

@@ -1,4 +1,0 @@
-use Rattle.memory_slots.proofs.slot.MemSlot.prepare.Given as goal
-
-abbrev pub ghosts-prepare_uncounted : goal.ghosts-prepare_uncounted
-ghosts-prepare_uncounted g a = record { name = a.blank.name; parts = a.blank.parts }
