@@ -40,7 +40,10 @@ ERROR = re.compile(r"(?:note: )?(?:\./)?((?:specs|proofs|src)/\S+?):(\d+):\d+: e
 MERGED = re.compile(r"\bRattle\.definitions\.(specs|proofs)\.(?:line\d+__)?(\w+?)__")
 MARK = re.compile(r"(?<=/)(line\d+)__")
 USE = re.compile(r"^use [^;]*;\n", re.M)
-TYPE = re.compile(r"^(?:(?:///|#\[).*\n)*pub (?:struct|enum) [^{;]*\{\n(?:.*\n)*?\}\n", re.M)
+USED = re.compile(r"^use (\w+)::(\w*)", re.M)
+TYPE = re.compile(r"^(?:(?:///|#\[).*\n)*pub(?:\(crate\))? (?:struct|enum) [^{;]*\{\n(?:.*\n)*?\}\n", re.M)
+# what is derived of a type and needs its functions
+NO_TYPE = re.compile(r"^#\[derive\(Drop\)\]\n|^ *#\[error\(.*\)\]\n|, Error(?=\)\])", re.M)
 # how many lines are tried at once
 BATCH = 8
 NAME_GONE = re.compile(r"is not in scope|has no field|has no `|is no name|was not admitted|was rejected|is not a field|unknown field")
@@ -161,6 +164,18 @@ class Part:
                 if file.is_file():
                     self.add(crate, file)
 
+    def take_types(self, crate, name):
+        """The types of a source, and what they use: of this crate types alone, of others all."""
+        file = TOP / "crates" / crate / "src" / f"{name}.rt"
+        if file in self.typed[crate]:
+            return
+        self.typed[crate].add(file)
+        for used, module in USED.findall(self.types_in(file)):
+            if used == "crate":
+                self.take_types(crate, module)
+            elif used in self.crates:
+                self.take_whole(used)
+
     def has_types(self, crate):
         return any(re.search(r"^\s*(pub )?(struct|enum)\b", it.read_text(encoding="utf-8"), re.M) for it in (TOP / "crates" / crate / "src").rglob("*.rt"))
 
@@ -192,7 +207,7 @@ class Part:
                 self.typed[cited] = set(self.files_of_types(cited))
             elif part == "specs" and names.split(".")[1] == "declared" and cited in self.typed:
                 self.files.setdefault(cited, set())
-                self.typed[cited].add(TOP / "crates" / cited / "src" / f"{names.split('.')[2]}.rt")
+                self.take_types(cited, names.split(".")[2])
             elif part == "specs" and names.split(".")[1] in ("declared", "contracts"):
                 self.take_whole(cited)
 
@@ -243,8 +258,8 @@ class Part:
             self.write_types(room / "crates" / ONE / "src", crate)
 
     def types_in(self, file):
-        """The source's types, and what they use."""
-        text = file.read_text(encoding="utf-8")
+        """The source's types, and what they use. Nothing lets one go or tells of it, so no `Drop` and no `Error` is written for them."""
+        text = NO_TYPE.sub("", file.read_text(encoding="utf-8"))
         types = "\n".join(TYPE.findall(text))
         uses = [it for it in USE.findall(text) if any(re.search(rf"\b{name}\b", types) for name in re.findall(r"(\w+)\s*(?=[,;}])", it))]
         return "\n".join([text.partition("\n")[0] + "\n" + "".join(uses), types])
@@ -254,7 +269,7 @@ class Part:
         for file in sorted(self.typed[crate]):
             name = f"{crate}_{file.stem}"
             text = file.read_text(encoding="utf-8") if self.has_types_alone(crate) else self.types_in(file)
-            (folder / f"{name}.rt").write_text(text, encoding="utf-8")
+            (folder / f"{name}.rt").write_text(re.sub(r"^use crate::", f"use crate::{crate}_", text, flags=re.M), encoding="utf-8")
             with open(folder / "lib.rt", "a", encoding="utf-8") as it:
                 it.write(f"\npub mod {name};\n")
 

@@ -30,11 +30,11 @@ use Rattle.request_text.specs.Text.{Asked}
 use Rattle.call_workers.specs.declared.members.Crew.{Crew}
 use Rattle.run_books.specs.declared.books.Books.{Books}
 use Rattle.run_books.specs.declared.books.Span.{Span}
-use Rattle.run_books.specs.Collected.{AreToCollect, IsCollected, IsLineOf, IsOfWorked, call_at, line_made, line_of, stands}
+use Rattle.run_books.specs.Collected.{AreToCollect, IsCollected, IsLineOf, IsOfWorked, answer_line, call_at, line_made, line_of, stands}
 use Rattle.run_books.specs.Due.{due_of, dues_from}
 use Rattle.run_books.specs.Entries.{Entry, IsEntry}
 use Rattle.run_books.specs.Put.{module_of, pairs_put, round_pairs}
-use Rattle.run_books.specs.Lines.{IsCallLine, Limits, answer_line, limits_in}
+use Rattle.run_books.specs.Lines.{IsCallLine, Limits, limits_in}
 use Rattle.module_store.specs.declared.desk.DeskCounts.{DeskCounts}
 use Rattle.run_books.specs.Books.{AreEntered, HasLines, IsSpan, calls_in, directives_in}
 use Rattle.call_rounds.specs.Rounds.{calls_to}

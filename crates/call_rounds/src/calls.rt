@@ -7,7 +7,8 @@ ghost use Rattle.pool_worlds.specs.Contents.{Named};
 ghost use Rattle.run_books.specs.Entries.{IsEntry};
 ghost use Rattle.call_rounds.specs.Left.{MadeOnLane, MadeRest};
 ghost use Rattle.run_books.specs.Put.{module_of};
-ghost use Rattle.run_books.specs.Lines.{IsCallLine, answer_line, limits_in};
+ghost use Rattle.run_books.specs.Collected.{answer_line};
+ghost use Rattle.run_books.specs.Lines.{IsCallLine, limits_in};
 ghost use Rattle.call_rounds.specs.Rounds.{AreBooksAfter, AreBooksWithin, AreRetired};
 ghost use Rattle.run_books.specs.Books.{IsSpan};
 

@@ -21,7 +21,9 @@ use Rattle.report_text.specs.declared.report.ReportLine.TheVariants as report
 use Rattle.request_text.specs.Invocations.{sent_by, shown_of}
 use Rattle.request_text.specs.Text.{call_count}
 use Rattle.host_report.specs.Report.{AreLines, IsLine, IsModuleLine, next_number}
-use Rattle.run_books.specs.Lines.{IsCallLine, Limits, ShowsCall, answer_line, load_limits, loading_line, run_limits}
+use Rattle.run_books.specs.Collected.{answer_line}
+use Rattle.run_books.specs.Lines.{IsCallLine, Limits, ShowsCall, load_limits, loading_line, run_limits}
+use Rattle.run_books.proofs.CallLemmas.{as_answered}
 use Rattle.run_books.proofs.PlaceLemmas.{call_count-call, call_count-module, call_count-retire}
 
 -- the laws of the layers below: bytes load to one answer, what loads is within its limits, and a call of a valid module has one answer
@@ -46,9 +48,12 @@ module _ (one_load : LoadsOnce) (within : LoadsWithin) (one_answer : AnswersOnce
   shown_once limits bytes true invocation (Err why) a b loads h g = h ∙ sym g
   shown_once limits bytes false invocation (Err why) a b loads h g = h ∙ sym g
   shown_once limits bytes true invocation (Ok m) a b loads h g = h ∙ sym g
-  shown_once limits bytes false asked (Ok m) a b loads (p, x, answer, free, is) (q, y, answer', free', is') =
-      let (same, bytes_same) = one_answer m (run_limits limits) asked.export asked.args (sent_by asked) asked.fuel p q x y (within limits.profile bytes (load_limits limits) m loads).valid answer answer' (free ∙ sym free') in
-      is ∙ ap (λ (l : LaneAnswer). answer_line l (shown_of asked x)) same ∙ ap (λ (s : List ℕ). answer_line q (shown_of asked s)) bytes_same ∙ sym is'
+  shown_once limits bytes false asked (Ok m) a b loads h g =
+      let valid = (within limits.profile bytes (load_limits limits) m loads).valid in
+      let one = as_answered m (run_limits limits) asked a h in
+      let other = as_answered m (run_limits limits) asked b g in
+      let (same, bytes_same) = one_answer m (run_limits limits) asked.export asked.args (sent_by asked) asked.fuel one.answer other.answer one.bytes other.bytes valid one.answered other.answered (one.free ∙ sym other.free) in
+      one.shows ∙ ap (λ (l : LaneAnswer). answer_line l (shown_of asked one.bytes)) same ∙ ap (λ (s : List ℕ). answer_line other.answer (shown_of asked s)) bytes_same ∙ sym other.shows
 
   pub one_call_line : (limits : Limits) (bytes : List ℕ) (retired : Bool) (invocation : Invocation) (a b : CallLine)
       → IsCallLine limits bytes retired invocation a → IsCallLine limits bytes retired invocation b → a ≡ b

@@ -1,5 +1,6 @@
 -- The lines of a report, one after the other.
 use Rattle.std.proofs.Common.{◌≡◌, ℕ, zero, suc, ◌+◌, ◌<◌, ◌≤◌, Bool, List, [], ◌∷◌, ◌++◌, Option, None, Some, Ok, Err, length, map, drop, refl, sym, ap, ◌∙◌, subst, arith, append_assoc, append-nil, length-drop}
+use Rattle.std.proofs.lemmas.List.{flat_map_more}
 use Rattle.std.specs.Prelude.{slice_get}
 use Rattle.request_text.specs.declared.invocation.Invocation.{Invocation}
 use Rattle.request_text.specs.declared.request.Directive.{Directive}
@@ -9,6 +10,7 @@ use Rattle.report_text.specs.declared.report.CallLine.{CallLine}
 use Rattle.report_text.specs.declared.report.ReportLine.{ReportLine}
 use Rattle.request_text.specs.Text.{call_count, modules_of}
 use Rattle.host_report.specs.Answers.{AreAnswers, AreCollected}
+use Rattle.host_report.specs.Made.{call_shown, calls_shown}
 use Rattle.host_report.specs.Report.{AreLines, IsModuleLine}
 use Rattle.run_books.specs.Lines.{Limits}
 use Rattle.run_books.specs.Entries.{AreEntries, Entry, IsEntry, entry_line}
@@ -41,6 +43,22 @@ lines_at [] i within = absurd (omega arith)
 lines_at (line ∷ lines) zero within = (line, refl, refl)
 lines_at (line ∷ lines) (suc i) within = lines_at lines i (omega arith)
 
+-- the calls that one line more shows
+shown_more : (lines : List ReportLine) (line : ReportLine) → calls_shown (lines ++ line ∷ []) ≡ calls_shown lines ++ call_shown line
+shown_more lines line = sym (flat_map_more call_shown [] lines line)
+
+-- a line that shows no call leaves what is to be shown, and one that shows the next call takes it
+shown_as_before : (lines : List ReportLine) (line : ReportLine) (left answers : List CallLine) → call_shown line ≡ [] → calls_shown lines ++ left ≡ answers → calls_shown (lines ++ line ∷ []) ++ left ≡ answers
+shown_as_before lines line left answers none h =
+    let same : calls_shown (lines ++ line ∷ []) ≡ calls_shown lines = shown_more lines line ∙ ap (λ (l : List CallLine). calls_shown lines ++ l) none ∙ append-nil (calls_shown lines) in
+    ap (λ (l : List CallLine). l ++ left) same ∙ h
+
+shown_next : (lines : List ReportLine) (line : ReportLine) (how : CallLine) (left answers : List CallLine) → call_shown line ≡ how ∷ [] → calls_shown lines ++ (how ∷ left) ≡ answers
+    → calls_shown (lines ++ line ∷ []) ++ left ≡ answers
+shown_next lines line how left answers one h =
+    let more : calls_shown (lines ++ line ∷ []) ≡ calls_shown lines ++ how ∷ [] = shown_more lines line ∙ ap (λ (l : List CallLine). calls_shown lines ++ l) one in
+    ap (λ (l : List CallLine). l ++ left) more ∙ append_assoc (calls_shown lines) (how ∷ []) left ∙ h
+
 abbrev Lines : Type 0
 Lines = List (Option CallLine)
 
@@ -51,6 +69,7 @@ pub record LinesLeft (limits : Limits) (whole rest : List Directive) (entries : 
   pub answers_left : AreAnswers limits (modules_of whole) rest (drop counts.calls answers)
   pub on_board : (j : ℕ) → counts.calls ≤ j → slice_get board j ≡ slice_get (map (λ (l : CallLine). Some l) answers) j
   pub few : counts.calls + call_count rest ≤ MOST_CALLS
+  pub shown : calls_shown lines ++ drop counts.calls answers ≡ answers
   pub completes : (more : List ReportLine) → AreLines limits (modules_of whole) (counts.calls + 1) rest more → AreLines limits (modules_of whole) 1 whole (lines ++ more)
 
 module _ (limits : Limits) (whole : List Directive) (entries : List Entry) (answers : List CallLine) where
@@ -61,6 +80,7 @@ module _ (limits : Limits) (whole : List Directive) (entries : List Entry) (answ
     answers_left = answered;
     on_board = λ j above. ap (λ (b : Lines). slice_get b j) all;
     few = omega arith;
+    shown = refl;
     completes = λ more h. h;
   }
 
@@ -69,6 +89,14 @@ module _ (limits : Limits) (whole : List Directive) (entries : List Entry) (answ
   lines_end rest board counts lines none h =
       let k : LinesLeft limits whole [] entries answers board counts lines = rw none at h in
       rw append-nil at (k.completes [] refl)
+
+  -- and so they show all calls
+  pub shown_end : (rest : List Directive) (board : Lines) (counts : Counts) (lines : List ReportLine) → rest ≡ [] → LinesLeft limits whole rest entries answers board counts lines
+      → calls_shown lines ≡ answers
+  shown_end rest board counts lines none h =
+      let k : LinesLeft limits whole [] entries answers board counts lines = rw none at h in
+      let end : drop counts.calls answers ≡ [] = k.answers_left in
+      sym (append-nil (calls_shown lines)) ∙ ap (λ (l : List CallLine). calls_shown lines ++ l) (sym end) ∙ k.shown
 
   -- the line of the next call, on the board and among all
   call_here : (tenant place : ℕ) (retired : Bool) (invocation : Invocation) (more : List Directive) (board : Lines) (counts : Counts) (lines : List ReportLine) → LinesLeft limits whole (Call tenant place retired invocation ∷ more) entries answers board counts lines
@@ -95,6 +123,7 @@ module _ (limits : Limits) (whole : List Directive) (entries : List Entry) (answ
         answers_left = h.answers_left;
         on_board = h.on_board;
         few = (let f = h.few in omega (arith, call_count-module name bytes more));
+        shown = shown_as_before lines line _ answers (ap call_shown is) h.shown;
         completes = λ others g. rw append_assoc (h.completes (line ∷ others) ((entry_line entry, entry_told limits bytes entry left.0, is), g));
       }
   line_here (Retire place name) more board counts lines line is h = record {
@@ -102,18 +131,21 @@ module _ (limits : Limits) (whole : List Directive) (entries : List Entry) (answ
     answers_left = h.answers_left;
     on_board = h.on_board;
     few = (let f = h.few in omega (arith, call_count-retire place name more));
+    shown = shown_as_before lines line _ answers (ap call_shown is) h.shown;
     completes = λ others g. rw append_assoc (h.completes (line ∷ others) (is, g));
   }
   line_here (Call tenant place retired invocation) more board counts lines line (how, got, is) h =
       let (how', on, among) = call_here tenant place retired invocation more board counts lines h in
       let both : Some (Some how') ≡ Some (Some how) = sym on ∙ got in
       let same : how' ≡ how = cc in
+      let rest_is = drop_got answers counts.calls how' among in
       let left : AreAnswers limits (modules_of whole) (Call tenant place retired invocation ∷ more) (how' ∷ drop (counts.calls + 1) answers) =
-      subst (λ (hs : List CallLine). AreAnswers limits (modules_of whole) (Call tenant place retired invocation ∷ more) hs) (drop_got answers counts.calls how' among) h.answers_left in
+      subst (λ (hs : List CallLine). AreAnswers limits (modules_of whole) (Call tenant place retired invocation ∷ more) hs) rest_is h.answers_left in
       let is' : line ≡ report.Call (counts.calls + 1) how' = is ∙ ap (λ (l : CallLine). report.Call (counts.calls + 1) l) (sym same) in
       record {
         entries_left = h.entries_left;
         answers_left = left.1;
+        shown = shown_next lines line how' _ answers (ap call_shown is') (subst (λ (hs : List CallLine). calls_shown lines ++ hs ≡ answers) rest_is h.shown);
         on_board = λ j above. got_set_other board counts.calls j None (λ (e : counts.calls ≡ j). absurd (omega arith)) ∙ h.on_board j (omega arith);
         few = (let f = h.few in omega (arith, call_count-call tenant place retired invocation more));
         completes = λ others g. rw append_assoc (h.completes (line ∷ others) ((how', left.0, is'), g));

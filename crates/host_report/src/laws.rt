@@ -1,5 +1,5 @@
 //! Laws of the definitions, as contracts of functions that do nothing.
-ghost use Rattle.std.specs.Prelude.{◌≡◌, ◌+◌, ℕ, Bool, List, Some, slice_get, take};
+ghost use Rattle.std.specs.Prelude.{◌≡◌, ◌+◌, ℕ, Bool, List, Some, length, slice_get, take};
 ghost use Rattle.request_text.specs.declared.invocation.Invocation.{Invocation};
 ghost use Rattle.pool_limits.specs.declared.numbers.Numbers.{Numbers};
 ghost use Rattle.report_text.specs.declared.report.CallLine.{CallLine};
@@ -9,6 +9,7 @@ ghost use Rattle.report_text.specs.declared.report.ReportLine.TheVariants.{Call 
 ghost use Rattle.request_text.specs.declared.request.Directive.TheVariants.{Call};
 ghost use Rattle.request_text.specs.Text.{Asked, call_count, modules_of};
 ghost use Rattle.run_books.specs.Lines.{IsCallLine, Limits, limits_in};
+ghost use Rattle.host_report.specs.Made.{WereMade, calls_shown};
 ghost use Rattle.host_report.specs.Report.{IsModuleLine, IsReport};
 
 use loaded_modules::laws::a_loaded_module_is_within_its_limits;
@@ -53,4 +54,10 @@ pub fn each_call_has_its_line()
         → slice_get (modules_of requests.directives) place ≡ Some bytes
         → (how : CallLine) × IsCallLine (limits_in requests.profile numbers) bytes retired invocation how
         × (slice_get lines at ≡ Some (LineOfCall (1 + call_count (take at requests.directives)) how)) }
+{}
+
+/// Lines that came about by a run of a file show each of its calls once.
+pub fn a_run_shows_each_call()
+    ensures { (numbers : Numbers) (requests : Asked) (slice : ℕ) (lines : List ReportLine)
+        → WereMade numbers requests slice lines → length (calls_shown lines) ≡ call_count requests.directives }
 {}

@@ -4,6 +4,7 @@ ghost use Rattle.module_store.specs.Names.{Bears};
 ghost use Rattle.pool_limits.specs.Plans.{plan_fault};
 ghost use Rattle.request_text.specs.Text.{modules_of};
 ghost use Rattle.host_report.specs.Answers.{AreAnswers, AreCollected, lines_on};
+ghost use Rattle.host_report.specs.Made.{AreOfRun, WereMade, calls_shown};
 ghost use Rattle.run_books.specs.Entries.{AreEntries};
 ghost use Rattle.run_books.specs.Collected.{HasLine};
 ghost use Rattle.host_report.specs.NextLine.{HasSource, ShowsNext, board_after, counts_after};
@@ -87,7 +88,8 @@ fn lines<N: Naming>(
     requires entries { AreEntries (limits_in requests.now.profile N.config) (modules_of requests.now.directives) entries.now }
     requires all { AreCollected board.old (lines_on board.old) }
     requires right { AreAnswers (limits_in requests.now.profile N.config) (modules_of requests.now.directives) requests.now.directives (lines_on board.old) }
-    ensures { IfOk result (λ lines. IsReport N.config requests.now lines.items) }
+    ensures report { IfOk result (λ lines. IsReport N.config requests.now lines.items) }
+    ensures shown { IfOk result (λ lines. calls_shown lines.items ≡ lines_on board.old) }
 {
     let directives = requests.directives();
     let mut counts = Counts {
@@ -115,7 +117,8 @@ fn report_in<N: Naming + Send + Sync, R: Threads + Wait + Sync, G: Gate>(
     requires name { Bears opened N.shelves N.config N.most }
     requires room { length (modules_of requests.now.directives) ≤ N.most }
     requires plan { (plan_fault N.config [] ≡ None) → plan_fault N.config requests.now.wants ≡ None }
-    ensures { IfOk result (λ lines. IsReport N.config requests.now lines.items) }
+    ensures report { IfOk result (λ lines. IsReport N.config requests.now lines.items) }
+    ensures made { IfOk result (λ lines. AreOfRun N.Naming N.config requests.now slice lines.items) }
 {
     let (store, desk) = opened.named::<N>();
     let made = make_all(rt, alloc, &store, desk, slice, requests, gate)?;
@@ -139,7 +142,8 @@ pub fn report<R: Threads + Wait + Sync, G: Gate>(
     gate: &G,
 ) -> Result<Vec<ReportLine>, NoMemory>
     requires plan { (plan_fault config [] ≡ None) → plan_fault config requests.now.wants ≡ None }
-    ensures { IfOk result (λ lines. IsReport config requests.now lines.items) }
+    ensures report { IfOk result (λ lines. IsReport config requests.now lines.items) }
+    ensures made { IfOk result (λ lines. WereMade config requests.now slice lines.items) }
 {
     let opened = Opened::open_for(alloc, config, count_modules(requests))?;
     report_in::<Brand, R, G>(rt, alloc, opened, slice, requests, gate)

@@ -6,6 +6,7 @@ use Rattle.pool_limits.specs.declared.numbers.Numbers.{Numbers}
 use Rattle.request_text.specs.Text.{Asked, FileRefusal, requests_of}
 use Rattle.command_line.specs.declared.words.Command.TheVariants.{Run}
 use Rattle.host_run.specs.declared.due.Due.{Due}
+use Rattle.host_run.specs.Made.{FileWasMade, WasMade}
 use Rattle.host_run.specs.Owed.{Owes}
 use Rattle.host_run.specs.Serving.{Answer, IsFileAnswer, due_answer}
 use Rattle.host_run.specs.Streams.{ReadsInput}
@@ -45,3 +46,8 @@ owes_file left faults numbers summary slice before after bytes text due read qui
       quiet = quiet;
       later = omega arith;
     }
+
+-- and what it is answered came about as it is said of those bytes
+pub was_made : (numbers : Numbers) (summary : Bool) (slice : ℕ) (before after : Option (List ℕ)) (bytes text : List ℕ) (answer : Answer)
+    → ReadsInput before after bytes → text ≡ bytes → FileWasMade numbers summary slice text answer → WasMade (Run numbers summary slice) before after answer
+was_made numbers summary slice before after bytes text answer read same made = (bytes, read.taken, subst (λ (b : List ℕ). FileWasMade numbers summary slice b answer) same made)

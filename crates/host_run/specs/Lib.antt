@@ -1,3 +1,4 @@
+pub mod Made
 pub mod Owed
 pub mod Refusal
 pub mod Serving

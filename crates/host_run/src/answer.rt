@@ -1,6 +1,7 @@
 //! What a request file is answered.
 ghost use Rattle.std.specs.Prelude.{[], ◌≡◌, ◌⊎◌, ◌<◌, IfOk, IsOk, IsSomeAnd, None, length, option_map};
 ghost use Rattle.std.specs.Result.{result_ok};
+ghost use Rattle.host_run.specs.Made.{FileWasMade, IsOfRun};
 ghost use Rattle.host_run.specs.Refusal.{told};
 ghost use Rattle.host_run.specs.Serving.{IsFileAnswer, IsReported, lines_text, refused, due_answer};
 ghost use Rattle.pool_limits.specs.Plans.{plan_fault};
@@ -46,7 +47,8 @@ fn reported<R: Threads + Wait + Sync, G: Gate>(
     gate: &G,
 ) -> Result<Due, NoMemory>
     requires plan { (plan_fault config [] ≡ None) → plan_fault config requests.now.wants ≡ None }
-    ensures { IfOk result (λ due. IsReported config summary requests.now (due_answer due)) }
+    ensures reported { IfOk result (λ due. IsReported config summary requests.now (due_answer due)) }
+    ensures made { IfOk result (λ due. IsOfRun config summary slice requests.now (due_answer due)) }
 {
     let lines = report(rt, alloc, config, slice, requests, gate)?;
     let text = lines_text(alloc, lines, summary)?;
@@ -67,6 +69,7 @@ pub(crate) fn answer<R: Threads + Wait + Sync, G: Gate>(
     gate: &G,
 ) -> Result<Due, NoMemory>
     ensures answer { IfOk result (λ due. IsFileAnswer config summary bytes.now (due_answer due)) }
+    ensures made { IfOk result (λ due. FileWasMade config summary slice bytes.now (due_answer due)) }
     ensures status { IfOk result (λ due. (due.status ≡ 0) ⊎ (due.status ≡ 2)) }
     ensures too_long { MOST_BYTES < length bytes.now → IsOk result }
 {

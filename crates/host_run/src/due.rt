@@ -1,5 +1,6 @@
 //! What a run owes: a status, and the text that is due before it.
 ghost use Rattle.std.specs.Prelude.{◌≡◌, IfOk, MatchResult, Some};
+ghost use Rattle.host_run.specs.Made.{WasMade};
 ghost use Rattle.host_run.specs.Owed.{Owes};
 ghost use Rattle.host_run.specs.Serving.{load_of, refused, refused_words, due_answer, texts_of};
 ghost use Rattle.command_line.specs.Words.{command_of};
@@ -67,7 +68,8 @@ fn run_due<R: Threads + Wait + Sync, S: Source, G: Gate>(
     source: &mut S,
     gate: &G,
 ) -> Result<Due, InputFault>
-    ensures { Owes S.left S.faults (Some (Run config summary slice)) source.old source.new result }
+    ensures owes { Owes S.left S.faults (Some (Run config summary slice)) source.old source.new result }
+    ensures made { IfOk result (λ due. WasMade (Run config summary slice) (S.left source.old) (S.left source.new) (due_answer due)) }
 {
     let bytes = read_input(alloc, source)?;
     Ok(answer(rt, alloc, config, summary, slice, &bytes, gate)?)
@@ -120,7 +122,8 @@ fn command_due<R: Threads + Wait + Sync, S: Source, G: Gate>(
     source: &mut S,
     gate: &G,
 ) -> Result<Due, InputFault>
-    ensures { Owes S.left S.faults (Some command) source.old source.new result }
+    ensures owes { Owes S.left S.faults (Some command) source.old source.new result }
+    ensures made { IfOk result (λ due. WasMade command (S.left source.old) (S.left source.new) (due_answer due)) }
 {
     match command {
         Command::Run {

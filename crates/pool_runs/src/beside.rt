@@ -12,7 +12,6 @@ use std::marker::Brand;
 use std::process::Abort;
 use std::sync::Wait;
 use std::sync::atomic::{AtomicBool, Ordering};
-use std::test::Fail;
 use std::thread;
 use std::thread::Threads;
 use wasm_values::{Outcome, Profile, Val};
@@ -155,12 +154,11 @@ const ROWS: [(u32, bool, Answer); 3] = [
 ];
 
 #[test]
-fn a_call_is_made_or_finds_no_memory_beside_a_held_call(rt: HostRuntime) -> Result<(), Fail> {
+fn a_call_is_made_or_finds_no_memory_beside_a_held_call(rt: HostRuntime) {
     let alloc = rt.alloc();
     for (memories, adds, second) in ROWS {
-        let opened = open(alloc, 2, 4)?;
+        let opened = open(&rt, alloc, 2, 4);
         let ends = held::<Brand, HostRuntime>(&rt, alloc, opened, memories, adds);
         assert_eq!(rt; ends, ([DONE, second, DONE], [0, 0, 0]));
     }
-    Ok(())
 }

@@ -9,7 +9,6 @@ use pool_limits::{Numbers, PoolConfig, Share};
 use std::alloc::Global;
 use std::process::Abort;
 use std::sync::Wait;
-use std::test::Fail;
 use wasm_values::{Outcome, Profile, Val};
 
 // Counts in its memory, in eight turns.
@@ -19,7 +18,7 @@ pub(crate) static BUMP: [u8; 58] =
 pub(crate) const ONE: Outcome = Outcome::Done(Some(Val::I32(1)));
 
 // A store for hosts whose memories and tables are at most so many warm, and whose memories are cleaned so many at once.
-pub(crate) fn open(alloc: Global, warm: u32, batch: u32) -> Result<Opened, Fail> {
+pub(crate) fn open<R: Abort>(rt: &R, alloc: Global, warm: u32, batch: u32) -> Opened {
     let config = PoolConfig::new(Numbers {
         workers: 1,
         instances: 4,
@@ -31,8 +30,9 @@ pub(crate) fn open(alloc: Global, warm: u32, batch: u32) -> Result<Opened, Fail>
         elements: 8,
         depth: 16,
         frame: 16,
-    })?;
-    Ok(Opened::open(alloc, config)?)
+    })
+    .expect(rt, "in range");
+    Opened::open(alloc, config).expect(rt, "memory")
 }
 
 pub(crate) fn register<N: Naming, R: Abort + Wait>(

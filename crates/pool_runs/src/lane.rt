@@ -10,7 +10,6 @@ use std::alloc::Global;
 use std::marker::Brand;
 use std::process::Abort;
 use std::sync::Wait;
-use std::test::Fail;
 use wasm_values::Profile;
 
 const SHARE: Share = Share {
@@ -29,9 +28,8 @@ fn called<N: Naming, R: Abort + Wait>(rt: &R, alloc: Global, opened: Opened) -> 
 }
 
 #[test]
-fn a_lane_makes_a_call(rt: HostRuntime) -> Result<(), Fail> {
-    let opened = open(rt.alloc(), 1, 1)?;
+fn a_lane_makes_a_call(rt: HostRuntime) {
+    let opened = open(&rt, rt.alloc(), 1, 1);
     let answer = called::<Brand, HostRuntime>(&rt, rt.alloc(), opened);
     assert_eq!(rt; answer, LaneAnswer::Done(ONE));
-    Ok(())
 }

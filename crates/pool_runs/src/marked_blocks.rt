@@ -19,7 +19,6 @@ use std::alloc::Global;
 use std::marker::Brand;
 use std::process::Abort;
 use std::sync::Wait;
-use std::test::Fail;
 use wasm_values::{Outcome, Profile, Val};
 
 // A store at an address, a memory that is grown and written to, one that is only grown, and a fill.
@@ -187,11 +186,10 @@ fn first_wrong_of<N: Naming, R: Abort + Wait>(rt: &R, alloc: Global, opened: Ope
 }
 
 #[test]
-fn a_call_marks_the_blocks_that_it_writes_until_a_flush(rt: HostRuntime) -> Result<(), Fail> {
+fn a_call_marks_the_blocks_that_it_writes_until_a_flush(rt: HostRuntime) {
     for batch in [1, 2] {
-        let opened = open(rt.alloc(), 2, batch)?;
+        let opened = open(&rt, rt.alloc(), 2, batch);
         let place = first_wrong_of::<Brand, HostRuntime>(&rt, rt.alloc(), opened);
         assert_eq!(rt; place, ROWS.len(), "a batch of {batch}");
     }
-    Ok(())
 }

@@ -12,7 +12,6 @@ use std::marker::Brand;
 use std::process::Abort;
 use std::sync::Wait;
 use std::sync::atomic::{AtomicU64, Ordering};
-use std::test::Fail;
 use wasm_values::{Outcome, Profile, Val};
 
 // Counts its argument down in a loop: six turns for each, and one.
@@ -209,13 +208,93 @@ fn check_slices<N: Naming, R: Abort + Wait>(rt: &R, alloc: Global, opened: Opene
 }
 
 #[test]
-fn a_call_in_slices_ends_as_at_once(rt: HostRuntime) -> Result<(), Fail> {
-    let opened = open(rt.alloc(), 1, 1)?;
+fn a_call_in_slices_ends_as_at_once(rt: HostRuntime) {
+    let opened = open(&rt, rt.alloc(), 1, 1);
     check_slices::<Brand, HostRuntime>(&rt, rt.alloc(), opened);
-    Ok(())
 }
 
-// Calls 1 and 2 are refused. Call 3 has the one memory until it is given up: call 4 is refused, and call 5 made.
+// Why calls 1 and 2 do not begin.
+fn refused_twice<N: Naming, R: Abort>(
+    rt: &R,
+    host: &Host<N>,
+    pass: HostPass<N>,
+    store: &ModuleStore<N>,
+    module: &ModuleRef<N>,
+    gate: &NotingGate,
+) -> ([Answer; 2], HostPass<N>)
+    requires { IsHostPass host.now pass }
+    ensures { IsHostPass host.now result.1 }
+{
+    let other = Asked {
+        export: "other",
+        ..bumping(1)
+    };
+    let (missing, pass) = refused(rt, host, pass, store, module, other, gate);
+    let many = Asked {
+        args: &[Val::I32(0)],
+        ..bumping(2)
+    };
+    let (bad, pass) = refused(rt, host, pass, store, module, many, gate);
+    ([missing, bad], pass)
+}
+
+// Why call 4 does not begin while call 3 is paused, which is given up then.
+fn beside_paused<N: Naming, R: Abort>(
+    rt: &R,
+    host: &Host<N>,
+    first: HostPass<N>,
+    second: HostPass<N>,
+    store: &ModuleStore<N>,
+    module: &ModuleRef<N>,
+    gate: &NotingGate,
+) -> (Answer, HostPass<N>, HostPass<N>)
+    requires { IsHostPass host.now first × IsHostPass host.now second }
+    ensures { IsHostPass host.now result.1 × IsHostPass host.now result.2 }
+{
+    let paused = begun(rt, host, first, store, module, bumping(3), gate);
+    let paused = again(rt, host, store, paused, 7, gate);
+    let (full, second) = refused(rt, host, second, store, module, bumping(4), gate);
+    (full, paused.cancel(host, store, gate), second)
+}
+
+// The number of call 6, and how it ends in two slices.
+fn in_two_slices<N: Naming, R: Abort>(
+    rt: &R,
+    host: &Host<N>,
+    pass: HostPass<N>,
+    store: &ModuleStore<N>,
+    module: &ModuleRef<N>,
+    gate: &NotingGate,
+) -> (u64, Outcome, HostPass<N>)
+    requires { IsHostPass host.now pass }
+    ensures { IsHostPass host.now result.2 }
+{
+    let paused = begun(rt, host, pass, store, module, bumping(6), gate);
+    let paused = again(rt, host, store, paused, 7, gate);
+    let number = paused.number();
+    let (outcome, pass) = ended(rt, host, store, paused, 1, gate);
+    (number, outcome, pass)
+}
+
+// Begins call 7, which is dropped.
+fn begin_and_drop<N: Naming, R: Abort>(
+    rt: &R,
+    host: &Host<N>,
+    pass: HostPass<N>,
+    store: &ModuleStore<N>,
+    module: &ModuleRef<N>,
+    gate: &NotingGate,
+)
+    requires { IsHostPass host.now pass }
+{
+    let _ = begun(rt, host, pass, store, module, bumping(7), gate);
+}
+
+const FULL: Answer = Answer::Full(Kind::Memory);
+
+const DONE: Answer = Answer::Done(ONE);
+
+// Calls 1 to 4 with the first pass and the second, and call 5 with the second, when call 3 is given up.
 fn check_given_up<N: Naming, R: Abort>(
     rt: &R,
     host: &Host<N>,
@@ -228,29 +307,16 @@ fn check_given_up<N: Naming, R: Abort>(
     requires { IsHostPass host.now first × IsHostPass host.now second }
     ensures { IsHostPass host.now result.0 × IsHostPass host.now result.1 }
 {
-    let other = Asked {
-        export: "other",
-        ..bumping(1)
-    };
-    let (missing, first) = refused(rt, host, first, store, module, other, gate);
-    let many = Asked {
-        args: &[Val::I32(0)],
-        ..bumping(2)
-    };
-    let (bad, first) = refused(rt, host, first, store, module, many, gate);
-    let paused = begun(rt, host, first, store, module, bumping(3), gate);
-    let paused = again(rt, host, store, paused, 7, gate);
-    let (full, second) = refused(rt, host, second, store, module, bumping(4), gate);
-    let first = paused.cancel(host, store, gate);
+    let (refusals, first) = refused_twice(rt, host, first, store, module, gate);
+    let (full, first, second) = beside_paused(rt, host, first, second, store, module, gate);
     let (done, second) = bump(host, second, store, module, 5, gate);
-    assert_eq!(rt; (missing, bad), (Answer::NoExport, Answer::BadArgs));
-    assert_eq!(rt; (full, done), (FULL, Answer::Done(ONE)));
+    let [missing, bad] = refusals;
+    let answers = [missing, bad, full, done];
+    assert_eq!(rt; answers, [Answer::NoExport, Answer::BadArgs, FULL, DONE]);
     (first, second)
 }
 
-const FULL: Answer = Answer::Full(Kind::Memory);
-
-// Call 6 is made in two slices, and call 7 dropped: its memory stays held, so that call 8 has none.
+// Call 6 with the first pass, call 7, whose memory stays held since it is dropped, and call 8 with the second pass.
 fn check_dropped<N: Naming, R: Abort>(
     rt: &R,
     host: &Host<N>,
@@ -263,11 +329,8 @@ fn check_dropped<N: Naming, R: Abort>(
     requires { IsHostPass host.now first × IsHostPass host.now second }
     ensures { IsHostPass host.now result }
 {
-    let paused = begun(rt, host, first, store, module, bumping(6), gate);
-    let paused = again(rt, host, store, paused, 7, gate);
-    let number = paused.number();
-    let (outcome, first) = ended(rt, host, store, paused, 1, gate);
-    drop(begun(rt, host, first, store, module, bumping(7), gate));
+    let (number, outcome, first) = in_two_slices(rt, host, first, store, module, gate);
+    begin_and_drop(rt, host, first, store, module, gate);
     let (full, second) = bump(host, second, store, module, 8, gate);
     assert_eq!(rt; (number, outcome, full), (6, ONE, FULL));
     second
@@ -288,8 +351,7 @@ fn check_slots<N: Naming, R: Abort + Wait>(rt: &R, alloc: Global, opened: Opened
 }
 
 #[test]
-fn a_paused_call_has_its_slots_until_it_ends_or_is_given_up(rt: HostRuntime) -> Result<(), Fail> {
-    let opened = open(rt.alloc(), 1, 1)?;
+fn a_paused_call_has_its_slots_until_it_ends_or_is_given_up(rt: HostRuntime) {
+    let opened = open(&rt, rt.alloc(), 1, 1);
     check_slots::<Brand, HostRuntime>(&rt, rt.alloc(), opened);
-    Ok(())
 }

@@ -11,7 +11,6 @@ use std::alloc::Global;
 use std::marker::Brand;
 use std::process::Abort;
 use std::sync::Wait;
-use std::test::Fail;
 use wasm_values::Profile;
 
 fn kinds(cold: u32, warm: u32, awaiting: u32) -> KindCounts {
@@ -48,7 +47,7 @@ fn memories_after<N: Naming, R: Abort + Wait>(
 }
 
 #[test]
-fn memories_are_warm_up_to_the_limit_and_await_up_to_a_batch(rt: HostRuntime) -> Result<(), Fail> {
+fn memories_are_warm_up_to_the_limit_and_await_up_to_a_batch(rt: HostRuntime) {
     let alloc = rt.alloc();
     let rows = [
         (3, 2, [0].as_slice(), kinds(2, 0, 1)),
@@ -57,9 +56,8 @@ fn memories_are_warm_up_to_the_limit_and_await_up_to_a_batch(rt: HostRuntime) ->
         (0, 1, [0, 1].as_slice(), kinds(3, 0, 0)),
     ];
     for (warm, batch, calls, expected) in rows {
-        let opened = open(alloc, warm, batch)?;
+        let opened = open(&rt, alloc, warm, batch);
         let counts = memories_after::<Brand, HostRuntime>(&rt, alloc, opened, calls);
         assert_eq!(rt; counts, expected, "{calls:?}");
     }
-    Ok(())
 }

@@ -8,7 +8,6 @@ use crate::noted_values::opened;
 use affinity_index::order;
 use pool_core::{State, Target, pack};
 use slot_words::Seen;
-use std::test::Fail;
 
 fn free(state: State, tag: u32, stamp: u64) -> u64
     requires { is_well_formed (record { state = state; tag = tag; stamp = stamp }) ≡ true }
@@ -39,11 +38,10 @@ fn its_own_come_first_and_cold_ones_by_the_limit(rt: HostRuntime) {
 }
 
 #[test]
-fn as_many_cold_slots_as_a_pool_may_have_come_by_their_number(rt: HostRuntime) -> Result<(), Fail> {
-    let (words, mut pass, _other) = opened(rt.alloc(), 1_024, 1)?;
+fn as_many_cold_slots_as_a_pool_may_have_come_by_their_number(rt: HostRuntime) {
+    let (words, mut pass, _other) = opened(rt.alloc(), 1_024, 1).expect(&rt, "memory");
     let mut seen = Seen::new();
     words.scan(&mut pass, &mut seen);
     let all = order(seen.words(), 7, 0, 1);
     assert!(rt; all.numbers().iter().copied().eq(0..1_024));
-    Ok(())
 }

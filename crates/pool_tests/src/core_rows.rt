@@ -3,10 +3,9 @@ use pool_core::Event::{
     AwaitDown, AwaitLoad, AwaitUp, Claim, Home, Join, Load, Out, Release, Split, Stamp, WarmDown,
     WarmUp,
 };
-use pool_core::{Core, Event, NoMemory, ReplayFault, State, Target, Unlawful, pack, replay, step};
+use pool_core::{Core, Event, ReplayFault, State, Target, Unlawful, pack, replay, step};
 use std::alloc::Global;
 use std::process::Abort;
-use std::test::Fail;
 
 const COLD: Target = Target::COLD;
 
@@ -270,10 +269,10 @@ fn stepped(core: &mut Core, events: &[Event]) -> Option<ReplayFault> {
     first
 }
 
-fn check_row(rt: &impl Abort, alloc: Global, place: usize, row: &Row) -> Result<(), NoMemory> {
+fn check_row(rt: &impl Abort, alloc: Global, place: usize, row: &Row) {
     let [slots, warm, seats] = row.opening;
     assert!(rt; seats >= 1);
-    let mut core = Core::new(alloc, slots, warm, seats)?;
+    let mut core = Core::new(alloc, slots, warm, seats).expect(rt, "memory");
     let refused = stepped(&mut core, row.events);
     let words = [core.word(0), core.word(1), core.word(2)];
     let counts = [core.warm(), core.awaiting(), core.clock()];
@@ -281,15 +280,13 @@ fn check_row(rt: &impl Abort, alloc: Global, place: usize, row: &Row) -> Result<
     assert_eq!(rt; end, (row.refused, row.words, row.counts), "row {place}");
     let replayed = replay(alloc, slots, warm, seats, row.events);
     assert_eq!(rt; replayed.err(), row.refused, "row {place}");
-    Ok(())
 }
 
 #[test]
-fn events_are_refused_by_the_least_rule_or_end_as_worked(rt: HostRuntime) -> Result<(), Fail> {
+fn events_are_refused_by_the_least_rule_or_end_as_worked(rt: HostRuntime) {
     for (place, row) in ROWS.iter().enumerate() {
-        check_row(&rt, rt.alloc(), place, row)?;
+        check_row(&rt, rt.alloc(), place, row);
     }
-    Ok(())
 }
 
 #[test]

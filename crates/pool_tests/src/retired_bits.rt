@@ -4,7 +4,6 @@ ghost use Rattle.retired_tags.specs.Passes.{IsNewTagPass, tags_of};
 
 use retired_tags::{RetiredTags, TagPass};
 use std::alloc::{AllocError, Global};
-use std::test::Fail;
 
 // Four tags and two passes.
 fn opened(alloc: Global) -> Result<(RetiredTags, TagPass, TagPass), AllocError>
@@ -17,11 +16,10 @@ fn opened(alloc: Global) -> Result<(RetiredTags, TagPass, TagPass), AllocError>
 }
 
 #[test]
-fn a_bit_that_one_pass_sets_the_other_sees(rt: HostRuntime) -> Result<(), Fail> {
-    let (bits, mut first, mut second) = opened(rt.alloc())?;
+fn a_bit_that_one_pass_sets_the_other_sees(rt: HostRuntime) {
+    let (bits, mut first, mut second) = opened(rt.alloc()).expect(&rt, "memory");
     assert!(rt; !bits.retire(&mut first, 2));
     assert!(rt; bits.is_retired(&mut second, 2));
     assert!(rt; bits.retire(&mut second, 2));
     assert!(rt; !bits.is_retired(&mut second, 3));
-    Ok(())
 }

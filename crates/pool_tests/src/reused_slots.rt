@@ -6,12 +6,11 @@ ghost use Rattle.slot_words.specs.Owned.{IsPassOf, slots_of};
 use crate::noted_values::{Noted, opened};
 use crate::visits::Kind::{Affine, Any, Batched};
 use crate::visits::{Kind, claimed, visit};
-use pool_core::{NoMemory, State, unpack};
+use pool_core::{State, unpack};
 use slot_pools::{give_cold, sweep};
 use slot_words::{Pass, Words};
 use std::alloc::Global;
 use std::process::Abort;
-use std::test::Fail;
 
 // How slot n was left, and how often its value was cleared and restored until then.
 fn left(words: &Words<Noted>, pass: &mut Pass<Noted>, n: u32) -> Option<(State, u32, u32)>
@@ -128,10 +127,10 @@ const ROWS: [Row; 9] = [
     },
 ];
 
-fn check_row(rt: &impl Abort, alloc: Global, place: usize, row: &Row) -> Result<(), NoMemory> {
+fn check_row(rt: &impl Abort, alloc: Global, place: usize, row: &Row) {
     let slots = row.left.len();
     assert!(rt; slots >= 1 && slots <= 3);
-    let (words, mut pass, _other) = opened(alloc, slots as u32, row.warm)?;
+    let (words, mut pass, _other) = opened(alloc, slots as u32, row.warm).expect(rt, "memory");
     for (module, slot) in row.visits {
         let taken = visit(&words, &mut pass, row.kind, *module);
         assert_eq!(rt; taken, Some(*slot), "row {place}");
@@ -143,13 +142,11 @@ fn check_row(rt: &impl Abort, alloc: Global, place: usize, row: &Row) -> Result<
         let noted = left(&words, &mut pass, n as u32);
         assert_eq!(rt; noted, Some(row.left[n]), "slot {n} of row {place}");
     }
-    Ok(())
 }
 
 #[test]
-fn slots_come_back_to_their_modules_and_are_cleaned_once(rt: HostRuntime) -> Result<(), Fail> {
+fn slots_come_back_to_their_modules_and_are_cleaned_once(rt: HostRuntime) {
     for (place, row) in ROWS.iter().enumerate() {
-        check_row(&rt, rt.alloc(), place, row)?;
+        check_row(&rt, rt.alloc(), place, row);
     }
-    Ok(())
 }

@@ -7,12 +7,10 @@ ghost use Rattle.slot_words.specs.Owned.{IsPassOf, slots_of};
 use crate::noted_values::{Noted, opened};
 use crate::visits::Kind::{Affine, Any, Batched};
 use crate::visits::{Kind, claimed, give, take, visit};
-use pool_core::NoMemory;
 use slot_pools::{Policy, give_cold};
 use slot_words::{KindCounts, Lease, Pass, Seen, Words};
 use std::alloc::Global;
 use std::process::Abort;
-use std::test::Fail;
 use std::thread;
 use std::thread::Threads;
 
@@ -31,12 +29,8 @@ fn give_or_drop(words: &Words<Noted>, mut pass: Pass<Noted>, lease: Lease<Noted>
 
 // What a scan sees while two passes have a slot each, the second after it found the first one's held; and the counts by the first, once
 // the second gave its own back or was dropped with it.
-fn two_holders(
-    rt: &impl Abort,
-    alloc: Global,
-    gives: bool,
-) -> Result<([u64; 2], KindCounts), NoMemory> {
-    let (words, mut first, mut second) = opened(alloc, 2, 0)?;
+fn two_holders(rt: &impl Abort, alloc: Global, gives: bool) -> ([u64; 2], KindCounts) {
+    let (words, mut first, mut second) = opened(alloc, 2, 0).expect(rt, "memory");
     let Some(lease) = claimed(&words, &mut first, 0) else {
         panic!(rt; "slot 0 is held");
     };
@@ -51,11 +45,11 @@ fn two_holders(
     let both = [seen.words()[0], seen.words()[1]];
     give_or_drop(&words, second, other, gives);
     give_cold(&words, &mut first, lease);
-    Ok((both, words.close(first)))
+    (both, words.close(first))
 }
 
 #[test]
-fn closing_counts_what_was_given_back_and_what_was_kept(rt: HostRuntime) -> Result<(), Fail> {
+fn closing_counts_what_was_given_back_and_what_was_kept(rt: HostRuntime) {
     for (gives, cold, held) in [(true, 2, 0), (false, 1, 1)] {
         let counts = KindCounts {
             cold,
@@ -63,26 +57,24 @@ fn closing_counts_what_was_given_back_and_what_was_kept(rt: HostRuntime) -> Resu
             awaiting: 0,
             held,
         };
-        assert_eq!(rt; two_holders(&rt, rt.alloc(), gives)?, ([1, 1], counts));
+        assert_eq!(rt; two_holders(&rt, rt.alloc(), gives), ([1, 1], counts));
     }
-    Ok(())
 }
 
 // Which slot the second of two passes is given of a pool of one: while the first has it, and when that gave it back.
-fn beside(alloc: Global, kind: Kind) -> Result<[Option<u32>; 2], Fail> {
-    let (words, mut first, mut second) = opened(alloc, 1, 1)?;
-    let lease = take(&words, &mut first, kind, 5)?;
+fn beside(rt: &impl Abort, alloc: Global, kind: Kind) -> [Option<u32>; 2] {
+    let (words, mut first, mut second) = opened(alloc, 1, 1).expect(rt, "memory");
+    let lease = take(&words, &mut first, kind, 5).expect(rt, "free");
     let full = visit(&words, &mut second, kind, 5);
     give(&words, &mut first, lease, kind, 5);
-    Ok([full, visit(&words, &mut second, kind, 5)])
+    [full, visit(&words, &mut second, kind, 5)]
 }
 
 #[test]
-fn a_held_pool_is_full_until_its_slot_is_given_back(rt: HostRuntime) -> Result<(), Fail> {
+fn a_held_pool_is_full_until_its_slot_is_given_back(rt: HostRuntime) {
     for kind in [Batched(1), Batched(2), Affine, Any] {
-        assert_eq!(rt; beside(rt.alloc(), kind)?, [None, Some(0)]);
+        assert_eq!(rt; beside(&rt, rt.alloc(), kind), [None, Some(0)]);
     }
-    Ok(())
 }
 
 // Takes the one slot and gives it back a thousand times, and counts how often it was won.
@@ -127,10 +119,9 @@ fn both_visit<R: Threads>(
 }
 
 #[test]
-fn two_threads_never_have_one_slot_at_once(rt: HostRuntime) -> Result<(), Fail> {
-    let (words, first, second) = opened(rt.alloc(), 1, 1)?;
+fn two_threads_never_have_one_slot_at_once(rt: HostRuntime) {
+    let (words, first, second) = opened(rt.alloc(), 1, 1).expect(&rt, "memory");
     let (won, won_too, mut pass) = both_visit(&rt, &words, first, second);
-    let lease = slot_pools::take(&words, &mut pass, &(), Policy::Any)?;
+    let lease = slot_pools::take(&words, &mut pass, &(), Policy::Any).expect(&rt, "free");
     assert_eq!(rt; lease.value.visits, won.wrapping_add(won_too));
-    Ok(())
 }

@@ -10,15 +10,23 @@ use Rattle.report_text.specs.declared.report.CallLine.TheVariants as call_line
 use Rattle.request_text.specs.Text.{call_count, modules_of}
 use Rattle.due_calls.specs.declared.calls.Due.{Due}
 use Rattle.due_calls.specs.declared.entries.Worked.{Worked}
+use Rattle.pool_host.specs.declared.lane.LaneAnswer.{LaneAnswer}
 use Rattle.pool_host.specs.declared.lane.LaneAnswer.TheVariants as lane
-use Rattle.run_books.specs.Lines.{GoesAs, Limits, answer_line}
+use Rattle.run_books.specs.Lines.{GoesAs, Limits, end_line}
+
+-- the line of a call that the lane answered so, where this is shown of its bytes
+abbrev pub answer_line : LaneAnswer → (shown : Option (List ℕ)) → CallLine
+answer_line (lane.Done outcome) shown = end_line outcome shown
+answer_line lane.NoExport shown = call_line.NoExport
+answer_line lane.BadArgs shown = call_line.BadArgs
+answer_line lane.Retired shown = call_line.Retired
 
 -- The line of a call that was answered so by a host, or without a module, where this is shown of its bytes. Where its module is retired before it,
 -- that is its line, whatever it was answered. There is none where it was answered Full, or Retired before a retire line of its module.
 abbrev pub line_of : (retired : Bool) → Option Answer → (shown : Option (List ℕ)) → Option CallLine
 line_of retired None shown = Some call_line.NoModule
 line_of true (Some how) shown = Some call_line.Retired
-line_of false (Some (answer.Done outcome)) shown = Some (answer_line (lane.Done outcome) shown)
+line_of false (Some (answer.Done outcome)) shown = Some (end_line outcome shown)
 line_of false (Some answer.NoExport) shown = Some call_line.NoExport
 line_of false (Some answer.BadArgs) shown = Some call_line.BadArgs
 line_of false (Some answer.Retired) shown = None

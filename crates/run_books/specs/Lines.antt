@@ -1,16 +1,15 @@
 -- What a module line and a call show.
 use Rattle.wasm_types.specs.declared.limits.RunLimits.{RunLimits}
 use Rattle.wasm_types.specs.declared.limits.LoadLimits.{LoadLimits}
-use Rattle.std.specs.Prelude.{◌≡◌, ℕ, Bool, true, false, List, Option, Some, Result, Ok, Err, slice_get}
+use Rattle.std.specs.Prelude.{◌≡◌, ◌⊎◌, ℕ, Bool, true, false, List, Option, Some, Result, Ok, Err, slice_get}
+use Rattle.wasm_values.specs.declared.outcome.Outcome.{Outcome}
 use Rattle.wasm_values.specs.declared.outcome.Outcome.TheVariants as outcome
 use Rattle.request_text.specs.declared.invocation.Invocation.{Invocation}
 use Rattle.wasm_values.specs.declared.profile.Profile.{Profile}
 use Rattle.wasm_types.specs.Tree.{ModuleTree}
 use Rattle.wasm_spec.specs.Loading as loading
 use Rattle.wasm_spec.specs.Loading.{Loads, Refusal}
-use Rattle.pool_host.specs.declared.lane.LaneAnswer.{LaneAnswer}
-use Rattle.pool_host.specs.declared.lane.LaneAnswer.TheVariants as answer
-use Rattle.pool_host.specs.CallWords.{IsAnswer, is_retired}
+use Rattle.instance_calls.specs.CallWords.{EndsWith, LacksExport, LacksTypes}
 use Rattle.pool_limits.specs.declared.numbers.Numbers.{Numbers}
 use Rattle.report_text.specs.declared.report.ModuleLine.{ModuleLine}
 use Rattle.report_text.specs.declared.report.ModuleLine.TheVariants as module_line
@@ -47,23 +46,28 @@ loading_line (Err (loading.Segment extent)) = module_line.Segment
 
 -- ---- the line of a call
 
--- the line of a call that is answered so, where this is shown of its bytes
-abbrev pub answer_line : LaneAnswer → (shown : Option (List ℕ)) → CallLine
-answer_line (answer.Done (outcome.Done value)) (Some bytes) = call_line.Sent value bytes
-answer_line (answer.Done end) shown = call_line.Done end
-answer_line answer.NoExport shown = call_line.NoExport
-answer_line answer.BadArgs shown = call_line.BadArgs
-answer_line answer.Retired shown = call_line.Retired
+-- the line of a call that ended so, where this is shown of the bytes that it answered
+abbrev pub end_line : Outcome → (shown : Option (List ℕ)) → CallLine
+end_line (outcome.Done value) (Some bytes) = call_line.Sent value bytes
+end_line end shown = call_line.Done end
 
--- How a call goes whose module was loaded so. Where the module is retired it is refused, whatever is asked of it, and else it is answered as
--- a module that isn't retired answers.
+-- the call can be made, and ends as the line shows
+pub record ShowsEnd (m : ModuleTree) (limits : RunLimits) (asked : Invocation) (line : CallLine) : Type 0 where
+  pub outcome : Outcome
+  pub bytes : List ℕ
+  pub ends : EndsWith m limits asked.export asked.args (sent_by asked) asked.fuel outcome bytes
+  pub shows : line ≡ end_line outcome (shown_of asked bytes)
+
+-- how a call of this module goes: it has no such export, or that has other parameters, or the call has an end
+abbrev pub ShowsAsked : ModuleTree → RunLimits → (asked : Invocation) → CallLine → Type 0
+ShowsAsked m limits asked line = (LacksExport m asked.export × (line ≡ call_line.NoExport))
+    ⊎ ((LacksTypes m asked.export asked.args × (line ≡ call_line.BadArgs)) ⊎ ShowsEnd m limits asked line)
+
+-- How a call goes whose module was loaded so. Where the module is retired it is refused, whatever is asked of it.
 abbrev pub ShowsCall : Limits → (retired : Bool) → Result ModuleTree Refusal → Invocation → CallLine → Type 0
 ShowsCall limits retired (Err refusal) invocation line = line ≡ call_line.NoModule
 ShowsCall limits true (Ok m) invocation line = line ≡ call_line.Retired
-ShowsCall limits false (Ok m) invocation line =
-    (a : LaneAnswer) × (bytes : List ℕ)
-    × IsAnswer m (run_limits limits) invocation.export invocation.args (sent_by invocation) invocation.fuel a bytes
-    × (is_retired a ≡ false) × (line ≡ answer_line a (shown_of invocation bytes))
+ShowsCall limits false (Ok m) invocation line = ShowsAsked m (run_limits limits) invocation line
 
 -- How a call goes: this is fixed by the limits, its profile of WebAssembly, the bytes of its module, whether the module is retired before it, and
 -- what is asked of it.

@@ -2,8 +2,8 @@
 ghost use Rattle.std.specs.Prelude.{◌≡◌, ◌-◌, ◌<◌, ◌≤◌, Some, MatchOption, length, slice_set};
 ghost use Rattle.job_queue.specs.Boards.{IsOpen};
 ghost use Rattle.due_calls.specs.Entries.{AreNumbered};
-ghost use Rattle.run_books.specs.Collected.{AreToCollect, IsCollected, line_made, line_of};
-ghost use Rattle.run_books.specs.Lines.{answer_line};
+ghost use Rattle.run_books.specs.Collected.{AreToCollect, IsCollected, answer_line, line_made, line_of};
+ghost use Rattle.run_books.specs.Lines.{end_line};
 
 use due_calls::{Due, Worked, due_at};
 use job_queue::Board;
@@ -11,16 +11,25 @@ use pool_host::{Answer, LaneAnswer};
 use report_text::CallLine;
 use wasm_values::{Items, Outcome};
 
-/// The line of a call that is answered so, where this is shown of its bytes.
+// The line of a call that ended so, where this is shown of its bytes.
+fn end_line(outcome: Outcome, shown: Option<Items<u8>>) -> CallLine
+    ensures { result ≡ end_line outcome shown }
+{
+    match (outcome, shown) {
+        (Outcome::Done(value), Some(bytes)) => CallLine::Sent(value, bytes),
+        (outcome, _) => CallLine::Done(outcome),
+    }
+}
+
+/// The line of a call that the lane answers so, where this is shown of its bytes.
 pub fn answer_line(answer: LaneAnswer, shown: Option<Items<u8>>) -> CallLine
     ensures { result ≡ answer_line answer shown }
 {
-    match (answer, shown) {
-        (LaneAnswer::Done(Outcome::Done(value)), Some(bytes)) => CallLine::Sent(value, bytes),
-        (LaneAnswer::Done(outcome), _) => CallLine::Done(outcome),
-        (LaneAnswer::NoExport, _) => CallLine::NoExport,
-        (LaneAnswer::BadArgs, _) => CallLine::BadArgs,
-        (LaneAnswer::Retired, _) => CallLine::Retired,
+    match answer {
+        LaneAnswer::Done(outcome) => end_line(outcome, shown),
+        LaneAnswer::NoExport => CallLine::NoExport,
+        LaneAnswer::BadArgs => CallLine::BadArgs,
+        LaneAnswer::Retired => CallLine::Retired,
     }
 }
 
@@ -32,7 +41,7 @@ fn line_of(retired: bool, answer: Option<Answer>, shown: Option<Items<u8>>) -> O
     match (answer, retired) {
         (None, _) => Some(CallLine::NoModule),
         (Some(_), true) => Some(CallLine::Retired),
-        (Some(Answer::Done(outcome)), false) => Some(answer_line(LaneAnswer::Done(outcome), shown)),
+        (Some(Answer::Done(outcome)), false) => Some(end_line(outcome, shown)),
         (Some(Answer::NoExport), false) => Some(CallLine::NoExport),
         (Some(Answer::BadArgs), false) => Some(CallLine::BadArgs),
         (Some(Answer::Retired | Answer::Full(_)), false) => None,

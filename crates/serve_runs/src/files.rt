@@ -1,12 +1,11 @@
 //! Whole runs over sources and sinks in memory.
-use crate::running::{Ends, Run, SOUND, check, ended, over, status_of};
-use host_edge::{Failed, Gate, MemSink, MemSource, OpenGate, Sink};
+use crate::running::{Ends, Run, SOUND, check, ended, over};
+use host_edge::{Failed, Gate, MemSink, OpenGate, Sink};
 use host_run::refuse_words;
 use std::alloc::Global;
 use std::process::Abort;
 use std::sync::Wait;
 use std::sync::atomic::{AtomicU64, Ordering};
-use std::test::Fail;
 use std::thread::Threads;
 
 const RUN: &str = "poolhost run";
@@ -552,99 +551,99 @@ const LOADS: [Run; 8] = [
 ];
 
 // Each run, with these words behind its own.
-fn check_runs<R: Abort + Threads + Wait + Sync>(
-    rt: &R,
-    alloc: Global,
-    runs: &[Run],
-    more: &str,
-) -> Result<(), Fail> {
+fn check_runs<R: Abort + Threads + Wait + Sync>(rt: &R, alloc: Global, runs: &[Run], more: &str) {
     for run in runs {
-        check(rt, alloc, run, more, &OpenGate)?;
+        check(rt, alloc, run, more, &OpenGate);
     }
-    Ok(())
 }
 
 #[test]
-fn runs_end_with_their_status_and_text(rt: HostRuntime) -> Result<(), Fail> {
-    check_runs(&rt, rt.alloc(), &RUNS, "")?;
-    check_runs(&rt, rt.alloc(), &ENDS, "")
+fn runs_end_with_their_status_and_text(rt: HostRuntime) {
+    check_runs(&rt, rt.alloc(), &RUNS, "");
+    check_runs(&rt, rt.alloc(), &ENDS, "");
 }
 
 #[test]
-fn each_call_runs_on_a_fresh_instance(rt: HostRuntime) -> Result<(), Fail> {
-    check_runs(&rt, rt.alloc(), &INSTANCES, "")?;
-    check_runs(&rt, rt.alloc(), &ONE_SLOT, "")
+fn each_call_runs_on_a_fresh_instance(rt: HostRuntime) {
+    check_runs(&rt, rt.alloc(), &INSTANCES, "");
+    check_runs(&rt, rt.alloc(), &ONE_SLOT, "");
 }
 
-// A stream gives 4,096 bytes at a time, and would fail behind the byte past 64 MiB, which is the last that is read.
+// A source gives 4,096 bytes at a time, and would fail behind the byte past 64 MiB, which is the last that is read.
+const PAST_64_MIB: Ends = Ends {
+    source: (4096, &[16_386]),
+    sink: (4096, &[]),
+};
+
 #[test]
-fn a_file_of_more_than_64_mib_is_refused_with_ample_memory(rt: HostRuntime) -> Result<(), Fail> {
-    let alloc = rt.alloc();
-    let bytes = vec![in alloc; b'#'; 67_108_865]?;
-    let mut source = MemSource::new(bytes, 4096, vec![in alloc; 16_386]?);
-    let mut sink = MemSink::new(alloc, 4096, Vec::new(alloc));
-    let ended = status_of(&rt, alloc, RUN, "", &mut source, &mut sink, &OpenGate)?;
-    assert_eq!(rt; ended, 2);
-    assert_eq!(rt; sink.bytes(), b"file too long\n".as_slice());
-    Ok(())
+fn a_file_of_more_than_64_mib_is_refused_with_ample_memory(rt: HostRuntime) {
+    let bytes = b"#".repeat(rt.alloc(), 67_108_865).expect(&rt, "memory");
+    let run = Run {
+        line: RUN,
+        bytes: bytes.as_slice(),
+        ends: PAST_64_MIB,
+        status: 2,
+        written: b"file too long\n",
+    };
+    check(&rt, rt.alloc(), &run, "", &OpenGate);
 }
 
 const FOUR_WORKERS: &str = "--workers 4";
 
 #[test]
-fn several_workers_write_the_same_reports(rt: HostRuntime) -> Result<(), Fail> {
-    check_runs(&rt, rt.alloc(), &RUNS, FOUR_WORKERS)
+fn several_workers_write_the_same_reports(rt: HostRuntime) {
+    check_runs(&rt, rt.alloc(), &RUNS, FOUR_WORKERS);
 }
 
 #[test]
-fn several_workers_run_each_call_on_a_fresh_instance(rt: HostRuntime) -> Result<(), Fail> {
-    check_runs(&rt, rt.alloc(), &INSTANCES, FOUR_WORKERS)
+fn several_workers_run_each_call_on_a_fresh_instance(rt: HostRuntime) {
+    check_runs(&rt, rt.alloc(), &INSTANCES, FOUR_WORKERS);
 }
 
 // Each call is under way with others, an instruction at a time.
 const SLICES_OF_ONE: &str = "--workers 2 --slice 1";
 
 #[test]
-fn slices_change_no_line(rt: HostRuntime) -> Result<(), Fail> {
-    check_runs(&rt, rt.alloc(), &RUNS, SLICES_OF_ONE)?;
-    check_runs(&rt, rt.alloc(), &INSTANCES, SLICES_OF_ONE)
+fn slices_change_no_line(rt: HostRuntime) {
+    check_runs(&rt, rt.alloc(), &RUNS, SLICES_OF_ONE);
+    check_runs(&rt, rt.alloc(), &INSTANCES, SLICES_OF_ONE);
 }
 
 #[test]
-fn tenants_change_no_line(rt: HostRuntime) -> Result<(), Fail> {
-    check_runs(&rt, rt.alloc(), &SHARED, "")?;
-    check_runs(&rt, rt.alloc(), &SHARED, FOUR_WORKERS)?;
-    check_runs(&rt, rt.alloc(), &SHARED, SLICES_OF_ONE)
+fn tenants_change_no_line(rt: HostRuntime) {
+    check_runs(&rt, rt.alloc(), &SHARED, "");
+    check_runs(&rt, rt.alloc(), &SHARED, FOUR_WORKERS);
+    check_runs(&rt, rt.alloc(), &SHARED, SLICES_OF_ONE);
 }
 
 #[test]
-fn loads_and_summaries_are_written(rt: HostRuntime) -> Result<(), Fail> {
-    check_runs(&rt, rt.alloc(), &LOADS, "")
+fn loads_and_summaries_are_written(rt: HostRuntime) {
+    check_runs(&rt, rt.alloc(), &LOADS, "");
 }
 
-// What `poolhost make` writes, and the summary of a run on it.
+// Lines of `poolhost make`, and the summaries of runs on what they write.
+const SUMMARIES: [(&str, &str); 2] = [
+    (
+        "poolhost make 0 1",
+        "modules ok 3\nmodules refused 0\ncalls ok 1\ncalls trap 0\ncalls fuel 0\ncalls refused 0\n",
+    ),
+    (
+        "poolhost make 7 7",
+        "modules ok 3\nmodules refused 0\ncalls ok 6\ncalls trap 0\ncalls fuel 1\ncalls refused 0\n",
+    ),
+];
+
 #[test]
-fn a_run_on_a_load_has_its_summary(rt: HostRuntime) -> Result<(), Fail> {
-    let rows = [
-        (
-            "poolhost make 0 1",
-            "modules ok 3\nmodules refused 0\ncalls ok 1\ncalls trap 0\ncalls fuel 0\ncalls refused 0\n",
-        ),
-        (
-            "poolhost make 7 7",
-            "modules ok 3\nmodules refused 0\ncalls ok 6\ncalls trap 0\ncalls fuel 1\ncalls refused 0\n",
-        ),
-    ];
-    for (line, summary) in rows {
-        let (status, load) = ended(&rt, rt.alloc(), &over(line, "", ""), "", &OpenGate)?;
+fn a_run_on_a_load_has_its_summary(rt: HostRuntime) {
+    for (line, summary) in SUMMARIES {
+        let (status, load) = ended(&rt, rt.alloc(), &over(line, "", ""), "", &OpenGate);
         assert_eq!(rt; status, 0);
         let run = Run {
             bytes: load.bytes(),
             ..over("poolhost run --summary", "", summary)
         };
-        check(&rt, rt.alloc(), &run, "", &OpenGate)?;
+        check(&rt, rt.alloc(), &run, "", &OpenGate);
     }
-    Ok(())
 }
 
 // A sink that notes how many bytes each write was handed.
@@ -706,16 +705,18 @@ impl Gate for CountingGate {
     }
 }
 
+const COUNTED: [&str; 5] = [
+    "poolhost run",
+    "poolhost run --workers 2 --instances 3 --memories 3 --tables 3",
+    "poolhost run --workers 4 --instances 5 --memories 5 --tables 5",
+    "poolhost run --workers 2 --slice 1 --instances 5 --memories 5 --tables 5",
+    "poolhost run --workers 4 --slice 1 --instances 9 --memories 9 --tables 9",
+];
+
 // Where there are slots for each call that is under way, and the lane's, no call is answered twice, in slices of one as well.
 #[test]
-fn the_gate_is_told_of_each_call_and_of_each_that_begins(rt: HostRuntime) -> Result<(), Fail> {
-    for line in [
-        "poolhost run",
-        "poolhost run --workers 2 --instances 3 --memories 3 --tables 3",
-        "poolhost run --workers 4 --instances 5 --memories 5 --tables 5",
-        "poolhost run --workers 2 --slice 1 --instances 5 --memories 5 --tables 5",
-        "poolhost run --workers 4 --slice 1 --instances 9 --memories 9 --tables 9",
-    ] {
+fn the_gate_is_told_of_each_call_and_of_each_that_begins(rt: HostRuntime) {
+    for line in COUNTED {
         let gate = CountingGate {
             entered: AtomicU64::new(0),
             answered: AtomicU64::new(0),
@@ -727,11 +728,10 @@ fn the_gate_is_told_of_each_call_and_of_each_that_begins(rt: HostRuntime) -> Res
             status: 0,
             written: CALLS_REPORT,
         };
-        check(&rt, rt.alloc(), &run, "", &gate)?;
+        check(&rt, rt.alloc(), &run, "", &gate);
         assert_eq!(rt; gate.entered.load(Ordering::SeqCst), 0x11_1110, "{line}");
         assert_eq!(rt; gate.answered.load(Ordering::SeqCst), 0x1111_1110, "{line}");
     }
-    Ok(())
 }
 
 // The most turns for which a gate holds a call.
@@ -742,8 +742,6 @@ pub(crate) const BUMPS: &str =
 call bump bump 100
 call bump bump 100
 ";
-
-const BUMPED: &str = "module bump ok\n1 ok i32:1\n2 ok i32:1\n";
 
 pub(crate) const TWO_CALLS: &str = "call bump bump 100\ncall bump bump 100\n";
 
@@ -784,76 +782,96 @@ impl Gate for HoldingGate {
     }
 }
 
-// How many calls were answered in a run over a file, while one of them was held until `until` others were.
-pub(crate) fn answered_beside_a_held_call<R: Abort + Threads + Wait + Sync>(
-    rt: &R,
-    alloc: Global,
-    line: &str,
-    text: &str,
-    held: u64,
-    until: u64,
-    written: &str,
-) -> Result<u64, Fail> {
+// A run over the parts of a file, in which a call is held until so many others were answered: the words of its line, the parts, the
+// number of the call, or 0 for whichever enters first, how many others, what is written, and how many calls are answered in all.
+#[derive(Clone, Copy)]
+pub(crate) struct Held {
+    pub(crate) line: &'static str,
+    pub(crate) parts: &'static [&'static str],
+    pub(crate) held: u64,
+    pub(crate) until: u64,
+    pub(crate) written: &'static str,
+    pub(crate) answered: u64,
+}
+
+// Such a run writes this, and as many calls are answered while one is held, and in all.
+pub(crate) fn check_held<R: Abort + Threads + Wait + Sync>(rt: &R, alloc: Global, run: &Held) {
     let gate = HoldingGate {
-        held,
-        until,
+        held: run.held,
+        until: run.until,
         entered: AtomicU64::new(0),
         answered: AtomicU64::new(0),
         seen: AtomicU64::new(0),
     };
-    check(rt, alloc, &over(line, text, written), "", &gate)?;
-    assert_eq!(rt; gate.seen.load(Ordering::SeqCst), until);
-    Ok(gate.answered.load(Ordering::SeqCst))
+    let text = run.parts.join(alloc, "").expect(rt, "memory");
+    let made = over(run.line, text.as_str(), run.written);
+    check(rt, alloc, &made, "", &gate);
+    assert_eq!(rt; gate.seen.load(Ordering::SeqCst), run.until, "{}", run.line);
+    assert_eq!(rt;
+        gate.answered.load(Ordering::SeqCst),
+        run.answered,
+        "{}",
+        run.line
+    );
 }
 
 // One memory is shared: while the first call is held the others are answered Full, and the lane makes them again.
+const ON_THE_LANE: [Held; 2] = [
+    Held {
+        line: "poolhost run --workers 2 --memories 2",
+        parts: &[BUMPS],
+        held: 0,
+        until: 1,
+        written: "module bump ok\n1 ok i32:1\n2 ok i32:1\n",
+        answered: 3,
+    },
+    Held {
+        line: "poolhost run --workers 4 --memories 2",
+        parts: &[BUMPS, TWO_CALLS],
+        held: 0,
+        until: 3,
+        written: "module bump ok\n1 ok i32:1\n2 ok i32:1\n3 ok i32:1\n4 ok i32:1\n",
+        answered: 7,
+    },
+];
+
 #[test]
-fn a_call_that_finds_no_slot_is_made_again_on_the_lane(rt: HostRuntime) -> Result<(), Fail> {
-    let line = "poolhost run --workers 2 --memories 2";
-    let answered = answered_beside_a_held_call(&rt, rt.alloc(), line, BUMPS, 0, 1, BUMPED)?;
-    assert_eq!(rt; answered, 3);
-    let four = format!(in rt.alloc(); "{BUMPS}{TWO_CALLS}")?;
-    let line = "poolhost run --workers 4 --memories 2";
-    let written = "module bump ok\n1 ok i32:1\n2 ok i32:1\n3 ok i32:1\n4 ok i32:1\n";
-    let answered = answered_beside_a_held_call(
-        &rt,
-        rt.alloc(),
-        line,
-        four.as_str(),
-        0,
-        3,
-        written,
-    )?;
-    assert_eq!(rt; answered, 7);
-    Ok(())
+fn a_call_that_finds_no_slot_is_made_again_on_the_lane(rt: HostRuntime) {
+    for run in &ON_THE_LANE {
+        check_held(&rt, rt.alloc(), run);
+    }
 }
 
 // Two memories are shared: the second call runs while the first is held, and no call is made twice.
+const AT_THE_SAME_TIME: Held = Held {
+    line: "poolhost run --workers 2 --memories 3 --instances 3 --tables 2",
+    parts: &[BUMPS],
+    held: 1,
+    until: 1,
+    written: "module bump ok\n1 ok i32:1\n2 ok i32:1\n",
+    answered: 2,
+};
+
 #[test]
-fn two_calls_run_at_the_same_time(rt: HostRuntime) -> Result<(), Fail> {
-    let line = "poolhost run --workers 2 --memories 3 --instances 3 --tables 2";
-    let answered = answered_beside_a_held_call(&rt, rt.alloc(), line, BUMPS, 1, 1, BUMPED)?;
-    assert_eq!(rt; answered, 2);
-    Ok(())
+fn two_calls_run_at_the_same_time(rt: HostRuntime) {
+    check_held(&rt, rt.alloc(), &AT_THE_SAME_TIME);
 }
 
 // One tenant has a memory: while its first call is held its others are answered Full, and the other tenant's call is not.
+const FULL_TENANT: Held = Held {
+    line: "poolhost run --workers 2 --memories 4 --instances 5 --tables 4",
+    parts: &[
+        "profile 4\ntenant flood 2 1 1 0\ntenant quiet 1 1 1 0\nfor flood\n",
+        BUMPS,
+        "call bump bump 100\nfor quiet\ncall bump bump 100\n",
+    ],
+    held: 1,
+    until: 3,
+    written: "module bump ok\n1 ok i32:1\n2 ok i32:1\n3 ok i32:1\n4 ok i32:1\n",
+    answered: 6,
+};
+
 #[test]
-fn a_full_tenant_leaves_the_other_its_slots(rt: HostRuntime) -> Result<(), Fail> {
-    let text = format!(in rt.alloc();
-        "profile 4\ntenant flood 2 1 1 0\ntenant quiet 1 1 1 0\nfor flood\n{BUMPS}call bump bump 100\nfor quiet\ncall bump bump 100\n"
-    )?;
-    let line = "poolhost run --workers 2 --memories 4 --instances 5 --tables 4";
-    let written = "module bump ok\n1 ok i32:1\n2 ok i32:1\n3 ok i32:1\n4 ok i32:1\n";
-    let answered = answered_beside_a_held_call(
-        &rt,
-        rt.alloc(),
-        line,
-        text.as_str(),
-        1,
-        3,
-        written,
-    )?;
-    assert_eq!(rt; answered, 6);
-    Ok(())
+fn a_full_tenant_leaves_the_other_its_slots(rt: HostRuntime) {
+    check_held(&rt, rt.alloc(), &FULL_TENANT);
 }

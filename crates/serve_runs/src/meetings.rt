@@ -6,7 +6,6 @@ use std::alloc::Global;
 use std::process::Abort;
 use std::sync::Wait;
 use std::sync::atomic::{AtomicU64, Ordering};
-use std::test::Fail;
 use std::thread::Threads;
 
 // A module that counts up in its memory, and eight calls of it.
@@ -84,15 +83,12 @@ impl Gate for Meeting {
     }
 }
 
-// How many calls of a run entered, and how many were under way at the most, where each from a number on waits for so many to enter.
-fn met<R: Abort + Threads + Wait + Sync>(
-    rt: &R,
-    alloc: Global,
-    line: &str,
-    text: &str,
-    from: u64,
-    wanted: u64,
-) -> Result<(u64, u64), Fail> {
+// A run over a file, in which each call from a number on waits until so many entered: the words of its line, the file, both numbers.
+type Met = (&'static str, &'static str, u64, u64);
+
+// How many calls of such a run entered, and how many were under way at the most.
+fn met<R: Abort + Threads + Wait + Sync>(rt: &R, alloc: Global, run: &Met) -> (u64, u64) {
+    let (line, text, from, wanted) = *run;
     let gate = Meeting {
         from,
         wanted,
@@ -100,70 +96,86 @@ fn met<R: Abort + Threads + Wait + Sync>(
         inside: AtomicU64::new(0),
         most: AtomicU64::new(0),
     };
-    let (status, _sink) = ended(rt, alloc, &over(line, text, ""), "", &gate)?;
+    let (status, _sink) = ended(rt, alloc, &over(line, text, ""), "", &gate);
     assert_eq!(rt; status, 0, "{line}");
     let entered = gate.entered.load(Ordering::SeqCst);
-    Ok((entered, gate.most.load(Ordering::SeqCst)))
+    (entered, gate.most.load(Ordering::SeqCst))
 }
+
+const NEVER_ENTERED: [Met; 4] = [
+    ("poolhost run", RETIRED, 1, 0),
+    ("poolhost run --workers 2", RETIRED, 1, 0),
+    ("poolhost run --workers 4", RETIRED, 1, 0),
+    ("poolhost run --workers 4 --slice 1", RETIRED, 1, 0),
+];
 
 // Of a call on each side of a retire line only the first enters, also where slices are asked for.
 #[test]
-fn a_call_behind_a_retire_line_never_enters(rt: HostRuntime) -> Result<(), Fail> {
-    for line in [
-        "poolhost run",
-        "poolhost run --workers 2",
-        "poolhost run --workers 4",
-        "poolhost run --workers 4 --slice 1",
-    ] {
-        let (entered, _most) = met(&rt, rt.alloc(), line, RETIRED, 1, 0)?;
-        assert_eq!(rt; entered, 1, "{line}");
+fn a_call_behind_a_retire_line_never_enters(rt: HostRuntime) {
+    for run in &NEVER_ENTERED {
+        let (entered, _most) = met(&rt, rt.alloc(), run);
+        assert_eq!(rt; entered, 1, "{}", run.0);
     }
-    Ok(())
 }
+
+const AT_ONCE: [Met; 5] = [
+    ("poolhost run", BUMPS, 1, 1),
+    ("poolhost run --workers 2", BUMPS, 1, 2),
+    ("poolhost run --workers 3", BUMPS, 1, 3),
+    ("poolhost run --workers 4", BUMPS, 1, 3),
+    (
+        "poolhost run --workers 4 --memories 5 --instances 5 --tables 5",
+        BUMPS,
+        1,
+        4,
+    ),
+];
 
 // As many calls as there are workers, and slots for them, are under way at once, with the usual totals too: these are 4, and one slot
 // of each kind is the lane's.
 #[test]
-fn all_workers_are_in_calls_at_once(rt: HostRuntime) -> Result<(), Fail> {
-    for (line, workers) in [
-        ("poolhost run", 1),
-        ("poolhost run --workers 2", 2),
-        ("poolhost run --workers 3", 3),
-        ("poolhost run --workers 4", 3),
-        (
-            "poolhost run --workers 4 --memories 5 --instances 5 --tables 5",
-            4,
-        ),
-    ] {
-        let (_entered, most) = met(&rt, rt.alloc(), line, BUMPS, 1, workers)?;
-        assert_eq!(rt; most, workers, "{line}");
+fn all_workers_are_in_calls_at_once(rt: HostRuntime) {
+    for run in &AT_ONCE {
+        let (_entered, most) = met(&rt, rt.alloc(), run);
+        assert_eq!(rt; most, run.3, "{}", run.0);
     }
-    Ok(())
 }
 
 // So are they behind a retire line: calls 2 and 3, when call 1 has entered too.
 #[test]
-fn two_workers_are_in_calls_behind_a_retire_line(rt: HostRuntime) -> Result<(), Fail> {
-    let (_entered, most) = met(&rt, rt.alloc(), "poolhost run --workers 2", BEHIND, 2, 3)?;
+fn two_workers_are_in_calls_behind_a_retire_line(rt: HostRuntime) {
+    let run = ("poolhost run --workers 2", BEHIND, 2, 3);
+    let (_entered, most) = met(&rt, rt.alloc(), &run);
     assert_eq!(rt; most, 2);
-    Ok(())
 }
+
+// Runs in slices, and how many workers each has.
+const IN_SLICES: [(Met, u64); 2] = [
+    (
+        (
+            "poolhost run --workers 2 --slice 10 --memories 5 --instances 5 --tables 5",
+            COUNTS,
+            1,
+            0,
+        ),
+        2,
+    ),
+    (
+        (
+            "poolhost run --workers 4 --slice 10 --memories 9 --instances 9 --tables 9",
+            COUNTS,
+            1,
+            0,
+        ),
+        4,
+    ),
+];
 
 // With slices more calls are under way than there are workers.
 #[test]
-fn workers_are_in_more_calls_in_slices(rt: HostRuntime) -> Result<(), Fail> {
-    for (line, workers) in [
-        (
-            "poolhost run --workers 2 --slice 10 --memories 5 --instances 5 --tables 5",
-            2,
-        ),
-        (
-            "poolhost run --workers 4 --slice 10 --memories 9 --instances 9 --tables 9",
-            4,
-        ),
-    ] {
-        let (_entered, most) = met(&rt, rt.alloc(), line, COUNTS, 1, 0)?;
-        assert!(rt; most > workers, "{line}: {most}");
+fn workers_are_in_more_calls_in_slices(rt: HostRuntime) {
+    for (run, workers) in &IN_SLICES {
+        let (_entered, most) = met(&rt, rt.alloc(), run);
+        assert!(rt; most > *workers, "{}: {most}", run.0);
     }
-    Ok(())
 }

@@ -1,11 +1,10 @@
 //! Whole runs on request files that retire modules.
-use crate::files::{BUMPS, TWO_CALLS, answered_beside_a_held_call};
+use crate::files::{BUMPS, Held, TWO_CALLS, check_held};
 use crate::running::{Run, check, over};
 use host_edge::OpenGate;
 use std::alloc::Global;
 use std::process::Abort;
 use std::sync::Wait;
-use std::test::Fail;
 use std::thread::Threads;
 
 // What a run over a text must write.
@@ -15,8 +14,8 @@ fn check_text<R: Abort + Threads + Wait + Sync>(
     line: &str,
     text: &str,
     written: &str,
-) -> Result<(), Fail> {
-    check(rt, alloc, &over(line, text, written), "", &OpenGate)
+) {
+    check(rt, alloc, &over(line, text, written), "", &OpenGate);
 }
 
 // The words of runs that write the same report on a file of profile 5.
@@ -84,106 +83,120 @@ const ROWS: [(&str, &str); 8] = [
 ];
 
 // Each of these files, on these words.
-fn check_rows<R: Abort + Threads + Wait + Sync>(
-    rt: &R,
-    alloc: Global,
-    line: &str,
-) -> Result<(), Fail> {
+fn check_rows<R: Abort + Threads + Wait + Sync>(rt: &R, alloc: Global, line: &str) {
     for (directives, lines) in ROWS {
-        let text = format!(in alloc; "{MODULES}{directives}")?;
-        let written = format!(in alloc; "{ENTERED}{lines}")?;
-        check_text(rt, alloc, line, text.as_str(), written.as_str())?;
+        let text = [MODULES, directives].join(alloc, "").expect(rt, "memory");
+        let written = [ENTERED, lines].join(alloc, "").expect(rt, "memory");
+        check_text(rt, alloc, line, text.as_str(), written.as_str());
     }
-    Ok(())
 }
 
 #[test]
-fn calls_behind_a_retire_line_of_their_module_are_refused(rt: HostRuntime) -> Result<(), Fail> {
+fn calls_behind_a_retire_line_of_their_module_are_refused(rt: HostRuntime) {
     for line in LINES {
-        check_rows(&rt, rt.alloc(), line)?;
+        check_rows(&rt, rt.alloc(), line);
     }
-    Ok(())
 }
+
+// Directives behind these modules, and the summary.
+const SUMMARIES: [(&str, &str); 2] = [
+    (
+        "call bump bump 8\ncall cut f 1\nretire bump\nretire cut\ncall bump bump 8\ncall bump none 8\ncall twin bump 7\ncall cut f 1\n",
+        "modules ok 3\nmodules refused 1\ncalls ok 1\ncalls trap 0\ncalls fuel 1\ncalls refused 4\n",
+    ),
+    (
+        "retire twin\nretire add\n",
+        "modules ok 3\nmodules refused 1\ncalls ok 0\ncalls trap 0\ncalls fuel 0\ncalls refused 0\n",
+    ),
+];
 
 // Calls that are refused count as such, and retire lines don't count.
 #[test]
-fn retired_modules_are_summed_up(rt: HostRuntime) -> Result<(), Fail> {
+fn retired_modules_are_summed_up(rt: HostRuntime) {
     let alloc = rt.alloc();
-    let rows = [
-        (
-            "call bump bump 8\ncall cut f 1\nretire bump\nretire cut\ncall bump bump 8\ncall bump none 8\ncall twin bump 7\ncall cut f 1\n",
-            "modules ok 3\nmodules refused 1\ncalls ok 1\ncalls trap 0\ncalls fuel 1\ncalls refused 4\n",
-        ),
-        (
-            "retire twin\nretire add\n",
-            "modules ok 3\nmodules refused 1\ncalls ok 0\ncalls trap 0\ncalls fuel 0\ncalls refused 0\n",
-        ),
-    ];
-    for (directives, written) in rows {
-        let text = format!(in alloc; "{MODULES}{directives}")?;
+    for (directives, written) in SUMMARIES {
+        let text = [MODULES, directives].join(alloc, "").expect(&rt, "memory");
         let line = "poolhost run --workers 2 --summary";
-        check_text(&rt, alloc, line, text.as_str(), written)?;
+        check_text(&rt, alloc, line, text.as_str(), written);
     }
-    Ok(())
 }
 
+// Files, and why they are refused.
+const BAD_LINES: [(&str, &str); 3] = [
+    (
+        "profile 4\nmodule e 0061736d01000000\nretire e\n",
+        "line 3: unknown directive\n",
+    ),
+    (
+        "profile 5\nretire e\nmodule e 0061736d01000000\n",
+        "line 2: unknown module\n",
+    ),
+    (
+        "profile 5\nmodule e 0061736d01000000\nretire e\ncall e f 1\nretire e\n",
+        "line 5: retired twice\n",
+    ),
+];
+
 #[test]
-fn files_with_bad_retire_lines_are_refused(rt: HostRuntime) -> Result<(), Fail> {
-    let rows = [
-        (
-            "profile 4\nmodule e 0061736d01000000\nretire e\n",
-            "line 3: unknown directive\n",
-        ),
-        (
-            "profile 5\nretire e\nmodule e 0061736d01000000\n",
-            "line 2: unknown module\n",
-        ),
-        (
-            "profile 5\nmodule e 0061736d01000000\nretire e\ncall e f 1\nretire e\n",
-            "line 5: retired twice\n",
-        ),
-    ];
-    for (text, written) in rows {
+fn files_with_bad_retire_lines_are_refused(rt: HostRuntime) {
+    for (text, written) in BAD_LINES {
         let run = Run {
             status: 2,
             ..over("poolhost run", text, written)
         };
-        check(&rt, rt.alloc(), &run, "", &OpenGate)?;
+        check(&rt, rt.alloc(), &run, "", &OpenGate);
     }
-    Ok(())
 }
 
-// One memory is shared: while the first call is held the other is answered Full, and the lane makes it again before the line.
+// One memory is shared: while the first call is held the others are answered Full, and the lane makes them again before the line.
+const MADE_AGAIN: [Held; 2] = [
+    Held {
+        line: "poolhost run --workers 2 --memories 2",
+        parts: &["profile 5\n", BUMPS, "retire bump\ncall bump bump 100\n"],
+        held: 0,
+        until: 1,
+        written: "module bump ok\n1 ok i32:1\n2 ok i32:1\nretire bump done\n3 refused retired\n",
+        answered: 4,
+    },
+    Held {
+        line: "poolhost run --workers 4 --memories 2",
+        parts: &[
+            "profile 5\n",
+            BUMPS,
+            TWO_CALLS,
+            "retire bump\ncall bump bump 100\n",
+        ],
+        held: 0,
+        until: 3,
+        written: "module bump ok\n1 ok i32:1\n2 ok i32:1\n3 ok i32:1\n4 ok i32:1\nretire bump done\n5 refused retired\n",
+        answered: 8,
+    },
+];
+
 #[test]
-fn a_full_call_is_made_again_before_its_module_is_retired(rt: HostRuntime) -> Result<(), Fail> {
-    let alloc = rt.alloc();
-    let text = format!(in alloc; "profile 5\n{BUMPS}retire bump\ncall bump bump 100\n")?;
-    let line = "poolhost run --workers 2 --memories 2";
-    let written = "module bump ok\n1 ok i32:1\n2 ok i32:1\nretire bump done\n3 refused retired\n";
-    let answered = answered_beside_a_held_call(&rt, alloc, line, text.as_str(), 0, 1, written)?;
-    assert_eq!(rt; answered, 4);
-    let text = format!(in alloc; "profile 5\n{BUMPS}{TWO_CALLS}retire bump\ncall bump bump 100\n")?;
-    let line = "poolhost run --workers 4 --memories 2";
-    let written =
-        "module bump ok\n1 ok i32:1\n2 ok i32:1\n3 ok i32:1\n4 ok i32:1\nretire bump done\n5 refused retired\n";
-    let answered = answered_beside_a_held_call(&rt, alloc, line, text.as_str(), 0, 3, written)?;
-    assert_eq!(rt; answered, 8);
-    Ok(())
+fn a_full_call_is_made_again_before_its_module_is_retired(rt: HostRuntime) {
+    for run in &MADE_AGAIN {
+        check_held(&rt, rt.alloc(), run);
+    }
 }
 
 // One tenant has a memory: its calls that find it held are made again before the line, and the other tenant's call stands behind it.
+const SERVED_BEFORE: Held = Held {
+    line: "poolhost run --workers 2 --memories 4 --instances 5 --tables 4",
+    parts: &[
+        "profile 5\ntenant flood 2 1 1 0\ntenant quiet 1 1 1 0\nfor flood\n",
+        BUMPS,
+        "call bump bump 100\nretire bump\nfor quiet\ncall bump bump 100\n",
+    ],
+    held: 0,
+    until: 2,
+    written: "module bump ok\n1 ok i32:1\n2 ok i32:1\n3 ok i32:1\nretire bump done\n4 refused retired\n",
+    answered: 6,
+};
+
 #[test]
-fn a_full_tenant_is_served_before_its_module_is_retired(rt: HostRuntime) -> Result<(), Fail> {
-    let alloc = rt.alloc();
-    let text = format!(in alloc;
-        "profile 5\ntenant flood 2 1 1 0\ntenant quiet 1 1 1 0\nfor flood\n{BUMPS}call bump bump 100\nretire bump\nfor quiet\ncall bump bump 100\n"
-    )?;
-    let line = "poolhost run --workers 2 --memories 4 --instances 5 --tables 4";
-    let written =
-        "module bump ok\n1 ok i32:1\n2 ok i32:1\n3 ok i32:1\nretire bump done\n4 refused retired\n";
-    let answered = answered_beside_a_held_call(&rt, alloc, line, text.as_str(), 0, 2, written)?;
-    assert_eq!(rt; answered, 6);
-    Ok(())
+fn a_full_tenant_is_served_before_its_module_is_retired(rt: HostRuntime) {
+    check_held(&rt, rt.alloc(), &SERVED_BEFORE);
 }
 
 // How many modules the large file retires, and how many calls stand before each of these lines.
@@ -191,79 +204,85 @@ const RETIRED: u8 = 20;
 
 const CALLS: u8 = 50;
 
+// Appends a call, behind the line of its tenant where that is another one.
+fn push_call<R: Abort>(rt: &R, text: &mut String, call: u8) {
+    let tenant = match call {
+        10 => "  for a\n",
+        30 => "for b\n# b's calls\n\n",
+        _ => "",
+    };
+    let (directive, bytes) = if call % 3 == 0 {
+        ("send", " 00")
+    } else {
+        ("call", "")
+    };
+    let module = call % RETIRED;
+    write!(text, "{tenant}{directive} m{module} bump 8{bytes}\n").expect(rt, "memory");
+}
+
+// Appends what is written on a call before the retire line of module k.
+fn push_line<R: Abort>(rt: &R, written: &mut String, k: u8, call: u8) {
+    let number = k as u32 * CALLS as u32 + call as u32 + 1;
+    let line = if call % RETIRED < k {
+        "refused retired"
+    } else if call % 3 == 0 {
+        "ok i32:1 out:-"
+    } else {
+        "ok i32:1"
+    };
+    write!(written, "{number} {line}\n").expect(rt, "memory");
+}
+
 // Appends the calls before the retire line of module k, by each tenant, and the line, with what is written on them.
-fn push_round(text: &mut String, written: &mut String, k: u8) -> Result<(), Fail> {
+fn push_round<R: Abort>(rt: &R, text: &mut String, written: &mut String, k: u8) {
     for call in 0..CALLS {
-        match call {
-            10 => text.push_str("  for a\n")?,
-            30 => text.push_str("for b\n# b's calls\n\n")?,
-            _ => {}
-        }
-        let number = k as u32 * CALLS as u32 + call as u32 + 1;
-        let module = call % RETIRED;
-        let (directive, bytes) = if call % 3 == 0 {
-            ("send", " 00")
-        } else {
-            ("call", "")
-        };
-        write!(text, "{directive} m{module} bump 8{bytes}\n")?;
-        if module < k {
-            write!(written, "{number} refused retired\n")?;
-        } else if call % 3 == 0 {
-            write!(written, "{number} ok i32:1 out:-\n")?;
-        } else {
-            write!(written, "{number} ok i32:1\n")?;
-        }
+        push_call(rt, text, call);
+        push_line(rt, written, k, call);
     }
-    write!(text, "retire m{k}\n")?;
-    write!(written, "retire m{k} done\n")?;
-    Ok(())
+    write!(text, "retire m{k}\n").expect(rt, "memory");
+    write!(written, "retire m{k} done\n").expect(rt, "memory");
 }
 
 // Appends the line of module k, with what is written on it.
-fn push_module(text: &mut String, written: &mut String, k: u8) -> Result<(), Fail> {
+fn push_module<R: Abort>(rt: &R, text: &mut String, written: &mut String, k: u8) {
     write!(
         text,
         "module m{k} 0061736d010000000105016000017f0302010005030100010708010462756d7000000a160114004100410028020041016a36020041002802000b\n"
-    )?;
-    write!(written, "module m{k} ok\n")?;
-    Ok(())
+    )
+    .expect(rt, "memory");
+    write!(written, "module m{k} ok\n").expect(rt, "memory");
 }
 
-// A file of 1,000 calls and 20 retire lines that has every directive, and the report on it.
-fn large(alloc: Global) -> Result<(String, String), Fail> {
-    let mut text = String::from_str(
-        alloc,
-        "# every directive\n\nprofile 5\ntenant a 1 1 1 1\ntenant b 1 1 1 0\n",
-    )?;
-    let mut written = String::new(alloc);
+// Appends a file of 1,000 calls and 20 retire lines that has every directive, and the report on it.
+fn push_large<R: Abort>(rt: &R, text: &mut String, written: &mut String) {
+    let head = "# every directive\n\nprofile 5\ntenant a 1 1 1 1\ntenant b 1 1 1 0\n";
+    text.push_str(head).expect(rt, "memory");
     for k in 0..RETIRED {
-        push_module(&mut text, &mut written, k)?;
+        push_module(rt, text, written, k);
     }
     for k in 0..RETIRED {
-        push_round(&mut text, &mut written, k)?;
+        push_round(rt, text, written, k);
     }
-    Ok((text, written))
 }
+
+const MANY: [&str; 6] = [
+    "poolhost run --pages 1",
+    "poolhost run --pages 1 --slice 100",
+    "poolhost run --pages 1 --workers 2",
+    "poolhost run --pages 1 --workers 4 --slice 100",
+    "poolhost run --pages 1 --workers 16",
+    "poolhost run --pages 1 --workers 16 --slice 100",
+];
+
+const LAST: &str = "\n1000 refused retired\nretire m19 done\n";
 
 #[test]
-fn many_retire_lines_have_one_report(rt: HostRuntime) -> Result<(), Fail> {
-    let alloc = rt.alloc();
-    let (text, written) = large(alloc)?;
-    assert!(rt;
-        written
-            .as_str()
-            .ends_with("\n1000 refused retired\nretire m19 done\n")
-    );
-    for line in [
-        "poolhost run --pages 1",
-        "poolhost run --pages 1 --slice 100",
-        "poolhost run --pages 1 --workers 2",
-        "poolhost run --pages 1 --workers 4 --slice 100",
-        "poolhost run --pages 1 --workers 16",
-        "poolhost run --pages 1 --workers 16 --slice 100",
-    ] {
-        check_text(&rt, alloc, line, text.as_str(), written.as_str())?;
+fn many_retire_lines_have_one_report(rt: HostRuntime) {
+    let mut text = String::new(rt.alloc());
+    let mut written = String::new(rt.alloc());
+    push_large(&rt, &mut text, &mut written);
+    assert!(rt; written.as_str().ends_with(LAST));
+    for line in MANY {
+        check_text(&rt, rt.alloc(), line, text.as_str(), written.as_str());
     }
-    Ok(())
 }

@@ -1,10 +1,9 @@
 //! A run over a source and a sink in memory.
 use host_edge::{Gate, MemSink, MemSource};
 use host_run::serve;
-use std::alloc::{AllocError, Global};
+use std::alloc::Global;
 use std::process::Abort;
 use std::sync::Wait;
-use std::test::Fail;
 use std::thread::Threads;
 
 // Of a source and of a sink: the size of its pieces, and the calls that fail.
@@ -41,59 +40,55 @@ pub(crate) fn over<'a>(line: &'a str, text: &'a str, written: &'a str) -> Run<'a
     }
 }
 
-// The words of a line, and further ones.
-fn words<'a>(alloc: Global, line: &'a str, more: &'a str) -> Result<Vec<&'a str>, AllocError> {
-    let mut words = Vec::new(alloc);
-    for word in line.split_whitespace() {
-        words.push(word)?;
-    }
-    for word in more.split_whitespace() {
-        words.push(word)?;
-    }
-    Ok(words)
-}
-
 // The source of a run.
-fn source(alloc: Global, run: &Run) -> Result<MemSource, AllocError> {
+fn source<R: Abort>(rt: &R, alloc: Global, run: &Run) -> MemSource {
     let (piece, fails) = run.ends.source;
-    let bytes = run.bytes.to_vec(alloc)?;
-    let fails = fails.to_vec(alloc)?;
-    Ok(MemSource::new(bytes, piece.max(1), fails))
+    let bytes = run.bytes.to_vec(alloc).expect(rt, "memory");
+    let fails = fails.to_vec(alloc).expect(rt, "memory");
+    MemSource::new(bytes, piece.max(1), fails)
 }
 
 // Its sink.
-fn sink(alloc: Global, run: &Run) -> Result<MemSink, AllocError> {
+fn sink<R: Abort>(rt: &R, alloc: Global, run: &Run) -> MemSink {
     let (piece, fails) = run.ends.sink;
-    let fails = fails.to_vec(alloc)?;
-    Ok(MemSink::new(alloc, piece.max(1), fails))
+    let fails = fails.to_vec(alloc).expect(rt, "memory");
+    MemSink::new(alloc, piece.max(1), fails)
 }
 
-// The status of a run on a line and further words.
-pub(crate) fn status_of<R: Threads + Wait + Sync, G: Gate>(
+fn words<'a, R: Abort>(rt: &R, alloc: Global, line: &'a str) -> Vec<&'a str> {
+    let mut words = Vec::new(alloc);
+    for word in line.split_whitespace() {
+        words.push(word).expect(rt, "memory");
+    }
+    words
+}
+
+// The status of a run on the words of a line.
+fn status_of<R: Abort + Threads + Wait + Sync, G: Gate>(
     rt: &R,
     alloc: Global,
     line: &str,
-    more: &str,
     source: &mut MemSource,
     sink: &mut MemSink,
     gate: &G,
-) -> Result<u8, AllocError> {
-    let words = words(alloc, line, more)?;
-    Ok(serve(rt, alloc, &words, source, sink, gate))
+) -> u8 {
+    let words = words(rt, alloc, line);
+    serve(rt, alloc, &words, source, sink, gate)
 }
 
 // What a run with further words ends with and writes.
-pub(crate) fn ended<R: Threads + Wait + Sync, G: Gate>(
+pub(crate) fn ended<R: Abort + Threads + Wait + Sync, G: Gate>(
     rt: &R,
     alloc: Global,
     run: &Run,
     more: &str,
     gate: &G,
-) -> Result<(u8, MemSink), AllocError> {
-    let mut source = source(alloc, run)?;
-    let mut sink = sink(alloc, run)?;
-    let status = status_of(rt, alloc, run.line, more, &mut source, &mut sink, gate)?;
-    Ok((status, sink))
+) -> (u8, MemSink) {
+    let line = [run.line, more].join(alloc, " ").expect(rt, "memory");
+    let mut source = source(rt, alloc, run);
+    let mut sink = sink(rt, alloc, run);
+    let status = status_of(rt, alloc, line.as_str(), &mut source, &mut sink, gate);
+    (status, sink)
 }
 
 // A run with further words ends and writes as it must.
@@ -103,9 +98,8 @@ pub(crate) fn check<R: Abort + Threads + Wait + Sync, G: Gate>(
     run: &Run,
     more: &str,
     gate: &G,
-) -> Result<(), Fail> {
-    let (status, sink) = ended(rt, alloc, run, more, gate)?;
+) {
+    let (status, sink) = ended(rt, alloc, run, more, gate);
     assert_eq!(rt; sink.bytes(), run.written, "{} {more}", run.line);
     assert_eq!(rt; status, run.status, "{} {more}", run.line);
-    Ok(())
 }

@@ -12,7 +12,6 @@ use std::alloc::Global;
 use std::marker::Brand;
 use std::process::Abort;
 use std::sync::Wait;
-use std::test::Fail;
 
 // Two memories may be warm, and they are cleaned 64 at once.
 const NUMBERS: Numbers = Numbers {
@@ -88,8 +87,8 @@ fn check<N: Naming, R: Abort + Wait>(rt: &R, alloc: Global, opened: Opened)
 }
 
 #[test]
-fn a_retired_module_is_called_no_more_and_its_memory_is_cold(rt: HostRuntime) -> Result<(), Fail> {
-    let opened = Opened::open(rt.alloc(), PoolConfig::new(NUMBERS)?)?;
+fn a_retired_module_is_called_no_more_and_its_memory_is_cold(rt: HostRuntime) {
+    let config = PoolConfig::new(NUMBERS).expect(&rt, "in range");
+    let opened = Opened::open(rt.alloc(), config).expect(&rt, "memory");
     check::<Brand, HostRuntime>(&rt, rt.alloc(), opened);
-    Ok(())
 }

@@ -13,7 +13,6 @@ use std::marker::Brand;
 use std::process::Abort;
 use std::sync::Wait;
 use std::sync::atomic::{AtomicBool, Ordering};
-use std::test::Fail;
 use std::thread;
 use std::thread::Threads;
 use tenant_share::{Plan, ShareHost, TenantPass};
@@ -152,13 +151,12 @@ fn held<N: Naming + Send + Sync, R: Abort + Threads + Wait + Sync>(
 }
 
 #[test]
-fn a_tenant_is_full_by_its_own_calls_alone(rt: HostRuntime) -> Result<(), Fail> {
+fn a_tenant_is_full_by_its_own_calls_alone(rt: HostRuntime) {
     let alloc = rt.alloc();
-    let config = PoolConfig::new(NUMBERS)?;
-    let plan = Plan::new(alloc, &config, &[WANT])?;
-    let opened = Opened::open(alloc, config)?;
+    let config = PoolConfig::new(NUMBERS).expect(&rt, "in range");
+    let plan = Plan::new(alloc, &config, &[WANT]).expect(&rt, "a plan");
+    let opened = Opened::open(alloc, config).expect(&rt, "memory");
     let answers = held::<Brand, HostRuntime>(&rt, alloc, opened, &plan);
     let done = Answer::Done(ONE);
     assert_eq!(rt; answers, (done, (Answer::Full(Kind::Memory), done)));
-    Ok(())
 }

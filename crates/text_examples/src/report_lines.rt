@@ -3,8 +3,8 @@ use report_text::{
     CallLine, ModuleLine, ReportLine, report_text, write_call, write_module, write_retire,
     write_summary,
 };
-use std::alloc::{AllocError, Global};
-use std::test::Fail;
+use std::alloc::Global;
+use std::process::Abort;
 use wasm_values::{Items, Outcome, TrapKind, Val};
 
 const MODULES: [ModuleLine; 6] = [
@@ -40,33 +40,41 @@ const APPENDED: &str =
     11 trap overflow\n12 trap exhausted\n13 fuel\n14 refused module\n15 refused export\n16 refused args\n\
     17 ok i32:3 out:00ff\n18 ok out:-\n19 refused retired\n";
 
+fn items<R: Abort>(rt: &R, alloc: Global, bytes: &[u8]) -> Items<u8> {
+    Items::new(Vec::from_slice(alloc, bytes).expect(rt, "memory"))
+}
+
+fn append_call<R: Abort>(rt: &R, alloc: Global, out: &mut Vec<u8>, number: u32, line: CallLine) {
+    write_call(alloc, out, number, &line).expect(rt, "memory");
+}
+
+// Appends the lines of modules, of a retirement, and of calls that ended, which are numbered from 1 on.
+fn append_ends<R: Abort>(rt: &R, alloc: Global, out: &mut Vec<u8>) {
+    for line in MODULES {
+        write_module(alloc, out, b"e", line).expect(rt, "memory");
+    }
+    write_retire(alloc, out, b"e").expect(rt, "memory");
+    let mut number = 1u32;
+    for end in ENDS {
+        append_call(rt, alloc, out, number, CallLine::Done(end));
+        number = number.wrapping_add(1);
+    }
+}
+
 #[test]
-fn lines_are_appended(rt: HostRuntime) -> Result<(), Fail> {
+fn lines_are_appended(rt: HostRuntime) {
     let alloc = rt.alloc();
     let mut out = Vec::new(alloc);
-    for line in MODULES {
-        write_module(alloc, &mut out, b"e", line)?;
-    }
-    write_retire(alloc, &mut out, b"e")?;
-    for (k, end) in (1..14u32).zip(ENDS) {
-        write_call(alloc, &mut out, k, &CallLine::Done(end))?;
-    }
-    let others = [
-        CallLine::NoModule,
-        CallLine::NoExport,
-        CallLine::BadArgs,
-        CallLine::Sent(
-            Some(Val::I32(3)),
-            Items::new(Vec::from_slice(alloc, b"\x00\xff")?),
-        ),
-        CallLine::Sent(None, Items::new(Vec::new(alloc))),
-        CallLine::Retired,
-    ];
-    for (k, line) in (14..20u32).zip(&others) {
-        write_call(alloc, &mut out, k, line)?;
-    }
+    append_ends(&rt, alloc, &mut out);
+    append_call(&rt, alloc, &mut out, 14, CallLine::NoModule);
+    append_call(&rt, alloc, &mut out, 15, CallLine::NoExport);
+    append_call(&rt, alloc, &mut out, 16, CallLine::BadArgs);
+    let three = CallLine::Sent(Some(Val::I32(3)), items(&rt, alloc, b"\x00\xff"));
+    append_call(&rt, alloc, &mut out, 17, three);
+    let none = CallLine::Sent(None, items(&rt, alloc, b""));
+    append_call(&rt, alloc, &mut out, 18, none);
+    append_call(&rt, alloc, &mut out, 19, CallLine::Retired);
     assert_eq!(rt; out.as_slice(), APPENDED.as_bytes());
-    Ok(())
 }
 
 const FILE_MODULES: [ModuleLine; 5] = [
@@ -77,49 +85,61 @@ const FILE_MODULES: [ModuleLine; 5] = [
     ModuleLine::Limit,
 ];
 
-// Lines of a report: modules, calls, and a retirement.
-fn report(alloc: Global) -> Result<Vec<ReportLine>, AllocError> {
-    let mut lines = Vec::new(alloc);
-    for line in FILE_MODULES {
-        let name = Items::new(Vec::from_slice(alloc, b"calls")?);
-        lines.push(ReportLine::Module { name, line })?;
-    }
-    let calls = [
-        CallLine::Done(Outcome::Done(None)),
-        CallLine::Done(Outcome::Done(Some(Val::I32(5)))),
-        CallLine::Done(Outcome::Trap(TrapKind::Uninit)),
-        CallLine::Done(Outcome::Fuel),
-        CallLine::Done(Outcome::Fuel),
-        CallLine::Done(Outcome::Fuel),
-        CallLine::NoModule,
-        CallLine::NoExport,
-        CallLine::BadArgs,
-        CallLine::BadArgs,
-        CallLine::Retired,
-        CallLine::Sent(None, Items::new(Vec::new(alloc))),
-    ];
-    for line in calls {
-        lines.push(ReportLine::Call { number: 1, line })?;
-    }
-    let name = Items::new(Vec::from_slice(alloc, b"calls")?);
-    lines.push(ReportLine::Retired { name })?;
-    Ok(lines)
+const FILE_ENDS: [Outcome; 6] = [
+    Outcome::Done(None),
+    Outcome::Done(Some(Val::I32(5))),
+    Outcome::Trap(TrapKind::Uninit),
+    Outcome::Fuel,
+    Outcome::Fuel,
+    Outcome::Fuel,
+];
+
+fn push_call<R: Abort>(rt: &R, lines: &mut Vec<ReportLine>, line: CallLine) {
+    lines
+        .push(ReportLine::Call { number: 1, line })
+        .expect(rt, "memory");
 }
 
+// Lines of a report: modules, calls, and a retirement.
+fn report<R: Abort>(rt: &R, alloc: Global) -> Vec<ReportLine> {
+    let mut lines = Vec::new(alloc);
+    for line in FILE_MODULES {
+        let name = items(rt, alloc, b"calls");
+        lines
+            .push(ReportLine::Module { name, line })
+            .expect(rt, "memory");
+    }
+    for end in FILE_ENDS {
+        push_call(rt, &mut lines, CallLine::Done(end));
+    }
+    push_call(rt, &mut lines, CallLine::NoModule);
+    push_call(rt, &mut lines, CallLine::NoExport);
+    push_call(rt, &mut lines, CallLine::BadArgs);
+    push_call(rt, &mut lines, CallLine::BadArgs);
+    push_call(rt, &mut lines, CallLine::Retired);
+    push_call(rt, &mut lines, CallLine::Sent(None, items(rt, alloc, b"")));
+    let name = items(rt, alloc, b"calls");
+    lines
+        .push(ReportLine::Retired { name })
+        .expect(rt, "memory");
+    lines
+}
+
+const SUMMARY: &str =
+    "before\nmodules ok 2\nmodules refused 3\ncalls ok 3\ncalls trap 1\ncalls fuel 3\ncalls refused 5\n";
+
+const TEXT: &str =
+    "module calls ok\nmodule calls refused malformed\nmodule calls ok\nmodule calls refused segment\n\
+    module calls refused limit\n1 ok\n1 ok i32:5\n1 trap uninit\n1 fuel\n1 fuel\n1 fuel\n1 refused module\n\
+    1 refused export\n1 refused args\n1 refused args\n1 refused retired\n1 ok out:-\nretire calls done\n";
+
 #[test]
-fn a_report_has_its_text_and_its_summary(rt: HostRuntime) -> Result<(), Fail> {
+fn a_report_has_its_text_and_its_summary(rt: HostRuntime) {
     let alloc = rt.alloc();
-    let lines = report(alloc)?;
-    let mut out = Vec::from_slice(alloc, b"before\n")?;
-    write_summary(alloc, &mut out, &lines)?;
-    let want =
-        "before\nmodules ok 2\nmodules refused 3\ncalls ok 3\ncalls trap 1\ncalls fuel 3\ncalls refused 5\n";
-    assert_eq!(rt; out.as_slice(), want.as_bytes());
-    let want =
-        "module calls ok\nmodule calls refused malformed\nmodule calls ok\nmodule calls refused segment\n\
-        module calls refused limit\n1 ok\n1 ok i32:5\n1 trap uninit\n1 fuel\n1 fuel\n1 fuel\n1 refused module\n\
-        1 refused export\n1 refused args\n1 refused args\n1 refused retired\n1 ok out:-\nretire calls done\n";
-    let text = report_text(alloc, lines)?;
-    assert_eq!(rt; text.as_slice(), want.as_bytes());
-    Ok(())
+    let lines = report(&rt, alloc);
+    let mut out = Vec::from_slice(alloc, b"before\n").expect(&rt, "memory");
+    write_summary(alloc, &mut out, &lines).expect(&rt, "memory");
+    assert_eq!(rt; out.as_slice(), SUMMARY.as_bytes());
+    let text = report_text(alloc, lines).expect(&rt, "memory");
+    assert_eq!(rt; text.as_slice(), TEXT.as_bytes());
 }

@@ -1,9 +1,8 @@
 //! Texts and what is read from them.
 use pool_limits::{Numbers, PoolConfig};
 use request_text::{Directive, Invocation, ParseFault, Reason, Requests, parse, write_text_fault};
-use std::alloc::{AllocError, Global};
+use std::alloc::Global;
 use std::process::Abort;
-use std::test::Fail;
 use wasm_values::Profile;
 
 // Four totals that differ, so that each share is seen to be compared with its own: tenants may want 4, 5, 6 and 7.
@@ -20,53 +19,51 @@ const NUMBERS: Numbers = Numbers {
     frame: 1_024,
 };
 
+fn push<R: Abort>(rt: &R, text: &mut String, more: &str) {
+    text.push_str(more).expect(rt, "memory");
+}
+
 // Pushes characters.
-fn push_name(text: &mut String, name: &[u8]) -> Result<(), AllocError> {
+fn push_name<R: Abort>(rt: &R, text: &mut String, name: &[u8]) {
     for byte in name {
-        text.push(char::from(*byte))?;
+        text.push(char::from(*byte)).expect(rt, "memory");
     }
-    Ok(())
 }
 
 // Pushes bytes in hex.
-fn push_hex(text: &mut String, bytes: &[u8]) -> Result<(), AllocError> {
+fn push_hex<R: Abort>(rt: &R, text: &mut String, bytes: &[u8]) {
     for byte in bytes {
-        write!(text, "{byte:02x}")?;
+        write!(text, "{byte:02x}").expect(rt, "memory");
     }
-    Ok(())
 }
 
 // Pushes a call: its module's place, its export, its fuel, its request if it has one, and its arguments.
-fn push_invocation(
-    text: &mut String,
-    module: u32,
-    invocation: &Invocation,
-) -> Result<(), AllocError> {
-    match &invocation.request {
-        None => write!(text, "call {module} ")?,
-        Some(_) => write!(text, "send {module} ")?,
-    }
-    push_name(text, invocation.export.as_slice())?;
-    write!(text, " {}", invocation.fuel)?;
+fn push_invocation<R: Abort>(rt: &R, text: &mut String, module: u32, invocation: &Invocation) {
+    let directive = match &invocation.request {
+        None => "call",
+        Some(_) => "send",
+    };
+    write!(text, "{directive} {module} ").expect(rt, "memory");
+    push_name(rt, text, invocation.export.as_slice());
+    write!(text, " {}", invocation.fuel).expect(rt, "memory");
     if let Some(request) = &invocation.request {
-        text.push_str(" =")?;
-        push_hex(text, request.bytes())?;
+        push(rt, text, " =");
+        push_hex(rt, text, request.bytes());
     }
     for arg in invocation.args.as_slice() {
-        write!(text, " {arg:?}")?;
+        write!(text, " {arg:?}").expect(rt, "memory");
     }
-    Ok(())
 }
 
 // Pushes a directive as one line: a module's name and bytes, a call, behind its tenant's number if that isn't 0 and `retired` if its
 // module is, or a retired module's place and name.
-fn push_directive(text: &mut String, directive: &Directive) -> Result<(), AllocError> {
+fn push_directive<R: Abort>(rt: &R, text: &mut String, directive: &Directive) {
     match directive {
         Directive::Module { name, bytes } => {
-            text.push_str("module ")?;
-            push_name(text, name.as_slice())?;
-            text.push_str(" ")?;
-            push_hex(text, bytes.as_slice())?;
+            push(rt, text, "module ");
+            push_name(rt, text, name.as_slice());
+            push(rt, text, " ");
+            push_hex(rt, text, bytes.as_slice());
         }
         Directive::Call {
             tenant,
@@ -75,51 +72,51 @@ fn push_directive(text: &mut String, directive: &Directive) -> Result<(), AllocE
             invocation,
         } => {
             if *tenant != 0 {
-                write!(text, "for {tenant}: ")?;
+                write!(text, "for {tenant}: ").expect(rt, "memory");
             }
-            text.push_str(if *retired { "retired: " } else { "" })?;
-            push_invocation(text, *module, invocation)?;
+            push(rt, text, if *retired { "retired: " } else { "" });
+            push_invocation(rt, text, *module, invocation);
         }
         Directive::Retire { module, name } => {
-            write!(text, "retire {module} ")?;
-            push_name(text, name.as_slice())?;
+            write!(text, "retire {module} ").expect(rt, "memory");
+            push_name(rt, text, name.as_slice());
         }
     }
-    text.push_str("\n")
+    push(rt, text, "\n");
 }
 
 // Pushes what was read, line by line.
-fn push_requests(text: &mut String, requests: &Requests) -> Result<(), AllocError> {
-    text.push_str(match requests.profile() {
+fn push_requests<R: Abort>(rt: &R, text: &mut String, requests: &Requests) {
+    let profile = match requests.profile() {
         Profile::One => "",
         Profile::Two => "profile 2\n",
         Profile::Three => "profile 3\n",
-    })?;
-    text.push_str(if requests.runs_whole() { "whole\n" } else { "" })?;
+    };
+    push(rt, text, profile);
+    push(rt, text, if requests.runs_whole() { "whole\n" } else { "" });
     for want in requests.wants() {
-        write!(text, "wants {} {} ", want.instances, want.memories)?;
-        write!(text, "{} {}\n", want.tables, want.warm)?;
+        write!(text, "wants {} {} ", want.instances, want.memories).expect(rt, "memory");
+        write!(text, "{} {}\n", want.tables, want.warm).expect(rt, "memory");
     }
     for directive in requests.directives() {
-        push_directive(text, directive)?;
+        push_directive(rt, text, directive);
     }
-    Ok(())
 }
 
 // Pushes what was read, or the fault.
-fn push_parsed(text: &mut String, parsed: &Result<Requests, ParseFault>) -> Result<(), AllocError> {
+fn push_parsed<R: Abort>(rt: &R, text: &mut String, parsed: &Result<Requests, ParseFault>) {
     match parsed {
-        Ok(requests) => push_requests(text, requests),
-        Err(fault) => write!(text, "{fault}"),
+        Ok(requests) => push_requests(rt, text, requests),
+        Err(fault) => write!(text, "{fault}").expect(rt, "memory"),
     }
 }
 
 // What is read of a text, line by line, or the fault.
-fn described(alloc: Global, config: &PoolConfig, text: &[u8]) -> Result<String, AllocError> {
+fn described<R: Abort>(rt: &R, alloc: Global, config: &PoolConfig, text: &[u8]) -> String {
     let mut lines = String::new(alloc);
     let parsed = parse(alloc, config, text);
-    push_parsed(&mut lines, &parsed)?;
-    Ok(lines)
+    push_parsed(rt, &mut lines, &parsed);
+    lines
 }
 
 // Texts, and what is read of them.
@@ -382,51 +379,53 @@ const RETIREMENTS: [(&str, &str); 20] = [
     ),
 ];
 
-fn check_texts<R: Abort>(rt: &R, alloc: Global, rows: &[(&str, &str)]) -> Result<(), Fail> {
-    let config = PoolConfig::new(NUMBERS)?;
+// The configuration of these numbers.
+fn config<R: Abort>(rt: &R) -> PoolConfig {
+    PoolConfig::new(NUMBERS).expect(rt, "in range")
+}
+
+fn check_texts<R: Abort>(rt: &R, alloc: Global, rows: &[(&str, &str)]) {
+    let config = config(rt);
     for (text, want) in rows {
-        let got = described(alloc, &config, text.as_bytes())?;
+        let got = described(rt, alloc, &config, text.as_bytes());
         assert_eq!(rt; got.as_str(), *want, "of {text}");
     }
-    Ok(())
 }
 
 #[test]
-fn modules_and_calls_are_read_or_refused_at_the_first_bad_line(
-    rt: HostRuntime,
-) -> Result<(), Fail> {
-    check_texts(&rt, rt.alloc(), &CALLS)
+fn modules_and_calls_are_read_or_refused_at_the_first_bad_line(rt: HostRuntime) {
+    check_texts(&rt, rt.alloc(), &CALLS);
 }
 
 #[test]
-fn a_profile_is_read_or_refused_at_the_first_bad_line(rt: HostRuntime) -> Result<(), Fail> {
-    check_texts(&rt, rt.alloc(), &PROFILES)
+fn a_profile_is_read_or_refused_at_the_first_bad_line(rt: HostRuntime) {
+    check_texts(&rt, rt.alloc(), &PROFILES);
 }
 
 #[test]
-fn requests_are_read_or_refused_at_the_first_bad_line(rt: HostRuntime) -> Result<(), Fail> {
-    check_texts(&rt, rt.alloc(), &REQUESTS)
+fn requests_are_read_or_refused_at_the_first_bad_line(rt: HostRuntime) {
+    check_texts(&rt, rt.alloc(), &REQUESTS);
 }
 
 #[test]
-fn tenants_are_read_or_refused_at_the_first_bad_line(rt: HostRuntime) -> Result<(), Fail> {
-    check_texts(&rt, rt.alloc(), &TENANTS)?;
-    check_texts(&rt, rt.alloc(), &BAD_TENANTS)
+fn tenants_are_read_or_refused_at_the_first_bad_line(rt: HostRuntime) {
+    check_texts(&rt, rt.alloc(), &TENANTS);
+    check_texts(&rt, rt.alloc(), &BAD_TENANTS);
 }
 
 #[test]
-fn modules_are_retired_from_profile_5_on(rt: HostRuntime) -> Result<(), Fail> {
-    check_texts(&rt, rt.alloc(), &RETIREMENTS)
+fn modules_are_retired_from_profile_5_on(rt: HostRuntime) {
+    check_texts(&rt, rt.alloc(), &RETIREMENTS);
 }
 
 // A file of 1,048,576 modules, `m0` to `m1048575`, and a line.
-fn most_modules(alloc: Global, last: &str) -> Result<String, AllocError> {
+fn most_modules<R: Abort>(rt: &R, alloc: Global, last: &str) -> String {
     let mut text = String::new(alloc);
     for k in 0..1_048_576 {
-        write!(text, "module m{k} 00\n")?;
+        write!(text, "module m{k} 00\n").expect(rt, "memory");
     }
-    text.push_str(last)?;
-    Ok(text)
+    push(rt, &mut text, last);
+    text
 }
 
 // The place of the module of the last call.
@@ -437,35 +436,30 @@ fn last_place(requests: &Requests) -> Option<u32> {
     }
 }
 
-// What is read of the last call, or the fault.
-fn last_read(alloc: Global, config: &PoolConfig, text: &str) -> Result<Option<u32>, ParseFault> {
-    let requests = parse(alloc, config, text.as_bytes())?;
+// What is read of the last call behind as many modules, or the fault.
+fn last_read<R: Abort>(rt: &R, alloc: Global, last: &str) -> Result<Option<u32>, ParseFault> {
+    let config = config(rt);
+    let text = most_modules(rt, alloc, last);
+    let requests = parse(alloc, &config, text.as_bytes())?;
     Ok(last_place(&requests))
 }
 
 #[test]
-fn as_many_modules_as_a_file_may_have_are_read(rt: HostRuntime) -> Result<(), Fail> {
-    let config = PoolConfig::new(NUMBERS)?;
-    let text = most_modules(rt.alloc(), "call m1048575 f 1\n")?;
-    let read = last_read(rt.alloc(), &config, text.as_str());
+fn as_many_modules_as_a_file_may_have_are_read(rt: HostRuntime) {
+    let read = last_read(&rt, rt.alloc(), "call m1048575 f 1\n");
     assert_eq!(rt; read, Ok(Some(1_048_575)));
-    Ok(())
 }
 
 #[test]
-fn one_module_more_is_refused(rt: HostRuntime) -> Result<(), Fail> {
-    let config = PoolConfig::new(NUMBERS)?;
-    let text = most_modules(rt.alloc(), "module m 00")?;
-    let read = last_read(rt.alloc(), &config, text.as_str());
+fn one_module_more_is_refused(rt: HostRuntime) {
+    let read = last_read(&rt, rt.alloc(), "module m 00");
     let (line, reason) = (1_048_577, Reason::TooManyModules);
     assert_eq!(rt; read, Err(ParseFault::TextFault { line, reason }));
-    Ok(())
 }
 
 #[test]
-fn a_refusal_is_appended(rt: HostRuntime) -> Result<(), Fail> {
-    let mut out = Vec::from_slice(rt.alloc(), b"a\n")?;
-    write_text_fault(rt.alloc(), &mut out, 2, Reason::BadArgument)?;
+fn a_refusal_is_appended(rt: HostRuntime) {
+    let mut out = Vec::from_slice(rt.alloc(), b"a\n").expect(&rt, "memory");
+    write_text_fault(rt.alloc(), &mut out, 2, Reason::BadArgument).expect(&rt, "memory");
     assert_eq!(rt; out.as_slice(), b"a\nline 2: bad argument\n".as_slice());
-    Ok(())
 }

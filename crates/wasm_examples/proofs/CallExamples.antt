@@ -8,6 +8,7 @@ use Rattle.wasm_values.specs.declared.outcome.Outcome.{Outcome}
 use Rattle.wasm_values.specs.declared.outcome.Outcome.TheVariants.{Done, Trap, Fuel}
 use Rattle.wasm_types.specs.declared.types.FuncType.{FuncType}
 use Rattle.wasm_types.specs.declared.instr.Width.TheVariants.{W32, W64}
+use Rattle.wasm_types.specs.declared.instr.Sign.TheVariants.{Signed}
 use Rattle.wasm_types.specs.declared.instr.UnaryOp.TheVariants as unary_op
 use Rattle.wasm_types.specs.declared.instr.CompareOp.TheVariants as compare_op
 use Rattle.wasm_types.specs.declared.instr.Instr.{Instr}
@@ -276,6 +277,23 @@ indirect-at_the_depth : ending (call_result other_types_module (record { pages =
 unfolding exec
 indirect-at_the_depth = refl
 
+-- an element that calls another one
+abbrev nested_elements_module : ModuleTree
+nested_elements_module = record (bare (empty_type ∷ [])
+    (function_of 0 (straight (i32_const 0 ∷ []) (CallIndirect 0 End)) ∷ function_of 0 (straight (i32_const 1 ∷ []) (CallIndirect 0 End)) ∷ function_of 0 End ∷ [])
+    []) {
+      tables = at_least 2 ∷ [];
+      element_segments = record { table = 0; offset = straight (i32_const 0 ∷ []) End; functions = 1 ∷ 2 ∷ [] } ∷ [];
+    }
+
+elements_to_the_depth : ending (call_result nested_elements_module (record { pages = 0; depth = 3; request = [] }) 0 [] 4) ≡ Some (Done None, 0)
+unfolding exec
+elements_to_the_depth = refl
+
+elements_past_the_depth : ending (call_result nested_elements_module (record { pages = 0; depth = 2; request = [] }) 0 [] 4) ≡ Some (Trap trap.Exhausted, 0)
+unfolding exec
+elements_past_the_depth = refl
+
 -- ---- arguments and locals
 
 -- function 0 takes its second argument from its first; 1 calls it with 7 and 2, 2 as an element; 3 is a local of 64 bits that was
@@ -480,6 +498,10 @@ comparison_of_64_bits = refl
 zero_of_64_bits : from_64 (instr.Const (I64 4294967296) ∷ instr.Eqz W64 ∷ []) ≡ gives 0 98
 unfolding exec
 zero_of_64_bits = refl
+
+widened_by_its_sign : gives_of (function_type [] (type.I64 ∷ [])) (straight (i32_const 4294967295 ∷ instr.Extend Signed ∷ []) End) ≡ Some (Done (Some (I64 18446744073709551615)), 98)
+unfolding exec
+widened_by_its_sign = refl
 
 second_global : from_64 (i32_const 5 ∷ instr.GlobalSet 1 ∷ instr.GlobalGet 0 ∷ instr.GlobalGet 1 ∷ i32_sub ∷ []) ≡ gives 2 95
 unfolding exec

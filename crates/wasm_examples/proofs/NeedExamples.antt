@@ -110,6 +110,16 @@ behind_an_extension = refl
 after_a_drop : need_of 2 [] (straight (i32_const 1 ∷ instr.Drop ∷ i32_const 2 ∷ instr.Drop ∷ []) End) ≡ 2
 after_a_drop = refl
 
+-- a drop and an `if` take one operand, and select three, also where more lie below
+two_below_a_drop : need_of 2 [] (straight three (straight (instr.Drop ∷ i32_const 4 ∷ i32_const 5 ∷ instr.Drop ∷ []) drops)) ≡ 5
+two_below_a_drop = refl
+
+two_below_an_if : need_of 2 [] (straight three (If None End End (straight (i32_const 4 ∷ i32_const 5 ∷ instr.Drop ∷ []) drops))) ≡ 6
+two_below_an_if = refl
+
+one_below_a_select : need_of 2 [] (straight (i32_const 0 ∷ []) (straight three (straight (instr.Select ∷ []) (straight three (straight (instr.Drop ∷ instr.Drop ∷ []) drops))))) ≡ 6
+one_below_a_select = refl
+
 first_arm_is_deeper : need_of 2 [] (straight (i32_const 0 ∷ []) (If None (Block None (Block None End End) End) End End)) ≡ 5
 first_arm_is_deeper = refl
 

@@ -35,14 +35,17 @@ unused_bits_are_not_zero x behind rest h =
     let a3 = goes_on 11 a2.0 128 (0x10 ∷ behind) rest (omega arith) a2.2 in
     elim (a3.2) [ inl b ↦ absurd (omega (arith, b.0, b.1)) | inr b ↦ absurd (omega (arith, b.0, b.1)) ]
 
--- a sixth byte
-six_bytes : (x : ℕ) (rest : List ℕ) → TakesUnsigned 32 x (0x80 ∷ 0x80 ∷ 0x80 ∷ 0x80 ∷ 0x80 ∷ 0x00 ∷ []) rest → ⊥
-six_bytes x rest h =
-    let a0 = goes_on 32 x 128 (0x80 ∷ 0x80 ∷ 0x80 ∷ 0x80 ∷ 0x00 ∷ []) rest (omega arith) h in
-    let a1 = goes_on 25 a0.0 128 (0x80 ∷ 0x80 ∷ 0x80 ∷ 0x00 ∷ []) rest (omega arith) a0.2 in
-    let a2 = goes_on 18 a1.0 128 (0x80 ∷ 0x80 ∷ 0x00 ∷ []) rest (omega arith) a1.2 in
-    let a3 = goes_on 11 a2.0 128 (0x80 ∷ 0x00 ∷ []) rest (omega arith) a2.2 in
+-- a sixth byte, whatever the first is and whatever stands behind the fifth
+pub goes_on_behind_five : (first x : ℕ) (behind rest : List ℕ) → 2 ^ 7 ≤ first → TakesUnsigned 32 x (first ∷ 0x80 ∷ 0x80 ∷ 0x80 ∷ 0x80 ∷ behind) rest → ⊥
+goes_on_behind_five first x behind rest le h =
+    let a0 = goes_on 32 x first (0x80 ∷ 0x80 ∷ 0x80 ∷ 0x80 ∷ behind) rest le h in
+    let a1 = goes_on 25 a0.0 128 (0x80 ∷ 0x80 ∷ 0x80 ∷ behind) rest (omega arith) a0.2 in
+    let a2 = goes_on 18 a1.0 128 (0x80 ∷ 0x80 ∷ behind) rest (omega arith) a1.2 in
+    let a3 = goes_on 11 a2.0 128 (0x80 ∷ behind) rest (omega arith) a2.2 in
     elim (a3.2) [ inl b ↦ absurd (omega (arith, b.0, b.1)) | inr b ↦ absurd (omega (arith, b.0, b.1)) ]
+
+six_bytes : (x : ℕ) (rest : List ℕ) → TakesUnsigned 32 x (0x80 ∷ 0x80 ∷ 0x80 ∷ 0x80 ∷ 0x80 ∷ 0x00 ∷ []) rest → ⊥
+six_bytes x rest h = goes_on_behind_five 0x80 x (0x00 ∷ []) rest (omega arith) h
 
 -- the bytes end in the middle
 cut_off : (x : ℕ) (rest : List ℕ) → TakesUnsigned 32 x (0x80 ∷ []) rest → ⊥

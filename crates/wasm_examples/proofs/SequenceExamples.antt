@@ -1,5 +1,6 @@
 -- Modules as the code has them, with numbered sequences and runs of locals, and the trees that they stand for.
-use Rattle.std.specs.Prelude.{◌≡◌, [], ◌∷◌, Some, None, true, false, refl}
+use Rattle.std.specs.Prelude.{◌≡◌, List, [], ◌∷◌, Some, None, true, false, map, refl}
+use Rattle.wasm_types.specs.declared.types.ValType.{ValType}
 use Rattle.wasm_types.specs.declared.types.ValType.TheVariants as type
 use Rattle.wasm_types.specs.declared.instr.Instr.TheVariants as instr
 use Rattle.wasm_types.specs.declared.instr.Op.TheVariants as op
@@ -58,6 +59,19 @@ name-of_its_own : named_in sequences 1 1 ≡ End
 unfolding codes
 name-of_its_own = refl
 
+-- nor does what is left from a place on name a later one
+place-before_what_it_names : code_at looking_ahead 0 0 ≡ Block None End (Loop None End End)
+unfolding codes
+place-before_what_it_names = refl
+
+-- each block has its own result, and arms that are not there are empty
+abbrev with_results : Expr
+with_results = record { sequences = (op.Block (Some type.I64) 1 ∷ op.Loop (Some type.F32) 1 ∷ op.If (Some type.F64) 1 2 ∷ []) ∷ [] }
+
+results-tree : expr_tree with_results ≡ Block (Some type.I64) End (Loop (Some type.F32) End (If (Some type.F64) End End End))
+unfolding codes
+results-tree = refl
+
 -- runs of locals, one by one
 abbrev function_of_runs : Function
 function_of_runs = record {
@@ -107,6 +121,18 @@ module-tree = refl
 
 each_type_is_the_same : all_same (type.I32 ∷ type.I64 ∷ type.F32 ∷ type.F64 ∷ []) (type.I32 ∷ type.I64 ∷ type.F32 ∷ type.F64 ∷ []) ≡ true
 each_type_is_the_same = refl
+
+-- each type with each
+abbrev types : List ValType
+types = type.I32 ∷ type.I64 ∷ type.F32 ∷ type.F64 ∷ []
+
+no_two_types_are_the_same : map (λ t. map (λ u. same t u) types) types
+    ≡ (true ∷ false ∷ false ∷ false ∷ [])
+    ∷ (false ∷ true ∷ false ∷ false ∷ [])
+    ∷ (false ∷ false ∷ true ∷ false ∷ [])
+    ∷ (false ∷ false ∷ false ∷ true ∷ [])
+    ∷ []
+no_two_types_are_the_same = refl
 
 other_order : all_same (type.I32 ∷ type.I64 ∷ []) (type.I64 ∷ type.I32 ∷ []) ≡ false
 other_order = refl

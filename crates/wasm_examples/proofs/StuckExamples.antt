@@ -32,6 +32,14 @@ select_of_two : ran (i32_const 1 ∷ i32_const 2 ∷ instr.Select ∷ []) ≡ No
 unfolding exec
 select_of_two = refl
 
+fill_of_nothing : ran (instr.MemoryFill ∷ []) ≡ None
+unfolding exec
+fill_of_nothing = refl
+
+copy_of_two : ran (i32_const 0 ∷ i32_const 0 ∷ instr.MemoryCopy ∷ []) ≡ None
+unfolding exec
+copy_of_two = refl
+
 test_of_another_width : ran (instr.Const (I64 1) ∷ instr.Eqz W32 ∷ []) ≡ None
 unfolding exec
 test_of_another_width = refl
@@ -47,6 +55,13 @@ float = refl
 branch_past_the_body : ran (instr.Br 1 ∷ []) ≡ None
 unfolding exec
 branch_past_the_body = refl
+
+-- nor does it go to a label of the caller
+branch_past_a_called_body : call_result
+    (bare (empty_type ∷ []) (function_of 0 (Block None (Call 1 End) End) ∷ function_of 0 (straight (instr.Br 1 ∷ []) End) ∷ []) [])
+    (record { pages = 1; depth = 4; request = [] }) 0 [] 100 ≡ None
+unfolding exec
+branch_past_a_called_body = refl
 
 missing_local : ran (instr.LocalGet 0 ∷ []) ≡ None
 unfolding exec

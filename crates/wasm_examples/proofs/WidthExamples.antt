@@ -11,7 +11,7 @@ use Rattle.wasm_spec.specs.TypeGrammar.{TakesRange}
 use Rattle.wasm_spec.specs.InstrGrammar.{shape, TakesShape, TakesPrefixed, TakesCode, ByEnd}
 use Rattle.wasm_spec.specs.Grammar.{TakesImportDesc, TakesExportDesc, TakesElement, TakesData, TakesLocalRun, SpellsStart, SpellsCount, SpellsFields}
 use Rattle.wasm_examples.proofs.Modules.{bare}
-use Rattle.wasm_examples.proofs.NumberExamples.{unused_bits_are_not_zero, sign_is_not_copied, sign_of_64_is_not_copied}
+use Rattle.wasm_examples.proofs.NumberExamples.{unused_bits_are_not_zero, goes_on_behind_five, sign_is_not_copied, sign_of_64_is_not_copied}
 
 -- 2^32, in five bytes, and what stands behind it
 abbrev too_great : List ℕ → List ℕ
@@ -145,6 +145,10 @@ constant_of_65_bits i rest h = sign_of_64_is_not_copied h.0 rest h.2
 
 number_behind_the_prefix : (i : Instr) (behind rest : List ℕ) → TakesPrefixed i (too_great behind) rest → ⊥
 number_behind_the_prefix i behind rest h = unused_bits_are_not_zero h.number behind h.mid h.spelled
+
+-- the number of a copy, padded to six bytes
+padded_number_behind_the_prefix : (i : Instr) (behind rest : List ℕ) → TakesPrefixed i (0x8A ∷ 0x80 ∷ 0x80 ∷ 0x80 ∷ 0x80 ∷ behind) rest → ⊥
+padded_number_behind_the_prefix i behind rest h = goes_on_behind_five 0x8A h.number behind h.mid (omega arith) h.spelled
 
 count_of_data_segments : (n : ℕ) (behind : List ℕ) → SpellsCount n (Some (record { id = 12; contents = too_great behind })) → ⊥
 count_of_data_segments n behind h = unused_bits_are_not_zero n behind [] h

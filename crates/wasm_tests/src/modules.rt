@@ -1,8 +1,8 @@
 //! Bytes that spell modules and bytes that spell none, modules that are valid and such that are refused, and a deep one.
 
-use std::alloc::{AllocError, Global};
+use std::alloc::Global;
 use std::fs;
-use std::test::Fail;
+use std::process::Abort;
 use wasm_decode::{DecodeFault, decode};
 use wasm_validate::{ValidFault, validate};
 use wasm_values::Profile;
@@ -175,41 +175,53 @@ const SPELLED: &[(&[u8], bool, bool)] = &[
 ];
 
 // The magic bytes and the version, and what follows.
-fn module(alloc: Global, after: &[u8]) -> Result<Vec<u8>, AllocError> {
-    let mut bytes = Vec::from_slice(alloc, b"\0asm\x01\0\0\0")?;
-    bytes.extend_from_slice(after)?;
-    Ok(bytes)
+fn module<R: Abort>(rt: &R, alloc: Global, after: &[u8]) -> Vec<u8> {
+    let mut bytes = Vec::from_slice(alloc, b"\0asm\x01\0\0\0").expect(rt, "memory");
+    bytes.extend_from_slice(after).expect(rt, "memory");
+    bytes
 }
 
 // Whether these bytes spell a module in a profile.
-fn spells(alloc: Global, profile: Profile, after: &[u8]) -> Result<bool, DecodeFault> {
-    let bytes = module(alloc, after)?;
-    match decode(alloc, profile, bytes.as_slice()) {
-        Ok(_) => Ok(true),
-        Err(DecodeFault::Malformed) => Ok(false),
-        Err(fault) => Err(fault),
+fn spells<R: Abort>(rt: &R, alloc: Global, profile: Profile, after: &[u8]) -> bool {
+    let bytes = module(rt, alloc, after);
+    match decode(alloc, profile, bytes.as_slice()).err() {
+        None => true,
+        Some(DecodeFault::Malformed) => false,
+        Some(fault) => panic!(rt; "{fault}: {after:?}"),
     }
 }
 
 #[test]
-fn bytes_are_modules_as_another_engine_says(rt: HostRuntime) -> Result<(), Fail> {
+fn bytes_are_modules_as_another_engine_says(rt: HostRuntime) {
     for (after, one, two) in SPELLED {
-        assert_eq!(rt; spells(rt.alloc(), Profile::One, after)?, *one, "{after:?}");
-        assert_eq!(rt; spells(rt.alloc(), Profile::Two, after)?, *two, "{after:?}");
+        assert_eq!(rt;
+            spells(&rt, rt.alloc(), Profile::One, after),
+            *one,
+            "{after:?}"
+        );
+        assert_eq!(rt;
+            spells(&rt, rt.alloc(), Profile::Two, after),
+            *two,
+            "{after:?}"
+        );
     }
-    Ok(())
 }
 
-// The most KiB of addresses that the process ever had at once.
-fn most_addresses(rt: &HostRuntime) -> Result<u64, Fail> {
-    let status = fs::read_to_string(rt, "/proc/self/status")?;
-    let mut words = status.split_whitespace();
+// The number behind a word of a text.
+fn number_behind(text: &str, before: &str) -> Option<u64> {
+    let mut words = text.split_whitespace();
     for word in words.by_ref() {
-        if word == "VmPeak:" {
+        if word == before {
             break;
         }
     }
-    Ok(words.next().ok_or("no VmPeak")?.parse()?)
+    words.next()?.parse().ok()
+}
+
+// The most KiB of addresses that the process ever had at once.
+fn most_addresses(rt: &HostRuntime) -> Option<u64> {
+    let status = fs::read_to_string(rt, "/proc/self/status").ok()?;
+    number_behind(status.as_str(), "VmPeak:")
 }
 
 // What follows the magic bytes and the version. It claims 4,294,967,295 types or labels, and has one or two.
@@ -222,18 +234,14 @@ const CLAIMED: &[&[u8]] = &[
 
 // Memory for so many would be 4 GiB or more. A refusal would be an error, and what is had counts among the addresses.
 #[test]
-fn a_claimed_count_takes_no_memory(rt: HostRuntime) -> Result<(), Fail> {
+fn a_claimed_count_takes_no_memory(rt: HostRuntime) {
     for after in CLAIMED {
-        let before = most_addresses(&rt)?;
-        assert_eq!(rt;
-            spells(rt.alloc(), Profile::One, after)?,
-            false,
-            "{after:?}"
-        );
-        let more = most_addresses(&rt)?.saturating_sub(before);
+        let before = most_addresses(&rt).expect(&rt, "VmPeak");
+        assert!(rt; !spells(&rt, rt.alloc(), Profile::One, after), "{after:?}");
+        let peak = most_addresses(&rt).expect(&rt, "VmPeak");
+        let more = peak.saturating_sub(before);
         assert!(rt; more < 1_048_576, "{more} KiB: {after:?}");
     }
-    Ok(())
 }
 
 // What follows the magic bytes and the version, and the need of the last function, or why the module is refused in profile 1.
@@ -272,40 +280,42 @@ const CHECKED: &[(&[u8], Result<u64, ValidFault>)] = &[
 ];
 
 // The need of a module's last function, or why it is refused.
-fn last_need(alloc: Global, after: &[u8]) -> Result<Result<u64, ValidFault>, DecodeFault> {
-    let bytes = module(alloc, after)?;
-    let module = decode(alloc, Profile::One, bytes.as_slice())?;
-    Ok(match validate(alloc, Profile::One, module) {
-        Ok(valid) => Ok(valid.frame_needs().last().copied().unwrap_or(0)),
-        Err(fault) => Err(fault),
-    })
+fn last_need<R: Abort>(rt: &R, alloc: Global, after: &[u8]) -> Result<u64, ValidFault> {
+    let bytes = module(rt, alloc, after);
+    let module = decode(alloc, Profile::One, bytes.as_slice()).expect(rt, "decoded");
+    let valid = validate(alloc, Profile::One, module)?;
+    Ok(valid.frame_needs().last().copied().unwrap_or(0))
 }
 
 #[test]
-fn modules_are_valid_or_refused(rt: HostRuntime) -> Result<(), Fail> {
+fn modules_are_valid_or_refused(rt: HostRuntime) {
     for (after, need) in CHECKED {
-        assert_eq!(rt; last_need(rt.alloc(), after)?, *need, "{after:?}");
+        assert_eq!(rt; last_need(&rt, rt.alloc(), after), *need, "{after:?}");
     }
-    Ok(())
 }
 
 // 50,000 `if`s, each in the second arm of the one around it.
-fn nested_arms(alloc: Global) -> Result<Vec<u8>, AllocError> {
-    let mut after = Vec::from_slice(
-        alloc,
-        b"\x01\x04\x01\x60\0\0\x03\x02\x01\0\x0a\xe6\xa7\x12\x01\xe2\xa7\x12\0",
-    )?;
-    let opened = b"\x41\0\x04\x40\x05".repeat(alloc, 50_000)?;
-    after.extend_from_slice(opened.as_slice())?;
-    let closed = b"\x0b".repeat(alloc, 50_001)?;
-    after.extend_from_slice(closed.as_slice())?;
-    Ok(after)
+fn nested_arms<R: Abort>(rt: &R, alloc: Global) -> Vec<u8> {
+    let opened = b"\x41\0\x04\x40\x05"
+        .repeat(alloc, 50_000)
+        .expect(rt, "memory");
+    let closed = b"\x0b".repeat(alloc, 50_001).expect(rt, "memory");
+    let mut after = Vec::from_slice(alloc, LONG_BODY).expect(rt, "memory");
+    after
+        .extend_from_slice(opened.as_slice())
+        .expect(rt, "memory");
+    after
+        .extend_from_slice(closed.as_slice())
+        .expect(rt, "memory");
+    after
 }
+
+// A function of no parameters, and the beginning of its body, which has 300,002 bytes.
+const LONG_BODY: &[u8] = b"\x01\x04\x01\x60\0\0\x03\x02\x01\0\x0a\xe6\xa7\x12\x01\xe2\xa7\x12\0";
 
 // Nothing recurses on them.
 #[test]
-fn arms_may_be_nested_deep(rt: HostRuntime) -> Result<(), Fail> {
-    let after = nested_arms(rt.alloc())?;
-    assert_eq!(rt; last_need(rt.alloc(), after.as_slice())?, Ok(50_002));
-    Ok(())
+fn arms_may_be_nested_deep(rt: HostRuntime) {
+    let after = nested_arms(&rt, rt.alloc());
+    assert_eq!(rt; last_need(&rt, rt.alloc(), after.as_slice()), Ok(50_002));
 }

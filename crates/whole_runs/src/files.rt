@@ -1,8 +1,7 @@
 //! Files of each profile, long files, and modules that ask for much.
 use crate::running::{Case, SOUND, check, check_cases, joined, run};
 use request_text::MOST_CALLS;
-use std::alloc::{AllocError, Global};
-use std::test::Fail;
+use std::process::Abort;
 
 const ONE_AND_FOUR: &[&str] = &["poolhost run", "poolhost run --workers 4"];
 
@@ -143,8 +142,8 @@ const PROFILES: [Case; 11] = [
 ];
 
 #[test]
-fn modules_are_read_in_the_profile_of_their_file(rt: HostRuntime) -> Result<(), Fail> {
-    check_cases(&rt, rt.alloc(), &PROFILES)
+fn modules_are_read_in_the_profile_of_their_file(rt: HostRuntime) {
+    check_cases(&rt, rt.alloc(), &PROFILES);
 }
 
 const RECURSION: &str =
@@ -184,8 +183,8 @@ const FRAMES: [Case; 3] = [
 ];
 
 #[test]
-fn frames_are_enough_or_too_small(rt: HostRuntime) -> Result<(), Fail> {
-    check_cases(&rt, rt.alloc(), &FRAMES)
+fn frames_are_enough_or_too_small(rt: HostRuntime) {
+    check_cases(&rt, rt.alloc(), &FRAMES);
 }
 
 // Blocks, each in the one before, as deep as a frame, deeper by one, and much deeper.
@@ -235,8 +234,8 @@ const BLOCKS: [Case; 3] = [
 ];
 
 #[test]
-fn blocks_may_be_nested_as_deep_as_a_frame(rt: HostRuntime) -> Result<(), Fail> {
-    check_cases(&rt, rt.alloc(), &BLOCKS)
+fn blocks_may_be_nested_as_deep_as_a_frame(rt: HostRuntime) {
+    check_cases(&rt, rt.alloc(), &BLOCKS);
 }
 
 // 1,000,000 calls that are not reached, of a function of 1,000,000 parameters: such calls pop nothing for each of them.
@@ -254,8 +253,8 @@ const NOT_REACHED: [Case; 1] = [Case {
 }];
 
 #[test]
-fn calls_that_are_not_reached_are_checked_at_once(rt: HostRuntime) -> Result<(), Fail> {
-    check_cases(&rt, rt.alloc(), &NOT_REACHED)
+fn calls_that_are_not_reached_are_checked_at_once(rt: HostRuntime) {
+    check_cases(&rt, rt.alloc(), &NOT_REACHED);
 }
 
 // Modules of many locals, of a long table of branches, and of a long name.
@@ -305,37 +304,35 @@ const LONG: [Case; 3] = [
 ];
 
 #[test]
-fn long_modules_are_read(rt: HostRuntime) -> Result<(), Fail> {
-    check_cases(&rt, rt.alloc(), &LONG)
+fn long_modules_are_read(rt: HostRuntime) {
+    check_cases(&rt, rt.alloc(), &LONG);
 }
 
 // Pushes the export of a memory under the digits of a number, the last one first.
-fn push_export(text: &mut String, number: u32) -> Result<(), AllocError> {
-    text.push_str("05")?;
+fn push_export<R: Abort>(rt: &R, text: &mut String, number: u32) {
+    text.push_str("05").expect(rt, "memory");
     let mut digits = number;
     for _ in 0..5 {
-        write!(text, "3{}", digits % 10)?;
+        write!(text, "3{}", digits % 10).expect(rt, "memory");
         digits /= 10;
     }
-    text.push_str("0200")
+    text.push_str("0200").expect(rt, "memory");
 }
 
-// A module whose memory is exported under 100,000 names, the last one first.
-fn exports(alloc: Global) -> Result<String, AllocError> {
-    let mut text = String::from_str(
-        alloc,
-        "module m 0061736d0100000005030100000785eab08000a08d868000",
-    )?;
+// Pushes a module whose memory is exported under 100,000 names, the last one first.
+fn push_exports<R: Abort>(rt: &R, text: &mut String) {
+    text.push_str("module m 0061736d0100000005030100000785eab08000a08d868000")
+        .expect(rt, "memory");
     for number in (0..100_000).rev() {
-        push_export(&mut text, number)?;
+        push_export(rt, text, number);
     }
-    text.push_str("\n")?;
-    Ok(text)
+    text.push_str("\n").expect(rt, "memory");
 }
 
 #[test]
-fn many_names_are_exported(rt: HostRuntime) -> Result<(), Fail> {
-    let text = exports(rt.alloc())?;
+fn many_names_are_exported(rt: HostRuntime) {
+    let mut text = String::new(rt.alloc());
+    push_exports(&rt, &mut text);
     check(
         &rt,
         rt.alloc(),
@@ -343,7 +340,7 @@ fn many_names_are_exported(rt: HostRuntime) -> Result<(), Fail> {
         text.as_bytes(),
         0,
         b"module m ok\n",
-    )
+    );
 }
 
 const ADDITION: &str =
@@ -368,8 +365,8 @@ const MOST_CALLS_MADE: [Case; 1] = [Case {
 }];
 
 #[test]
-fn a_file_may_have_1_000_000_calls(rt: HostRuntime) -> Result<(), Fail> {
-    check_cases(&rt, rt.alloc(), &MOST_CALLS_MADE)
+fn a_file_may_have_1_000_000_calls(rt: HostRuntime) {
+    check_cases(&rt, rt.alloc(), &MOST_CALLS_MADE);
 }
 
 // One call more.
@@ -381,8 +378,8 @@ const ONE_CALL_MORE: [Case; 1] = [Case {
 }];
 
 #[test]
-fn one_call_more_is_refused(rt: HostRuntime) -> Result<(), Fail> {
-    check_cases(&rt, rt.alloc(), &ONE_CALL_MORE)
+fn one_call_more_is_refused(rt: HostRuntime) {
+    check_cases(&rt, rt.alloc(), &ONE_CALL_MORE);
 }
 
 // Fifteen tenants, of which the last calls, and one more.
@@ -433,8 +430,8 @@ const TENANTS: [Case; 4] = [
 ];
 
 #[test]
-fn at_most_15_tenants_share(rt: HostRuntime) -> Result<(), Fail> {
-    check_cases(&rt, rt.alloc(), &TENANTS)
+fn at_most_15_tenants_share(rt: HostRuntime) {
+    check_cases(&rt, rt.alloc(), &TENANTS);
 }
 
 // Many modules that are retired, and one again.
@@ -466,8 +463,8 @@ const RETIREMENTS: [Case; 2] = [
 ];
 
 #[test]
-fn each_of_many_modules_is_retired(rt: HostRuntime) -> Result<(), Fail> {
-    check_cases(&rt, rt.alloc(), &RETIREMENTS)
+fn each_of_many_modules_is_retired(rt: HostRuntime) {
+    check_cases(&rt, rt.alloc(), &RETIREMENTS);
 }
 
 // As many bytes as a file may have, in a comment and in one module line, and one more.
@@ -498,8 +495,8 @@ const BYTES: [Case; 3] = [
 ];
 
 #[test]
-fn a_file_has_at_most_64_mib(rt: HostRuntime) -> Result<(), Fail> {
-    check_cases(&rt, rt.alloc(), &BYTES)
+fn a_file_has_at_most_64_mib(rt: HostRuntime) {
+    check_cases(&rt, rt.alloc(), &BYTES);
 }
 
 // Modules with one byte, at the end of 256 pages: so many that it were 64 GiB, if the image of each had all bytes up to its last one.
@@ -514,8 +511,8 @@ const IMAGES: [Case; 1] = [Case {
 }];
 
 #[test]
-fn images_are_as_large_as_their_segments(rt: HostRuntime) -> Result<(), Fail> {
-    check_cases(&rt, rt.alloc(), &IMAGES)
+fn images_are_as_large_as_their_segments(rt: HostRuntime) {
+    check_cases(&rt, rt.alloc(), &IMAGES);
 }
 
 // A large module, and a call of many arguments.
@@ -532,8 +529,8 @@ const WORDS: [Case; 1] = [Case {
 }];
 
 #[test]
-fn a_large_module_and_many_arguments_are_read(rt: HostRuntime) -> Result<(), Fail> {
-    check_cases(&rt, rt.alloc(), &WORDS)
+fn a_large_module_and_many_arguments_are_read(rt: HostRuntime) {
+    check_cases(&rt, rt.alloc(), &WORDS);
 }
 
 const ZEROS: &str = "0000000000000000000000000000000000000000000000000000000000000000";
@@ -635,30 +632,28 @@ const LENGTHS: [Case; 12] = [
 ];
 
 #[test]
-fn names_and_requests_have_their_greatest_lengths(rt: HostRuntime) -> Result<(), Fail> {
-    check_cases(&rt, rt.alloc(), &LENGTHS)
+fn names_and_requests_have_their_greatest_lengths(rt: HostRuntime) {
+    check_cases(&rt, rt.alloc(), &LENGTHS);
 }
 
 // Pushes the calls of 4,096 modules in turn.
-fn push_calls(text: &mut String) -> Result<(), AllocError> {
+fn push_calls<R: Abort>(rt: &R, text: &mut String) {
     for k in 0..MOST_CALLS {
-        write!(text, "call m{} add 4 i32:{k} i32:1\n", k % 4_096)?;
+        write!(text, "call m{} add 4 i32:{k} i32:1\n", k % 4_096).expect(rt, "memory");
     }
-    Ok(())
 }
+
+const MODULES_OF_CALLS: &str =
+    "module m* 0061736d0100000001070160027f7f017f030201000707010361646400000a09010700200020016a0b\n";
+
+const LAST_CALLS: &[u8] = b"\n999999 ok i32:999999\n1000000 ok i32:1000000\n";
 
 // The last calls of a file that has as many as it may.
 #[test]
-fn as_many_calls_as_a_file_may_have_are_answered(rt: HostRuntime) -> Result<(), Fail> {
-    let modules =
-        "module m* 0061736d0100000001070160027f7f017f030201000707010361646400000a09010700200020016a0b\n";
-    let mut text = joined(rt.alloc(), &[(modules, 4_096)])?;
-    push_calls(&mut text)?;
-    let (status, sink) = run(&rt, rt.alloc(), "poolhost run", text.as_bytes(), SOUND)?;
+fn as_many_calls_as_a_file_may_have_are_answered(rt: HostRuntime) {
+    let mut text = joined(&rt, rt.alloc(), &[(MODULES_OF_CALLS, 4_096)]);
+    push_calls(&rt, &mut text);
+    let (status, sink) = run(&rt, rt.alloc(), "poolhost run", text.as_bytes(), SOUND);
     assert_eq!(rt; status, 0);
-    assert!(rt;
-        sink.bytes()
-            .ends_with(b"\n999999 ok i32:999999\n1000000 ok i32:1000000\n")
-    );
-    Ok(())
+    assert!(rt; sink.bytes().ends_with(LAST_CALLS));
 }

@@ -1,10 +1,9 @@
 //! Runs over sources and sinks in memory, and long texts.
 use host_edge::{MemSink, MemSource, OpenGate};
 use host_run::serve;
-use std::alloc::{AllocError, Global};
+use std::alloc::Global;
 use std::process::Abort;
 use std::sync::Wait;
-use std::test::Fail;
 use std::thread::Threads;
 
 // Of a source and of a sink: the size of its pieces, and the calls that fail.
@@ -20,29 +19,43 @@ pub(crate) const SOUND: Ends = Ends {
     sink: (65536, &[]),
 };
 
-fn words(alloc: Global, line: &str) -> Result<Vec<&str>, AllocError> {
+fn words<'a, R: Abort>(rt: &R, alloc: Global, line: &'a str) -> Vec<&'a str> {
     let mut words = Vec::new(alloc);
     for word in line.split_whitespace() {
-        words.push(word)?;
+        words.push(word).expect(rt, "memory");
     }
-    Ok(words)
+    words
 }
 
-// The status of a run on the words of a line, which are parted by spaces, over a file, and what it writes.
-pub(crate) fn run<R: Threads + Wait + Sync>(
+// The status of a run on the words of a line, which are parted by spaces.
+fn status_of<R: Abort + Threads + Wait + Sync>(
+    rt: &R,
+    alloc: Global,
+    line: &str,
+    source: &mut MemSource,
+    sink: &mut MemSink,
+) -> u8 {
+    let words = words(rt, alloc, line);
+    serve(rt, alloc, &words, source, sink, &OpenGate)
+}
+
+// The status of a run on the words of a line over a file, and what it writes.
+pub(crate) fn run<R: Abort + Threads + Wait + Sync>(
     rt: &R,
     alloc: Global,
     line: &str,
     bytes: &[u8],
     ends: Ends,
-) -> Result<(u8, MemSink), AllocError> {
-    let words = words(alloc, line)?;
+) -> (u8, MemSink) {
+    let bytes = bytes.to_vec(alloc).expect(rt, "memory");
     let (piece, fails) = ends.source;
-    let mut source = MemSource::new(bytes.to_vec(alloc)?, piece.max(1), fails.to_vec(alloc)?);
+    let fails = fails.to_vec(alloc).expect(rt, "memory");
+    let mut source = MemSource::new(bytes, piece.max(1), fails);
     let (piece, fails) = ends.sink;
-    let mut sink = MemSink::new(alloc, piece.max(1), fails.to_vec(alloc)?);
-    let status = serve(rt, alloc, &words, &mut source, &mut sink, &OpenGate);
-    Ok((status, sink))
+    let fails = fails.to_vec(alloc).expect(rt, "memory");
+    let mut sink = MemSink::new(alloc, piece.max(1), fails);
+    let status = status_of(rt, alloc, line, &mut source, &mut sink);
+    (status, sink)
 }
 
 // A run over a file ends with this status, and writes this.
@@ -53,11 +66,10 @@ pub(crate) fn check<R: Abort + Threads + Wait + Sync>(
     bytes: &[u8],
     status: u8,
     written: &[u8],
-) -> Result<(), Fail> {
-    let (ended, sink) = run(rt, alloc, line, bytes, SOUND)?;
+) {
+    let (ended, sink) = run(rt, alloc, line, bytes, SOUND);
     assert_eq!(rt; ended, status, "{line}");
     assert!(rt; sink.bytes() == written, "{line}");
-    Ok(())
 }
 
 // A text that stands so many times one after another. A `*` in it is the number of the time, from 0, and a `@` the next of the numbers
@@ -74,65 +86,56 @@ pub(crate) struct Case {
 }
 
 // Pushes a part that has a `*` or a `@` once.
-fn push_marked(text: &mut String, part: &str, time: u32, last: &mut u32) -> Result<(), AllocError> {
+fn push_marked<R: Abort>(rt: &R, text: &mut String, part: &str, time: u32, last: &mut u32) {
     for letter in part.chars() {
-        match letter {
-            '*' => write!(text, "{time}")?,
+        let pushed = match letter {
+            '*' => write!(text, "{time}"),
             '@' => {
                 let next = (*last).wrapping_add(1);
-                write!(text, "{next}")?;
                 *last = next;
+                write!(text, "{next}")
             }
-            _ => text.push(letter)?,
-        }
+            _ => text.push(letter),
+        };
+        pushed.expect(rt, "memory");
     }
-    Ok(())
 }
 
-fn push_parts(text: &mut String, parts: &[Part]) -> Result<(), AllocError> {
-    let mut last = 0;
-    for (part, times) in parts {
-        let marked = part.contains('*') || part.contains('@');
-        for time in 0..*times {
-            if marked {
-                push_marked(text, *part, time, &mut last)?;
-            } else {
-                text.push_str(*part)?;
-            }
+// Pushes a part as often as it stands.
+fn push_part<R: Abort>(rt: &R, text: &mut String, part: Part, last: &mut u32) {
+    let (part, times) = part;
+    let marked = part.contains('*') || part.contains('@');
+    for time in 0..times {
+        if marked {
+            push_marked(rt, text, part, time, last);
+        } else {
+            text.push_str(part).expect(rt, "memory");
         }
     }
-    Ok(())
 }
 
 // The text of these parts.
-pub(crate) fn joined(alloc: Global, parts: &[Part]) -> Result<String, AllocError> {
+pub(crate) fn joined<R: Abort>(rt: &R, alloc: Global, parts: &[Part]) -> String {
     let mut text = String::new(alloc);
-    push_parts(&mut text, parts)?;
-    Ok(text)
+    let mut last = 0;
+    for part in parts {
+        push_part(rt, &mut text, *part, &mut last);
+    }
+    text
 }
 
-fn check_lines<R: Abort + Threads + Wait + Sync>(
-    rt: &R,
-    alloc: Global,
-    case: &Case,
-    text: &[u8],
-    written: &[u8],
-) -> Result<(), Fail> {
+// Runs on each line of a case end and write as they must.
+fn check_case<R: Abort + Threads + Wait + Sync>(rt: &R, alloc: Global, case: &Case) {
+    let text = joined(rt, alloc, case.text);
+    let written = joined(rt, alloc, case.written);
     for line in case.lines {
-        check(rt, alloc, *line, text, case.status, written)?;
+        let (text, written) = (text.as_bytes(), written.as_bytes());
+        check(rt, alloc, *line, text, case.status, written);
     }
-    Ok(())
 }
 
-pub(crate) fn check_cases<R: Abort + Threads + Wait + Sync>(
-    rt: &R,
-    alloc: Global,
-    cases: &[Case],
-) -> Result<(), Fail> {
+pub(crate) fn check_cases<R: Abort + Threads + Wait + Sync>(rt: &R, alloc: Global, cases: &[Case]) {
     for case in cases {
-        let text = joined(alloc, case.text)?;
-        let written = joined(alloc, case.written)?;
-        check_lines(rt, alloc, case, text.as_bytes(), written.as_bytes())?;
+        check_case(rt, alloc, case);
     }
-    Ok(())
 }

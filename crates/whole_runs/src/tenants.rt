@@ -1,6 +1,5 @@
 //! What a tenant does is not seen by the next one, and modules of each profile.
 use crate::running::{Case, check_cases};
-use std::test::Fail;
 
 const BUMP: &str =
     "module bump 0061736d010000000105016000017f0302010005030100010708010462756d7000000a160114004100410028020041016a36020041002802000b
@@ -145,8 +144,8 @@ module b ok
 ";
 
 #[test]
-fn what_a_tenant_left_is_never_seen(rt: HostRuntime) -> Result<(), Fail> {
-    check_cases(&rt, rt.alloc(), &SEEN_NEVER)
+fn what_a_tenant_left_is_never_seen(rt: HostRuntime) {
+    check_cases(&rt, rt.alloc(), &SEEN_NEVER);
 }
 
 const POKED: &str = "call poke poke 100 i32:0 i32:-1\n";
@@ -185,8 +184,8 @@ const TWO_MODULES: [Case; 2] = [
 ];
 
 #[test]
-fn two_modules_share_memories(rt: HostRuntime) -> Result<(), Fail> {
-    check_cases(&rt, rt.alloc(), &TWO_MODULES)
+fn two_modules_share_memories(rt: HostRuntime) {
+    check_cases(&rt, rt.alloc(), &TWO_MODULES);
 }
 
 // What clang 14 built for profile 2 from examples/editing.c, and its calls.
@@ -280,8 +279,8 @@ const COMPILED: [Case; 4] = [
 ];
 
 #[test]
-fn modules_of_a_c_compiler_run_in_their_profile(rt: HostRuntime) -> Result<(), Fail> {
-    check_cases(&rt, rt.alloc(), &COMPILED)
+fn modules_of_a_c_compiler_run_in_their_profile(rt: HostRuntime) {
+    check_cases(&rt, rt.alloc(), &COMPILED);
 }
 
 // Tenants that are sent requests of other lengths, up to the longest, each by a call of its own: none is answered another's bytes.
@@ -363,6 +362,6 @@ const REQUESTS: [Case; 1] = [Case {
 }];
 
 #[test]
-fn no_answer_has_bytes_of_another(rt: HostRuntime) -> Result<(), Fail> {
-    check_cases(&rt, rt.alloc(), &REQUESTS)
+fn no_answer_has_bytes_of_another(rt: HostRuntime) {
+    check_cases(&rt, rt.alloc(), &REQUESTS);
 }

@@ -13,3 +13,4 @@ mod Callers
 pub mod ImportCalls
 mod SliceCalls
 mod TenantCalls
+mod Shadowing

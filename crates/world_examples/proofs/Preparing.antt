@@ -37,6 +37,15 @@ marked_bytes_are_written = refl
 other_bytes_stay : prepared 1 (numbered 4 6) Memory (left_by (numbered 4 6) (false ∷ true ∷ [])) ≡ record { bytes = 9 ∷ 8 ∷ []; pages = 1; marks = false ∷ false ∷ []; holds = Some (numbered 4 6) }
 other_bytes_stay = refl
 
+-- a module whose memory begins with two bytes
+abbrev with_data : Named
+with_data = record (numbered 4 6) {
+  tree = record with_globals { data_segments = record { memory = 0; offset = Plain (instr.Const (I32 0)) End; bytes = 5 ∷ 6 ∷ [] } ∷ [] };
+}
+
+each_marked_byte_is_its_own : prepared 1 with_data Memory (left_by with_data (true ∷ [])) ≡ record { bytes = 5 ∷ 6 ∷ []; pages = 1; marks = false ∷ []; holds = Some with_data }
+each_marked_byte_is_its_own = refl
+
 -- the number tells whose it is, and the tag does not
 anothers_is_written_whole : prepared 1 (numbered 4 6) Memory (left_by (numbered 5 6) (false ∷ [])) ≡ record { bytes = memory_image 1 (Some (numbered 4 6)); pages = 1; marks = false ∷ []; holds = Some (numbered 4 6) }
 anothers_is_written_whole = refl
@@ -80,6 +89,12 @@ no_table = record { entries = []; holds = None }
 
 a_table_in_its_place : replaced Table no_table Table (record { entries = None ∷ []; holds = None }) ≡ no_table
 a_table_in_its_place = refl
+
+a_memory_in_its_place : replaced Memory (left_by (numbered 4 6) []) Memory (left_by (numbered 5 6) (true ∷ [])) ≡ left_by (numbered 4 6) []
+a_memory_in_its_place = refl
+
+a_ticket_in_its_place : replaced Instance (I32 7 ∷ []) Instance (I32 8 ∷ []) ≡ I32 7 ∷ []
+a_ticket_in_its_place = refl
 
 and_no_ticket : replaced Table no_table Instance (I32 7 ∷ []) ≡ I32 7 ∷ []
 and_no_ticket = refl

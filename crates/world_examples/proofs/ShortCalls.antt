@@ -211,7 +211,7 @@ no_end_before_the_last_turn (r, calls, stuck, marks) = stuck (subst (λ (x : Run
 abbrev pub with_memory : Running
 with_memory = record (running 0 2 0) { request = record (request_of 0 2) { named = record (numbered 0) { tree = record set_module { memories = record { min = 0; max = None } ∷ [] } } } }
 
-abbrev of_one_byte : Machine
+abbrev pub of_one_byte : Machine
 of_one_byte = record opened {
   contents = elim [
     | Instance ↦ λ n. I32 7 ∷ []

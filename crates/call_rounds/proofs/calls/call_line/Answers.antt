@@ -7,7 +7,8 @@ use Rattle.pool_host.specs.CallWords.{IsAnswer}
 use Rattle.request_text.specs.Invocations.{shown_of}
 use Rattle.request_text.proofs.InvocationLemmas.{asked_so}
 use Rattle.run_books.specs.Put.{module_of}
-use Rattle.run_books.specs.Lines.{answer_line, limits_in}
+use Rattle.run_books.specs.Collected.{answer_line}
+use Rattle.run_books.specs.Lines.{limits_in}
 use Rattle.run_books.proofs.CallLemmas.{accepted_call, refused_call, retired_call}
 use Rattle.call_rounds.proofs.LaneLemmas.{not_retired}
 use Rattle.call_rounds.proofs.calls.call_line.Goals as goal

@@ -2,7 +2,7 @@ use Rattle.std.proofs.Common.{◌≡◌, [], ◌∷◌, ◌++◌, rules}
 use Rattle.std.proofs.lemmas.List.{drop_all}
 use Rattle.run_books.specs.Lines.{limits_in}
 use Rattle.host_report.proofs.AnswerLemmas.{next_directive}
-use Rattle.host_report.proofs.ReportLemmas.{has_source, lines_end, next_told}
+use Rattle.host_report.proofs.ReportLemmas.{has_source, lines_end, next_told, shown_end}
 use Rattle.host_report.proofs.reporting.lines.Goals as goal
 
 pub next_line-requires : goal.next_line-requires
@@ -17,7 +17,12 @@ loop-directive-preserved g c =
     next_told (limits_in c.args.requests.now.profile g.N.Naming.config) c.args.requests.now.directives _ _ _ _ _ _ _ _ first c.loop-directive.invariant c.in_ok-line.line _ _ _
     (search rules) c.in_ok-line.ensures.board c.in_ok-line.ensures.counts pushed
 
-pub returns : goal.returns
-returns g c =
+pub returns-clause-report : goal.returns-clause-report
+returns-clause-report g c =
     lines_end (limits_in c.args.requests.now.profile g.N.Naming.config) c.args.requests.now.directives _ _ _ _ _ _
+    (drop_all c.loop-directive.directive-index c.args.requests.now.directives (rw c.directives-directives.ensures.all at c.loop-directive-test.false)) c.loop-directive.invariant
+
+pub returns-clause-shown : goal.returns-clause-shown
+returns-clause-shown g c =
+    shown_end (limits_in c.args.requests.now.profile g.N.Naming.config) c.args.requests.now.directives _ _ _ _ _ _
     (drop_all c.loop-directive.directive-index c.args.requests.now.directives (rw c.directives-directives.ensures.all at c.loop-directive-test.false)) c.loop-directive.invariant
