@@ -8,7 +8,7 @@ use Rattle.slot_pools.specs.Causes.{HasLostClaim}
 use Rattle.slot_pools.specs.Preferring.{PrefersOwn}
 use Rattle.trail_examples.proofs.Looks.{looked, seen}
 use Rattle.trail_examples.proofs.LostClaims.{lost_among, lost_warm}
-use Rattle.trail_examples.proofs.SlotWords.{cold, warm_5, warm_5_held, warm_6}
+use Rattle.trail_examples.proofs.SlotWords.{awaiting_5, cold, warm_5, warm_5_held, warm_6}
 
 pub own_slot_1 : IsOwnSeen 5 seen 1
 own_slot_1 = record { free = refl; warm = refl; tag_is = refl }
@@ -88,6 +88,10 @@ none_is_own : (m : ℕ) → IsOwnSeen 5 another's m → ⊥
 none_is_own zero own = let e = own.warm in cc
 none_is_own (suc zero) own = let six : ◌≡◌ {A = ℕ} 6 5 = own.tag_is in omega (arith, six)
 none_is_own (suc (suc m)) own = true≢false own.free
+
+-- nor is a slot of its tag that awaits its cleaning
+none_is_own_while_it_awaits : IsOwnSeen 5 (awaiting_5 ∷ []) 0 → ⊥
+none_is_own_while_it_awaits own = let e = own.warm in cc
 
 cold_slot_before_another's : PrefersOwn 2 5 0 (look_at another's (Claim 0 cold ∷ []))
 cold_slot_before_another's = record { warm = 1; seen = another's; all_seen = refl; after = Claim 0 cold ∷ []; done_is = refl; own = inr (λ m own. absurd (none_is_own m own)) }
