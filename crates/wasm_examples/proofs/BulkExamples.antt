@@ -84,6 +84,11 @@ fill_far_past_the_end : after 4294967295 1 4294967295 instr.MemoryFill ≡ Some 
 unfolding exec
 fill_far_past_the_end = refl
 
+-- its end is past every number of 32 bits
+fill_past_all_numbers : after 4294967295 1 2 instr.MemoryFill ≡ Some (Trap trap.Memory)
+unfolding exec
+fill_past_all_numbers = refl
+
 -- a trap leaves each byte as it was
 abbrev byte_of : ℕ → Option CallResult → Option ℕ
 byte_of at None = None
