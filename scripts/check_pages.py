@@ -94,7 +94,7 @@ def path_faults(text):
 
 
 def claim_faults(line):
-    """The names of a row of claims that are no function of the crate named first in the row and no clause of that function."""
+    """The names of a row of claims that are no path, no function of the crate named first, and no clause of the function there."""
     if not re.search(r"`\w+::", line):
         return []
     names = re.findall(r"`([\w:]+)`", line.split("|")[2])
@@ -102,7 +102,7 @@ def claim_faults(line):
     source = "\n".join(read(it) for it in glob.glob(f"crates/{crate}/src/*.rt"))
     contract = re.search(rf"\bfn {function}\b.*?\n\{{\n?", source, re.S)
     clauses = re.findall(r"ensures (\w+) \{", contract.group(0)) if contract else []
-    return [it for it in names[1:] if it not in clauses and not has_function(crate, it)]
+    return [it for it in names[1:] if (path_faults(it) if "::" in it else it not in clauses and not has_function(crate, it))]
 
 
 def main():

@@ -15,8 +15,8 @@ import sys
 import trusted_path
 
 WASM = ["wasm_types", "wasm_spec"]
-POOL = ["memory_blocks", "pool_core", "slot_words", "retired_tags", "affinity_index", "decommit_batch", "slot_pools", "pool_worlds",
-        "memory_slots", "table_slots", "instance_slots", "pool_host"]
+POOL = ["memory_blocks", "pool_core", "slot_words", "retired_tags", "affinity_index", "decommit_batch", "slot_pools", "pool_model",
+        "memory_slots", "memory_counts", "table_slots", "instance_slots", "pool_host"]
 
 
 def lines_of(path):

@@ -24,17 +24,17 @@ CLAIMS = [
     ("S", "a run delivers what is due, with its status", ["host_run::serve"]),
     ("L", "a call's line is its own; one answer is due",
      ["host_run::laws::same_line", "host_run::laws::same_bytes", "host_run::laws::one_answer_is_due"]),
-    ("F", "a reused slot shows a fresh instance", ["pool_worlds::laws::shadow", "pool_worlds::laws::two_worlds"]),
+    ("F", "a reused slot shows a fresh instance", ["pool_model::laws::shadow", "pool_model::laws::two_worlds"]),
     ("T", "what a tenant sees is by its own events alone", ["tenant_share::laws::own_full"]),
     ("H", "no slot has two holders, at any moment", ["slot_words::laws::passes_share_the_words"]),
     ("B", "bytes are decoded, checked and run as defined",
      ["wasm_decode::decode", "wasm_validate::validate", "wasm_machine::run"]),
     ("A", "a call on slots is answered as if it were alone", ["pool_host::Host::send"]),
     ("P", "a call in slices ends as one made whole",
-     ["pool_host::laws::slices_end_as_the_call", "pool_host::Host::begin", "pool_host::Paused::resume",
+     ["host_calls::laws::slices_end_as_the_call", "pool_host::Host::begin", "pool_host::Paused::resume",
       "pool_host::Paused::cancel"]),
     ("R", "a retired module is called no more",
-     ["pool_host::Host::retire", "pool_host::laws::a_retired_module_is_never_called_again"]),
+     ["pool_host::Host::retire", "host_calls::laws::a_retired_module_is_never_called_again"]),
 ]
 
 HEADLINE = "SLFTH"

@@ -17,9 +17,10 @@ With no names all wrong lines are tried: the files scripts/wrong_lines/CRATE/NAM
 and further pairs of old and new, each for what the earlier ones made. Each is tried in a scratch copy of the repository that
 holds the definitions, the examples that `check:` names and what these cite, and nothing else: the laws and functions of the
 changed crate are not proved first, unless examples need its types, or `check:` names a function; then the crates that it calls stand there too. The same copy with no line
-changed must pass. One check begins with up to eight lines of the same `check:`, each in a copy of all these files under a mark
-of its own, so that none sees another; a line whose copy is not refused there by an example that is named is tried once more,
-alone, and that counts. The status is 1 where a line passes, is refused by what `check:` does not name, or is a BAD LINE: one
+changed must pass. One check begins with up to 24 lines of the same `check:` that have a `by:`. Each has under a mark of its own
+the file that it changes, and of the files that cite this what its example needs, so that none sees another. Where an example is
+not computed by `refl` this stands there without the change too, and must pass. A line that is not refused there by its example
+is tried once more, alone and over all files, and that counts. The status is 1 where a line passes, is refused by what `check:` does not name, or is a BAD LINE: one
 that cannot be applied or read, or that takes away a name. Such a line shows nothing of the definitions.
 
 A line is refused *in substance* by the example that `by:` names, or, where it names none, by one whose proof is `refl`: both of its
@@ -33,6 +34,8 @@ import sys
 import tempfile
 from pathlib import Path
 
+from example_parts import Source
+
 TOP = Path(__file__).resolve().parent.parent
 LINES = TOP / "scripts" / "wrong_lines"
 CITED = re.compile(r"\bRattle\.(\w+)\.(specs|proofs)((?:\.[^\s.{,;()]+)+)")
@@ -40,12 +43,15 @@ ERROR = re.compile(r"(?:note: )?(?:\./)?((?:specs|proofs|src)/\S+?):(\d+):\d+: e
 MERGED = re.compile(r"\bRattle\.definitions\.(specs|proofs)\.(?:line\d+__)?(\w+?)__")
 MARK = re.compile(r"(?<=/)(line\d+)__")
 USE = re.compile(r"^use [^;]*;\n", re.M)
+GHOST_USE = re.compile(r"^ghost use [^;]*;\n", re.M)
+GHOST_FIELD = re.compile(r"^ *ghost \w+: \{", re.M)
 USED = re.compile(r"^use (\w+)::(\w*)", re.M)
-TYPE = re.compile(r"^(?:(?:///|#\[).*\n)*pub(?:\(crate\))? (?:struct|enum) [^{;]*\{\n(?:.*\n)*?\}\n", re.M)
+# a type, or a constant that is a number
+TYPE = re.compile(r"^(?:(?:///|#\[).*\n)*(?:(?:pub(?:\(crate\))? )?(?:struct|enum) [^{;]*\{\n(?:.*\n)*?\}|pub const \w+: \w+ = [\d_]+;)\n", re.M)
 # what is derived of a type and needs its functions
 NO_TYPE = re.compile(r"^#\[derive\(Drop\)\]\n|^ *#\[error\(.*\)\]\n|, Error(?=\)\])", re.M)
 # how many lines are tried at once
-BATCH = 8
+BATCH = 24
 NAME_GONE = re.compile(r"is not in scope|has no field|has no `|is no name|was not admitted|was rejected|is not a field|unknown field")
 # the one crate of all definitions and examples that need no code
 ONE = "definitions"
@@ -88,6 +94,16 @@ class WrongLine:
     def crate(self):
         return Path(self.file).parts[1]
 
+    def file_of_example(self):
+        """The file that `check:` names in which the example of `by:` stands: None where there is none."""
+        files = [TOP / "crates" / crate / "proofs" / f"{name}.antt" for crate, what in self.checks for name in what]
+        stands = re.compile(rf"^(?:pub |abbrev )*{re.escape(self.by or ':')} :", re.M)
+        return next((it for it in files if it.is_file() and stands.search(it.read_text(encoding="utf-8"))), None)
+
+    def is_computed(self):
+        """Whether the proof of the example is `refl`."""
+        return re.search(rf"^ *{re.escape(self.by)} = refl$", self.file_of_example().read_text(encoding="utf-8"), re.M) is not None
+
     def write_by(self):
         """Writes the example that refused the line into its file, above the reason."""
         text = self.path.read_text(encoding="utf-8")
@@ -104,6 +120,10 @@ class WrongLine:
                 raise BadLine(f"an old text stands {text.count(old) if old else 0} times in {self.file}, and not once: {old}")
             text = text.replace(old, new)
         return text
+
+
+def is_examples(file):
+    return "proofs" in file.relative_to(TOP).parts
 
 
 def crates_below():
@@ -126,6 +146,8 @@ class Part:
 
     def __init__(self, checks, typed=()):
         self.crates, self.files, self.whole, self.functions = crates_below(), {}, set(), {}
+        # what each file cites
+        self.cites = {}
         # the crates of which types alone are taken, each with the sources that have them
         self.typed = {crate: set() for crate in typed}
         for crate, what in checks:
@@ -170,7 +192,9 @@ class Part:
         if file in self.typed[crate]:
             return
         self.typed[crate].add(file)
-        for used, module in USED.findall(self.types_in(file)):
+        text = self.types_in(file)
+        self.take_cited(text, file)
+        for used, module in USED.findall(text):
             if used == "crate":
                 self.take_types(crate, module)
             elif used in self.crates:
@@ -196,11 +220,16 @@ class Part:
         if file in self.files.setdefault(crate, set()):
             return
         self.files[crate].add(file)
-        for cited, part, names in CITED.findall(file.read_text(encoding="utf-8")):
+        self.take_cited(file.read_text(encoding="utf-8"), file)
+
+    def take_cited(self, text, file):
+        """All that the text of a file cites."""
+        for cited, part, names in CITED.findall(text):
             if cited not in self.crates:
                 continue
             found = module_file(cited, part, names.split(".")[1:])
             if found:
+                self.cites.setdefault(file, set()).add(found)
                 self.add(cited, found)
             elif part == "specs" and names.split(".")[1] == "declared" and self.has_types_alone(cited):
                 self.files.setdefault(cited, set())
@@ -221,23 +250,53 @@ class Part:
         _, crate, part, *names = inside.parts
         return room / "crates" / ONE / part / "__".join([*mark, crate, *names]) if self.is_merged(crate) else room / inside
 
-    def text_of(self, text, mark=()):
-        """The text, in which the modules of merged crates have the names that they have there."""
-        return CITED.sub(lambda it: self.name_in_one(it, mark) if self.is_merged(it[1]) else it[0], text)
+    def text_of(self, text, mark=(), marked=()):
+        """The text, in which the modules of merged crates have the names that they have there, some of them under a mark."""
+        return CITED.sub(lambda it: self.name_in_one(it, mark, marked) if self.is_merged(it[1]) else it[0], text)
 
-    def name_in_one(self, cited, mark):
+    def name_in_one(self, cited, mark, marked):
         """The name that a module of a merged crate has in the one crate. Types have no mark."""
         crate, part, names = cited.groups()
         if names.startswith(".declared."):
             return f"Rattle.{ONE}.specs.declared.{crate}_{names.removeprefix('.declared.')}"
-        return f"Rattle.{ONE}.{part}.{'__'.join([*mark, crate, names[1:]])}"
+        is_marked = module_file(crate, part, names.split(".")[1:]) in marked
+        return f"Rattle.{ONE}.{part}.{'__'.join([*(mark if is_marked else ()), crate, names[1:]])}"
 
-    def write_copy(self, room, file, text, mark):
-        """All merged files under a mark, with this text of this file."""
-        for crate in filter(self.is_merged, self.files):
-            for it in self.files[crate]:
-                place = self.place_of(room, it, mark)
-                place.write_text(self.text_of(text if it == file else it.read_text(encoding="utf-8"), mark), encoding="utf-8")
+    def citing(self, file):
+        """The file, and the merged files that cite it, some through others."""
+        merged = {it for crate in filter(self.is_merged, self.files) for it in self.files[crate]}
+        found = {file}
+        while more := {it for it in merged - found if self.cites.get(it, set()) & found}:
+            found |= more
+        return found
+
+    def cited(self, module):
+        """The file of a module, where it is one of this repository."""
+        _, crate, *names = module.split(".")
+        return module_file(crate, names[0], names[1:]) if crate in self.crates and names else None
+
+    def needed(self, line):
+        """The changed file as it stands, and what cites it: of files of examples what the line's own example needs. None where that cites no such file."""
+        reached, wanted = self.citing(TOP / line.file), {line.file_of_example(): {line.by}}
+        while wanted.keys() <= reached:
+            texts, more = {}, dict(wanted)
+            for file, names in wanted.items():
+                text = file.read_text(encoding="utf-8")
+                source = Source(text)
+                if is_examples(file):
+                    source.keep(names)
+                for module, items in source.cut(lambda it: self.cited(it) in reached).items():
+                    more[self.cited(module)] = more.get(self.cited(module), set()) | items
+                texts[file] = source.text() if is_examples(file) else text
+            if more == wanted:
+                return texts if TOP / line.file in texts else None
+            wanted = more
+        return None
+
+    def write_copy(self, room, texts, mark):
+        """These texts of files, under a mark."""
+        for file, text in texts.items():
+            self.place_of(room, file, (mark,)).write_text(self.text_of(text, (mark,), texts), encoding="utf-8")
 
     def write(self, room):
         """Writes this part of the repository, as it stands."""
@@ -262,14 +321,16 @@ class Part:
         text = NO_TYPE.sub("", file.read_text(encoding="utf-8"))
         types = "\n".join(TYPE.findall(text))
         uses = [it for it in USE.findall(text) if any(re.search(rf"\b{name}\b", types) for name in re.findall(r"(\w+)\s*(?=[,;}])", it))]
-        return "\n".join([text.partition("\n")[0] + "\n" + "".join(uses), types])
+        ghosts = GHOST_USE.findall(text) if GHOST_FIELD.search(types) else []
+        return "\n".join([text.partition("\n")[0] + "\n" + "".join(ghosts + uses), types])
 
     def write_types(self, folder, crate):
         """The types of a merged crate, in modules of the one crate."""
         for file in sorted(self.typed[crate]):
             name = f"{crate}_{file.stem}"
             text = file.read_text(encoding="utf-8") if self.has_types_alone(crate) else self.types_in(file)
-            (folder / f"{name}.rt").write_text(re.sub(r"^use crate::", f"use crate::{crate}_", text, flags=re.M), encoding="utf-8")
+            text = re.sub(r"^use crate::", f"use crate::{crate}_", self.text_of(text), flags=re.M)
+            (folder / f"{name}.rt").write_text(text, encoding="utf-8")
             with open(folder / "lib.rt", "a", encoding="utf-8") as it:
                 it.write(f"\npub mod {name};\n")
 
@@ -340,7 +401,8 @@ def told(error):
     place, at, message = error
     crate, path = origin(place)
     file = f"{crate}/{place.split('/')[0]}/{'/'.join(path)}.antt" if crate else place
-    return f"{file}:{at}: {MERGED.sub(lambda it: f'Rattle.{it[2]}.{it[1]}.', message)[:160]}"
+    at = "" if MARK.search(place) else f":{at}"
+    return f"{file}{at}: {MERGED.sub(lambda it: f'Rattle.{it[2]}.{it[1]}.', message)[:160]}"
 
 
 def judged(line, status, said):
@@ -395,26 +457,28 @@ class Scratch:
 
     def refused_together(self, lines):
         """What refuses each of these lines by name, each in its own copy, where something does."""
-        lines = [it for it in lines if it.crate in self.part.files and self.part.is_merged(it.crate)]
-        marks = {f"line{at}": it for at, it in enumerate(lines)}
-        if len(marks) < 2:
-            return {}
+        parts = {it: self.part.needed(it) for it in lines if it.file_of_example() and it.crate in self.part.files and self.part.is_merged(it.crate)}
+        tried = [it for it in parts if parts[it]]
+        marks = {f"line{at}": it for at, it in enumerate(tried)}
+        # under these the same stands as it is, where nothing is computed
+        unchanged = {f"line{len(marks) + at}": it for at, it in enumerate(it for it in tried if not it.is_computed())}
         folder = self.room / "crates" / ONE
         try:
-            for mark, line in marks.items():
-                self.place(line)
-                self.part.write_copy(self.room, TOP / line.file, line.changed(), (mark,))
+            for mark, line in [*marks.items(), *unchanged.items()]:
+                changed = {TOP / line.file: line.changed()} if mark in marks else {}
+                self.part.write_copy(self.room, parts[line] | changed, mark)
             self.part.write_lists(folder)
-            status, said = self.part.check(self.room)
+            status, said = self.part.check(self.room) if marks else (0, "")
         finally:
             for it in folder.glob("*/line*__*"):
                 it.unlink()
             self.part.write_lists(folder)
-        own = {mark: [] for mark in marks}
+        own = {mark: [] for mark in [*marks, *unchanged]}
         for text in said.splitlines():
             found = MARK.search(text.partition(": ")[0])
             own.get(found[1] if found else None, []).append(text)
-        verdicts = {line.name: judged(line, status, "\n".join(own[mark])) for mark, line in marks.items() if own[mark]}
+        unfit = {line for mark, line in unchanged.items() if any(map(ERROR.match, own[mark]))}
+        verdicts = {line.name: judged(line, status, "\n".join(own[mark])) for mark, line in marks.items() if own[mark] and line not in unfit}
         return {name: verdict for name, verdict in verdicts.items() if verdict[0]}
 
 

@@ -1,7 +1,7 @@
 -- Ranks worked by hand: which slots are claimed behind one.
 use Rattle.std.proofs.Common.{◌≡◌, true, false, [], ◌∷◌, Some, None, map, refl}
 use Rattle.affinity_index.specs.declared.ranks.Ranked.{Ranked}
-use Rattle.affinity_index.specs.Rankings.{behind, is_behind, lesser_of, rank_behind}
+use Rattle.affinity_index.specs.Rankings.{behind, is_before_cold, is_behind, lesser_of, rank_behind, warm_rank}
 
 -- slot 2, of rank 5
 abbrev second : Ranked
@@ -29,3 +29,17 @@ left_in_a_row = refl
 
 left_behind_the_warm : map (rank_behind (0 ∷ 1 ∷ 58 ∷ []) 7 false (Some (record { rank = 2199023255551; number = 2 }))) (0 ∷ 1 ∷ 2 ∷ 3 ∷ []) ≡ Some 2199023255552 ∷ None ∷ None ∷ None ∷ []
 left_behind_the_warm = refl
+
+-- a word without the bit of a warm state has no rank among the warm ones: cold, held, awaiting
+not_warm : map (warm_rank 7 false) (0 ∷ 1 ∷ 60 ∷ []) ≡ None ∷ None ∷ None ∷ []
+not_warm = refl
+
+-- a warm one has its rank, for its own module and for another, and none while it is held
+warm : map (warm_rank 7 false) (58 ∷ 66 ∷ 59 ∷ []) ≡ Some 2199023255551 ∷ Some 4398046511104 ∷ None ∷ []
+warm = refl
+
+-- its own module's comes before a cold one, and another's where the warm ones are at their limit alone
+before_cold : is_before_cold false (Some (record { rank = 2199023255551; number = 2 })) ∷ is_before_cold false (Some (record { rank = 4398046511104; number = 2 }))
+    ∷ is_before_cold true (Some (record { rank = 2199023255552; number = 2 })) ∷ is_before_cold false None ∷ []
+    ≡ true ∷ false ∷ true ∷ false ∷ []
+before_cold = refl

@@ -3,4 +3,5 @@ mod Sorting
 mod Preferring
 mod Existing
 mod Leasts
+mod WordRanks
 pub mod UnheldLists

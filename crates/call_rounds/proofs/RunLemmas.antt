@@ -13,7 +13,7 @@ use Rattle.pool_host.specs.Looks.{SetsBit}
 use Rattle.module_store.specs.declared.naming.Naming.{Ghosts}
 use Rattle.pool_limits.specs.declared.numbers.Numbers.{Numbers}
 use Rattle.pool_limits.specs.Shares.{lane_share, shared_share}
-use Rattle.pool_worlds.specs.Contents.{Named}
+use Rattle.pool_model.specs.Contents.{Named}
 use Rattle.request_text.specs.declared.request.Directive.{Directive}
 use Rattle.request_text.specs.declared.request.Directive.TheVariants.{Call, Module, Retire}
 use Rattle.request_text.specs.Text.{Asked, MayRunInSlices, call_count}
@@ -23,12 +23,12 @@ use Rattle.call_workers.specs.declared.members.Crew.{Crew}
 use Rattle.call_workers.specs.Crews.{StillKnow}
 use Rattle.pool_host.specs.declared.lane.LaneHost.{LaneHost}
 use Rattle.slice_workers.specs.declared.crew.SliceCrew.{SliceCrew}
-use Rattle.slice_workers.specs.declared.shared.SliceShared.{SliceShared}
+use Rattle.slice_workers.specs.declared.slice_shared.SliceShared.{SliceShared}
 use Rattle.slice_workers.specs.Crews.{IsNewSliceCrew}
 use Rattle.run_books.specs.declared.books.Books.{Books}
 use Rattle.run_books.specs.declared.books.Span.{Span}
-use Rattle.call_rounds.specs.declared.making.Made.{Made}
-use Rattle.call_rounds.specs.declared.making.Made.TheVariants as made
+use Rattle.call_rounds.specs.declared.modes.Made.{Made}
+use Rattle.call_rounds.specs.declared.modes.Made.TheVariants as made
 use Rattle.call_rounds.specs.declared.rounds.Run.{Run}
 use Rattle.run_books.specs.Entries.{Entry}
 use Rattle.call_rounds.specs.Left.{MadeRest}

@@ -13,7 +13,7 @@ use Rattle.request_text.specs.declared.invocation.Invocation.{Invocation}
 use Rattle.wasm_values.specs.declared.profile.Profile.{Profile}
 use Rattle.module_store.specs.declared.naming.Naming.{Ghosts}
 use Rattle.pool_limits.specs.declared.numbers.Numbers.{Numbers}
-use Rattle.pool_worlds.specs.Contents.{Named}
+use Rattle.pool_model.specs.Contents.{Named}
 use Rattle.pool_host.specs.declared.answers.Answer.{Answer}
 use Rattle.pool_host.specs.declared.answers.Answer.TheVariants as answer
 use Rattle.pool_host.specs.declared.lane.LaneAnswer.TheVariants as lane
@@ -21,11 +21,11 @@ use Rattle.request_text.specs.declared.request.Directive.{Directive}
 use Rattle.request_text.specs.declared.request.Directive.TheVariants.{Call}
 use Rattle.report_text.specs.declared.report.CallLine.{CallLine}
 use Rattle.report_text.specs.declared.report.CallLine.TheVariants as call_line
-use Rattle.due_calls.specs.declared.calls.Due.{Due}
-use Rattle.due_calls.specs.declared.entries.Worked.{Worked}
-use Rattle.due_calls.specs.Entries as worked
-use Rattle.due_calls.specs.Entries.{AnswersAll, IsAnswered, Pair, called}
-use Rattle.due_calls.proofs.EntryLemmas.{called_counted}
+use Rattle.call_jobs.specs.declared.calls.Due.{Due}
+use Rattle.call_jobs.specs.declared.entries.Worked.{Worked}
+use Rattle.call_jobs.specs.Entries as worked
+use Rattle.call_jobs.specs.Entries.{AnswersAll, IsAnswered, Pair, called}
+use Rattle.call_jobs.proofs.EntryLemmas.{called_counted}
 use Rattle.request_text.specs.Text.{Asked}
 use Rattle.call_workers.specs.declared.members.Crew.{Crew}
 use Rattle.run_books.specs.declared.books.Books.{Books}
@@ -38,7 +38,7 @@ use Rattle.run_books.specs.Lines.{IsCallLine, Limits, limits_in}
 use Rattle.module_store.specs.declared.desk.DeskCounts.{DeskCounts}
 use Rattle.run_books.specs.Books.{AreEntered, HasLines, IsSpan, calls_in, directives_in}
 use Rattle.call_rounds.specs.Rounds.{calls_to}
-use Rattle.call_rounds.specs.Worked.{AnswersRound, MadeByCrew, MadeByWorkers, workers_for}
+use Rattle.call_rounds.specs.Worked.{AnsweredByCrew, AnswersRound, AreOfWorkers, MadeByCrew, workers_for}
 use Rattle.run_books.proofs.BoardLemmas.{got_within}
 use Rattle.run_books.proofs.CallLemmas.{accepted_call, refused_call, retired_call}
 use Rattle.run_books.proofs.DueLemmas.{due_at_call}
@@ -214,9 +214,13 @@ module _ (profile : Profile) (config : Numbers) (all : List Directive) (span : S
 
 -- ---- what workers made of a round
 
-pub made_by_workers : {N : Type 0} (config : Numbers) (asked : Asked) (span : Span) (workers : ℕ) (before after : Books N) (entries : List Worked) → AnswersRound config asked span workers after.registry entries
-    → IsCollected (dues_from 1 asked.directives) entries before.board after.board → MadeByWorkers config asked span workers before after
-made_by_workers config asked span workers before after entries answers collected = record { entries = entries; answers = answers; collected = collected }
+pub answered_by_crew : {N : Type 0} {G : Ghosts N} (config : Numbers) (asked : Asked) (span : Span) (crew : Crew N G) (before after : Books N) (entries : List Worked)
+    → AnswersRound config asked span (workers_for asked.directives span crew) after.registry entries → IsCollected (dues_from 1 asked.directives) entries before.board after.board
+    → AreOfWorkers config asked.directives span crew (workers_for asked.directives span crew) entries → AnsweredByCrew config asked span crew before after
+answered_by_crew config asked span crew before after entries answers collected work = record {
+  answered = record { entries = entries; answers = answers; collected = collected };
+  work = λ some. work;
+}
 
 -- ---- a round without a call
 
@@ -231,7 +235,10 @@ module _ {N E : Type 0} {G : Ghosts N} (config : Numbers) (asked : Asked) (span 
       let workers : workers_for asked.directives span crew ≡ 0 = ap (λ n. min n (length crew.callers.items)) none ∙ zero-min (length crew.callers.items) in
       let pairs : round_pairs after.registry asked span (workers_for asked.directives span crew) ≡ [] =
       ap (λ n. round_pairs after.registry asked span n) workers ∙ ap (λ (ps : List Pair). ps ++ []) (put_no_calls after.registry.entries.items (span.calls + 1) (directives_in asked.directives span) none) in record {
-        entries = [];
-        answers = subst (λ ps. AnswersAll config (dues_from 1 asked.directives) ps []) (sym pairs) (record { given = []; all = IsPermutation-refl []; made = tt });
-        collected = collected_none (dues_from 1 asked.directives) before.board after.board same;
+        answered = record {
+          entries = [];
+          answers = subst (λ ps. AnswersAll config (dues_from 1 asked.directives) ps []) (sym pairs) (record { given = []; all = IsPermutation-refl []; made = tt });
+          collected = collected_none (dues_from 1 asked.directives) before.board after.board same;
+        };
+        work = λ some. absurd (omega (arith, some, none));
       }

@@ -1,7 +1,7 @@
 -- What the lane makes: the calls of which the board has no line.
 use Rattle.std.specs.Prelude.{◌≡◌, ℕ, ◌+◌, List, [], ◌∷◌, slice_get, Option, Some, None}
 use Rattle.pool_limits.specs.declared.numbers.Numbers.{Numbers}
-use Rattle.pool_worlds.specs.Contents.{Named}
+use Rattle.pool_model.specs.Contents.{Named}
 use Rattle.pool_host.specs.declared.host.Host.{Host}
 use Rattle.pool_host.specs.declared.lane.LaneAnswer.{LaneAnswer}
 use Rattle.pool_host.specs.declared.lane.LaneHost.{LaneHost}

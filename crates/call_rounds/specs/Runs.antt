@@ -4,7 +4,7 @@ use Rattle.std.specs.List.{AllZip}
 use Rattle.module_store.specs.declared.naming.Naming.{Ghosts}
 use Rattle.pool_limits.specs.declared.numbers.Numbers.{Numbers}
 use Rattle.pool_limits.specs.Shares.{lane_share, shared_share}
-use Rattle.pool_worlds.specs.Contents.{Named}
+use Rattle.pool_model.specs.Contents.{Named}
 use Rattle.pool_host.specs.declared.lane.LaneHost.{LaneHost}
 use Rattle.pool_host.specs.Hosts.{HasShare, IsNewHostPass}
 use Rattle.request_text.specs.declared.request.Directive.{Directive}
@@ -18,10 +18,10 @@ use Rattle.slice_workers.specs.declared.crew.SliceCrew.{SliceCrew}
 use Rattle.slice_workers.specs.Crews.{IsNewSliceCrew}
 use Rattle.run_books.specs.declared.books.Books.{Books}
 use Rattle.run_books.specs.declared.books.Span.{Span}
-use Rattle.call_rounds.specs.declared.making.Made.{Made}
-use Rattle.call_rounds.specs.declared.making.Made.TheVariants as made
+use Rattle.call_rounds.specs.declared.modes.Made.{Made}
+use Rattle.call_rounds.specs.declared.modes.Made.TheVariants as made
 use Rattle.call_rounds.specs.declared.rounds.Run.{Run}
-use Rattle.call_rounds.specs.declared.slicing.SlicedRun.{SlicedRun}
+use Rattle.call_rounds.specs.declared.sliced_run.SlicedRun.{SlicedRun}
 use Rattle.call_rounds.specs.Left.{MadeRest}
 use Rattle.run_books.specs.Books.{AreBooks, whole_file}
 use Rattle.run_books.specs.Due.{dues_from}

@@ -3,7 +3,7 @@ ghost use Rattle.std.specs.Prelude.{◌≡◌, ◌-◌, ◌<◌, ◌≤◌, ℕ,
 ghost use Rattle.wasm_values.specs.declared.profile.Profile.{Profile};
 ghost use Rattle.retired_tags.specs.Passes.{steps};
 ghost use Rattle.retired_tags.specs.Steps.{HasSet, Knows};
-ghost use Rattle.pool_worlds.specs.Contents.{Named};
+ghost use Rattle.pool_model.specs.Contents.{Named};
 ghost use Rattle.run_books.specs.Entries.{IsEntry};
 ghost use Rattle.call_rounds.specs.Left.{MadeOnLane, MadeRest};
 ghost use Rattle.run_books.specs.Put.{module_of};

@@ -2,12 +2,12 @@
 #![tactic(auto)]
 
 mod calls;
-mod making;
+mod crew_rounds;
+mod modes;
 mod rounds;
 mod shares;
-mod sharing;
-mod slicing;
+mod sliced_run;
 
-pub use making::{Made, make_all};
+pub use modes::{Made, make_all};
 pub use rounds::Run;
-pub use slicing::SlicedRun;
+pub use sliced_run::SlicedRun;

@@ -8,7 +8,7 @@ ghost use Rattle.call_rounds.specs.Runs.{CarriedOut, IsNewRun, MadeInRounds, Mad
 ghost use Rattle.call_rounds.specs.Worked.{MadeByCrew};
 
 use crate::calls::make_left;
-use crate::sharing::{by_crew, enter_alone};
+use crate::crew_rounds::{by_crew, enter_alone};
 use call_workers::{Crew, retire_for_each};
 use host_edge::Gate;
 use module_store::{ModuleStore, Naming};
@@ -106,6 +106,7 @@ fn retire<N: Naming>(store: &ModuleStore<N>, requests: &Requests, place: u32, ru
     ensures run { IsRun N.config requests.now run.new }
     ensures carried_out { CarriedOut place run.old run.new }
 {
+    // The directives of a request file are lawful.
     let _requests = requests.directives();
     if let Ok(module) = entry_at(&run.books.registry.entries, place) {
         run.lane.retire(store, module);

@@ -1,6 +1,6 @@
 //! The two hosts of a run: the lane's, and the one that several workers share.
 ghost use Rattle.std.specs.Prelude.{[], ◌≡◌, ◌≢◌, ◌+◌, ◌^◌, ◌<◌, ◌≤◌, All, IfOk, None, length};
-ghost use Rattle.due_calls.specs.Entries.{AreNumbered, IsOfTenants};
+ghost use Rattle.call_jobs.specs.Entries.{AreNumbered, IsOfTenants};
 ghost use Rattle.call_workers.specs.Crews.{IsNewCrew};
 ghost use Rattle.slice_workers.specs.Crews.{IsNewSliceCrew};
 ghost use Rattle.pool_host.specs.Hosts.{HasShare, IsNewHostPass, IsShare};
@@ -8,8 +8,8 @@ ghost use Rattle.pool_limits.specs.Plans.{plan_fault};
 ghost use Rattle.tenant_share.specs.Shares.{shares};
 ghost use Rattle.pool_limits.specs.Shares.{lane_share as lane_slots, shared_share as shared_slots};
 
+use call_jobs::Due;
 use call_workers::{Crew, open_crew};
-use due_calls::Due;
 use module_store::{ModuleStore, Naming};
 use pool_host::LaneHost;
 use pool_limits::laws::wants_are_met_or_one_is_at_fault;
@@ -32,6 +32,7 @@ fn lane_share<N: Naming>(store: &ModuleStore<N>) -> Share
     ensures slots { result ≡ lane_slots N.config }
 {
     let config = store.config();
+    // The numbers of a configuration are in range.
     let _numbers = config.numbers();
     config.lane_share()
 }
@@ -43,6 +44,7 @@ fn shared_share<N: Naming>(store: &ModuleStore<N>) -> Share
     ensures slots { result ≡ shared_slots N.config }
 {
     let config = store.config();
+    // The numbers of a configuration are in range.
     let _numbers = config.numbers();
     config.shared_share()
 }
@@ -94,7 +96,7 @@ pub(crate) fn open_workers<N: Naming>(
     open_crew(alloc, store, &plan, calls, workers)
 }
 
-// The same, of workers that make calls in slices.
+// As many workers as are configured, which make these calls in slices on the host that they share.
 pub(crate) fn open_slicers<N: Naming>(
     alloc: Global,
     store: &ModuleStore<N>,

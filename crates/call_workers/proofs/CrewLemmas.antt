@@ -1,26 +1,28 @@
 -- The passes of workers are joined into one.
-use Rattle.std.proofs.Common.{◌≡◌, ℕ, ◌+◌, false, List, [], ◌∷◌, ◌++◌, Option, Ok, Err, refl, sym, ap, ◌∙◌, subst, arith, append-nil}
-use Rattle.std.specs.Prelude.{Result, IfOk, Vec}
+use Rattle.std.proofs.Common.{◌≡◌, ℕ, ◌+◌, false, List, [], ◌∷◌, ◌++◌, suc, Option, Some, Ok, Err, refl, sym, ap, ◌∙◌, subst, arith, append-nil}
+use Rattle.std.specs.Prelude.{Result, IfOk, Vec, flat_map, length, option_to_list}
 use Rattle.std.specs.Global.{Global}
 use Rattle.std.specs.List.{AllZip}
+use Rattle.std.proofs.lemmas.List.{append_assoc, reverse-append}
 use Rattle.job_queue.specs.declared.accounts.Account.{Account}
 use Rattle.job_queue.specs.declared.accounts.Terms.{Terms}
 use Rattle.job_queue.specs.declared.jobs.Jobs.{Jobs}
 use Rattle.job_queue.specs.Accounts.{joined, new_account}
 use Rattle.job_queue.specs.Passes.{IsJobPass, JobPass, account_of, given_to}
 use Rattle.pool_limits.specs.declared.numbers.Numbers.{Numbers}
-use Rattle.pool_worlds.specs.Contents.{Named}
+use Rattle.pool_model.specs.Contents.{Named}
 use Rattle.module_store.specs.declared.naming.Naming.{Ghosts}
 use Rattle.tenant_share.specs.declared.passes.Caller.{Caller}
-use Rattle.due_calls.specs.declared.calls.Due.{Due}
-use Rattle.due_calls.specs.declared.entries.Worked.{Worked}
+use Rattle.call_jobs.specs.declared.calls.Due.{Due}
+use Rattle.call_jobs.specs.declared.entries.Worked.{Worked}
+use Rattle.call_workers.specs.declared.members.Done.{Done}
 use Rattle.call_workers.specs.declared.members.Worker.{Worker}
 use Rattle.call_workers.specs.declared.shared.Shared.{Shared}
-use Rattle.call_workers.specs.Crews.{HasJoined, HasWorked}
-use Rattle.due_calls.specs.Entries.{IsEntry, Pair, called, zeros}
+use Rattle.call_workers.specs.Crews.{HasJoined, HasWorked, entries_made, given_back}
+use Rattle.call_jobs.specs.Entries.{IsEntry, Pair, called, zeros}
 use Rattle.call_workers.specs.Taken.{DidWork, HasTaken}
-use Rattle.due_calls.proofs.EndLemmas.{zeros-append, zeros_before_zero}
-use Rattle.due_calls.proofs.EntryLemmas.{all_zip_append, called-append, called_before_zero}
+use Rattle.call_jobs.proofs.EndLemmas.{zeros-append, zeros_before_zero}
+use Rattle.call_jobs.proofs.EntryLemmas.{all_zip_append, called-append, called_before_zero}
 
 abbrev Given : Type 0
 Given = Account (Option Named)
@@ -71,3 +73,23 @@ module _ {N E : Type 0} {G : Ghosts N} (config : Numbers) (shared : Shared N) (j
       → IfOk r (λ made. HasTaken config shared.calls.items (new_account jobs.terms false) (account_of worker.own) made.items)
   has_taken (Ok made) did = did.taken
   has_taken (Err e) did = tt
+
+-- ---- what workers gave back
+
+module _ {N : Type 0} {G : Ghosts N} where
+  last_first : (done : List (Done N G)) (one : Done N G) → given_back (done ++ one ∷ []) ≡ entries_made one.made ++ given_back done
+  last_first done one = ap (flat_map (λ (d : Done N G). entries_made d.made)) (reverse-append done (one ∷ []))
+
+  -- what the last worker made comes behind what those after it made
+  pub given_more : (before after : List (Done N G)) (r : Option (Done N G)) (one : Done N G) (entries made all whole : List Worked) → before ≡ after ++ option_to_list r
+      → r ≡ Some one → entries_made one.made ≡ made → all ≡ entries ++ made → entries ++ given_back before ≡ whole → all ++ given_back after ≡ whole
+  given_more before after r one entries made all whole split is made_is all_is h =
+      let parts : before ≡ after ++ one ∷ [] = split ∙ ap (λ (o : Option (Done N G)). after ++ option_to_list o) is in
+      let last : given_back before ≡ made ++ given_back after =
+      ap given_back parts ∙ (last_first after one ∙ ap (λ (ws : List Worked). ws ++ given_back after) made_is) in
+      ap (λ (ws : List Worked). ws ++ given_back after) all_is ∙ (append_assoc entries made (given_back after) ∙ (ap (λ (ws : List Worked). entries ++ ws) (sym last) ∙ h))
+
+  -- once nothing is left of them, these are the entries of all
+  pub given_all : (done : List (Done N G)) (entries whole : List Worked) → length done ≡ 0 → entries ++ given_back done ≡ whole → entries ≡ whole
+  given_all [] entries whole none h = sym (append-nil entries) ∙ h
+  given_all (one ∷ done) entries whole none h = let some : suc (length done) ≡ 0 = none in absurd (omega arith)

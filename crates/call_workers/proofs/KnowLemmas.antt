@@ -11,7 +11,7 @@ use Rattle.retired_tags.specs.Steps.{Knows}
 use Rattle.job_queue.specs.declared.jobs.Jobs.{Jobs}
 use Rattle.module_store.specs.declared.naming.Naming.{Ghosts}
 use Rattle.pool_limits.specs.declared.numbers.Numbers.{Numbers}
-use Rattle.pool_worlds.specs.Contents.{Named}
+use Rattle.pool_model.specs.Contents.{Named}
 use Rattle.pool_host.specs.declared.answers.Answer.{Answer}
 use Rattle.pool_host.specs.declared.host.Host.{Host}
 use Rattle.tenant_share.specs.declared.passes.Caller.{Caller}
@@ -20,9 +20,9 @@ use Rattle.tenant_share.specs.declared.share_host.ShareHost.{ShareHost}
 use Rattle.tenant_share.specs.Retiring.{CallerKnows, RetiredForAll}
 use Rattle.tenant_share.specs.Tenants.{IsCaller}
 use Rattle.tenant_share.proofs.RetiringLemmas.{knows_retired, still_knows, still_knows_others, there_since}
-use Rattle.due_calls.specs.declared.calls.Due.{Due}
-use Rattle.due_calls.specs.declared.entries.Worked.{Worked}
-use Rattle.due_calls.specs.Entries.{Pair}
+use Rattle.call_jobs.specs.declared.calls.Due.{Due}
+use Rattle.call_jobs.specs.declared.entries.Worked.{Worked}
+use Rattle.call_jobs.specs.Entries.{Pair}
 use Rattle.call_workers.specs.declared.members.Done.{Done}
 use Rattle.call_workers.specs.declared.members.Worker.{Worker}
 use Rattle.call_workers.specs.declared.shared.Shared.{Shared}

@@ -8,19 +8,19 @@ use Rattle.job_queue.specs.declared.accounts.Account.{Account}
 use Rattle.job_queue.specs.Accounts.{with_given}
 use Rattle.module_store.specs.declared.naming.Naming.{Ghosts}
 use Rattle.pool_limits.specs.declared.numbers.Numbers.{Numbers}
-use Rattle.pool_worlds.specs.Contents.{Named}
+use Rattle.pool_model.specs.Contents.{Named}
 use Rattle.pool_host.specs.declared.host.Host.{Host}
 use Rattle.tenant_share.specs.declared.passes.Caller.{Caller}
 use Rattle.tenant_share.specs.declared.share_host.ShareHost.{ShareHost}
 use Rattle.tenant_share.specs.Tenants.{IsCaller}
-use Rattle.due_calls.specs.declared.calls.Due.{Due}
-use Rattle.due_calls.specs.declared.entries.Worked.{Worked}
-use Rattle.due_calls.specs.Entries.{IsAnswered, IsEntry, Pair}
+use Rattle.call_jobs.specs.declared.calls.Due.{Due}
+use Rattle.call_jobs.specs.declared.entries.Worked.{Worked}
+use Rattle.call_jobs.specs.Entries.{IsAnswered, IsEntry, Pair}
 use Rattle.call_workers.specs.Made.{CallerMade, CallerMadeEntry, MadeEntries, MadeEntry}
 use Rattle.call_workers.specs.Passes.{AtHost, OfEachTenant}
 use Rattle.call_workers.specs.Taken.{DidWork, WasGiven}
 use Rattle.call_workers.proofs.PassLemmas.{has_at_host}
-use Rattle.due_calls.proofs.EntryLemmas.{all_zip_append}
+use Rattle.call_jobs.proofs.EntryLemmas.{all_zip_append}
 use Rattle.job_queue.proofs.AccountLemmas.{given_none, given_twice}
 
 abbrev Given : Type 0

@@ -1,25 +1,27 @@
 -- Workers over the hosts of all tenants, and over the queue of a round, before and after their work.
-use Rattle.std.specs.Prelude.{◌≡◌, ℕ, ◌+◌, false, true, List, Option, All, IfOk, length}
+use Rattle.std.specs.Prelude.{◌≡◌, ℕ, ◌+◌, false, true, List, [], Option, Result, Ok, Err, All, IfOk, Vec, flat_map, length, reverse}
+use Rattle.std.specs.Global.{Global}
 use Rattle.std.specs.List.{AllZip}
+use Rattle.wasm_values.specs.declared.outcome.NoMemory.{NoMemory}
 use Rattle.job_queue.specs.declared.jobs.Jobs.{Jobs}
 use Rattle.job_queue.specs.Accounts.{new_account}
 use Rattle.job_queue.specs.Passes.{IsJobPass, IsNewPassOf, JobPass, account_of, capacity_of, count_of, first_of, given_to, passes_of, put_by, share_of}
 use Rattle.module_store.specs.declared.naming.Naming.{Ghosts}
 use Rattle.pool_limits.specs.declared.numbers.Numbers.{Numbers}
 use Rattle.pool_limits.specs.declared.wants.Want.{Want}
-use Rattle.pool_worlds.specs.Contents.{Named}
+use Rattle.pool_model.specs.Contents.{Named}
 use Rattle.tenant_share.specs.declared.passes.Caller.{Caller}
 use Rattle.tenant_share.specs.declared.share_host.ShareHost.{ShareHost}
 use Rattle.tenant_share.specs.Retiring.{CallerKnows}
 use Rattle.tenant_share.specs.Tenants.{HasShares, IsCaller, IsNewCaller}
-use Rattle.due_calls.specs.declared.calls.Due.{Due}
-use Rattle.due_calls.specs.declared.entries.Worked.{Worked}
+use Rattle.call_jobs.specs.declared.calls.Due.{Due}
+use Rattle.call_jobs.specs.declared.entries.Worked.{Worked}
 use Rattle.call_workers.specs.declared.members.Crew.{Crew}
 use Rattle.call_workers.specs.declared.members.Done.{Done}
 use Rattle.call_workers.specs.declared.members.Round.{Round}
 use Rattle.call_workers.specs.declared.members.Worker.{Worker}
 use Rattle.call_workers.specs.declared.shared.Shared.{Shared}
-use Rattle.due_calls.specs.Entries.{IsEntry, called, zeros}
+use Rattle.call_jobs.specs.Entries.{IsEntry, called, zeros}
 use Rattle.call_workers.specs.Taken.{DidWork, HasTaken}
 
 module _ {N : Type 0} {G : Ghosts N} where
@@ -73,6 +75,15 @@ module _ {N : Type 0} {G : Ghosts N} where
   -- so does that of a worker that has ended, if memory lasted
   abbrev pub DoneKnows : (tag : ℕ) → Done N G → Type 0
   DoneKnows tag done = IfOk done.made (λ made. WorkerKnows tag done.worker)
+
+-- the entries that a worker made, if memory lasted
+abbrev pub entries_made : Result (Vec Worked Global) NoMemory → List Worked
+entries_made (Ok made) = made.items
+entries_made (Err wanting) = []
+
+-- the entries that these workers made, those of the last worker first, and each worker's in its order
+abbrev pub given_back : {N : Type 0} {G : Ghosts N} → List (Done N G) → List Worked
+given_back done = flat_map (λ one. entries_made one.made) (reverse done)
 
 -- A pass of the queue into which the passes of so many workers were joined: it put what it put, was given what they were, a 0 for each
 -- worker among it, and these are the entries of those calls.

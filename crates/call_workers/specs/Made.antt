@@ -2,7 +2,7 @@
 use Rattle.std.specs.Prelude.{◌≡◌, ◌≢◌, ℕ, List, [], ◌∷◌, Option, Some, None}
 use Rattle.module_store.specs.declared.naming.Naming.{Ghosts}
 use Rattle.pool_limits.specs.declared.numbers.Numbers.{Numbers}
-use Rattle.pool_worlds.specs.Contents.{Named}
+use Rattle.pool_model.specs.Contents.{Named}
 use Rattle.pool_host.specs.declared.answers.Answer.{Answer}
 use Rattle.pool_host.specs.declared.host.Host.{Host}
 use Rattle.pool_host.specs.CallWords.{IfFull}
@@ -10,9 +10,9 @@ use Rattle.pool_host.specs.Looks.{look_of, Looked}
 use Rattle.pool_host.specs.Trails.{AddsTrails, HasCause}
 use Rattle.tenant_share.specs.declared.passes.Caller.{Caller}
 use Rattle.tenant_share.specs.declared.share_host.ShareHost.{ShareHost}
-use Rattle.due_calls.specs.declared.calls.Due.{Due}
-use Rattle.due_calls.specs.declared.entries.Worked.{Worked}
-use Rattle.due_calls.specs.Entries.{IsEntry, Pair}
+use Rattle.call_jobs.specs.declared.calls.Due.{Due}
+use Rattle.call_jobs.specs.declared.entries.Worked.{Worked}
+use Rattle.call_jobs.specs.Entries.{IsEntry, Pair}
 use Rattle.call_workers.specs.Passes.{AtHost, OfEachTenant}
 
 module _ {N : Type 0} (config : Numbers) (host : Host N) where
@@ -47,7 +47,7 @@ module _ {N : Type 0} (config : Numbers) (host : Host N) where
   MadeEntries tenant calls (pair ∷ pairs) (worked ∷ entries) before after = (between : AtHost N)
       × MadeEntry tenant calls pair worked before between × MadeEntries tenant calls pairs entries between after
 
--- ---- the same of a caller, by its passes of each tenant before and after
+-- ---- what a caller made, by its passes of each tenant before and after
 
 module _ {N : Type 0} {G : Ghosts N} (config : Numbers) (share : ShareHost N) where
   -- its passes of this tenant made the call, if it has a module, and were answered so; its others stayed

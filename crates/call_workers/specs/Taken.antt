@@ -5,12 +5,12 @@ use Rattle.job_queue.specs.declared.accounts.Account.{Account}
 use Rattle.job_queue.specs.Accounts.{with_given}
 use Rattle.module_store.specs.declared.naming.Naming.{Ghosts}
 use Rattle.pool_limits.specs.declared.numbers.Numbers.{Numbers}
-use Rattle.pool_worlds.specs.Contents.{Named}
+use Rattle.pool_model.specs.Contents.{Named}
 use Rattle.tenant_share.specs.declared.passes.Caller.{Caller}
 use Rattle.tenant_share.specs.declared.share_host.ShareHost.{ShareHost}
-use Rattle.due_calls.specs.declared.calls.Due.{Due}
-use Rattle.due_calls.specs.declared.entries.Worked.{Worked}
-use Rattle.due_calls.specs.Entries.{IsEntry, Pair}
+use Rattle.call_jobs.specs.declared.calls.Due.{Due}
+use Rattle.call_jobs.specs.declared.entries.Worked.{Worked}
+use Rattle.call_jobs.specs.Entries.{IsEntry, Pair}
 use Rattle.call_workers.specs.Made.{MadeEntries}
 use Rattle.call_workers.specs.Passes.{OfEachTenant}
 

@@ -1,10 +1,10 @@
 //! What a worker makes of one call.
 ghost use Rattle.std.specs.Prelude.{◌≡◌, ◌<◌, ◌≤◌, All, IfOk, Some, length};
 ghost use Rattle.tenant_share.specs.Tenants.{IsCaller, tenants_of};
-ghost use Rattle.due_calls.specs.Entries.{AreNumbered, IsAnswered, IsEntry, IsOfTenants};
+ghost use Rattle.call_jobs.specs.Entries.{AreNumbered, IsAnswered, IsEntry, IsOfTenants};
 ghost use Rattle.call_workers.specs.Made.{CallerMade, CallerMadeEntry};
 
-use due_calls::{Due, Item, Worked, due_at};
+use call_jobs::{Due, Item, Worked, due_at};
 use host_edge::Gate;
 use module_store::{ModuleRef, ModuleStore, Naming};
 use std::alloc::Global;

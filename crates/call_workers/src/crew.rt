@@ -2,13 +2,13 @@
 ghost use Rattle.std.specs.Prelude.{◌≡◌, ◌+◌, ◌≤◌, ℕ, All, IfOk, length};
 ghost use Rattle.std.specs.List.{AllZip};
 ghost use Rattle.job_queue.specs.Passes.{count_of, first_of};
-ghost use Rattle.due_calls.specs.Entries.{AreNumbered, IsOfTenants};
+ghost use Rattle.call_jobs.specs.Entries.{AreNumbered, IsOfTenants};
 ghost use Rattle.call_workers.specs.Crews.{DoneKnows, HasEnded, IsDone, IsNewCrew, IsNewWorker, WorkerKnows};
 
 use crate::members::{Crew, Done, Worker};
 use crate::shared::Shared;
-use crate::working::work;
-use due_calls::{Due, Item};
+use crate::work_loop::work;
+use call_jobs::{Due, Item};
 use host_edge::Gate;
 use job_queue::Jobs;
 use module_store::{ModuleStore, Naming};

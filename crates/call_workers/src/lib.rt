@@ -3,17 +3,17 @@
 
 mod calls;
 mod crew;
-mod finishing;
+mod ends;
 mod members;
-mod retiring;
+mod retirement;
 mod rounds;
 mod shared;
-mod working;
+mod work_loop;
 
 pub use crew::{open_crew, work_all};
-pub use finishing::finish;
+pub use ends::finish;
 pub use members::{Crew, Done, Round, Worker};
-pub use retiring::retire_for_each;
+pub use retirement::retire_for_each;
 pub use rounds::open_round;
 pub use shared::Shared;
-pub use working::work;
+pub use work_loop::work;

@@ -1,6 +1,6 @@
 //! Workers, before and after their work, and what they have between rounds.
 use crate::shared::Shared;
-use due_calls::{Item, Worked};
+use call_jobs::{Item, Worked};
 use job_queue::{JobPass, Jobs};
 use module_store::Naming;
 use tenant_share::Caller;

@@ -7,7 +7,7 @@ ghost use Rattle.call_workers.specs.Crews.{IsNewRound, IsNewWorker, StillKnow, W
 
 use crate::members::{Round, Worker};
 use crate::shared::Shared;
-use due_calls::Item;
+use call_jobs::Item;
 use job_queue::{JobPass, Jobs};
 use module_store::Naming;
 use pool_host::MOST_PASSES;

@@ -1,9 +1,9 @@
 //! What workers share.
 ghost use Rattle.std.specs.Prelude.{All};
 ghost use Rattle.tenant_share.specs.Tenants.{tenants_of};
-ghost use Rattle.due_calls.specs.Entries.{AreNumbered, IsOfTenants};
+ghost use Rattle.call_jobs.specs.Entries.{AreNumbered, IsOfTenants};
 
-use due_calls::Due;
+use call_jobs::Due;
 use module_store::Naming;
 use tenant_share::ShareHost;
 

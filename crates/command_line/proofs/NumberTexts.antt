@@ -52,7 +52,7 @@ number_in_range least most t passed = rw without_minus-cond (go (starts_with_min
         let high_ok = rw minus at passed.3 in
         (numeral, omega (arith, ints), omega (arith, ints))
 
--- the same of a text that such a parser takes
+-- a text that a parser of signed numbers takes is a number in its range
 pub signed_number : (least most : ℕ) (t : Text) → accepts false (vp.Signed (pos least) (pos most)) t ≡ true → IsNumberIn least most (Some (without_minus t))
 signed_number least most t taken = number_in_range least most t (accepts-Accepts false (vp.Signed (pos least) (pos most)) t taken)
 

@@ -14,7 +14,7 @@ pub(crate) fn number_at(matches: &ArgMatches<'_>, id: &str) -> u32
     matches.get_one::<u32>(id).unwrap()
 }
 
-// The same of a number of 64 bits.
+// The number of 64 bits under an id, which the parse has found to be one.
 pub(crate) fn long_number_at(matches: &ArgMatches<'_>, id: &str) -> u64
     requires { IsNumberIn 0 u64.MAX (one_of id.now (rows_of (found_of matches.now))) }
     ensures { result ≡ number_in id.now (rows_of (found_of matches.now)) }

@@ -80,10 +80,7 @@ fn command_at(matches: &ArgMatches<'_>) -> Option<Command>
         let count = number_at(make, "count");
         return Some(Command::Make { seed, count });
     }
-    let Some(run) = matches.subcommand_matches("run") else {
-        unreachable!()
-    };
-    run_at(run)
+    run_at(matches.subcommand_matches("run").unwrap())
 }
 
 // The run that these matches ask for, or none where no configuration has its numbers.

@@ -1,5 +1,6 @@
 mod HandingIn
-mod Sweeps
+mod SweepLemmas
 mod SweepParts
 mod SweptPools
+pub mod TellingLemmas
 mod WorkedSweep

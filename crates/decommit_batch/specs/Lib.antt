@@ -1,3 +1,4 @@
+pub mod Counts
 pub mod Flush
 pub mod HandIn
 pub mod Settle

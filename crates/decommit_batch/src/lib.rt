@@ -1,13 +1,13 @@
 //! Slots that await their decommit, and how many at once are cleaned; slots that a module left, and how they become cold.
 #![tactic(auto)]
 
-mod flushing;
-mod handing;
+mod batch;
+mod flushes;
 pub mod laws;
-mod settling;
-mod sweeping;
+mod settlement;
+mod sweeps;
 
-pub use flushing::flush;
-pub use handing::hand_in;
-pub use settling::settle;
-pub use sweeping::sweep;
+pub use batch::hand_in;
+pub use flushes::flush;
+pub use settlement::settle;
+pub use sweeps::sweep;

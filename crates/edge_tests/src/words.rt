@@ -1,6 +1,6 @@
 //! Words that are taken, and words that are refused.
 use command_line::{Command, WordsFault, read_command};
-use pool_limits::Numbers;
+use pool_limits::{Numbers, PoolConfig};
 use std::alloc::Global;
 
 // What is asked of a run: its numbers in the order of the struct (workers, instances, memories, tables, warm, batch, pages, elements,
@@ -130,6 +130,16 @@ fn asked(command: Command) -> Option<Asked> {
         workers, instances, memories, tables, warm, batch, pages, elements, depth, frame,
     ];
     Some((numbers, summary, slice))
+}
+
+#[test]
+fn a_run_without_options_has_the_default_configuration(rt: HostRuntime) {
+    let want = Command::Run {
+        config: PoolConfig::default(),
+        summary: false,
+        slice: 0,
+    };
+    assert_eq!(rt; read(rt.alloc(), "run"), Ok(want));
 }
 
 #[test]

@@ -11,7 +11,7 @@ use anyhow::Error;
 use host_edge::OpenGate;
 use module_store::{Desk, ModuleRef, ModuleStore, Naming, Opened};
 use pool_host::{Answer, Host, HostPass};
-use pool_limits::{Numbers, PoolConfig, Share};
+use pool_limits::{PoolConfig, Share};
 use std::alloc::Global;
 use std::marker::Brand;
 use std::sync::Wait;
@@ -21,20 +21,6 @@ use wasm_values::{Profile, Val};
 // A module of profile 1 that exports `add`, of two i32.
 const ADD: [u8; 41] =
     *b"\0asm\x01\0\0\0\x01\x07\x01\x60\x02\x7f\x7f\x01\x7f\x03\x02\x01\0\x07\x07\x01\x03add\0\0\x0a\x09\x01\x07\0\x20\0\x20\x01\x6a\x0b";
-
-// What `poolhost run` has where no option is given.
-const NUMBERS: Numbers = Numbers {
-    workers: 1,
-    instances: 4,
-    memories: 4,
-    tables: 4,
-    warm: 2,
-    batch: 4,
-    pages: 32,
-    elements: 1_024,
-    depth: 128,
-    frame: 1_024,
-};
 
 // The slots of the host: a ticket for each of two calls at the same time.
 const SHARE: Share = Share {
@@ -77,7 +63,8 @@ fn both<N: Naming + Send + Sync, R: Threads>(
     store: &ModuleStore<N>,
     module: &ModuleRef<N>,
 ) -> (Answer, Answer)
-    requires passes { IsHostPass host.now one × IsHostPass host.now two }
+    requires one { IsHostPass host.now one }
+    requires two { IsHostPass host.now two }
     ensures answers { HaveDoubled N.config «module».now.tree result.0 result.1 }
 {
     let ((first, _), (second, _)) = thread::join(
@@ -133,8 +120,7 @@ fn on_store<N: Naming + Send + Sync, R: Threads + Wait>(
 }
 
 fn main(rt: HostRuntime) -> Result<(), Error> {
-    let config = PoolConfig::new(NUMBERS)?;
-    let opened = Opened::open_for(rt.alloc(), config, MOST_MODULES)?;
+    let opened = Opened::open_for(rt.alloc(), PoolConfig::default(), MOST_MODULES)?;
     let (one, two) = on_store::<Brand, HostRuntime>(&rt, rt.alloc(), opened)?;
     println!(rt; "{one:?}")?;
     println!(rt; "{two:?}")?;

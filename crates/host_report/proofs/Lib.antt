@@ -1,3 +1,4 @@
 pub mod AnswerLemmas
 pub mod LineLemmas
+mod MadeExamples
 pub mod ReportLemmas

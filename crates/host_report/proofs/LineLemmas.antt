@@ -9,7 +9,7 @@ use Rattle.wasm_values.specs.declared.profile.Profile.{Profile}
 use Rattle.wasm_types.specs.Tree.{ModuleTree}
 use Rattle.wasm_spec.specs.Loading.{Loads, Refusal}
 use Rattle.wasm_spec.specs.Validity.{IsValid}
-use Rattle.loaded_modules.specs.Within.{IsWithin}
+use Rattle.wasm_spec.specs.Within.{IsWithin}
 use Rattle.pool_host.specs.declared.lane.LaneAnswer.{LaneAnswer}
 use Rattle.pool_host.specs.CallWords.{IsAnswer, is_retired}
 use Rattle.request_text.specs.declared.request.Directive.{Directive}

@@ -15,7 +15,7 @@ use Rattle.host_report.specs.Report.{AreLines, IsModuleLine}
 use Rattle.run_books.specs.Lines.{Limits}
 use Rattle.run_books.specs.Entries.{AreEntries, Entry, IsEntry, entry_line}
 use Rattle.host_report.specs.NextLine.{HasSource, ShowsNext, board_after, counts_after}
-use Rattle.host_report.specs.declared.reporting.Counts.{Counts}
+use Rattle.host_report.specs.declared.file_report.Counts.{Counts}
 use Rattle.report_text.specs.declared.report.ReportLine.TheVariants as report
 use Rattle.run_books.proofs.BoardLemmas.{got_set_other}
 use Rattle.run_books.proofs.PlaceLemmas.{call_count-call, call_count-module, call_count-retire, drop_got}

@@ -8,7 +8,7 @@ use Rattle.request_text.specs.Text.{Asked}
 use Rattle.report_text.specs.declared.report.CallLine.{CallLine}
 use Rattle.report_text.specs.declared.report.ReportLine.{ReportLine}
 use Rattle.report_text.specs.declared.report.ReportLine.TheVariants as report
-use Rattle.call_rounds.specs.declared.making.Made.{Made}
+use Rattle.call_rounds.specs.declared.modes.Made.{Made}
 use Rattle.call_rounds.specs.Rounds.{AreClosedBooks}
 use Rattle.call_rounds.specs.Runs.{IsMade, books_of}
 use Rattle.host_report.specs.Answers.{lines_on}

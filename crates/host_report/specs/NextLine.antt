@@ -8,7 +8,7 @@ use Rattle.report_text.specs.declared.report.ReportLine.TheVariants as report
 use Rattle.request_text.specs.declared.request.TheConstants.{MOST_CALLS}
 use Rattle.run_books.specs.Collected.{HasLine}
 use Rattle.run_books.specs.Entries.{Entry, entry_line}
-use Rattle.host_report.specs.declared.reporting.Counts.{Counts}
+use Rattle.host_report.specs.declared.file_report.Counts.{Counts}
 
 -- there is an entry, or a line on the board, for this directive, after so many of each
 abbrev pub HasSource : Counts → List Entry → (board : List (Option CallLine)) → Directive → Type 0

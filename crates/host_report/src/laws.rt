@@ -12,9 +12,8 @@ ghost use Rattle.run_books.specs.Lines.{IsCallLine, Limits, limits_in};
 ghost use Rattle.host_report.specs.Made.{WereMade, calls_shown};
 ghost use Rattle.host_report.specs.Report.{IsModuleLine, IsReport};
 
-use loaded_modules::laws::a_loaded_module_is_within_its_limits;
-use pool_host::laws::a_call_has_one_answer;
-use wasm_spec::laws::loading_has_at_most_one_answer;
+use host_calls::laws::a_call_has_one_answer;
+use wasm_spec::laws::{a_loaded_module_is_within_its_limits, loading_has_at_most_one_answer};
 
 /// The line of a module is decided by the limits, its profile of WebAssembly and its bytes.
 pub fn same_module_line()

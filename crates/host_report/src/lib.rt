@@ -1,7 +1,7 @@
 //! The report on what a request file asks for: its modules are loaded, its calls are made, and each directive gets a line.
 #![tactic(auto)]
 
+mod file_report;
 pub mod laws;
-mod reporting;
 
-pub use reporting::report;
+pub use file_report::report;

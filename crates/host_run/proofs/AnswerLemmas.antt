@@ -8,17 +8,17 @@ use Rattle.command_line.specs.Words.{command_of}
 use Rattle.command_line.specs.declared.words.Command.{Command}
 use Rattle.command_line.specs.declared.words.Command.TheVariants.{Make, Run}
 use Rattle.host_report.specs.Report.{IsReport}
-use Rattle.host_run.specs.Serving.{Answer, IsDue, IsFileAnswer, lines_text}
+use Rattle.host_run.specs.Serving.{DueAnswer, IsDue, IsFileAnswer, lines_text}
 
 -- what a file asks for has at most one report
 abbrev pub ReportsOnce : Type 0
 ReportsOnce = (numbers : Numbers) (requests : Asked) (a b : List ReportLine) → IsReport numbers requests a → IsReport numbers requests b → a ≡ b
 
 module _ (one_report : ReportsOnce) where
-  abbrev answer_of : ℕ → List ℕ → Answer
+  abbrev answer_of : ℕ → List ℕ → DueAnswer
   answer_of status text = record { status = status; text = text }
 
-  answered_once : (numbers : Numbers) (summary : Bool) (requests : Result Asked FileRefusal) (bytes : List ℕ) (a b : Answer) → requests_of numbers bytes ≡ requests
+  answered_once : (numbers : Numbers) (summary : Bool) (requests : Result Asked FileRefusal) (bytes : List ℕ) (a b : DueAnswer) → requests_of numbers bytes ≡ requests
       → IsFileAnswer numbers summary bytes a → IsFileAnswer numbers summary bytes b → a ≡ b
   answered_once numbers summary (Ok requests) bytes a b is h g =
       let first = rw is at h in
@@ -31,10 +31,10 @@ module _ (one_report : ReportsOnce) where
       let second = rw is at g in
       first ∙ sym second
 
-  due_once : (given : Option Command) (words : List (List ℕ)) (bytes : List ℕ) (a b : Answer) → command_of words ≡ given → IsDue words bytes a → IsDue words bytes b → a ≡ b
+  due_once : (given : Option Command) (words : List (List ℕ)) (bytes : List ℕ) (a b : DueAnswer) → command_of words ≡ given → IsDue words bytes a → IsDue words bytes b → a ≡ b
   due_once None words bytes a b is h g = let first = rw is at h in let second = rw is at g in first ∙ sym second
   due_once (Some (Run numbers summary slice)) words bytes a b is h g = answered_once numbers summary (requests_of numbers bytes) bytes a b refl (rw is at h) (rw is at g)
   due_once (Some (Make seed count)) words bytes a b is h g = let first = rw is at h in let second = rw is at g in first ∙ sym second
 
-  pub one_due : (words : List (List ℕ)) (bytes : List ℕ) (a b : Answer) → IsDue words bytes a → IsDue words bytes b → a ≡ b
+  pub one_due : (words : List (List ℕ)) (bytes : List ℕ) (a b : DueAnswer) → IsDue words bytes a → IsDue words bytes b → a ≡ b
   one_due words bytes a b h g = due_once (command_of words) words bytes a b refl h g

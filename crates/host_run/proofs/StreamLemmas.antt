@@ -33,7 +33,7 @@ all x y text rest p none =
     let whole : take p.n text ≡ text = ap (λ k. take k text) is ∙ take-length text in
     rw whole at p.appended
 
--- the same, of the slice past k
+-- a further piece was written, by the slice past k
 pub more_past : (x y z : Option (List ℕ)) (text rest : List ℕ) (k : ℕ) → Progress x y text rest → k ≤ length rest → Appends y z (take k rest)
     → Progress x z text (take (length rest - k) (drop k rest))
 more_past x y z text rest k p le h = rw take_rest (more x y z text rest k p le h)

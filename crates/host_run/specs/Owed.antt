@@ -6,13 +6,13 @@ use Rattle.command_line.specs.declared.words.Command.{Command}
 use Rattle.command_line.specs.declared.words.Command.TheVariants.{Make}
 use Rattle.host_run.specs.Serving.{IsOwed, load_of, reads_source, refused_words, due_answer}
 use Rattle.host_run.specs.Streams.{TakesAtMost}
-use Rattle.host_run.specs.declared.due.Due.{Due}
+use Rattle.host_run.specs.declared.due.RunOutput.{RunOutput}
 use Rattle.host_run.specs.declared.streams.InputFault.{InputFault}
 use Rattle.host_run.specs.declared.streams.InputFault.TheVariants.{Failed, NoMemory}
 
 -- The answer to this command, if there is one, or the fault that kept it from being found. The source was as `before`, and
 -- is as `after`.
-pub record Owes {S : Type 0} (left : S → Option (List ℕ)) (faults : S → ℕ) (asked : Option Command) (before after : S) (result : Result Due InputFault) : Type 0 where
+pub record Owes {S : Type 0} (left : S → Option (List ℕ)) (faults : S → ℕ) (asked : Option Command) (before after : S) (result : Result RunOutput InputFault) : Type 0 where
   -- the answer that is due for all bytes that the source had left, and for those that were taken
   pub due : IfOk result (λ due. IfSome (left before) (λ bytes. IsOwed asked bytes (due_answer due)))
   pub taken : IfOk result (λ due. (bytes : List ℕ) × Consumes (left before) (left after) bytes × IsOwed asked bytes (due_answer due))

@@ -16,7 +16,7 @@ use Rattle.pool_limits.specs.declared.numbers.Numbers.{Numbers}
 use Rattle.command_line.specs.Words.{command_of}
 use Rattle.command_line.specs.declared.words.Command.{Command}
 use Rattle.command_line.specs.declared.words.Command.TheVariants.{Make, Run}
-use Rattle.host_run.specs.declared.due.Due.{Due}
+use Rattle.host_run.specs.declared.due.RunOutput.{RunOutput}
 use Rattle.host_run.specs.Text.{bytes_of}
 
 -- the texts of the words of a command line
@@ -24,15 +24,15 @@ abbrev pub texts_of : List (Bor (List ℕ)) → List (List ℕ)
 texts_of words = map (λ w. w.now) words
 
 -- a status, and the text that is due before it
-pub record Answer : Type 0 where
+pub record DueAnswer : Type 0 where
   pub status : ℕ
   pub text : List ℕ
 
-abbrev pub refused : List ℕ → Answer
+abbrev pub refused : List ℕ → DueAnswer
 refused line = record { status = 2; text = line }
 
 -- words that are not accepted are refused by this line
-abbrev pub refused_words : Answer
+abbrev pub refused_words : DueAnswer
 refused_words = refused (codes "refused words\n")
 
 -- what a run writes on the lines of a report: their text, or their summary
@@ -40,33 +40,33 @@ abbrev pub lines_text : (summary : Bool) → List ReportLine → List ℕ
 lines_text summary lines = if summary then summary_text lines else report_text lines
 
 -- the answer is what a run writes on a report, with status 0
-pub record IsReported (numbers : Numbers) (summary : Bool) (requests : Asked) (answer : Answer) : Type 0 where
+pub record IsReported (numbers : Numbers) (summary : Bool) (requests : Asked) (answer : DueAnswer) : Type 0 where
   pub status : answer.status ≡ 0
   pub lines : List ReportLine
   pub report : IsReport numbers requests lines
   pub text : answer.text ≡ lines_text summary lines
 
 -- what a request file is answered: the report on what it asks for, or the line that tells why it is refused
-abbrev pub IsFileAnswer : Numbers → (summary : Bool) → List ℕ → Answer → Type 0
+abbrev pub IsFileAnswer : Numbers → (summary : Bool) → List ℕ → DueAnswer → Type 0
 IsFileAnswer numbers summary bytes answer = MatchResult (requests_of numbers bytes)
     (λ requests. IsReported numbers summary requests answer)
     (λ refusal. answer ≡ refused (refusal_line refusal))
 
 -- a load is written with status 0
-abbrev pub load_of : (seed count : ℕ) → Answer
+abbrev pub load_of : (seed count : ℕ) → DueAnswer
 load_of seed count = record { status = 0; text = made_file seed count }
 
 -- what is due for a command and all bytes of the source, whatever the slices of a run
-abbrev pub IsCommandAnswer : Command → List ℕ → Answer → Type 0
+abbrev pub IsCommandAnswer : Command → List ℕ → DueAnswer → Type 0
 IsCommandAnswer (Run numbers summary slice) bytes answer = IsFileAnswer numbers summary bytes answer
 IsCommandAnswer (Make seed count) bytes answer = answer ≡ load_of seed count
 
 -- what is due for a command, if there is one, and all bytes of the source
-abbrev pub IsOwed : Option Command → List ℕ → Answer → Type 0
+abbrev pub IsOwed : Option Command → List ℕ → DueAnswer → Type 0
 IsOwed asked bytes answer = MatchOption asked (answer ≡ refused_words) (λ command. IsCommandAnswer command bytes answer)
 
 -- what is due for the words of the command line and all bytes of the source
-abbrev pub IsDue : List (List ℕ) → List ℕ → Answer → Type 0
+abbrev pub IsDue : List (List ℕ) → List ℕ → DueAnswer → Type 0
 IsDue words bytes answer = IsOwed (command_of words) bytes answer
 
 abbrev pub is_run : Command → Bool
@@ -81,15 +81,15 @@ reads_source asked = option_map_or is_run asked false
 abbrev pub reads : List (List ℕ) → Bool
 reads words = reads_source (command_of words)
 
-abbrev pub due_answer : Due → Answer
+abbrev pub due_answer : RunOutput → DueAnswer
 due_answer due = record { status = due.status; text = bytes_of due.text }
 
 -- Where a run ends with 0 or 2, that is the status of a due answer whose whole text was written; where it ends with 4,
 -- a first part of a due text was written.
-pub record Delivers (IsOwed : Answer → Type 0) (before after : Option (List ℕ)) (status : ℕ) : Type 0 where
+pub record Delivers (IsOwed : DueAnswer → Type 0) (before after : Option (List ℕ)) (status : ℕ) : Type 0 where
   pub whole : (status ≡ 0) ⊎ (status ≡ 2)
-      → (answer : Answer) × IsOwed answer × (status ≡ answer.status) × Appends before after answer.text
-  pub part : status ≡ 4 → (answer : Answer) × IsOwed answer × AppendsPart before after answer.text
+      → (answer : DueAnswer) × IsOwed answer × (status ≡ answer.status) × Appends before after answer.text
+  pub part : status ≡ 4 → (answer : DueAnswer) × IsOwed answer × AppendsPart before after answer.text
 
 -- the statuses of a run
 abbrev pub IsStatus : ℕ → Type 0

@@ -8,7 +8,7 @@ ghost use Rattle.pool_limits.specs.Plans.{plan_fault};
 ghost use Rattle.request_text.specs.Refusal.{refusal_line};
 ghost use Rattle.request_text.specs.Text.{BadLine, file_refusal_of};
 
-use crate::due::{Due, Text, refusal};
+use crate::due::{RunOutput, Text, refusal};
 use crate::status::Status;
 use host_edge::Gate;
 use host_report::report;
@@ -45,14 +45,14 @@ fn reported<R: Threads + Wait + Sync, G: Gate>(
     slice: u32,
     requests: &Requests,
     gate: &G,
-) -> Result<Due, NoMemory>
+) -> Result<RunOutput, NoMemory>
     requires plan { (plan_fault config [] ≡ None) → plan_fault config requests.now.wants ≡ None }
     ensures reported { IfOk result (λ due. IsReported config summary requests.now (due_answer due)) }
     ensures made { IfOk result (λ due. IsOfRun config summary slice requests.now (due_answer due)) }
 {
     let lines = report(rt, alloc, config, slice, requests, gate)?;
     let text = lines_text(alloc, lines, summary)?;
-    Ok(Due {
+    Ok(RunOutput {
         status: Status::Reported.code(),
         text: Text::Made(text),
     })
@@ -67,7 +67,7 @@ pub(crate) fn answer<R: Threads + Wait + Sync, G: Gate>(
     slice: u32,
     bytes: &[u8],
     gate: &G,
-) -> Result<Due, NoMemory>
+) -> Result<RunOutput, NoMemory>
     ensures answer { IfOk result (λ due. IsFileAnswer config summary bytes.now (due_answer due)) }
     ensures made { IfOk result (λ due. FileWasMade config summary slice bytes.now (due_answer due)) }
     ensures status { IfOk result (λ due. (due.status ≡ 0) ⊎ (due.status ≡ 2)) }
@@ -98,7 +98,7 @@ fn refusal_of(fault: ParseFault) -> Result<Refusal, NoMemory>
 }
 
 // What is due for a request file that is refused, unless the fault was want of memory.
-fn refused_file(alloc: Global, fault: ParseFault) -> Result<Due, NoMemory>
+fn refused_file(alloc: Global, fault: ParseFault) -> Result<RunOutput, NoMemory>
     ensures due { IfOk result (λ due. IsSomeAnd (file_refusal_of fault) (λ why. due_answer due ≡ refused (refusal_line why))) }
     ensures too_long { fault ≡ ParseFault.TooLong → IsOk result }
 {
@@ -109,12 +109,12 @@ fn refused_file(alloc: Global, fault: ParseFault) -> Result<Due, NoMemory>
 }
 
 // What is due for a request file of which this line is refused.
-fn line_due(alloc: Global, line: u32, reason: Reason) -> Result<Due, NoMemory>
+fn line_due(alloc: Global, line: u32, reason: Reason) -> Result<RunOutput, NoMemory>
     ensures { IfOk result (λ due. due_answer due ≡ refused (refusal_line (BadLine line reason))) }
 {
     let mut text = Vec::new(alloc);
     write_text_fault(alloc, &mut text, line, reason)?;
-    Ok(Due {
+    Ok(RunOutput {
         status: Status::Refused.code(),
         text: Text::Made(text),
     })

@@ -43,16 +43,16 @@ impl Text {
 
 // A status, and the text that is due before it.
 #[derive(Drop)]
-pub(crate) struct Due {
+pub(crate) struct RunOutput {
     pub(crate) status: u8,
     pub(crate) text: Text,
 }
 
 // What is due for a refusal: this line, with status 2.
-pub(crate) fn refusal(line: &'static [u8]) -> Due
+pub(crate) fn refusal(line: &'static [u8]) -> RunOutput
     ensures { due_answer result ≡ refused line.now }
 {
-    Due {
+    RunOutput {
         status: Status::Refused.code(),
         text: Text::Fixed(line),
     }
@@ -67,7 +67,7 @@ fn run_due<R: Threads + Wait + Sync, S: Source, G: Gate>(
     slice: u32,
     source: &mut S,
     gate: &G,
-) -> Result<Due, InputFault>
+) -> Result<RunOutput, InputFault>
     ensures owes { Owes S.left S.faults (Some (Run config summary slice)) source.old source.new result }
     ensures made { IfOk result (λ due. WasMade (Run config summary slice) (S.left source.old) (S.left source.new) (due_answer due)) }
 {
@@ -76,18 +76,18 @@ fn run_due<R: Threads + Wait + Sync, S: Source, G: Gate>(
 }
 
 // What is due for a load: its text, with status 0.
-fn load_due(alloc: Global, seed: u64, count: u32) -> Result<Due, NoMemory>
+fn load_due(alloc: Global, seed: u64, count: u32) -> Result<RunOutput, NoMemory>
     ensures { IfOk result (λ due. due_answer due ≡ load_of seed count) }
 {
     let text = make(alloc, seed, count)?;
-    Ok(Due {
+    Ok(RunOutput {
         status: Status::Reported.code(),
         text: Text::Made(text),
     })
 }
 
 // What is due where the words give no command, unless that is for want of memory.
-fn words_due(fault: WordsFault) -> Result<Due, InputFault>
+fn words_due(fault: WordsFault) -> Result<RunOutput, InputFault>
     ensures { MatchResult result
         (λ due. (fault ≡ WordsFault.Refused) × (due_answer due ≡ refused_words))
         (λ error. (fault ≡ WordsFault.NoMemory) × (error ≡ InputFault.NoMemory)) }
@@ -105,7 +105,7 @@ pub(crate) fn due_text<R: Threads + Wait + Sync, S: Source, G: Gate>(
     words: &[&str],
     source: &mut S,
     gate: &G,
-) -> Result<Due, InputFault>
+) -> Result<RunOutput, InputFault>
     ensures { Owes S.left S.faults (command_of (texts_of words.now)) source.old source.new result }
 {
     match read_command(alloc, words) {
@@ -121,7 +121,7 @@ fn command_due<R: Threads + Wait + Sync, S: Source, G: Gate>(
     command: Command,
     source: &mut S,
     gate: &G,
-) -> Result<Due, InputFault>
+) -> Result<RunOutput, InputFault>
     ensures owes { Owes S.left S.faults (Some command) source.old source.new result }
     ensures made { IfOk result (λ due. WasMade command (S.left source.old) (S.left source.new) (due_answer due)) }
 {

@@ -7,14 +7,14 @@ ghost use Rattle.request_text.specs.Text.{Asked};
 ghost use Rattle.pool_limits.specs.declared.numbers.Numbers.{Numbers};
 ghost use Rattle.run_books.specs.Lines.{limits_in};
 ghost use Rattle.host_run.specs.Tenants.{CallsAt, HasReport, TellsAt, WritesAt};
-ghost use Rattle.host_run.specs.Serving.{Answer, IsDue};
+ghost use Rattle.host_run.specs.Serving.{DueAnswer, IsDue};
 
 use host_report::laws::{a_call_has_one_line, at_most_one_report, each_call_has_its_line};
 
-/// Two request files of the same profile that were reported on, without `--summary`, under the same pages, elements, depth
-/// and frame, and in each a call of the same export of a module of the same bytes, on the same fuel and arguments, and retired
-/// before the call in both or in neither: after the call's number its line tells the same in both reports, whatever else the
-/// files ask for.
+/// Two reports have the same line for the same call. The two request files have the same profile, and were reported on without
+/// `--summary`, under the same pages, elements, depth and frame. The calls are of the same export of a module of the same bytes,
+/// with the same fuel, arguments and request, and the module is retired before the call in both files or in neither. Then the
+/// lines say the same after the call's number, whatever else the files ask for.
 pub fn same_line()
     ensures { (words words' : List (List ℕ)) (numbers numbers' : Numbers) (bytes bytes' : List ℕ) (requests requests' : Asked)
         (lines lines' : List ReportLine) (at at' : ℕ) (module_bytes : List ℕ) (retired : Bool) (invocation : Invocation)
@@ -27,8 +27,8 @@ pub fn same_line()
     a_call_has_one_line();
 }
 
-/// The same of the bytes that are written: the line of the call is its number, a space, the same bytes for both files, and
-/// LF. It stands behind the text of the lines before it.
+/// Of two such files the bytes that are written for the call are the same too: its line is its number, a space, the same bytes for
+/// both files, and LF. It stands behind the text of the lines before it.
 pub fn same_bytes()
     ensures { (words words' : List (List ℕ)) (numbers numbers' : Numbers) (bytes bytes' : List ℕ) (requests requests' : Asked)
         (lines lines' : List ReportLine) (at at' : ℕ) (module_bytes : List ℕ) (retired : Bool) (invocation : Invocation)
@@ -43,7 +43,7 @@ pub fn same_bytes()
 
 /// At most one answer, a status and a text, is due for the words of a command line and the bytes of a source.
 pub fn one_answer_is_due()
-    ensures { (words : List (List ℕ)) (bytes : List ℕ) (a b : Answer) → IsDue words bytes a → IsDue words bytes b → a ≡ b }
+    ensures { (words : List (List ℕ)) (bytes : List ℕ) (a b : DueAnswer) → IsDue words bytes a → IsDue words bytes b → a ≡ b }
 {
     at_most_one_report();
 }

@@ -4,10 +4,10 @@
 mod answer;
 mod due;
 pub mod laws;
-mod serving;
+mod service;
 mod status;
 mod streams;
 
 pub use call_workers::work;
-pub use serving::{refuse_words, serve};
+pub use service::{refuse_words, serve};
 pub use status::Status;

@@ -68,7 +68,8 @@ pub(crate) fn read_input<S: Source>(alloc: Global, source: &mut S) -> Result<Vec
     read_pieces(alloc, source, &mut buffer)
 }
 
-// The same, in pieces no longer than a buffer. Room for a piece is found before it is read.
+// All bytes that the source has left, or one more than a file may have, in pieces no longer than a buffer. Room for a piece is
+// found before it is read.
 fn read_pieces<S: Source>(
     alloc: Global,
     source: &mut S,
@@ -91,8 +92,7 @@ fn read_pieces<S: Source>(
         if count == 0 {
             return Ok(bytes);
         }
-        let appended = bytes.extend_from_slice(&buffer[..count]);
-        prove!(appended.is_ok());
+        bytes.extend_from_slice(&buffer[..count]).unwrap();
     }
     Ok(bytes)
 }

@@ -2,7 +2,7 @@
 use Rattle.std.proofs.Common.{◌≡◌, ℕ, ◌+◌, ◌<◌, ◌≤◌, Bool, true, false, cond, List, ◌∷◌, length, drop, get_or, refl, sym, ap, ◌∙◌}
 use Rattle.std.specs.Prelude.{Option, Some, None, find, fold, map}
 use Rattle.std.specs.List.{enumerate_from}
-use Rattle.std.proofs.lemmas.List.{at_drop_more, at_drop_all}
+use Rattle.std.proofs.lemmas.List.{at_drop_more}
 use Rattle.std.proofs.lemmas.Bool.{cond-true, cond-false, le-ltb, lt-ltb, ltb-false}
 use Rattle.wasm_spec.specs.Store.{Extent}
 use Rattle.initial_image.specs.Segments.{is_past}
@@ -32,9 +32,6 @@ module _ {S T : Type 0} (tree : S → T) (extent : ℕ × T → Extent) (segment
           | true ↦ λ q h. absurd (cc)
           | false ↦ λ q h. (ltb-false (extent (i, tree s)).size (extent (i, tree s)).end q, h)
         ] in split (is_past (extent (i, tree s))) refl (sym misfit_from-next ∙ none)
-
-  pub misfit_from-end : (i : ℕ) → length segments ≤ i → misfit_from i ≡ None
-  misfit_from-end i le = at_drop_all (λ (l : List S). find is_past (map extent (enumerate_from i (map tree l)))) segments i le
 
 module _ {S T A : Type 0} (tree : S → T) (write : A → T → A) (segments : List S) (i : ℕ) (s : S) (lt : i < length segments) (is : s ≡ get_or segments i s) where
   -- to write the segments from the i-th on is to write that one and then those after it

@@ -1,6 +1,5 @@
 //! Where segments end, and the first that reaches past its table or memory.
 ghost use Rattle.std.specs.Prelude.{◌≡◌, ◌+◌, ◌<◌, ◌≤◌, ◌^◌, None, IfOk, IfErr, OnOk, IsErrOf, length};
-ghost use Rattle.std.specs.Option.{SomeIff};
 ghost use Rattle.wasm_types.specs.Tree.{expr_tree, module_tree};
 ghost use Rattle.wasm_spec.specs.Store.{minimum_of};
 ghost use Rattle.wasm_spec.specs.Store as store;

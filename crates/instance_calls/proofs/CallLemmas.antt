@@ -21,8 +21,8 @@ use Rattle.wasm_spec.specs.Result.{CallResult, is_done}
 use Rattle.wasm_machine.specs.Calls.{IsCall}
 use Rattle.pool_limits.specs.declared.numbers.Numbers.{Numbers}
 use Rattle.paused_call.specs.declared.call.PausedCall.{PausedCall}
-use Rattle.paused_call.specs.declared.call.Turned.{Turned}
-use Rattle.paused_call.specs.declared.call.Turned.TheVariants as turned
+use Rattle.paused_call.specs.declared.call.SliceEnd.{SliceEnd}
+use Rattle.paused_call.specs.declared.call.SliceEnd.TheVariants as turned
 use Rattle.paused_call.specs.Standing.{HasTurned}
 use Rattle.instance_calls.specs.CallWords.{EndsAs, EndsWith, HasSliced, LacksTypes, MayCall, comes_of, kept_after, run_limits}
 
@@ -71,13 +71,13 @@ called v export x args valid may =
     let same : may.type ≡ h.type = cc in
     is_call v x args h (may.fit ∙ ap (λ (t : FuncType). t.params) same)
 
-kept_is : (o : Outcome) (s : Store) (t : Turned) → t ≡ turned.Done o → kept_after t s.answer ≡ (if is_done o then s.answer else [])
-kept_is (outcome.Done v) s t is = ap (λ (u : Turned). kept_after u s.answer) is
-kept_is (outcome.Trap k) s t is = ap (λ (u : Turned). kept_after u s.answer) is
-kept_is outcome.Fuel s t is = ap (λ (u : Turned). kept_after u s.answer) is
+kept_is : (o : Outcome) (s : Store) (t : SliceEnd) → t ≡ turned.Done o → kept_after t s.answer ≡ (if is_done o then s.answer else [])
+kept_is (outcome.Done v) s t is = ap (λ (u : SliceEnd). kept_after u s.answer) is
+kept_is (outcome.Trap k) s t is = ap (λ (u : SliceEnd). kept_after u s.answer) is
+kept_is outcome.Fuel s t is = ap (λ (u : SliceEnd). kept_after u s.answer) is
 
 -- a slice answers what is kept of the store that it leaves
-pub sliced : (result : ℕ → Option CallResult) (call : PausedCall) (slice : ℕ) (s : Store) (t : Turned) (bytes : List ℕ) → bytes ≡ kept_after t s.answer
+pub sliced : (result : ℕ → Option CallResult) (call : PausedCall) (slice : ℕ) (s : Store) (t : SliceEnd) (bytes : List ℕ) → bytes ≡ kept_after t s.answer
     → HasTurned result call slice s t → HasSliced result call.fuel (call.turns + slice) t bytes
 sliced result call slice s turned.Again bytes kept h = h
 sliced result call slice s (turned.Done o) bytes kept h = (
@@ -91,8 +91,8 @@ sliced result call slice s (turned.Done o) bytes kept h = (
 )
 
 -- what goes on keeps all
-pub kept_on : (t : Turned) (bytes : List ℕ) → t ≡ turned.Again → kept_after t bytes ≡ bytes
-kept_on t bytes again = ap (λ (u : Turned). kept_after u bytes) again
+pub kept_on : (t : SliceEnd) (bytes : List ℕ) → t ≡ turned.Again → kept_after t bytes ≡ bytes
+kept_on t bytes again = ap (λ (u : SliceEnd). kept_after u bytes) again
 
 -- a call that may be made, and ends so, ends as a call of the export does
 pub ends_with : (config : Numbers) (m : ModuleTree) (export : List ℕ) (x : ℕ) (args : List Val) (request : List ℕ) (fuel : ℕ) (outcome : Outcome) (answer : List ℕ)

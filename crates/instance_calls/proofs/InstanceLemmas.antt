@@ -15,11 +15,11 @@ use Rattle.wasm_machine.specs.Lent.{lent_store, own, others}
 use Rattle.wasm_machine.specs.TypedConfiguration.{IsTypedStore}
 use Rattle.slot_words.specs.declared.leases.Lease.{Lease}
 use Rattle.pool_limits.specs.declared.numbers.Numbers.{Numbers}
-use Rattle.pool_worlds.specs.declared.kinds.Kind.TheVariants as kind
-use Rattle.pool_worlds.specs.Contents.{Contents, MemoryContents, Named, TableContents, needs, shown_store, shown_memory, shown_table, turned}
-use Rattle.pool_worlds.specs.declared.kinds.Kind.{Kind}
-use Rattle.pool_worlds.specs.declared.kinds.Kind.TheVariants.{Memory, Table, Instance}
-use Rattle.pool_worlds.specs.Runs.{LeavesFrom}
+use Rattle.pool_model.specs.declared.kinds.Kind.TheVariants as kind
+use Rattle.pool_model.specs.Contents.{Contents, MemoryContents, Named, TableContents, needs, shown_store, shown_memory, shown_table, turned}
+use Rattle.pool_model.specs.declared.kinds.Kind.{Kind}
+use Rattle.pool_model.specs.declared.kinds.Kind.TheVariants.{Memory, Table, Instance}
+use Rattle.pool_model.specs.Runs.{LeavesFrom}
 use Rattle.memory_slots.specs.Lent.{parts, store_in}
 use Rattle.memory_slots.proofs.LentLemmas.{globals_left, globals_there}
 use Rattle.instance_calls.specs.Instances.{HasFreshMemory, IsFreshTable, bare_store}

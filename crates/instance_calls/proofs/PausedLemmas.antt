@@ -24,14 +24,15 @@ use Rattle.wasm_machine.specs.TypedConfiguration.{IsRunnable}
 use Rattle.wasm_machine.proofs.OutsideLemmas.{outside_callee, own_call}
 use Rattle.slot_words.specs.declared.leases.Lease.{Lease}
 use Rattle.pool_limits.specs.declared.numbers.Numbers.{Numbers}
-use Rattle.pool_worlds.specs.Contents.{Contents, MemoryContents, Named, needs, shown_store}
-use Rattle.pool_worlds.specs.declared.kinds.Kind.{Kind}
-use Rattle.pool_worlds.specs.declared.kinds.Kind.TheVariants.{Memory, Table}
-use Rattle.pool_worlds.specs.Runs.{LeavesFrom}
+use Rattle.pool_model.specs.Contents.{Contents, MemoryContents, Named, needs, shown_store}
+use Rattle.pool_model.specs.declared.kinds.Kind.{Kind}
+use Rattle.pool_model.specs.declared.kinds.Kind.TheVariants.{Memory, Table}
+use Rattle.pool_model.specs.Runs.{LeavesFrom}
 use Rattle.memory_slots.specs.Lent.{IsReady, parts, store_in}
 use Rattle.paused_call.specs.declared.call.PausedCall.{PausedCall}
-use Rattle.paused_call.specs.declared.call.Turned.{Turned}
-use Rattle.paused_call.specs.declared.call.Turned.TheVariants as turned
+use Rattle.paused_call.specs.declared.call.SliceEnd.{SliceEnd}
+use Rattle.paused_call.specs.declared.call.SliceEnd.TheVariants as turned
+use Rattle.paused_call.specs.Fuel.{LeavesFuel, left_in}
 use Rattle.paused_call.specs.Standing.{HasTurned, Stands, upto, whole}
 use Rattle.instance_calls.specs.declared.instance.Instance.{Instance}
 use Rattle.instance_calls.specs.CallWords.{EndsAs, HasSliced, comes_of, run_limits}
@@ -45,10 +46,13 @@ module _ (m : Module) (limits : Terms) (begun : Store) (call : PausedCall) where
   stands_same a a' s s' t t' p q r h =
       subst (λ (x : Store). Stands m limits begun a' call s' x) r (subst (λ (x : StacksView). Stands m limits begun a' call x t) q (subst (λ (x : List Val). Stands m limits begun x call s t) p h))
 
-  pub turned_same : (slice : ℕ) (t : Turned) (a a' : List Val) (s s' : Store) → a ≡ a' → s ≡ s'
+  pub turned_same : (slice : ℕ) (t : SliceEnd) (a a' : List Val) (s s' : Store) → a ≡ a' → s ≡ s'
       → HasTurned (whole m limits call a begun) call slice s t → HasTurned (whole m limits call a' begun) call slice s' t
   turned_same slice t a a' s s' p q h =
       subst (λ (x : Store). HasTurned (whole m limits call a' begun) call slice x t) q (subst (λ (x : List Val). HasTurned (whole m limits call x begun) call slice s t) p h)
+
+  pub left_same : (t : SliceEnd) (left : ℕ) (a a' : List Val) → a ≡ a' → LeavesFuel (whole m limits call a begun) call.fuel t left → LeavesFuel (whole m limits call a' begun) call.fuel t left
+  left_same t left a a' p h = subst (λ (x : List Val). LeavesFuel (whole m limits call x begun) call.fuel t left) p h
 
   pub leaves_same : (pages : ℕ) (slice : ℕ) (x y : MemoryContents) (owner : Option Named) (table : List (Option ℕ)) (marks : List Bool) (r : CallResult) (a a' : List Val) (old old' new new' : List Val) → a ≡ a' → old ≡ old' → new ≡ new'
       → LeavesFrom pages (module_tree m) (whole m limits call a begun) call.turns (upto call slice) (parts x owner table old) (parts y owner table new) marks r
@@ -132,7 +136,7 @@ module _ {N : Type 0} {config : Numbers} {m : Named} {request : List ℕ} {call 
       subst (λ (s : Store). Stands valid (terms_of limits request) begun x.ticket.value.args call x.ticket.value.stacks s) shows stands_lent
 
   -- what a slice on what is lent comes to, it comes to for the call
-  pub turned_there : (slice : ℕ) (t : Turned) (s : Store) (says : List ℕ) (y : (k : Kind) → Contents k) → s ≡ answer_set says (shown_store (module_tree valid) y)
+  pub turned_there : (slice : ℕ) (t : SliceEnd) (s : Store) (says : List ℕ) (y : (k : Kind) → Contents k) → s ≡ answer_set says (shown_store (module_tree valid) y)
       → HasTurned (whole valid (terms_of limits request) call x.ticket.value.args begun) call slice s t
       → HasTurned (comes_of config m.tree request call.function x.ticket.value.args) call slice (answer_set says (shown_store m.tree y)) t
   turned_there slice t s says y shows was =
@@ -141,6 +145,14 @@ module _ {N : Type 0} {config : Numbers} {m : Named} {request : List ℕ} {call 
       (subst (λ (l : RunLimits). HasTurned (whole m.code (terms_of l request) call x.ticket.value.args begun) call slice (answer_set says (shown_store (module_tree valid) y)) t) h.limits_are
       (subst (λ (k : Module). HasTurned (whole k (terms_of limits request) call x.ticket.value.args begun) call slice (answer_set says (shown_store (module_tree valid) y)) t) h.code
       (subst (λ (u : Store). HasTurned (whole valid (terms_of limits request) call x.ticket.value.args begun) call slice u t) shows was))))
+
+  -- what it leaves of its fuel, the call leaves
+  pub left_there : (t : SliceEnd) (left : ℕ) → LeavesFuel (whole valid (terms_of limits request) call x.ticket.value.args begun) call.fuel t left
+      → LeavesFuel (comes_of config m.tree request call.function x.ticket.value.args) call.fuel t left
+  left_there t left was =
+      subst (λ (tree : ModuleTree). LeavesFuel (result_from tree (terms_of (run_limits config) request) call.function x.ticket.value.args begun) call.fuel t left) h.paused.code
+      (subst (λ (l : RunLimits). LeavesFuel (whole m.code (terms_of l request) call x.ticket.value.args begun) call.fuel t left) h.limits_are
+      (subst (λ (k : Module). LeavesFuel (whole k (terms_of limits request) call x.ticket.value.args begun) call.fuel t left) h.code was))
 
   -- a slice on what is lent is one on the instance
   pub went_there : (slice : ℕ) (y : MemoryContents) (globals : List Val) (marks : List Bool) (r : CallResult)
@@ -213,3 +225,9 @@ module _ (config : Numbers) (m : ModuleTree) (request : List ℕ) (x : ℕ) (arg
       subst (λ (n : ℕ). EndsAs (result x args) n outcome bytes) fuel_is
       (subst (λ (l : List Val). EndsAs (result x l) call.fuel outcome bytes) args_are
       (subst (λ (f : ℕ). EndsAs (result f given) call.fuel outcome bytes) function_is h.1))
+
+  pub left_whole : (outcome : Outcome) (left : ℕ) → LeavesFuel (result call.function given) call.fuel (turned.Done outcome) left → left_in (result x args fuel) ≡ Some left
+  left_whole outcome left h =
+      subst (λ (n : ℕ). left_in (result x args n) ≡ Some left) fuel_is
+      (subst (λ (l : List Val). left_in (result x l call.fuel) ≡ Some left) args_are
+      (subst (λ (f : ℕ). left_in (result f given call.fuel) ≡ Some left) function_is h))

@@ -13,8 +13,9 @@ use Rattle.wasm_spec.specs.Validity.{Exports}
 use Rattle.wasm_spec.specs.Result.{CallResult, answer_of, call_result}
 use Rattle.call_payload.specs.declared.call.Call.{Call}
 use Rattle.pool_limits.specs.declared.numbers.Numbers.{Numbers}
-use Rattle.paused_call.specs.declared.call.Turned.{Turned}
-use Rattle.paused_call.specs.declared.call.Turned.TheVariants as turned
+use Rattle.paused_call.specs.declared.call.SliceEnd.{SliceEnd}
+use Rattle.paused_call.specs.declared.call.SliceEnd.TheVariants as turned
+use Rattle.paused_call.specs.Fuel.{left_in}
 use Rattle.paused_call.specs.Standing.{Waits}
 use Rattle.instance_calls.specs.declared.refusal.Refusal.{Refusal}
 use Rattle.instance_calls.specs.declared.refusal.Refusal.TheVariants.{NoExport, BadArgs}
@@ -53,6 +54,12 @@ pub record EndsWith (m : ModuleTree) (limits : RunLimits) (export : List ℕ) (a
   pub shows : outcome ≡ result.outcome
   pub answers : answer ≡ answer_of result
 
+-- a function is exported under this name, the arguments are of its parameters' types, and its call on a fresh instance, with
+-- these bytes as its request, leaves so much of its fuel
+abbrev pub EndsLeaving : ModuleTree → RunLimits → (export : List ℕ) → (args : List Val) → (request : List ℕ) → (fuel left : ℕ) → Type 0
+EndsLeaving m limits export args request fuel left =
+    (function : ℕ) × MayCall m export function args × (left_in (call_result m (terms_of limits request) function args fuel) ≡ Some left)
+
 -- why a call can't be made
 abbrev pub IsRefusal : ModuleTree → (export : List ℕ) → (args : List Val) → Refusal → Type 0
 IsRefusal m export args NoExport = LacksExport m export
@@ -66,7 +73,7 @@ run_limits n = record { pages = n.pages; depth = n.depth }
 abbrev pub comes_of : Numbers → ModuleTree → (request : List ℕ) → (function : ℕ) → (args : List Val) → ℕ → Option CallResult
 comes_of config m request function args = call_result m (terms_of (run_limits config) request) function args
 
--- the same of a function's call that asks this
+-- what a call of this function comes to on each fuel, with the arguments and the request of what is asked
 abbrev pub gives_of : Numbers → ModuleTree → (function : ℕ) → Call → ℕ → Option CallResult
 gives_of config m function call = comes_of config m call.request.now function call.args.now
 
@@ -78,12 +85,12 @@ pub record EndsAs (result : ℕ → Option CallResult) (fuel : ℕ) (outcome : O
   pub answers : bytes ≡ answer_of end
 
 -- a slice up to so many turns: Again exactly where the call waits there, and else how it ends on all its fuel
-abbrev pub HasSliced : (ℕ → Option CallResult) → (fuel turns : ℕ) → Turned → (answer : List ℕ) → Type 0
+abbrev pub HasSliced : (ℕ → Option CallResult) → (fuel turns : ℕ) → SliceEnd → (answer : List ℕ) → Type 0
 HasSliced result fuel turns turned.Again answer = Waits result fuel turns
 HasSliced result fuel turns (turned.Done outcome) answer = ¬ (Waits result fuel turns) × EndsAs result fuel outcome answer
 
 -- what is kept of the bytes that were appended: all while the call goes on, and its answer where it is done
-abbrev pub kept_after : Turned → List ℕ → List ℕ
+abbrev pub kept_after : SliceEnd → List ℕ → List ℕ
 kept_after turned.Again bytes = bytes
 kept_after (turned.Done (outcome.Done v)) bytes = bytes
 kept_after (turned.Done _) bytes = []

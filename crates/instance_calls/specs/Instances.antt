@@ -9,9 +9,9 @@ use Rattle.wasm_spec.specs.Store.{Store, fresh_store}
 use Rattle.wasm_machine.specs.Lent.{own}
 use Rattle.slot_words.specs.declared.leases.Lease.{Lease}
 use Rattle.pool_limits.specs.declared.numbers.Numbers.{Numbers}
-use Rattle.pool_worlds.specs.Contents.{Contents, MemoryContents, TableContents, needs, shown_store, shown_memory, shown_table}
-use Rattle.pool_worlds.specs.declared.kinds.Kind.{Kind}
-use Rattle.pool_worlds.specs.declared.kinds.Kind.TheVariants.{Memory, Table}
+use Rattle.pool_model.specs.Contents.{Contents, MemoryContents, TableContents, needs, shown_store, shown_memory, shown_table}
+use Rattle.pool_model.specs.declared.kinds.Kind.{Kind}
+use Rattle.pool_model.specs.declared.kinds.Kind.TheVariants.{Memory, Table}
 use Rattle.memory_slots.specs.Lent.{IsReady, parts}
 use Rattle.instance_calls.specs.declared.instance.Instance.{Instance}
 use Rattle.instance_calls.specs.Parts.{memory_in, memory_slot, table_in, ticket_slot}

@@ -2,7 +2,7 @@
 use Rattle.std.specs.Prelude.{◌≡◌, ℕ, [], Option, Some, None}
 use Rattle.slot_words.specs.declared.leases.Lease.{Lease}
 use Rattle.slot_words.specs.Leases.{lease_number, lease_word}
-use Rattle.pool_worlds.specs.Contents.{Named, MemoryContents, TableContents}
+use Rattle.pool_model.specs.Contents.{Named, MemoryContents, TableContents}
 use Rattle.instance_slots.specs.Tickets.{TicketView}
 
 -- a slot that was taken: its number, the word that its claim read, and the module that its contents belong to

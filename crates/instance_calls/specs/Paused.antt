@@ -8,9 +8,9 @@ use Rattle.wasm_spec.specs.Result.{CallResult}
 use Rattle.wasm_spec.specs.Store.{Store, fresh_store}
 use Rattle.wasm_machine.specs.Calls.{FitsFrame}
 use Rattle.pool_limits.specs.declared.numbers.Numbers.{Numbers}
-use Rattle.pool_worlds.specs.Contents.{Contents, MemoryContents, Named}
-use Rattle.pool_worlds.specs.declared.kinds.Kind.{Kind}
-use Rattle.pool_worlds.specs.Runs.{LeavesFrom}
+use Rattle.pool_model.specs.Contents.{Contents, MemoryContents, Named}
+use Rattle.pool_model.specs.declared.kinds.Kind.{Kind}
+use Rattle.pool_model.specs.Runs.{LeavesFrom}
 use Rattle.instance_slots.specs.Tickets.{TicketView}
 use Rattle.memory_slots.specs.Lent.{IsReady, store_in}
 use Rattle.paused_call.specs.declared.call.PausedCall.{PausedCall}

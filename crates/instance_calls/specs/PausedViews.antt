@@ -3,10 +3,10 @@ use Rattle.std.specs.Prelude.{ℕ, List, Option, refl}
 use Rattle.std.specs.Coded.{Coded, code_by, coded×, coded_ℕ, coded_list, coded_option}
 use Rattle.wasm_values.specs.declared.outcome.Val.{Val}
 use Rattle.wasm_values.specs.contracts.outcome.Val as value
-use Rattle.pool_worlds.specs.Contents.{Contents, MemoryContents, Named, TableContents}
-use Rattle.pool_worlds.specs.declared.kinds.Kind.{Kind}
+use Rattle.pool_model.specs.Contents.{Contents, MemoryContents, Named, TableContents}
+use Rattle.pool_model.specs.declared.kinds.Kind.{Kind}
 use Rattle.memory_slots.specs.Lent.{parts}
-use Rattle.pool_worlds.specs.Codes.{coded_memory, coded_named, coded_table}
+use Rattle.pool_model.specs.Codes.{coded_memory, coded_named, coded_table}
 use Rattle.paused_call.specs.declared.call.PausedCall.{PausedCall}
 use Rattle.paused_call.specs.contracts.call.PausedCall as call
 use Rattle.instance_calls.specs.Parts.{Slot}

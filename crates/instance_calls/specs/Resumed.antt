@@ -1,8 +1,9 @@
 -- What a slice makes of a call that is paused on an instance.
-use Rattle.std.specs.Prelude.{◌≡◌, ℕ, ◌+◌, List, []}
+use Rattle.std.specs.Prelude.{◌≡◌, ℕ, ◌+◌, List, [], Some}
 use Rattle.wasm_values.specs.declared.outcome.Val.{Val}
 use Rattle.pool_limits.specs.declared.numbers.Numbers.{Numbers}
-use Rattle.pool_worlds.specs.Contents.{Named}
+use Rattle.pool_model.specs.Contents.{Named}
+use Rattle.paused_call.specs.Fuel.{left_in}
 use Rattle.paused_call.specs.Standing.{Waits, upto}
 use Rattle.instance_calls.specs.declared.instance.Instance.{Instance}
 use Rattle.instance_calls.specs.declared.paused_instance.Resumed.{Resumed}
@@ -68,4 +69,5 @@ module _ {N : Type 0} where
 
   abbrev pub HasResumed : Numbers → PausedView → ℕ → Resumed N → Type 0
   HasResumed config v slice (Again w) = HasMore config v slice w
-  HasResumed config v slice (Done outcome x answer) = IsOver config v slice x × EndsAs (comes_to config v) v.call.fuel outcome answer
+  HasResumed config v slice (Done end x answer) = IsOver config v slice x × EndsAs (comes_to config v) v.call.fuel end.outcome answer
+      × (left_in (comes_to config v v.call.fuel) ≡ Some end.left)

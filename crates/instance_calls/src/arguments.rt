@@ -47,8 +47,6 @@ pub(crate) fn fit(program: &Module, function: u32, args: &[Val]) -> bool
     ensures { (t : FuncType) → function_type (module_tree program.now) function ≡ Some t
         → IsTrue result ↔ (map type_of args.now ≡ t.params) }
 {
-    match function_type(program, function) {
-        Some(function_type) => have_types(args, function_type.params.as_slice()),
-        None => unreachable!(),
-    }
+    let function_type = function_type(program, function).unwrap();
+    have_types(args, function_type.params.as_slice())
 }

@@ -1,6 +1,7 @@
 //! Instances of modules, in the slots that they were taken from.
-ghost use Rattle.std.specs.Prelude.{◌≡◌, ◌+◌, ◌≤◌, ℕ, List, [], length};
-ghost use Rattle.pool_worlds.specs.declared.kinds.Kind.{Kind};
+ghost use Rattle.std.specs.Prelude.{◌≡◌, ◌+◌, ◌≤◌, ℕ, List, [], Some, length};
+ghost use Rattle.pool_model.specs.declared.kinds.Kind.{Kind};
+ghost use Rattle.paused_call.specs.Fuel.{LeavesFuel, fuel_left, left_in};
 ghost use Rattle.paused_call.specs.Standing.{upto};
 ghost use Rattle.instance_calls.specs.CallWords.{EndsAs, HasSliced, MayCall, comes_of, gives_of, kept_after};
 ghost use Rattle.instance_calls.specs.Instances.{IsFreshInstance, KeepsSlots, instance_contents};
@@ -11,10 +12,10 @@ use call_payload::{AnswerBuf, Call};
 use instance_slots::Ticket;
 use memory_slots::MemSlot;
 use module_store::{LoadedModule, Naming};
-use paused_call::{PausedCall, Turned};
+use paused_call::{PausedCall, SliceEnd};
 use slot_words::Lease;
 use table_slots::TableSlot;
-use wasm_machine::RunInputs;
+use wasm_machine::{RunEnd, RunInputs};
 use wasm_values::Outcome;
 
 /// What a call runs on: a ticket, and a memory and a table where its module has them. Each is a slot that was taken, and is given
@@ -27,38 +28,43 @@ pub struct Instance<N: Naming> {
 }
 
 // An answer is kept while the call goes on, and where it is done.
-fn keep(turned: Turned, answer: &mut AnswerBuf)
+fn keep(turned: SliceEnd, answer: &mut AnswerBuf)
     ensures { answer.new ≡ kept_after turned answer.old }
 {
     match turned {
-        Turned::Again | Turned::Done(Outcome::Done(_)) => {}
-        Turned::Done(_) => answer.clear(),
+        SliceEnd::Again | SliceEnd::Done(Outcome::Done(_)) => {}
+        SliceEnd::Done(_) => answer.clear(),
     }
 }
 
 impl<N: Naming> Instance<N> {
     /// Makes a call of a function of the module on this instance of it, which is fresh: first the start function runs, if there is
     /// one, and if that ended well the function, on the call's fuel in all. Both read its request, and append to one answer, which has
-    /// bytes afterwards only where the call is done. It keeps its slots. Takes no memory.
+    /// bytes afterwards only where the call is done. What is left of the fuel it tells as the machine's run does. It keeps its slots.
+    /// Takes no memory.
     pub fn run(
         &mut self,
         loaded: &LoadedModule<'_, N>,
         function: u32,
         call: &Call<'_>,
         answer: &mut AnswerBuf,
-    ) -> Outcome
+    ) -> RunEnd
         requires call { MayCall loaded.now.module.now.tree call.now.export.now function call.now.args.now }
         requires fresh { IsFreshInstance N.config loaded.now.module.now.tree self.old }
         ensures went { WentOn N.config.pages loaded.now.module.now.tree (gives_of N.config loaded.now.module.now.tree function call.now) 0 call.now.fuel
             (instance_contents self.old) (instance_contents self.new) }
-        ensures ends { EndsAs (gives_of N.config loaded.now.module.now.tree function call.now) call.now.fuel result answer.new }
+        ensures ends { EndsAs (gives_of N.config loaded.now.module.now.tree function call.now) call.now.fuel result.outcome answer.new }
+        ensures left { left_in (gives_of N.config loaded.now.module.now.tree function call.now call.now.fuel) ≡ Some result.left }
         ensures slots { KeepsSlots self.old self.new }
     {
         answer.clear();
         let mut paused = self.begin(loaded, function, call);
         match self.resume(&mut paused, loaded, call.fuel, call.request, answer) {
-            Turned::Again => unreachable!(),
-            Turned::Done(outcome) => outcome,
+            SliceEnd::Again => unreachable!(),
+            SliceEnd::Done(outcome) => RunEnd {
+                outcome,
+                left: paused.left(),
+            },
         }
     }
 
@@ -93,19 +99,22 @@ impl<N: Naming> Instance<N> {
         slice: u64,
         request: &[u8],
         answer: &mut AnswerBuf,
-    ) -> Turned
+    ) -> SliceEnd
         requires paused { IsPausedOn N.config loaded.now.module.now request.now call.old answer.old self.old }
         requires request { length request.now ≤ 65536 }
         ensures sliced { HasSliced
             (comes_of N.config loaded.now.module.now.tree request.now call.old.function self.old.ticket.value.args)
             call.old.fuel (call.old.turns + slice) result answer.new }
-        ensures paused { result ≡ Turned.Again → IsPausedOn N.config loaded.now.module.now request.now call.new answer.new self.new }
+        ensures paused { result ≡ SliceEnd.Again → IsPausedOn N.config loaded.now.module.now request.now call.new answer.new self.new }
         ensures went { WentOn N.config.pages loaded.now.module.now.tree
             (comes_of N.config loaded.now.module.now.tree request.now call.old.function self.old.ticket.value.args)
             call.old.turns (upto call.old slice) (instance_contents self.old) (instance_contents self.new) }
+        ensures left { LeavesFuel
+            (comes_of N.config loaded.now.module.now.tree request.now call.old.function self.old.ticket.value.args)
+            call.old.fuel result (fuel_left call.new) }
         ensures args { self.new.ticket.value.args ≡ self.old.ticket.value.args }
         ensures same { (call.new.function ≡ call.old.function) × (call.new.fuel ≡ call.old.fuel) }
-        ensures turns { result ≡ Turned.Again → call.new.turns ≡ call.old.turns + slice }
+        ensures turns { result ≡ SliceEnd.Again → call.new.turns ≡ call.old.turns + slice }
         ensures slots { KeepsSlots self.old self.new }
     {
         let limits = limits_of(loaded.store);

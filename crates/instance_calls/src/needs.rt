@@ -1,7 +1,7 @@
 //! Which slots an instance of a module has beside its ticket.
 ghost use Rattle.std.specs.Prelude.{◌≡◌, false, None};
-ghost use Rattle.pool_worlds.specs.Contents.{needs};
-ghost use Rattle.pool_worlds.specs.declared.kinds.Kind.TheVariants.{Memory, Table};
+ghost use Rattle.pool_model.specs.Contents.{needs};
+ghost use Rattle.pool_model.specs.declared.kinds.Kind.TheVariants.{Memory, Table};
 ghost use Rattle.instance_calls.specs.Instances.{HasFreshMemory, IsFreshTable};
 
 use module_store::{LoadedModule, Naming};

@@ -8,8 +8,9 @@ ghost use Rattle.wasm_spec.specs.Store.{Store};
 ghost use Rattle.wasm_machine.specs.Calls.{FitsFrame, IsCall};
 ghost use Rattle.wasm_machine.specs.Lent.{run_terms};
 ghost use Rattle.wasm_machine.specs.TypedConfiguration.{IsTypedStore};
-ghost use Rattle.pool_worlds.specs.Contents.{MemoryContents, Named};
-ghost use Rattle.pool_worlds.specs.Runs.{LeavesFrom};
+ghost use Rattle.pool_model.specs.Contents.{MemoryContents, Named};
+ghost use Rattle.pool_model.specs.Runs.{LeavesFrom};
+ghost use Rattle.paused_call.specs.Fuel.{LeavesFuel, fuel_left};
 ghost use Rattle.paused_call.specs.Standing.{HasTurned, Stands, upto, whole};
 ghost use Rattle.memory_slots.specs.Lent.{IsReady, parts, store_in};
 ghost use Rattle.instance_calls.specs.CallWords.{run_limits};
@@ -21,7 +22,7 @@ use call_payload::{AnswerBuf, Call};
 use instance_slots::Ticket;
 use memory_slots::MemSlot;
 use module_store::{ModuleStore, Naming};
-use paused_call::{PausedCall, Turned};
+use paused_call::{PausedCall, SliceEnd};
 use slot_words::Lease;
 use table_slots::TableSlot;
 use wasm_machine::RunInputs;
@@ -57,7 +58,7 @@ pub(crate) fn resume_with_memory<N: Naming>(
     call: &mut PausedCall,
     slice: u64,
     answer: &mut AnswerBuf,
-) -> Turned
+) -> SliceEnd
     requires limits { inputs.now.limits ≡ run_limits N.config }
     requires stands { (begun : Store)
         × StandsWithMemory inputs.now.valid.now (run_terms inputs.now) begun call.old ticket.old memory.old inputs.now.table.now answer.old }
@@ -67,7 +68,7 @@ pub(crate) fn resume_with_memory<N: Naming>(
         → StandsWithMemory inputs.now.valid.now (run_terms inputs.now) begun call.old ticket.old memory.old inputs.now.table.now answer.old
         → HasTurned (whole inputs.now.valid.now (run_terms inputs.now) call.old ticket.old.args begun) call.old slice
         (store_in inputs.now.valid.now memory.new inputs.now.table.now ticket.new.globals answer.new) result }
-    ensures stands { result ≡ Turned.Again → (begun : Store)
+    ensures stands { result ≡ SliceEnd.Again → (begun : Store)
         → StandsWithMemory inputs.now.valid.now (run_terms inputs.now) begun call.old ticket.old memory.old inputs.now.table.now answer.old
         → StandsWithMemory inputs.now.valid.now (run_terms inputs.now) begun call.new ticket.new memory.new inputs.now.table.now answer.new }
     ensures leaves { (begun : Store)
@@ -76,11 +77,14 @@ pub(crate) fn resume_with_memory<N: Naming>(
         × LeavesFrom N.config.pages (module_tree inputs.now.valid.now) (whole inputs.now.valid.now (run_terms inputs.now) call.old ticket.old.args begun)
         call.old.turns (upto call.old slice)
         (parts memory.old owner inputs.now.table.now ticket.old.globals) (parts memory.new owner inputs.now.table.now ticket.new.globals) memory.new.marks r }
+    ensures left { (begun : Store)
+        → StandsWithMemory inputs.now.valid.now (run_terms inputs.now) begun call.old ticket.old memory.old inputs.now.table.now answer.old
+        → LeavesFuel (whole inputs.now.valid.now (run_terms inputs.now) call.old ticket.old.args begun) call.old.fuel result (fuel_left call.new) }
     ensures holds { memory.new.holds ≡ memory.old.holds }
     ensures ready { IsReady (room_for inputs.now.valid.now.memories N.config.pages) memory.new }
     ensures args { ticket.new.args ≡ ticket.old.args }
     ensures same { (call.new.function ≡ call.old.function) × (call.new.fuel ≡ call.old.fuel) }
-    ensures turns { result ≡ Turned.Again → call.new.turns ≡ call.old.turns + slice }
+    ensures turns { result ≡ SliceEnd.Again → call.new.turns ≡ call.old.turns + slice }
 {
     memory.resume(
         call,
@@ -100,7 +104,7 @@ pub(crate) fn resume_without_memory<N: Naming>(
     call: &mut PausedCall,
     slice: u64,
     answer: &mut AnswerBuf,
-) -> Turned
+) -> SliceEnd
     requires limits { inputs.now.limits ≡ run_limits N.config }
     requires none { inputs.now.valid.now.memories ≡ [] }
     requires stands { (begun : Store)
@@ -110,7 +114,7 @@ pub(crate) fn resume_without_memory<N: Naming>(
         → StandsWithoutMemory inputs.now.valid.now (run_terms inputs.now) begun call.old ticket.old inputs.now.table.now answer.old
         → HasTurned (whole inputs.now.valid.now (run_terms inputs.now) call.old ticket.old.args begun) call.old slice
         (bare_store inputs.now.valid.now inputs.now.table.now ticket.new.globals answer.new) result }
-    ensures stands { result ≡ Turned.Again → (begun : Store)
+    ensures stands { result ≡ SliceEnd.Again → (begun : Store)
         → StandsWithoutMemory inputs.now.valid.now (run_terms inputs.now) begun call.old ticket.old inputs.now.table.now answer.old
         → StandsWithoutMemory inputs.now.valid.now (run_terms inputs.now) begun call.new ticket.new inputs.now.table.now answer.new }
     ensures leaves { (begun : Store)
@@ -119,9 +123,12 @@ pub(crate) fn resume_without_memory<N: Naming>(
         × LeavesFrom N.config.pages (module_tree inputs.now.valid.now) (whole inputs.now.valid.now (run_terms inputs.now) call.old ticket.old.args begun)
         call.old.turns (upto call.old slice)
         (parts x owner inputs.now.table.now ticket.old.globals) (parts x owner inputs.now.table.now ticket.new.globals) x.marks r }
+    ensures left { (begun : Store)
+        → StandsWithoutMemory inputs.now.valid.now (run_terms inputs.now) begun call.old ticket.old inputs.now.table.now answer.old
+        → LeavesFuel (whole inputs.now.valid.now (run_terms inputs.now) call.old ticket.old.args begun) call.old.fuel result (fuel_left call.new) }
     ensures args { ticket.new.args ≡ ticket.old.args }
     ensures same { (call.new.function ≡ call.old.function) × (call.new.fuel ≡ call.old.fuel) }
-    ensures turns { result ≡ Turned.Again → call.new.turns ≡ call.old.turns + slice }
+    ensures turns { result ≡ SliceEnd.Again → call.new.turns ≡ call.old.turns + slice }
 {
     call.resume(
         &ticket.args,

@@ -1,6 +1,7 @@
 //! A call that is paused on an instance, with its module.
 ghost use Rattle.std.specs.Prelude.{◌≡◌, []};
-ghost use Rattle.pool_worlds.specs.declared.kinds.Kind.{Kind};
+ghost use Rattle.pool_model.specs.declared.kinds.Kind.{Kind};
+ghost use Rattle.paused_call.specs.Fuel.{fuel_left};
 ghost use Rattle.instance_calls.specs.CallWords.{MayCall};
 ghost use Rattle.instance_calls.specs.Instances.{IsFreshInstance, instance_contents};
 ghost use Rattle.instance_calls.specs.Parts.{BelongsTo, memory_slot, table_slot};
@@ -10,9 +11,9 @@ ghost use Rattle.instance_calls.specs.Resumed.{HasResumed, HasSlotsOf, IsBegun, 
 use crate::instance::Instance;
 use call_payload::{AnswerBuf, Call};
 use module_store::{LoadedModule, ModuleRef, ModuleStore, Naming};
-use paused_call::{PausedCall, Turned};
+use paused_call::{PausedCall, SliceEnd};
 use std::marker::Model;
-use wasm_values::Outcome;
+use wasm_machine::RunEnd;
 
 /// A call of a module that is paused on an instance of it, with what it has answered so far. It was sent no bytes. Its slots and that
 /// answer show what a fresh instance has after as many turns, by its type.
@@ -43,8 +44,8 @@ impl<N: Naming> Model for PausedInstance<N> {
 pub enum Resumed<N: Naming> {
     /// The call has more turns to make, and fuel for one.
     Again(PausedInstance<N>),
-    /// It is over, and ended so. The answer has bytes only where the call is done.
-    Done(Outcome, Instance<N>, AnswerBuf),
+    /// It is over, ended so, and left so much of its fuel. The answer has bytes only where the call is done.
+    Done(RunEnd, Instance<N>, AnswerBuf),
 }
 
 impl<N: Naming> PausedInstance<N> {
@@ -96,14 +97,27 @@ impl<N: Naming> PausedInstance<N> {
             instance.resume(&mut call, &loaded, slice, &[], &mut answer)
         };
         match turned {
-            Turned::Again => Resumed::Again(PausedInstance {
+            SliceEnd::Again => Resumed::Again(PausedInstance {
                 instance,
                 module,
                 call,
                 answer,
             }),
-            Turned::Done(outcome) => Resumed::Done(outcome, instance, answer),
+            SliceEnd::Done(outcome) => {
+                let end = RunEnd {
+                    outcome,
+                    left: call.left(),
+                };
+                Resumed::Done(end, instance, answer)
+            }
         }
+    }
+
+    /// The fuel that its turns so far have left. Takes no memory.
+    pub fn left(&self) -> u64
+        ensures { result ≡ fuel_left self.now.call }
+    {
+        self.call.left()
     }
 
     /// Gives the call up: the instance as it is, and an answer without bytes. Takes no memory.

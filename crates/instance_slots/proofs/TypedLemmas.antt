@@ -17,7 +17,7 @@ use Rattle.wasm_spec.specs.Validity.{IsInitialised, IsElementSegment, initial_va
 use Rattle.wasm_spec.specs.Store.{fresh_store, written, offset_of, table_size}
 use Rattle.wasm_machine.specs.Calls.{FitsFrame}
 use Rattle.wasm_machine.specs.TypedConfiguration.{IsTypedStore}
-use Rattle.loaded_modules.specs.Within.{IsWithin}
+use Rattle.wasm_spec.specs.Within.{IsWithin}
 
 -- ---- globals
 

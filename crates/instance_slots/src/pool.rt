@@ -10,7 +10,7 @@ ghost use Rattle.slot_pools.specs.Gives.{GivesCold};
 ghost use Rattle.slot_pools.specs.declared.policy.Policy.TheVariants.{Any};
 ghost use Rattle.slot_pools.specs.Takes.{Takes, MeetsFull};
 ghost use Rattle.wasm_spec.specs.Store.{fresh_store};
-ghost use Rattle.pool_worlds.specs.declared.kinds.Kind.TheVariants as kind;
+ghost use Rattle.pool_model.specs.declared.kinds.Kind.TheVariants as kind;
 
 use crate::ticket::Ticket;
 use module_store::{LoadedModule, ModuleRef, ModuleStore, Naming};
@@ -103,7 +103,7 @@ impl<N: Naming> TicketPool<N> {
         self.take_for(pass, &loaded)
     }
 
-    /// The same for a module that was looked up.
+    /// Takes a ticket as [`TicketPool::take`] does, for a module that was looked up.
     ///
     /// # Errors
     ///

@@ -2,9 +2,9 @@
 ghost use Rattle.std.specs.Prelude.{◌≡◌, ◌≤◌, ◌++◌, IfOk, length, drop, replicate, take, vec_capacity};
 ghost use Rattle.wasm_values.specs.declared.outcome.Val.TheVariants.{I32};
 ghost use Rattle.wasm_spec.specs.Store.{fresh_store};
-ghost use Rattle.pool_worlds.specs.declared.kinds.Kind.TheVariants as kind;
-ghost use Rattle.pool_worlds.specs.Contents.{prepared, Matches};
-ghost use Rattle.pool_worlds.specs.OwnTags.{own_tag, fits-own_tag};
+ghost use Rattle.pool_model.specs.declared.kinds.Kind.TheVariants as kind;
+ghost use Rattle.pool_model.specs.Contents.{prepared, Matches};
+ghost use Rattle.pool_model.specs.OwnTags.{own_tag, fits-own_tag};
 
 use module_store::{LoadedModule, ModuleStore, Naming};
 use pool_limits::MOST_GLOBALS;

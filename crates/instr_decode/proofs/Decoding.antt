@@ -70,7 +70,7 @@ pub whole-none : {A : Type 0} (Takes : A → List ℕ → List ℕ → Type 0) (
 whole-none Takes bytes Malformed none = λ x t. none x [] t
 whole-none Takes bytes NoMemory none = tt
 
--- the same of an item that another one is made of
+-- what the exit of a `?` answers behind an item of which another one is made
 pub exits-as : {T A B : Type 0} (P : A → List ℕ → List ℕ → Type 0) (Q : B → List ℕ → List ℕ → Type 0) (r : Result T DecodeFault) (Found : T → Type 0) (bytes : List ℕ) (fault : DecodeFault)
     → IsErrAnd r (λ e. e ≡ fault) → BeginsWithNone P bytes fault → ((b : B) (after : List ℕ) → Q b bytes after → (a : A) × P a bytes after) → MatchResult r Found (BeginsWithNone Q bytes)
 exits-as P Q r Found bytes fault e none through =

@@ -18,6 +18,6 @@ BeginsWithNone {A} Takes bytes NoMemory = Unit {0}
 abbrev pub ReadsAs : {A B : Type 0} → (B → List ℕ → List ℕ → Type 0) → (A → B) → (old new : CursorView) → Result A DecodeFault → Type 0
 ReadsAs Takes tree old new result = MatchResult result (λ x. IsRead Takes old new (tree x)) (BeginsWithNone Takes (rest old))
 
--- the same of an item that is its own tree
+-- an item that is its own tree is read; it is malformed only where the bytes begin with none
 abbrev pub Reads : {A : Type 0} → (A → List ℕ → List ℕ → Type 0) → (old new : CursorView) → Result A DecodeFault → Type 0
 Reads Takes old new result = ReadsAs Takes (λ x. x) old new result

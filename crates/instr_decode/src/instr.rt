@@ -343,7 +343,7 @@ fn prefixed(cursor: &mut Cursor) -> Result<Instr, DecodeFault>
     }
 }
 
-// The same with what profile 2 adds.
+// The plain instruction of an opcode, with what follows that and with what profile 2 adds.
 fn read_later(alloc: Global, cursor: &mut Cursor, opcode: u8) -> Result<Instr, DecodeFault>
     requires { cursor.old.place ≤ length cursor.old.whole }
     ensures read { Reads (TakesShape (shape Two opcode)) cursor.old cursor.new result }

@@ -103,8 +103,9 @@ impl<M: Drop> Jobs<M> {
         ensures own { IsJobPass self.now pass.new }
         ensures put { account_of pass.new ≡ with_put (account_of pass.old) ((number, item) ∷ []) }
     {
-        let refused = self.queue.push_as::<Puts, R>(rt, pass, (number, item));
-        prove!(refused.is_ok());
+        self.queue
+            .push_as::<Puts, R>(rt, pass, (number, item))
+            .unwrap();
     }
 
     /// Gives a pair that was put and given to no pass yet. Takes no memory. Answers none only where the queue was empty at a step

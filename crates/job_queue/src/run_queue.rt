@@ -115,8 +115,7 @@ impl<T: Drop, A: Admits<T>> RunQueue<T, A> {
         ensures own { IsRunPass self.now pass.new }
         ensures put { run_account_of pass.new ≡ with_run_put (run_account_of pass.old) (item ∷ []) }
     {
-        let refused = self.queue.push_as::<RunPuts, R>(rt, pass, item);
-        prove!(refused.is_ok());
+        self.queue.push_as::<RunPuts, R>(rt, pass, item).unwrap();
     }
 
     /// Gives an item that was put and given to no pass yet. It fits, and the pass may put one more. Takes no memory. Answers none only

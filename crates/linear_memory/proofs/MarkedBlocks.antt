@@ -2,8 +2,8 @@
 use Rattle.std.proofs.Common.{◌≡◌, ℕ, zero, suc, ◌+◌, ◌-◌, ◌*◌, ◌/◌, ◌<◌, ◌≤◌, ◌⊎◌, ⊎_elim, inl, inr, List, [], ◌∷◌, ◌++◌, Bool, true, false, length, set, take, drop, replicate, get_or, refl, sym, ap, ◌∙◌, arith}
 use Rattle.std.specs.Prelude.{cond, count_by, sum_by}
 use Rattle.std.proofs.lemmas.Bool.{cases_lt}
-use Rattle.std.proofs.lemmas.List.{get_or-drop, get_or-take, get_or_past, length-replicate, length-set, length-take, drop-drop, take-append-drop}
-use Rattle.std.proofs.lemmas.List.Sums.{sum_by-append, sum_by-set, sum_by-take-drop}
+use Rattle.std.proofs.lemmas.List.{get_or-drop, get_or-take, get_or_past, length-replicate, length-take, drop-drop, take-append-drop}
+use Rattle.std.proofs.lemmas.List.Sums.{sum_by-append, sum_by-take-drop}
 use Rattle.std.proofs.lemmas.List.Folds.{sum_by-replicate}
 use Rattle.wasm_spec.specs.Store.{written}
 use Rattle.linear_memory.specs.declared.memory.Memory.{Memory}
@@ -171,7 +171,7 @@ shown_byte most memory is i =
     none ∙ sym (rest ∙ ap (λ (l : List ℕ). get_or l (i - size) 0) is.zeros ∙ all_alike (length bytes - size) (i - size) 0) in
     ⊎_elim (λ (lt : i < size). get_or-take size bytes i 0 lt) beyond (cases_lt i size)
 
--- the same of what is shown
+-- what is shown keeps the bytes outside the marked blocks
 pub shown_unmarked : (most n : ℕ) (old new : Memory) → IsMemory most new → MarksChanges old new n → KeepsUnmarked old.bytes.items (shown new) old.marks.items new.marks.items
 shown_unmarked most n old new is changes = record { bytes = λ i u. shown_byte most new is i ∙ changes.unmarked.bytes i u; marks = changes.unmarked.marks }
 

@@ -2,7 +2,7 @@
 #![tactic(auto)]
 
 mod memory;
-mod zeroed;
+mod zeroed_bytes;
 
 pub use memory::{BLOCK_SIZE, Memory};
-pub use zeroed::ZeroedBytes;
+pub use zeroed_bytes::ZeroedBytes;

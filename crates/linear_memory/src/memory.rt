@@ -6,7 +6,8 @@ ghost use Rattle.linear_memory.specs.Bytes.{Grows, IsMemory, IsZeroed, shown};
 ghost use Rattle.memory_blocks.specs.Blocks.{block_size};
 ghost use Rattle.linear_memory.specs.Marks.{MarksPart, with_part};
 
-use crate::zeroed::ZeroedBytes;
+use crate::zeroed_bytes::ZeroedBytes;
+use memory_blocks::Marks;
 use std::alloc::{AllocError, Global};
 use wasm_types::PAGE_SIZE;
 use wasm_values::NoMemory;
@@ -19,7 +20,7 @@ pub const BLOCK_SIZE: u64 = 4096;
 pub struct Memory {
     pub bytes: ZeroedBytes,
     pub pages: u32,
-    pub marks: Vec<bool>,
+    pub marks: Marks,
 }
 
 impl Drop for Memory {
@@ -33,25 +34,25 @@ impl Drop for Memory {
 }
 
 // Marks two blocks.
-fn mark(marks: &mut Vec<bool>, first: u64, last: u64)
+#[inline(always)]
+fn mark(marks: &mut Marks, first: u64, last: u64)
     requires first { first < length marks.old.items }
     requires last { last < length marks.old.items }
     ensures { marks.new.items ≡ set (set marks.old.items first true) last true }
 {
-    marks[first as usize] = true;
-    marks[last as usize] = true;
+    marks.mark_both(first as usize, last as usize);
 }
 
 // Marks so many blocks from one on.
-fn mark_row(marks: &mut Vec<bool>, first: usize, count: usize)
+fn mark_row(marks: &mut Marks, first: usize, count: usize)
     requires { first + count ≤ length marks.old.items }
     ensures { marks.new.items ≡ written marks.old.items first (replicate count true) }
 {
-    marks[first..first + count].fill(true);
+    marks.mark_row(first, count);
 }
 
 // Marks the blocks that so many bytes from an address on lie in.
-fn mark_touched(marks: &mut Vec<bool>, at: u64, count: u64)
+fn mark_touched(marks: &mut Marks, at: u64, count: u64)
     requires fits { at + count ≤ length marks.old.items * block_size }
     requires small { at + count < 2 ^ 64 }
     ensures { marks.new.items ≡ with_part marks.old.items at count }
@@ -65,11 +66,11 @@ fn mark_touched(marks: &mut Vec<bool>, at: u64, count: u64)
 }
 
 // So many bytes of zero, and so many marks that are not set.
-fn zeros(alloc: Global, bytes: usize, marks: usize) -> Result<(ZeroedBytes, Vec<bool>), AllocError>
+fn zeros(alloc: Global, bytes: usize, marks: usize) -> Result<(ZeroedBytes, Marks), AllocError>
     ensures { IfOk result (λ pair. (pair.0.items ≡ replicate bytes 0) × (pair.1.items ≡ replicate marks false)) }
 {
     let bytes = ZeroedBytes::zeros(alloc, bytes)?;
-    Ok((bytes, vec![in alloc; false; marks]?))
+    Ok((bytes, Marks::unmarked(alloc, marks)?))
 }
 
 impl Memory {
@@ -179,6 +180,7 @@ impl Memory {
         ensures memory { (most : ℕ) → IsMemory most self.old → IsMemory most self.new }
         ensures marks { MarksPart self.old self.new to (length piece.now) }
     {
+        // The pages are counted in 32 bits.
         let _pages = self.pages;
         self.bytes.put(to as usize, piece);
         mark_touched(&mut self.marks, to, piece.len() as u64);

@@ -62,7 +62,7 @@ fn move_many(cells: &mut Vec<Cell>, from: usize, n: usize, to: usize)
     cells.copy_within(from..from + n, to);
 }
 
-// The same. A label takes no more than one value, which is moved by itself.
+// Moves n values from one place to another. A label takes no more than one value, which is moved by itself.
 #[inline(always)]
 fn move_values(cells: &mut Vec<Cell>, from: usize, n: usize, to: usize)
     requires from { from + n ≤ length cells.old.items }
@@ -140,7 +140,7 @@ impl ValueStack {
         self.push_cell(Cell::of(v));
     }
 
-    // The same of a cell.
+    // Puts a cell on the top, in the room that there is.
     #[inline(always)]
     pub(crate) fn push_cell(&mut self, v: Cell)
         requires { length self.old.items < self.old.room }

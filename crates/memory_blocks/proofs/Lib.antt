@@ -1,2 +1,4 @@
 pub mod Examples
 pub mod KeepingLemmas
+pub mod MarkLemmas
+pub mod RowLemmas

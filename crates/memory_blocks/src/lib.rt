@@ -2,3 +2,7 @@
 #![tactic(auto)]
 
 pub mod laws;
+mod marks;
+mod searching;
+
+pub use marks::Marks;

@@ -1,18 +1,18 @@
 -- Bytes that were written from the image of a loaded module.
-use Rattle.std.proofs.Common.{◌≡◌, ℕ, ◌*◌, ◌/◌, ◌≤◌, List, length, sym, ◌∙◌}
+use Rattle.std.proofs.Common.{◌≡◌, ℕ, ◌*◌, ◌≤◌, List, length, sym, ◌∙◌}
 use Rattle.std.specs.Prelude.{Bool, Some, slice_index}
 use Rattle.wasm_types.specs.Tree.{ModuleTree}
 use Rattle.wasm_types.specs.declared.limits.LoadLimits.{LoadLimits}
 use Rattle.wasm_spec.specs.Store.{fresh_store, page_size}
 use Rattle.wasm_spec.proofs.ResultLaws.{length-fresh_memory}
 use Rattle.wasm_spec.proofs.StoreSizes.{minimum_within}
-use Rattle.pool_worlds.specs.Contents.{Named, filled, HasImageOutside}
-use Rattle.pool_worlds.proofs.Images.{from_bytes, filled-at}
-use Rattle.loaded_modules.specs.Within.{IsWithin}
+use Rattle.pool_model.specs.Contents.{Named, filled, HasImageOutside}
+use Rattle.pool_model.proofs.Images.{from_bytes, filled-at}
+use Rattle.wasm_spec.specs.Within.{IsWithin}
 use Rattle.sparse_bytes.specs.SparseBytes.{HasBlock, byte_at}
 use Rattle.initial_image.specs.declared.image.Image.{Image}
 use Rattle.initial_image.specs.Image.{IsImageOf}
-use Rattle.counted_blocks.specs.Images.{HasImage, KeepsImage, IsZeroOutside}
+use Rattle.block_restore.specs.Images.{HasImage, KeepsImage, IsZeroOutside}
 use Rattle.memory_slots.specs.Written.{HasDataIn}
 
 module _ (limits : LoadLimits) (m : ModuleTree) (image : Image) (within : IsWithin limits m) (is : IsImageOf m image) where

@@ -7,13 +7,13 @@ use Rattle.wasm_spec.specs.Store.{fresh_store, minimum_of, page_size}
 use Rattle.wasm_spec.specs.Instances.{room_for}
 use Rattle.wasm_spec.proofs.ResultLaws.{length-fresh_memory}
 use Rattle.linear_memory.specs.declared.memory.Memory.{Memory}
-use Rattle.pool_worlds.specs.declared.kinds.Kind.TheVariants as kind
-use Rattle.pool_worlds.specs.Contents.{Named, MemoryContents, belongs_to, memory_image, rewritten_from, prepared, restored, HasImageOutside, IsFreshMemory}
-use Rattle.pool_worlds.proofs.Parts.{rewritten-is, filled-past}
-use Rattle.pool_worlds.proofs.Images.{clean_is}
+use Rattle.pool_model.specs.declared.kinds.Kind.TheVariants as kind
+use Rattle.pool_model.specs.Contents.{Named, MemoryContents, belongs_to, memory_image, rewritten_from, prepared, restored, HasImageOutside, IsFreshMemory}
+use Rattle.pool_model.proofs.Parts.{rewritten-is, filled-past}
+use Rattle.pool_model.proofs.Images.{clean_is}
 use Rattle.pool_limits.specs.declared.numbers.Numbers.{Numbers}
 use Rattle.pool_limits.specs.Limits.{load_limits}
-use Rattle.loaded_modules.specs.Within.{IsWithin}
+use Rattle.wasm_spec.specs.Within.{IsWithin}
 use Rattle.memory_slots.specs.Kept.{IsKeptMemory, contents_of}
 use Rattle.memory_slots.specs.Lent.{IsReady}
 

@@ -17,12 +17,12 @@ use Rattle.memory_blocks.specs.Blocks.{KeepsUnmarked}
 use Rattle.linear_memory.specs.Marks.{HasSameRoom}
 use Rattle.wasm_machine.specs.Lent.{own}
 use Rattle.wasm_machine.specs.TypedConfiguration.{IsTypedStore}
-use Rattle.pool_worlds.specs.declared.kinds.Kind.TheVariants as kind
-use Rattle.pool_worlds.specs.Contents.{Named, MemoryContents, filled, needs, turned}
-use Rattle.pool_worlds.specs.declared.kinds.Kind.{Kind}
-use Rattle.pool_worlds.specs.declared.kinds.Kind.TheVariants.{Instance, Table}
-use Rattle.pool_worlds.specs.Worlds.{IsZeroPast}
-use Rattle.pool_worlds.proofs.Images.{filled-at}
+use Rattle.pool_model.specs.declared.kinds.Kind.TheVariants as kind
+use Rattle.pool_model.specs.Contents.{Named, MemoryContents, filled, needs, turned}
+use Rattle.pool_model.specs.declared.kinds.Kind.{Kind}
+use Rattle.pool_model.specs.declared.kinds.Kind.TheVariants.{Instance, Table}
+use Rattle.pool_model.specs.Worlds.{IsZeroPast}
+use Rattle.pool_model.proofs.Images.{filled-at}
 use Rattle.pool_limits.specs.declared.numbers.Numbers.{Numbers}
 use Rattle.memory_slots.specs.Kept.{IsKeptMemory, contents_of}
 use Rattle.memory_slots.specs.Lent.{IsReady, parts}

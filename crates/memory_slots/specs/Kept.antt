@@ -5,8 +5,8 @@ use Rattle.linear_memory.specs.declared.memory.Memory.{Memory}
 use Rattle.linear_memory.specs.Bytes.{size_of}
 use Rattle.memory_blocks.specs.Blocks.{block_size}
 use Rattle.pool_limits.specs.declared.numbers.Numbers.{Numbers}
-use Rattle.pool_worlds.specs.Contents.{Named, MemoryContents, memory_image, HasImageOutside}
-use Rattle.counted_blocks.specs.Images.{IsZeroOutside}
+use Rattle.pool_model.specs.Contents.{Named, MemoryContents, memory_image, HasImageOutside}
+use Rattle.block_restore.specs.Images.{IsZeroOutside}
 use Rattle.memory_slots.specs.Written.{HasDataIn}
 
 -- bytes for the configured pages, a mark for each block of them, a size within them, and outside the marked blocks its image

@@ -11,10 +11,10 @@ use Rattle.wasm_machine.specs.Lent.{own}
 use Rattle.wasm_machine.specs.Room.{StacksView}
 use Rattle.paused_call.specs.declared.call.PausedCall.{PausedCall}
 use Rattle.paused_call.specs.Standing.{CanResume, Stands}
-use Rattle.pool_worlds.specs.Contents.{Named, MemoryContents, Contents}
-use Rattle.pool_worlds.specs.declared.kinds.Kind.{Kind}
-use Rattle.pool_worlds.specs.declared.kinds.Kind.TheVariants.{Instance, Memory, Table}
-use Rattle.pool_worlds.specs.Worlds.{IsZeroPast}
+use Rattle.pool_model.specs.Contents.{Named, MemoryContents, Contents}
+use Rattle.pool_model.specs.declared.kinds.Kind.{Kind}
+use Rattle.pool_model.specs.declared.kinds.Kind.TheVariants.{Instance, Memory, Table}
+use Rattle.pool_model.specs.Worlds.{IsZeroPast}
 
 -- it has at most so many pages, and zeros past its size
 pub record IsReady (most : ℕ) (x : MemoryContents) : Type 0 where

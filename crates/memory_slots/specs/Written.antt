@@ -1,8 +1,8 @@
 -- Which blocks hold data of a module, and how many of a memory's blocks have to be written.
-use Rattle.std.specs.Prelude.{◌≡◌, ℕ, ◌+◌, ◌/◌, ◌≤◌, Bool, true, false, Option, Some, None, length, slice_index_or}
+use Rattle.std.specs.Prelude.{◌≡◌, ℕ, ◌+◌, ◌≤◌, Bool, true, false, Option, Some, None, length, slice_index_or}
 use Rattle.initial_image.specs.Image.{IsNeeded}
-use Rattle.pool_worlds.specs.Contents.{Named, MemoryContents}
-use Rattle.counted_blocks.specs.Images.{count_in}
+use Rattle.pool_model.specs.Contents.{Named, MemoryContents}
+use Rattle.block_restore.specs.Images.{count_in}
 
 -- a data segment of the module has bytes in the block of this number; without a module none has
 abbrev pub HasDataIn : Option Named → ℕ → Type 0

@@ -4,12 +4,13 @@ ghost use Rattle.wasm_types.specs.Tree.{module_tree};
 ghost use Rattle.wasm_spec.specs.Store.{minimum_of, page_size};
 ghost use Rattle.linear_memory.specs.Bytes.{size_of};
 ghost use Rattle.linear_memory.specs.Marks.{count_marks};
-ghost use Rattle.pool_worlds.specs.Contents.{Named, IsFreshMemory};
+ghost use Rattle.pool_model.specs.Contents.{Named, IsFreshMemory};
 ghost use Rattle.memory_slots.specs.Kept.{IsKeptMemory, IsWrittenTo, contents_of};
 ghost use Rattle.memory_slots.specs.Written.{WritesAtMost};
 
-use counted_blocks::{Steps, restore_marked, write_all};
+use block_restore::{Steps, restore_marked, write_all};
 use linear_memory::Memory;
+use memory_blocks::Marks;
 use module_store::{LoadedModule, Naming};
 use std::sync::ledger::Ledger;
 use wasm_types::PAGE_SIZE;
@@ -68,16 +69,16 @@ pub(crate) fn restore_memory<N: Naming, L: Ledger>(
 // are written.
 pub(crate) fn write_memory<N: Naming, L: Ledger>(
     memory: &mut Memory,
-    written: &mut [bool],
+    written: &mut Marks,
     loaded: &LoadedModule<'_, N>,
     steps: &mut Steps<L>,
 )
-    requires { (holds : Option Named) × IsWrittenTo N.config written.old (contents_of memory.old holds) }
+    requires { (holds : Option Named) × IsWrittenTo N.config written.old.items (contents_of memory.old holds) }
     ensures fresh { IsFreshMemory N.config.pages (contents_of memory.new (Some loaded.now.module.now)) loaded.now.module.now }
-    ensures written { IsWrittenTo N.config written.new (contents_of memory.new (Some loaded.now.module.now)) }
+    ensures written { IsWrittenTo N.config written.new.items (contents_of memory.new (Some loaded.now.module.now)) }
     ensures marks { memory.new.marks.items ≡ map (λ marked. false) memory.old.marks.items }
     ensures accessible { size_of memory.new ≤ memory.new.bytes.accessible }
-    ensures steps { (holds : Option Named) → IsWrittenTo N.config written.old (contents_of memory.old holds)
+    ensures steps { (holds : Option Named) → IsWrittenTo N.config written.old.items (contents_of memory.old holds)
         → WritesAtMost (contents_of memory.old holds) (Some loaded.now.module.now) steps.old steps.new }
 {
     let image = loaded.image();

@@ -6,8 +6,8 @@ mod images;
 mod pool;
 mod slot;
 
-pub use counted_blocks::Steps;
+pub use block_restore::Steps;
 pub use linear_memory::Memory;
 pub use pool::MemoryPool;
 pub use slot::MemSlot;
-pub use slot_pools::Full;
+pub use slot_pools::{Full, Taken};

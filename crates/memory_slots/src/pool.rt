@@ -2,24 +2,27 @@
 ghost use Rattle.std.specs.Prelude.{◌≡◌, ◌+◌, ◌++◌, ◌<◌, ◌≤◌, true, false, is_some, length, IfOk, OnErr};
 ghost use Rattle.std.specs.List.{All};
 ghost use Rattle.pool_core.specs.declared.limits.TheConstants.{MOST_SLOTS};
+ghost use Rattle.pool_core.specs.declared.words.StateWord.{StateWord};
+ghost use Rattle.pool_core.specs.StateWords.{bit, IsWordOf};
 ghost use Rattle.slot_words.specs.Closing.{ClosesAs, CountsLeft};
-ghost use Rattle.slot_words.specs.Leases.{lease_number};
+ghost use Rattle.slot_words.specs.Leases.{lease_number, lease_word};
 ghost use Rattle.slot_words.specs.Owned.{IsNewPassOf, IsPassOf, limit_of, passes_of, slots_of};
 ghost use Rattle.slot_words.specs.Passes.{Holds, IsIdle, IsSamePass, joined_trails, operations, seat_number, share_of, trail, trails};
+ghost use Rattle.decommit_batch.specs.Counts.{flushes_in};
 ghost use Rattle.decommit_batch.specs.HandIn.{HandsIn};
 ghost use Rattle.slot_pools.specs.declared.policy.Policy.TheVariants.{Batched};
-ghost use Rattle.slot_pools.specs.Takes.{Takes, MeetsFull};
+ghost use Rattle.slot_pools.specs.Takes.{FlushedAs, Takes, MeetsFull};
 ghost use Rattle.wasm_spec.specs.Instances.{room_for};
 ghost use Rattle.wasm_spec.specs.Store.{fresh_store};
-ghost use Rattle.pool_worlds.specs.declared.kinds.Kind.TheVariants as kind;
-ghost use Rattle.pool_worlds.specs.Contents.{shown_memory, IsFreshMemory};
-ghost use Rattle.pool_worlds.specs.OwnTags.{own_tag};
+ghost use Rattle.pool_model.specs.declared.kinds.Kind.TheVariants as kind;
+ghost use Rattle.pool_model.specs.Contents.{shown_memory, IsFreshMemory};
+ghost use Rattle.pool_model.specs.OwnTags.{own_tag};
 ghost use Rattle.memory_slots.specs.Lent.{IsReady};
 
 use crate::slot::MemSlot;
 use decommit_batch::hand_in;
 use module_store::{LoadedModule, ModuleRef, ModuleStore, Naming};
-use slot_pools::{Full, Policy};
+use slot_pools::{Full, Policy, Taken};
 use slot_words::{KindCounts, Lease, Pass, Words};
 use std::alloc::Global;
 use std::marker::Model;
@@ -33,7 +36,7 @@ pub struct MemoryPool<N: Naming> {
 impl<N: Naming> Model for MemoryPool<N> {
     ghost use Rattle.slot_words.specs.declared.words.Words.{Words};
     ghost use Rattle.pool_limits.specs.declared.numbers.Numbers.{Numbers};
-    ghost use Rattle.pool_worlds.specs.Contents.{MemoryContents};
+    ghost use Rattle.pool_model.specs.Contents.{MemoryContents};
 
     ghost Value = { Words MemoryContents Numbers };
 
@@ -107,45 +110,48 @@ impl<N: Naming> MemoryPool<N> {
             module,
             found,
         };
-        self.take_for(pass, &loaded)
+        let Taken { lease, .. } = self.take_for(pass, &loaded)?;
+        Ok(lease)
     }
 
-    /// The same for a module that was looked up.
+    /// The same for a module that was looked up. It also tells whether it flushed before it won the memory.
     ///
     /// # Errors
     ///
-    /// [`Full`] as above.
+    /// [`Full`] as above: it flushed then.
     pub fn take_for(
         &self,
         pass: &mut Pass<MemSlot<N>>,
         loaded: &LoadedModule<'_, N>,
-    ) -> Result<Lease<MemSlot<N>>, Full>
+    ) -> Result<Taken<MemSlot<N>>, Full>
         requires own { IsPassOf self.now pass.old }
         requires idle { IsIdle pass.old }
         ensures same { IsSamePass pass.old pass.new }
-        ensures number { IfOk result (λ l. lease_number l < slots_of self.now) }
-        ensures holds { IfOk result (λ l. Holds pass.new (lease_number l) false false false) }
-        ensures fresh { IfOk result (λ l. IsFreshMemory N.config.pages l.value loaded.now.module.now) }
-        ensures shown { IfOk result (λ l. shown_memory true l.value ≡ (fresh_store loaded.now.module.now.tree).memory) }
-        ensures ready { IfOk result (λ l. IsReady (room_for loaded.now.module.now.tree.memories N.config.pages) l.value) }
-        ensures trail { IfOk result (Takes self.now (Batched loaded.now.module.now.tag) pass.old pass.new) }
+        ensures number { IfOk result (λ t. lease_number t.lease < slots_of self.now) }
+        ensures holds { IfOk result (λ t. Holds pass.new (lease_number t.lease) false false false) }
+        ensures fresh { IfOk result (λ t. IsFreshMemory N.config.pages t.lease.value loaded.now.module.now) }
+        ensures shown { IfOk result (λ t. shown_memory true t.lease.value ≡ (fresh_store loaded.now.module.now.tree).memory) }
+        ensures ready { IfOk result (λ t. IsReady (room_for loaded.now.module.now.tree.memories N.config.pages) t.lease.value) }
+        ensures trail { IfOk result (λ t. Takes self.now (Batched loaded.now.module.now.tag) pass.old pass.new t.lease) }
+        ensures word { IfOk result (λ t. (w : StateWord) × IsWordOf (lease_word t.lease) w) }
+        ensures told { IfOk result (λ t. FlushedAs t.flushed pass.old pass.new) }
         ensures full { OnErr result (MeetsFull self.now (Batched loaded.now.module.now.tag) pass.old pass.new) }
         ensures another { OnErr result (share_of pass.old < passes_of self.now) }
     {
         let policy = Policy::Batched(loaded.module.tag());
-        let mut lease = slot_pools::take(&self.words, pass, loaded.store, policy)?;
-        lease.value.prepare_for(loaded);
-        Ok(lease)
+        let mut taken = slot_pools::take_telling(&self.words, pass, loaded.store, policy)?;
+        taken.lease.value.prepare_for(loaded);
+        Ok(taken)
     }
 
     /// Gives a memory that belongs to a module back, to await its decommit. With the configured batch of them awaiting, a flush
-    /// follows. It allocates nothing.
+    /// follows, and the answer is true. It allocates nothing.
     pub fn give(
         &self,
         pass: &mut Pass<MemSlot<N>>,
         lease: Lease<MemSlot<N>>,
         store: &ModuleStore<N>,
-    )
+    ) -> bool
         requires own { IsPassOf self.now pass.old }
         requires number { lease_number lease < slots_of self.now }
         requires holds { Holds pass.old (lease_number lease) false false false }
@@ -153,10 +159,11 @@ impl<N: Naming> MemoryPool<N> {
         ensures same { IsSamePass pass.old pass.new }
         ensures idle { IsIdle pass.new }
         ensures trail { HandsIn self.now (own_tag kind.Memory lease.value) N.config.batch lease pass.old pass.new }
+        ensures told { flushes_in N.config.batch (trail pass.new) ≡ flushes_in N.config.batch (trail pass.old) + bit result }
     {
         lease.value.is_used();
         let batch = store.config().numbers().batch;
-        hand_in(&self.words, pass, lease, store, batch);
+        hand_in(&self.words, pass, lease, store, batch)
     }
 
     /// Joins another pass of this pool into this one, which then stands for both. Takes no memory.

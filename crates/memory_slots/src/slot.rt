@@ -1,5 +1,6 @@
 //! Memories in slots, and the modules that they belong to.
 ghost use Rattle.std.specs.Prelude.{◌≡◌, ℕ, ◌+◌, ◌-◌, ◌*◌, ◌<◌, ◌≤◌, true, false, Some, None, Option, is_some, length, map, IfOk, IfSome};
+ghost use Rattle.pool_core.specs.declared.limits.TheConstants.{TAG_LIMIT};
 ghost use Rattle.pool_core.specs.declared.words.State.TheVariants.{Awaiting};
 ghost use Rattle.wasm_types.specs.Tree.{module_tree};
 ghost use Rattle.wasm_spec.specs.Instances.{room_for};
@@ -11,21 +12,22 @@ ghost use Rattle.memory_blocks.specs.Blocks.{KeepsUnmarked};
 ghost use Rattle.wasm_machine.specs.Calls.{IsCall, FitsFrame, IsDone};
 ghost use Rattle.wasm_machine.specs.Lent.{others, run_terms};
 ghost use Rattle.wasm_machine.specs.TypedConfiguration.{IsTypedStore};
-ghost use Rattle.pool_worlds.specs.Contents as contents;
-ghost use Rattle.pool_worlds.specs.declared.kinds.Kind.TheVariants as kind;
-ghost use Rattle.pool_worlds.specs.Contents.{Named, belongs_to, filled, prepared, restored, shown_memory, IsCold, IsFreshMemory, Matches};
-ghost use Rattle.pool_worlds.specs.Runs.{LeavesFrom};
+ghost use Rattle.pool_model.specs.declared.kinds.Kind.TheVariants as kind;
+ghost use Rattle.pool_model.specs.Contents.{Named, belongs_to, filled, prepared, restored, shown_memory, IsCold, IsFreshMemory, Matches};
+ghost use Rattle.pool_model.specs.Runs.{LeavesFrom};
+ghost use Rattle.paused_call.specs.Fuel.{LeavesFuel, fuel_left};
 ghost use Rattle.paused_call.specs.Standing.{HasTurned, upto, whole};
-ghost use Rattle.pool_worlds.specs.OwnTags.{own_tag, fits-own_tag};
+ghost use Rattle.pool_model.specs.OwnTags.{own_tag, fits-own_tag};
 ghost use Rattle.memory_slots.specs.Lent.{CanResumeOn, IsReady, StandsOn, dirty_blocks, end_on, lent, parts, result_on, store_in};
 ghost use Rattle.memory_slots.specs.Written.{WritesAtMost};
 
 use crate::images::{restore_memory, write_memory};
+use block_restore::{Steps, write_all};
 use call_payload::AnswerBuf;
-use counted_blocks::{Steps, write_all};
 use linear_memory::Memory;
+use memory_blocks::Marks;
 use module_store::{LoadedModule, ModuleRef, ModuleStore, Naming};
-use paused_call::{PausedCall, Turned};
+use paused_call::{PausedCall, SliceEnd};
 use slot_pools::OpenSlot;
 use slot_words::{NoMemory as Refused, Pooled};
 use std::alloc::Global;
@@ -42,12 +44,12 @@ pub struct MemSlot<N: Naming> {
     pub(crate) memory: Memory,
     holds: Option<ModuleRef<N>>,
     // For each block, whether a byte of its module's image may not be zero there.
-    written: Vec<bool>,
+    written: Marks,
 }
 
 impl<N: Naming> Model for MemSlot<N> {
-    ghost use Rattle.pool_worlds.specs.Contents.{MemoryContents};
-    ghost use Rattle.pool_worlds.specs.Codes.{coded_memory};
+    ghost use Rattle.pool_model.specs.Contents.{MemoryContents};
+    ghost use Rattle.pool_model.specs.Codes.{coded_memory};
     ghost use Rattle.memory_slots.specs.Kept.{IsInSlot, contents_of};
 
     ghost Value = { MemoryContents };
@@ -80,7 +82,8 @@ impl<N: Naming> MemSlot<N> {
     {
         let pages = store.config().numbers().pages;
         let memory = Memory::zeroed(alloc, pages)?;
-        let written = vec![in alloc; false; memory.marks.len()].map_err(|_| NoMemory)?;
+        let blocks = memory.marks.as_slice().len();
+        let written = Marks::unmarked(alloc, blocks).map_err(|_| NoMemory)?;
         Ok(MemSlot {
             memory,
             holds: None,
@@ -104,7 +107,7 @@ impl<N: Naming> MemSlot<N> {
         });
     }
 
-    /// The same of a module that was looked up.
+    /// Makes it the fresh memory of a module that was looked up, as [`MemSlot::prepare`] does.
     pub fn prepare_for(&mut self, loaded: &LoadedModule<'_, N>)
         ensures prepared { self.new ≡ prepared N.config.pages loaded.now.module.now kind.Memory self.old }
         ensures fresh { IsFreshMemory N.config.pages self.new loaded.now.module.now }
@@ -229,7 +232,8 @@ impl<N: Naming> MemSlot<N> {
     pub fn dirty(&self) -> u32
         ensures { result ≡ dirty_blocks self.now }
     {
-        self.memory.marks.iter().filter(|marked| **marked).count() as u32
+        let marks = self.memory.marks.as_slice();
+        marks.iter().filter(|marked| **marked).count() as u32
     }
 
     /// Runs a function of a module on fuel, on this memory, and on a table, globals, stacks, a request and an answer that are
@@ -295,7 +299,7 @@ impl<N: Naming> MemSlot<N> {
         globals: &mut [Val],
         stacks: &mut Stacks,
         answer: &mut AnswerBuf,
-    ) -> Turned
+    ) -> SliceEnd
         requires stands { CanResumeOn inputs.now.valid.now (run_terms inputs.now) args.now call.old stacks.old
             (lent self.old inputs.now.table.now globals.old answer.old) }
         requires pages { inputs.now.limits.pages ≤ N.config.pages }
@@ -306,7 +310,7 @@ impl<N: Naming> MemSlot<N> {
             (lent self.old inputs.now.table.now globals.old answer.old)
             → HasTurned (whole inputs.now.valid.now (run_terms inputs.now) call.old args.now begun) call.old slice
             (store_in inputs.now.valid.now self.new inputs.now.table.now globals.new answer.new) result }
-        ensures stands { result ≡ Turned.Again → (begun : Store)
+        ensures stands { result ≡ SliceEnd.Again → (begun : Store)
             → StandsOn inputs.now.valid.now (run_terms inputs.now) begun args.now call.old stacks.old
             (lent self.old inputs.now.table.now globals.old answer.old)
             → StandsOn inputs.now.valid.now (run_terms inputs.now) begun args.now call.new stacks.new
@@ -325,14 +329,28 @@ impl<N: Naming> MemSlot<N> {
             (lent self.old inputs.now.table.now globals.old answer.old)
             → (r : CallResult) → whole inputs.now.valid.now (run_terms inputs.now) call.old args.now begun (upto call.old slice) ≡ Some r
             → dirty_blocks self.new ≤ dirty_blocks self.old + 2 * (upto call.old slice - call.old.turns - r.fuel) }
+        ensures left { (begun : Store)
+            → StandsOn inputs.now.valid.now (run_terms inputs.now) begun args.now call.old stacks.old
+            (lent self.old inputs.now.table.now globals.old answer.old)
+            → LeavesFuel (whole inputs.now.valid.now (run_terms inputs.now) call.old args.now begun) call.old.fuel result (fuel_left call.new) }
         ensures same { (call.new.function ≡ call.old.function) × (call.new.fuel ≡ call.old.fuel) }
-        ensures turns { result ≡ Turned.Again → call.new.turns ≡ call.old.turns + slice }
+        ensures turns { result ≡ SliceEnd.Again → call.new.turns ≡ call.old.turns + slice }
         ensures globals { length globals.new ≡ length globals.old }
         ensures others { others inputs.now.valid.now globals.new ≡ others inputs.now.valid.now globals.old }
         ensures stacks { stacks.new.room ≡ stacks.old.room }
     {
         let memory = &mut self.memory;
         call.resume(args, inputs, slice, memory, globals, stacks, answer)
+    }
+
+    /// The tag of the module that it belongs to.
+    pub fn module_tag(&self) -> u32
+        requires { is_some self.now.holds ≡ true }
+        ensures is { result ≡ own_tag kind.Memory self.now }
+        ensures small { result < TAG_LIMIT }
+    {
+        self.is_used();
+        self.tag()
     }
 
     // Outside its marked blocks a memory that belongs to a module is that module's. This does nothing: its contract is what the

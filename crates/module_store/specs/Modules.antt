@@ -6,7 +6,7 @@ use Rattle.wasm_spec.specs.Loading.{Loads}
 use Rattle.initial_image.specs.Image.{IsImageOf}
 use Rattle.pool_limits.specs.declared.numbers.Numbers.{Numbers}
 use Rattle.pool_limits.specs.Limits.{load_limits}
-use Rattle.pool_worlds.specs.Contents.{Named}
+use Rattle.pool_model.specs.Contents.{Named}
 use Rattle.module_store.specs.declared.desk.TheConstants.{MOST_MODULES}
 use Rattle.module_store.specs.declared.reference.Stored.{Stored}
 

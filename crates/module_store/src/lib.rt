@@ -3,17 +3,19 @@
 
 mod desk;
 mod fault;
-mod loaded;
-mod loading;
+mod loaded_module;
+mod loader;
 mod naming;
 mod opened;
 mod reference;
+mod registry;
 mod store;
 
 pub use desk::{Desk, DeskCounts, MOST_MODULES};
 pub use fault::LoadFault;
-pub use loaded::{Found, LoadedModule};
+pub use loaded_module::{Found, LoadedModule};
 pub use naming::Naming;
 pub use opened::Opened;
 pub use reference::ModuleRef;
+pub use registry::Registry;
 pub use store::ModuleStore;

@@ -33,8 +33,8 @@ pub struct ModuleRef<N: Naming> {
 }
 
 impl<N: Naming> Model for ModuleRef<N> {
-    ghost use Rattle.pool_worlds.specs.Contents.{Named};
-    ghost use Rattle.pool_worlds.specs.Codes.{coded_named};
+    ghost use Rattle.pool_model.specs.Contents.{Named};
+    ghost use Rattle.pool_model.specs.Codes.{coded_named};
 
     ghost Value = { Named };
 

@@ -9,8 +9,8 @@ ghost use Rattle.module_store.specs.Modules.{IsLoaded};
 
 use crate::desk::{Desk, MOST_MODULES};
 use crate::fault::LoadFault;
-use crate::loaded::Found;
-use crate::loading::load;
+use crate::loaded_module::Found;
+use crate::loader::load;
 use crate::naming::Naming;
 use crate::reference::{ModuleRef, Stored};
 use boxcar::Vec;

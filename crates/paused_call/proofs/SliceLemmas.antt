@@ -23,7 +23,8 @@ use Rattle.wasm_machine.specs.Simulation.{after}
 use Rattle.wasm_machine.specs.TypedConfiguration.{IsTypedStore}
 use Rattle.wasm_machine.proofs.RunLemmas.{simulates_same}
 use Rattle.paused_call.specs.declared.call.PausedCall.{PausedCall}
-use Rattle.paused_call.specs.declared.call.Turned.TheVariants.{Done}
+use Rattle.paused_call.specs.declared.call.SliceEnd.TheVariants.{Done}
+use Rattle.paused_call.specs.Fuel.{left_in}
 use Rattle.paused_call.specs.Standing.{Current, HasTurned, IsAhead, IsAt, Ran, ShowsStore, Stands, Waits, Went, ahead, followed, whole}
 
 -- ---- what follows a run
@@ -369,3 +370,22 @@ module _ (m : Module) (limits : Terms) (begun : Store) (args : List Val) (call :
         λ waits. let more = waits.more in absurd (omega arith),
         record { end = end; gives = ap (whole m limits call args begun) (sym sum) ∙ gives; ends = refl; leaves = refl },
       )
+
+  -- what it leaves where it is over before its fuel is
+  pub left_early : call.turns + slice < call.fuel → end.fuel ≤ slice → whole m limits call args begun (call.turns + slice) ≡ Some end → is_fuel end.outcome ≡ false
+      → (made total : ℕ) → made ≡ call.turns + (slice - end.fuel) → total ≡ call.fuel → left_in (whole m limits call args begun call.fuel) ≡ Some (total - made)
+  left_early less within gives over made total made_is total_is =
+      let d : ℕ = call.fuel - (call.turns + slice) in
+      let sum : call.turns + slice + d ≡ call.fuel = omega arith in
+      let not : is_fuel_end (whole m limits call args begun (call.turns + slice)) ≡ false = ap is_fuel_end gives ∙ over in
+      let left : end.fuel + d ≡ total - made = omega (arith, made_is, total_is) in
+      ap left_in (ap (whole m limits call args begun) (sym sum) ∙ result-more d (module_tree m) limits call.function args begun (call.turns + slice) not ∙ ap (with_more d) gives)
+      ∙ ap (λ (n : ℕ). Some n) left
+
+  -- and where it had all its fuel
+  pub left_late : call.turns ≤ call.fuel → end.fuel ≤ call.fuel - call.turns → whole m limits call args begun (call.turns + (call.fuel - call.turns)) ≡ Some end
+      → (made total : ℕ) → made ≡ call.turns + (call.fuel - call.turns - end.fuel) → total ≡ call.fuel → left_in (whole m limits call args begun call.fuel) ≡ Some (total - made)
+  left_late within less gives made total made_is total_is =
+      let sum : call.turns + (call.fuel - call.turns) ≡ call.fuel = omega arith in
+      let left : end.fuel ≡ total - made = omega (arith, made_is, total_is) in
+      ap left_in (ap (whole m limits call args begun) (sym sum) ∙ gives) ∙ ap (λ (n : ℕ). Some n) left

@@ -17,8 +17,8 @@ use Rattle.wasm_machine.specs.Room.{StacksView}
 use Rattle.wasm_machine.specs.Simulation.{after}
 use Rattle.wasm_machine.specs.TypedConfiguration.{IsTypedStore}
 use Rattle.paused_call.specs.declared.call.PausedCall.{PausedCall}
-use Rattle.paused_call.specs.declared.call.Turned.{Turned}
-use Rattle.paused_call.specs.declared.call.Turned.TheVariants.{Again, Done}
+use Rattle.paused_call.specs.declared.call.SliceEnd.{SliceEnd}
+use Rattle.paused_call.specs.declared.call.SliceEnd.TheVariants.{Again, Done}
 
 -- ---- where it stands
 
@@ -130,6 +130,6 @@ pub record IsOutcome (result : ℕ → Option CallResult) (fuel : ℕ) (outcome 
   pub leaves : end.store ≡ store
 
 -- Again exactly where the call waits after so many turns more, and else its outcome, with this store.
-abbrev pub HasTurned : (ℕ → Option CallResult) → PausedCall → (slice : ℕ) → (store : Store) → Turned → Type 0
+abbrev pub HasTurned : (ℕ → Option CallResult) → PausedCall → (slice : ℕ) → (store : Store) → SliceEnd → Type 0
 HasTurned result call slice store Again = Waits result call.fuel (call.turns + slice)
 HasTurned result call slice store (Done outcome) = ¬ (Waits result call.fuel (call.turns + slice)) × IsOutcome result call.fuel outcome store

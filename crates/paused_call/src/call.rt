@@ -12,6 +12,7 @@ ghost use Rattle.wasm_machine.specs.Lent.{MarksWithin, others, run_store, run_te
 ghost use Rattle.wasm_machine.specs.Resuming.{IsOutOfFuel};
 ghost use Rattle.wasm_machine.specs.Room.{StacksView};
 ghost use Rattle.wasm_machine.specs.TypedConfiguration.{IsTypedStore};
+ghost use Rattle.paused_call.specs.Fuel.{LeavesFuel, fuel_left};
 ghost use Rattle.paused_call.specs.Standing.{CanResume, HasTurned, Ran, Stands, Went, upto, whole};
 
 use call_payload::AnswerBuf;
@@ -21,7 +22,7 @@ use wasm_values::{Outcome, Val};
 
 /// How a slice of a call ended.
 #[derive(Clone, Copy, Debug, PartialEq, Eq)]
-pub enum Turned {
+pub enum SliceEnd {
     /// The call has more turns to make.
     Again,
     /// It is over, and ended so.
@@ -58,6 +59,13 @@ impl PausedCall {
             starts: valid.module().start.is_some(),
             entered: false,
         }
+    }
+
+    /// The fuel that the turns so far have left. Of a call that is over it is what the call left. Takes no memory.
+    pub fn left(&self) -> u64
+        ensures { result ≡ fuel_left self.now }
+    {
+        self.fuel.saturating_sub(self.turns)
     }
 
     // Goes on with the function that is at work, on so much fuel, or begins the first. An import that is called makes no turn, so that
@@ -171,7 +179,7 @@ impl PausedCall {
         globals: &mut [Val],
         stacks: &mut Stacks,
         answer: &mut AnswerBuf,
-    ) -> Turned
+    ) -> SliceEnd
         requires stands { CanResume inputs.now.valid.now (run_terms inputs.now) args.now self.old stacks.old
             (run_store inputs.now memory.old globals.old answer.old) }
         requires frame { FitsFrame inputs.now.valid.now stacks.old.room.frame }
@@ -180,7 +188,7 @@ impl PausedCall {
             → Stands inputs.now.valid.now (run_terms inputs.now) begun args.now self.old stacks.old (run_store inputs.now memory.old globals.old answer.old)
             → HasTurned (whole inputs.now.valid.now (run_terms inputs.now) self.old args.now begun) self.old slice
             (run_store inputs.now memory.new globals.new answer.new) result }
-        ensures stands { result ≡ Turned.Again → (begun : Store)
+        ensures stands { result ≡ SliceEnd.Again → (begun : Store)
             → Stands inputs.now.valid.now (run_terms inputs.now) begun args.now self.old stacks.old (run_store inputs.now memory.old globals.old answer.old)
             → Stands inputs.now.valid.now (run_terms inputs.now) begun args.now self.new stacks.new
             (run_store inputs.now memory.new globals.new answer.new) }
@@ -188,8 +196,11 @@ impl PausedCall {
             → Stands inputs.now.valid.now (run_terms inputs.now) begun args.now self.old stacks.old (run_store inputs.now memory.old globals.old answer.old)
             → Went inputs.now.valid.now (whole inputs.now.valid.now (run_terms inputs.now) self.old args.now begun) self.old.turns (upto self.old slice)
             memory.old memory.new (run_store inputs.now memory.new globals.new answer.new) }
+        ensures left { (begun : Store)
+            → Stands inputs.now.valid.now (run_terms inputs.now) begun args.now self.old stacks.old (run_store inputs.now memory.old globals.old answer.old)
+            → LeavesFuel (whole inputs.now.valid.now (run_terms inputs.now) self.old args.now begun) self.old.fuel result (fuel_left self.new) }
         ensures same { (self.new.function ≡ self.old.function) × (self.new.fuel ≡ self.old.fuel) }
-        ensures turns { result ≡ Turned.Again → self.new.turns ≡ self.old.turns + slice }
+        ensures turns { result ≡ SliceEnd.Again → self.new.turns ≡ self.old.turns + slice }
         ensures memory { IsMemory (room_for inputs.now.valid.now.memories inputs.now.limits.pages) memory.new }
         ensures globals { length globals.new ≡ length globals.old }
         ensures others { others inputs.now.valid.now globals.new ≡ others inputs.now.valid.now globals.old }
@@ -201,13 +212,17 @@ impl PausedCall {
             match end.outcome {
                 Outcome::Fuel => {
                     self.turns += slice;
-                    Turned::Again
+                    SliceEnd::Again
                 }
-                _ => Turned::Done(end.outcome),
+                _ => {
+                    self.turns += slice - end.left;
+                    SliceEnd::Done(end.outcome)
+                }
             }
         } else {
             let end = self.go_on(args, inputs, most, memory, globals, stacks, answer);
-            Turned::Done(end.outcome)
+            self.turns += most - end.left;
+            SliceEnd::Done(end.outcome)
         }
     }
 }

@@ -3,4 +3,4 @@
 
 mod call;
 
-pub use call::{PausedCall, Turned};
+pub use call::{PausedCall, SliceEnd};

@@ -1,5 +1,6 @@
 pub mod AnswerLemmas
 pub mod ClosingLemmas
+pub mod CountingLemmas
 mod Examples
 pub mod IdleLemmas
 pub mod OutLemmas

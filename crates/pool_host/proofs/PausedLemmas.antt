@@ -4,7 +4,7 @@ use Rattle.slot_words.specs.Owned.{slots_of}
 use Rattle.slot_words.specs.Parts.{Grew}
 use Rattle.slot_words.specs.Passes.{trail}
 use Rattle.pool_limits.specs.declared.numbers.Numbers.{Numbers}
-use Rattle.pool_worlds.specs.declared.kinds.Kind.TheVariants as kind
+use Rattle.pool_model.specs.declared.kinds.Kind.TheVariants as kind
 use Rattle.instance_calls.specs.declared.instance.Instance.{Instance}
 use Rattle.instance_calls.specs.Parts.{BelongsTo, Slot}
 use Rattle.instance_calls.specs.PausedViews.{PausedView}

@@ -5,8 +5,8 @@ use Rattle.slot_words.specs.Passes.{trail}
 use Rattle.retired_tags.specs.Passes.{IsTagPass}
 use Rattle.module_store.specs.declared.naming.Naming.{Ghosts}
 use Rattle.pool_limits.specs.declared.numbers.Numbers.{Numbers}
-use Rattle.pool_worlds.specs.Contents.{Named, needs}
-use Rattle.pool_worlds.specs.declared.kinds.Kind.TheVariants as kind
+use Rattle.pool_model.specs.Contents.{Named, needs}
+use Rattle.pool_model.specs.declared.kinds.Kind.TheVariants as kind
 use Rattle.instance_calls.specs.CallWords.{run_limits}
 use Rattle.pool_host.specs.declared.answers.Answer.TheVariants as answer
 use Rattle.pool_host.specs.declared.host.Host.{Host}
@@ -14,7 +14,7 @@ use Rattle.pool_host.specs.declared.passes.HostPass.{HostPass}
 use Rattle.pool_host.specs.declared.passes.Passes.{Passes}
 use Rattle.pool_host.specs.declared.refusals.Refused.{Refused}
 use Rattle.pool_host.specs.declared.refusals.Refused.TheVariants.{BadArgs, Full, NoExport, Retired}
-use Rattle.pool_host.specs.CallWords.{IfFull, IsHostAnswer}
+use Rattle.pool_host.specs.CallWords.{IfFull, IsFuelLeft, IsHostAnswer}
 use Rattle.pool_host.specs.Hosts.{ArePassesOf, AreSamePasses}
 use Rattle.pool_host.specs.Looks.{look_of, refused_look}
 use Rattle.pool_host.specs.Pausing.{HasBegun}
@@ -43,6 +43,12 @@ module _ {N : Type 0} (config : Numbers) (host : Host N) (m : Named) (export : L
   refused_so request fuel after said BadArgs none h = (h.0, none)
   refused_so request fuel after said Retired none h = (h.0.0, h.0.1, none)
   refused_so request fuel after said (Full kind) none h = (h.0.0, h.0.1, none)
+
+  pub refused_left : (request : List ℕ) (fuel : ℕ) (why : Refused) → IsFuelLeft m.tree (run_limits config) export args request fuel (refused_answer why) fuel
+  refused_left request fuel NoExport = refl
+  refused_left request fuel BadArgs = refl
+  refused_left request fuel Retired = refl
+  refused_left request fuel (Full kind) = refl
 
   pub refused_trails : (after : Passes N) (why : Refused) → HasRefused config host m export args before after why → AddsTrails config host m (refused_answer why) before after
   refused_trails after NoExport h = let n = untouched after h.1 in record { ticket = n.ticket; memory = n.memory; table = n.table }

@@ -5,7 +5,7 @@ use Rattle.slot_words.specs.declared.leases.Lease.{Lease}
 use Rattle.slot_words.specs.declared.views.Operation.{Operation}
 use Rattle.slot_words.specs.Parts.{Grew}
 use Rattle.slot_words.proofs.Parts.{then_grew}
-use Rattle.pool_worlds.specs.Contents.{MemoryContents, TableContents}
+use Rattle.pool_model.specs.Contents.{MemoryContents, TableContents}
 use Rattle.instance_calls.specs.Parts.{Slot, memory_slot, table_slot}
 use Rattle.pool_host.specs.Leases.{Gave, Took}
 use Rattle.pool_host.specs.Visits as visit

@@ -4,8 +4,8 @@ use Rattle.wasm_values.specs.declared.outcome.Val.{Val}
 use Rattle.wasm_types.specs.declared.limits.RunLimits.{RunLimits}
 use Rattle.wasm_types.specs.Tree.{ModuleTree}
 use Rattle.call_payload.specs.declared.call.Call.{Call}
-use Rattle.instance_calls.specs.CallWords.{EndsWith, LacksExport, LacksTypes, MayCall}
-use Rattle.pool_worlds.specs.declared.kinds.Kind.{Kind}
+use Rattle.instance_calls.specs.CallWords.{EndsLeaving, EndsWith, LacksExport, LacksTypes, MayCall}
+use Rattle.pool_model.specs.declared.kinds.Kind.{Kind}
 use Rattle.pool_host.specs.declared.answers.Answer.{Answer}
 use Rattle.pool_host.specs.declared.answers.Answer.TheVariants as answer
 use Rattle.pool_host.specs.declared.lane.LaneAnswer.{LaneAnswer}
@@ -32,6 +32,14 @@ IsAnswerTo call m limits answer bytes = IsHostAnswer m limits call.export.now ca
 
 abbrev pub IsLaneAnswerTo : Call → ModuleTree → RunLimits → LaneAnswer → (bytes : List ℕ) → Type 0
 IsLaneAnswerTo call m limits answer bytes = IsAnswer m limits call.export.now call.args.now call.request.now call.fuel answer bytes
+
+-- What is left of the fuel of a call of one of several callers: what its end left, and all where it was not made.
+abbrev pub IsFuelLeft : ModuleTree → RunLimits → (export : List ℕ) → (args : List Val) → (request : List ℕ) → (fuel : ℕ) → Answer → (left : ℕ) → Type 0
+IsFuelLeft m limits export args request fuel (answer.Done outcome) left = EndsLeaving m limits export args request fuel left
+IsFuelLeft m limits export args request fuel _ left = left ≡ fuel
+
+abbrev pub IsLeftTo : Call → ModuleTree → RunLimits → Answer → (left : ℕ) → Type 0
+IsLeftTo call m limits answer left = IsFuelLeft m limits call.export.now call.args.now call.request.now call.fuel answer left
 
 -- the module was retired
 abbrev pub is_retired : LaneAnswer → Bool

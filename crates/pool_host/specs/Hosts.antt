@@ -73,3 +73,4 @@ module _ {N : Type 0} {G : Ghosts N} where
     pub pools : AreNewPassesOf host pass.passes
     pub tags : retired.IsNewTagPass host.retired.tags pass.retired
     pub no_answer : pass.answer ≡ []
+    pub none_left : pass.left ≡ 0

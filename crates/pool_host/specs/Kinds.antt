@@ -10,9 +10,9 @@ use Rattle.slot_pools.specs.declared.policy.Policy.{Policy}
 use Rattle.slot_pools.specs.declared.policy.Policy.TheVariants.{Batched, Affine, Any}
 use Rattle.slot_pools.specs.Gives.{IsColdGive, IsWarmGive}
 use Rattle.slot_pools.specs.Takes.{IsTake, IsFullTake}
-use Rattle.pool_worlds.specs.Contents.{Named, needs}
-use Rattle.pool_worlds.specs.declared.kinds.Kind.{Kind}
-use Rattle.pool_worlds.specs.declared.kinds.Kind.TheVariants.{Memory, Table, Instance}
+use Rattle.pool_model.specs.Contents.{Named, needs}
+use Rattle.pool_model.specs.declared.kinds.Kind.{Kind}
+use Rattle.pool_model.specs.declared.kinds.Kind.TheVariants.{Memory, Table, Instance}
 use Rattle.instance_calls.specs.Parts.{Slot}
 use Rattle.pool_host.specs.Leases.{Gave, Took}
 use Rattle.pool_host.specs.Visits.{Adds, IsTurnedAway, Visit}

@@ -1,5 +1,6 @@
 pub mod CallWords
 pub mod Closing
+pub mod Counting
 pub mod Ending
 pub mod Hosts
 pub mod Idle

@@ -20,14 +20,14 @@ look_of (answer.Done outcome) = Some false
 look_of (answer.Full kind) = Some false
 look_of _ = None
 
--- the same of a call that begins
+-- what a call that begins read at its one look
 abbrev pub begun_look : {N : Type 0} {G : Ghosts N} → Begun N G → Option Bool
 begun_look (begun.Retired pass) = Some true
 begun_look (begun.Ready paused) = Some false
 begun_look (begun.Full pass kind) = Some false
 begun_look _ = None
 
--- of one that is refused so
+-- what a call that is refused so read at its one look
 abbrev pub refused_look : Refused → Option Bool
 refused_look refused.Retired = Some true
 refused_look (refused.Full kind) = Some false

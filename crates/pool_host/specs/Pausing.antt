@@ -1,12 +1,13 @@
 -- Calls that are paused on a host, how they begin and how they go on.
-use Rattle.std.specs.Prelude.{◌≡◌, ℕ, ◌+◌, ◌<◌, List, []}
+use Rattle.std.specs.Prelude.{◌≡◌, ℕ, ◌+◌, ◌<◌, List, [], Some}
 use Rattle.wasm_values.specs.declared.outcome.Outcome.{Outcome}
 use Rattle.wasm_values.specs.declared.outcome.Val.{Val}
 use Rattle.slot_words.specs.Owned.{slots_of}
 use Rattle.retired_tags.specs.Passes.{IsTagPass, TagPass}
 use Rattle.module_store.specs.declared.naming.Naming.{Ghosts}
 use Rattle.pool_limits.specs.declared.numbers.Numbers.{Numbers}
-use Rattle.pool_worlds.specs.Contents.{Named}
+use Rattle.pool_model.specs.Contents.{Named}
+use Rattle.paused_call.specs.Fuel.{fuel_left, left_in}
 use Rattle.paused_call.specs.Standing.{Waits}
 use Rattle.instance_calls.specs.CallWords.{EndsAs, MayCall}
 use Rattle.instance_calls.specs.PausedInstances.{comes_to}
@@ -65,6 +66,14 @@ module _ {N : Type 0} {G : Ghosts N} where
   HasBegun config host m export args fuel number before (begun.Retired pass) = WasRefused config host m export args before pass Retired
   HasBegun config host m export args fuel number before (begun.Full pass kind) = WasRefused config host m export args before pass (Full kind)
 
+  -- where it was refused, its pass says that all its fuel is left
+  abbrev pub IsUnspent : (fuel : ℕ) → Begun N G → Type 0
+  IsUnspent fuel (begun.Ready paused) = Unit {0}
+  IsUnspent fuel (begun.NoExport pass) = pass.left ≡ fuel
+  IsUnspent fuel (begun.BadArgs pass) = pass.left ≡ fuel
+  IsUnspent fuel (begun.Retired pass) = pass.left ≡ fuel
+  IsUnspent fuel (begun.Full pass kind) = pass.left ≡ fuel
+
   -- its pass at the retired tags, with whom it is now
   abbrev pub begun_tags : Begun N G → TagPass
   begun_tags (begun.Ready paused) = paused.retired
@@ -88,16 +97,18 @@ module _ {N : Type 0} {G : Ghosts N} where
     pub tags_are : pass.retired ≡ before.retired
     pub gave : GaveThose config host before.running.named before.passes pass.passes before.running.ticket before.running.memory before.running.table
 
-  -- it is given up, and keeps no answer
+  -- it is given up, keeps no answer, and leaves the fuel that its turns have left
   pub record IsGivenUp (config : Numbers) (host : Host N) (before : Paused N G) (pass : HostPass N G) : Type 0 where
     pub back : HasGivenBack config host before pass
     pub no_answer : pass.answer ≡ []
+    pub left_is : pass.left ≡ fuel_left before.running.call
 
-  -- it is over, and the pass has its answer
+  -- it is over, and the pass has its answer, and what it left of its fuel
   pub record HasEnded (config : Numbers) (host : Host N) (before : Paused N G) (slice : ℕ) (outcome : Outcome) (pass : HostPass N G) : Type 0 where
     pub back : HasGivenBack config host before pass
     pub over : ¬ (Waits (comes_to config before.running) before.running.call.fuel (before.running.call.turns + slice))
     pub ends : EndsAs (comes_to config before.running) before.running.call.fuel outcome pass.answer
+    pub left_is : left_in (comes_to config before.running before.running.call.fuel) ≡ Some pass.left
 
   abbrev pub HasTurnedTo : Numbers → Host N → Paused N G → (slice : ℕ) → Turned N G → Type 0
   HasTurnedTo config host before slice (Again paused) = IsPausedAgain config host before slice paused

@@ -8,9 +8,9 @@ use Rattle.slot_pools.specs.Causes.{FullAfterLook, FullAfterMark, FullAfterScan}
 use Rattle.slot_pools.specs.LastClaims.{EndsWithClaim}
 use Rattle.slot_pools.specs.Preferring.{PrefersOwn}
 use Rattle.pool_limits.specs.declared.numbers.Numbers.{Numbers}
-use Rattle.pool_worlds.specs.Contents.{Named, needs}
-use Rattle.pool_worlds.specs.declared.kinds.Kind.{Kind}
-use Rattle.pool_worlds.specs.declared.kinds.Kind.TheVariants.{Memory, Table, Instance}
+use Rattle.pool_model.specs.Contents.{Named, needs}
+use Rattle.pool_model.specs.declared.kinds.Kind.{Kind}
+use Rattle.pool_model.specs.declared.kinds.Kind.TheVariants.{Memory, Table, Instance}
 use Rattle.pool_host.specs.declared.answers.Answer.{Answer}
 use Rattle.pool_host.specs.declared.host.Host.{Host}
 use Rattle.pool_host.specs.declared.passes.Passes.{Passes}

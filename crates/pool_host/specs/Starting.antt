@@ -3,7 +3,7 @@ use Rattle.std.specs.Prelude.{◌≡◌, ℕ, List}
 use Rattle.wasm_values.specs.declared.outcome.Val.{Val}
 use Rattle.module_store.specs.declared.naming.Naming.{Ghosts}
 use Rattle.pool_limits.specs.declared.numbers.Numbers.{Numbers}
-use Rattle.pool_worlds.specs.Contents.{Named}
+use Rattle.pool_model.specs.Contents.{Named}
 use Rattle.instance_calls.specs.CallWords.{LacksExport, LacksTypes, MayCall}
 use Rattle.pool_host.specs.declared.answers.Answer.{Answer}
 use Rattle.pool_host.specs.declared.answers.Answer.TheVariants as answer

@@ -2,8 +2,8 @@
 use Rattle.std.specs.Prelude.{Option, Some}
 use Rattle.slot_words.specs.Owned.{slots_of}
 use Rattle.pool_limits.specs.declared.numbers.Numbers.{Numbers}
-use Rattle.pool_worlds.specs.Contents.{Named}
-use Rattle.pool_worlds.specs.declared.kinds.Kind.TheVariants as kind
+use Rattle.pool_model.specs.Contents.{Named}
+use Rattle.pool_model.specs.declared.kinds.Kind.TheVariants as kind
 use Rattle.instance_calls.specs.declared.instance.Instance.{Instance}
 use Rattle.instance_calls.specs.Parts.{BelongsTo, Slot, memory_slot, table_slot, ticket_slot}
 use Rattle.pool_host.specs.declared.host.Host.{Host}

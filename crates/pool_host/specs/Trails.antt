@@ -1,9 +1,9 @@
 -- What a call adds to the trails of a host's pass.
 use Rattle.std.specs.Prelude.{Bool, if◌then◌else◌}
 use Rattle.pool_limits.specs.declared.numbers.Numbers.{Numbers}
-use Rattle.pool_worlds.specs.Contents.{Named, needs}
-use Rattle.pool_worlds.specs.declared.kinds.Kind.{Kind}
-use Rattle.pool_worlds.specs.declared.kinds.Kind.TheVariants.{Memory, Table, Instance}
+use Rattle.pool_model.specs.Contents.{Named, needs}
+use Rattle.pool_model.specs.declared.kinds.Kind.{Kind}
+use Rattle.pool_model.specs.declared.kinds.Kind.TheVariants.{Memory, Table, Instance}
 use Rattle.pool_host.specs.declared.answers.Answer.{Answer}
 use Rattle.pool_host.specs.declared.answers.Answer.TheVariants.{Done, Full}
 use Rattle.pool_host.specs.declared.host.Host.{Host}

@@ -2,7 +2,7 @@
 use crate::passes::HostPass;
 use crate::paused::Paused;
 use module_store::Naming;
-use pool_worlds::Kind;
+use pool_model::Kind;
 use wasm_values::Outcome;
 
 /// How a call on a host went.

@@ -53,6 +53,7 @@ fn join<N: Naming>(host: &Host<N>, joined: &mut Passes<N>, other: HostPass<N>)
         ticket,
         memory,
         table,
+        tally: _,
     } = passes;
     host.tickets.join_pass(&mut joined.ticket, ticket);
     host.memories.join_pass(&mut joined.memory, memory);

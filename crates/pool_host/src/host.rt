@@ -2,11 +2,12 @@
 ghost use Rattle.std.specs.Prelude.{[], ◌≡◌, ◌≤◌, IfOk, length};
 ghost use Rattle.std.specs.List.{All};
 ghost use Rattle.instance_calls.specs.CallWords.{run_limits};
-ghost use Rattle.pool_host.specs.CallWords.{IfFull, IsAnswerTo, IsHostAnswer};
+ghost use Rattle.pool_host.specs.CallWords.{IfFull, IsAnswerTo, IsFuelLeft, IsHostAnswer, IsLeftTo};
 ghost use Rattle.pool_host.specs.Closing.{ArePoolCounts};
+ghost use Rattle.pool_host.specs.Counting.{KeepsCounts};
 ghost use Rattle.pool_host.specs.Hosts.{AreIdle, ArePassesOf, AreSamePasses, HandedOut, HasShare, IsHostPass, IsNewHostPass, IsSameHostPass, IsShare};
 ghost use Rattle.pool_host.specs.Looks.{begun_look, look_of, Looked, SetsBit};
-ghost use Rattle.pool_host.specs.Pausing.{begun_tags, HasBegun};
+ghost use Rattle.pool_host.specs.Pausing.{begun_tags, HasBegun, IsUnspent};
 ghost use Rattle.pool_host.specs.Retiring.{is_already, Sweeps, SweptAll};
 ghost use Rattle.pool_host.specs.Trails.{AddsTrails, HasCause};
 ghost use Rattle.retired_tags.specs.Passes.{IsTagPass, steps};
@@ -14,12 +15,12 @@ ghost use Rattle.retired_tags.specs.Steps.{Knows};
 
 use crate::answers::{Answer, Begun, Retire};
 use crate::counts::{PoolCounts, join_all};
-use crate::ended::Ended;
+use crate::ended_call::EndedCall;
 use crate::new_passes::deal;
 use crate::passes::{HostPass, Passes};
 use crate::paused::Paused;
 use crate::refusals::start;
-use crate::retired::Retired;
+use crate::retired_modules::RetiredModules;
 use call_payload::{AnswerBuf, Call};
 use host_edge::Gate;
 use instance_calls::PausedInstance;
@@ -42,7 +43,7 @@ pub struct Host<N: Naming> {
     pub(crate) tickets: TicketPool<N>,
     pub(crate) memories: MemoryPool<N>,
     pub(crate) tables: TablePool<N>,
-    pub(crate) retired: Retired<N>,
+    pub(crate) retired: RetiredModules<N>,
 }
 
 impl<N: Naming> Drop for Host<N> {
@@ -82,8 +83,8 @@ impl<N: Naming> Host<N> {
         Host::open_warm(alloc, store, share, warm, passes)
     }
 
-    /// The same with another number of warm slots: of the memories, and of the tables, at most `warm` are warm while no call has
-    /// them.
+    /// Opens a host as [`Host::open`] does, with another number of warm slots: of the memories, and of the tables, at most `warm` are
+    /// warm while no call has them.
     ///
     /// # Errors
     ///
@@ -106,7 +107,7 @@ impl<N: Naming> Host<N> {
         let (tickets, of_tickets) = TicketPool::open(alloc, store, share.instances, warm, passes)?;
         let (memories, of_memories) = MemoryPool::open(alloc, store, share.memories, warm, passes)?;
         let (tables, of_tables) = TablePool::open(alloc, store, share.tables, warm, passes)?;
-        let (retired, of_tags) = Retired::open(alloc, store, passes)?;
+        let (retired, of_tags) = RetiredModules::open(alloc, store, passes)?;
         let host = Host {
             tickets,
             memories,
@@ -117,7 +118,7 @@ impl<N: Naming> Host<N> {
         Ok((host, all))
     }
 
-    // Makes the call. The gate is told when the function may begin.
+    // Makes the call. The gate is told when the function may begin. What is left of the call's fuel is written down.
     fn answer<G: Gate>(
         &self,
         passes: &mut Passes<N>,
@@ -127,6 +128,7 @@ impl<N: Naming> Host<N> {
         number: u64,
         gate: &G,
         said: &mut AnswerBuf,
+        left: &mut u64,
     ) -> Answer
         requires own { ArePassesOf self.now passes.old }
         requires tags { IsTagPass self.now.retired.tags retired.old }
@@ -135,18 +137,24 @@ impl<N: Naming> Host<N> {
         ensures idle { AreIdle passes.new }
         ensures tags { IsTagPass self.now.retired.tags retired.new }
         ensures answer { IsAnswerTo call.now loaded.now.module.now.tree (run_limits N.config) result said.new }
+        ensures left { IsLeftTo call.now loaded.now.module.now.tree (run_limits N.config) result left.new }
         ensures trails { AddsTrails N.config self.now loaded.now.module.now result passes.old passes.new }
         ensures full { IfFull result (HasCause N.config self.now loaded.now.module.now passes.old passes.new) }
         ensures looked { Looked self.now.retired.tags loaded.now.module.now.tag retired.old retired.new (look_of result) }
+        ensures counted { KeepsCounts N.config.batch passes.old passes.new }
     {
         match start(self, passes, retired, loaded, call, said) {
             Ok((instance, function)) => {
                 gate.entered(number);
-                let (outcome, ended) = Ended::run(instance, loaded, function, call, said);
+                let (end, ended) = EndedCall::run(instance, loaded, function, call, said);
                 ended.give(self, passes, loaded.store);
-                Answer::Done(outcome)
+                *left = end.left;
+                Answer::Done(end.outcome)
             }
-            Err(refused) => refused.answer(),
+            Err(refused) => {
+                *left = call.fuel;
+                refused.answer()
+            }
         }
     }
 
@@ -171,6 +179,8 @@ impl<N: Naming> Host<N> {
         ensures own { IsHostPass self.now pass.new }
         ensures same { IsSameHostPass pass.old pass.new }
         ensures answer { IsAnswerTo call.now «module».now.tree (run_limits N.config) result pass.new.answer }
+        // what its end left of the fuel, as the machine's run tells it; all where it was not made
+        ensures left { IsLeftTo call.now «module».now.tree (run_limits N.config) result pass.new.left }
 
         // to each pass of the kinds that it asked: one take and its give, or a take that won nothing
         ensures trails { AddsTrails N.config self.now «module».now result pass.old.passes pass.new.passes }
@@ -192,6 +202,7 @@ impl<N: Naming> Host<N> {
             number,
             gate,
             &mut pass.answer,
+            &mut pass.left,
         );
         gate.answered(number);
         answer
@@ -215,6 +226,7 @@ impl<N: Naming> Host<N> {
         ensures own { IsHostPass self.now pass.new }
         ensures same { IsSameHostPass pass.old pass.new }
         ensures answer { IsHostAnswer «module».now.tree (run_limits N.config) export.now args.now request.now fuel result pass.new.answer }
+        ensures left { IsFuelLeft «module».now.tree (run_limits N.config) export.now args.now request.now fuel result pass.new.left }
         ensures trails { AddsTrails N.config self.now «module».now result pass.old.passes pass.new.passes }
         ensures full { IfFull result (HasCause N.config self.now «module».now pass.old.passes pass.new.passes) }
         ensures looked { Looked self.now.retired.tags «module».now.tag pass.old.retired pass.new.retired (look_of result) }
@@ -244,6 +256,7 @@ impl<N: Naming> Host<N> {
         ensures own { IsHostPass self.now pass.new }
         ensures same { IsSameHostPass pass.old pass.new }
         ensures answer { IsHostAnswer «module».now.tree (run_limits N.config) export.now args.now [] fuel result pass.new.answer }
+        ensures left { IsFuelLeft «module».now.tree (run_limits N.config) export.now args.now [] fuel result pass.new.left }
         ensures trails { AddsTrails N.config self.now «module».now result pass.old.passes pass.new.passes }
         ensures full { IfFull result (HasCause N.config self.now «module».now pass.old.passes pass.new.passes) }
         ensures looked { Looked self.now.retired.tags «module».now.tag pass.old.retired pass.new.retired (look_of result) }
@@ -266,6 +279,7 @@ impl<N: Naming> Host<N> {
         requires own { IsHostPass self.now pass }
         requires unsent { call.now.request.now ≡ [] }
         ensures begun { HasBegun N.config self.now «module».now call.now.export.now call.now.args.now call.now.fuel number pass.passes result }
+        ensures left { IsUnspent call.now.fuel result }
 
         // one look at the retired tags, after the checks and before any slot: retired is exactly what it read
         ensures looked { Looked self.now.retired.tags «module».now.tag pass.retired (begun_tags result) (begun_look result) }
@@ -280,6 +294,7 @@ impl<N: Naming> Host<N> {
             mut passes,
             mut retired,
             mut answer,
+            left: _,
         } = pass;
         match start(self, &mut passes, &mut retired, &loaded, call, &mut answer) {
             Ok((instance, function)) => {
@@ -298,6 +313,7 @@ impl<N: Naming> Host<N> {
                     passes,
                     retired,
                     answer,
+                    left: call.fuel,
                 })
             }
         }
@@ -317,6 +333,7 @@ impl<N: Naming> Host<N> {
     ) -> Begun<N>
         requires own { IsHostPass self.now pass }
         ensures begun { HasBegun N.config self.now «module».now export.now args.now fuel number pass.passes result }
+        ensures left { IsUnspent fuel result }
         ensures looked { Looked self.now.retired.tags «module».now.tag pass.retired (begun_tags result) (begun_look result) }
     {
         let call = Call {
@@ -335,6 +352,7 @@ impl<N: Naming> Host<N> {
         ensures same { AreSamePasses passes.old passes.new }
         ensures idle { AreIdle passes.new }
         ensures swept { SweptAll self.now «module».now result passes.old passes.new }
+        ensures counted { KeepsCounts N.config.batch passes.old passes.new }
     {
         let memories = sweep(self.memories.words(), &mut passes.memory, module.tag());
         let tables = sweep(self.tables.words(), &mut passes.table, module.tag());
@@ -354,6 +372,7 @@ impl<N: Naming> Host<N> {
         ensures own { IsHostPass self.now pass.new }
         ensures same { IsSameHostPass pass.old pass.new }
         ensures bytes { pass.new.answer ≡ pass.old.answer }
+        ensures left { pass.new.left ≡ pass.old.left }
 
         // one step at the retired tags, which the answer is by: after it the pass knows that the module is retired
         ensures bit { SetsBit self.now.retired.tags «module».now.tag pass.old.retired pass.new.retired (is_already result) }
@@ -380,6 +399,7 @@ impl<N: Naming> Host<N> {
             ticket,
             memory,
             table,
+            tally: _,
         } = join_all(&self, passes);
         let Host {
             tickets,

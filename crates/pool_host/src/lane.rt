@@ -1,7 +1,7 @@
 //! Calls of one caller.
 ghost use Rattle.std.specs.Prelude.{◌≡◌, ◌↔◌, ◌≤◌, [], length, IfOk};
 ghost use Rattle.instance_calls.specs.CallWords.{run_limits};
-ghost use Rattle.pool_host.specs.CallWords.{IsAnswer, IsLaneAnswerTo, host_answer};
+ghost use Rattle.pool_host.specs.CallWords.{IsAnswer, IsFuelLeft, IsLaneAnswerTo, IsLeftTo, host_answer};
 ghost use Rattle.pool_host.specs.Hosts.{HandedOut, HasShare, IsHostPass, IsNewHostPass, IsSameHostPass, IsShare};
 ghost use Rattle.pool_host.specs.Looks.{look_of, IsDecidedBy, Looked, SetsBit};
 ghost use Rattle.pool_host.specs.Retiring.{is_already, Sweeps};
@@ -77,6 +77,7 @@ impl<N: Naming> LaneHost<N> {
     ) -> LaneAnswer
         ensures same { (self.new.host ≡ self.old.host) × IsSameHostPass self.old.pass self.new.pass }
         ensures answer { IsLaneAnswerTo call.now «module».now.tree (run_limits N.config) result self.new.pass.answer }
+        ensures left { IsLeftTo call.now «module».now.tree (run_limits N.config) (host_answer result) self.new.pass.left }
         ensures trails { AddsTrails N.config self.old.host «module».now (host_answer result) self.old.pass.passes self.new.pass.passes }
 
         // one look at the retired tags, after the checks and before any slot: retired is exactly what this lane retired
@@ -108,6 +109,7 @@ impl<N: Naming> LaneHost<N> {
         requires { length request.now ≤ 65536 }
         ensures same { (self.new.host ≡ self.old.host) × IsSameHostPass self.old.pass self.new.pass }
         ensures answer { IsAnswer «module».now.tree (run_limits N.config) export.now args.now request.now fuel result self.new.pass.answer }
+        ensures left { IsFuelLeft «module».now.tree (run_limits N.config) export.now args.now request.now fuel (host_answer result) self.new.pass.left }
         ensures trails { AddsTrails N.config self.old.host «module».now (host_answer result) self.old.pass.passes self.new.pass.passes }
         ensures looked { Looked self.old.host.retired.tags «module».now.tag self.old.pass.retired self.new.pass.retired (look_of (host_answer result)) }
         ensures own_steps { IsDecidedBy «module».now.tag (steps self.old.pass.retired) (look_of (host_answer result)) }
@@ -134,6 +136,7 @@ impl<N: Naming> LaneHost<N> {
     ) -> LaneAnswer
         ensures same { (self.new.host ≡ self.old.host) × IsSameHostPass self.old.pass self.new.pass }
         ensures answer { IsAnswer «module».now.tree (run_limits N.config) export.now args.now [] fuel result self.new.pass.answer }
+        ensures left { IsFuelLeft «module».now.tree (run_limits N.config) export.now args.now [] fuel (host_answer result) self.new.pass.left }
         ensures trails { AddsTrails N.config self.old.host «module».now (host_answer result) self.old.pass.passes self.new.pass.passes }
         ensures looked { Looked self.old.host.retired.tags «module».now.tag self.old.pass.retired self.new.pass.retired (look_of (host_answer result)) }
         ensures own_steps { IsDecidedBy «module».now.tag (steps self.old.pass.retired) (look_of (host_answer result)) }
@@ -146,6 +149,7 @@ impl<N: Naming> LaneHost<N> {
     pub fn retire(&mut self, store: &ModuleStore<N>, module: &ModuleRef<N>) -> Retire
         ensures same { (self.new.host ≡ self.old.host) × IsSameHostPass self.old.pass self.new.pass }
         ensures bytes { self.new.pass.answer ≡ self.old.pass.answer }
+        ensures left { self.new.pass.left ≡ self.old.pass.left }
 
         // one step at the retired tags, and it was retired before exactly where this lane had retired it
         ensures bit { SetsBit self.old.host.retired.tags «module».now.tag self.old.pass.retired self.new.pass.retired (is_already result) }
@@ -164,5 +168,12 @@ impl<N: Naming> LaneHost<N> {
         ensures { result.now ≡ self.now.pass.answer }
     {
         self.pass.answer()
+    }
+
+    /// What the last call left of its fuel: all of it where it was not made. It is 0 before the first. Takes no memory.
+    pub fn left(&self) -> u64
+        ensures { result ≡ self.now.pass.left }
+    {
+        self.pass.left()
     }
 }

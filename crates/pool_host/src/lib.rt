@@ -2,16 +2,16 @@
 #![tactic(auto)]
 
 mod answers;
+mod counting;
 mod counts;
-mod ended;
+mod ended_call;
 mod host;
 mod lane;
-pub mod laws;
 mod new_passes;
 mod passes;
 mod paused;
 mod refusals;
-mod retired;
+mod retired_modules;
 mod slots;
 
 pub use answers::{Answer, Begun, Retire, Turned};
@@ -20,4 +20,4 @@ pub use host::{Host, MOST_PASSES};
 pub use lane::{LaneAnswer, LaneHost};
 pub use passes::HostPass;
 pub use paused::Paused;
-pub use pool_worlds::Kind;
+pub use pool_model::Kind;

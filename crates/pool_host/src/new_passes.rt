@@ -9,6 +9,7 @@ use crate::host::Host;
 use crate::passes::{HostPass, Passes};
 use call_payload::AnswerBuf;
 use instance_slots::Ticket;
+use memory_counts::MemoryTally;
 use memory_slots::MemSlot;
 use module_store::Naming;
 use retired_tags::TagPass;
@@ -39,6 +40,7 @@ pub(crate) fn deal<N: Naming>(
             ticket: tickets.pop().unwrap(),
             memory: memories.pop().unwrap(),
             table: tables.pop().unwrap(),
+            tally: MemoryTally::NEW,
         };
         let retired = tags.pop().unwrap();
         let answer = AnswerBuf::open(alloc)?;
@@ -46,6 +48,7 @@ pub(crate) fn deal<N: Naming>(
             passes,
             retired,
             answer,
+            left: 0,
         });
     }
     Ok(all)

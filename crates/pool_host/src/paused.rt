@@ -2,10 +2,11 @@
 ghost use Rattle.std.specs.Prelude.{◌≡◌, Some};
 ghost use Rattle.slot_words.specs.Passes.{share_of};
 ghost use Rattle.retired_tags.specs.Passes as tags;
+ghost use Rattle.memory_counts.specs.Counted.{IsCounted};
 ghost use Rattle.pool_host.specs.Outs.{HasOut};
 
 use crate::answers::Turned;
-use crate::ended::{Ended, Sliced};
+use crate::ended_call::{EndedCall, Sliced};
 use crate::host::Host;
 use crate::passes::{HostPass, Passes};
 use host_edge::Gate;
@@ -28,6 +29,7 @@ pub struct Paused<N: Naming> {
     ghost one_memory: { share_of passes.memory ≡ 1 },
     ghost one_table: { share_of passes.table ≡ 1 },
     ghost one_retired: { tags.share_of retired ≡ 1 },
+    ghost counted: { IsCounted N.config.batch passes.memory passes.tally },
 }
 
 impl<N: Naming> Paused<N> {
@@ -60,27 +62,29 @@ impl<N: Naming> Paused<N> {
             running,
             number,
         } = self;
-        match Ended::resume(running, store, slice) {
+        match EndedCall::resume(running, store, slice) {
             Sliced::Again(running) => Turned::Again(Paused {
                 passes,
                 retired,
                 running,
                 number,
             }),
-            Sliced::Done(outcome, ended, answer) => {
+            Sliced::Done(end, ended, answer) => {
                 ended.give(host, &mut passes, store);
                 gate.answered(number);
                 let pass = HostPass {
                     passes,
                     retired,
                     answer,
+                    left: end.left,
                 };
-                Turned::Done(outcome, pass)
+                Turned::Done(end.outcome, pass)
             }
         }
     }
 
-    /// Gives the call up, without an answer of its own: all that it has is given back. It takes no memory. The gate is told.
+    /// Gives the call up, without an answer of its own: all that it has is given back. The pass keeps what its turns have left of its
+    /// fuel. It takes no memory. The gate is told.
     pub fn cancel<G: Gate>(self, host: &Host<N>, store: &ModuleStore<N>, gate: &G) -> HostPass<N>
         requires own { IsOfHost host.now self }
         ensures { IsGivenUp N.config host.now self result }
@@ -91,13 +95,14 @@ impl<N: Naming> Paused<N> {
             running,
             number,
         } = self;
-        let (ended, answer) = Ended::give_up(running);
+        let (ended, answer, left) = EndedCall::give_up(running);
         ended.give(host, &mut passes, store);
         gate.answered(number);
         HostPass {
             passes,
             retired,
             answer,
+            left,
         }
     }
 }

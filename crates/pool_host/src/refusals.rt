@@ -3,9 +3,10 @@ ghost use Rattle.std.specs.Prelude.{◌≡◌, [], IfErr, IfOk, OnErr};
 ghost use Rattle.instance_calls.specs.CallWords.{MayCall};
 ghost use Rattle.instance_calls.specs.Instances.{IsFreshInstance};
 ghost use Rattle.retired_tags.specs.Passes.{IsTagPass};
+ghost use Rattle.pool_host.specs.Counting.{KeepsCounts};
 ghost use Rattle.pool_host.specs.Hosts.{AreIdle, ArePassesOf, AreSamePasses};
 ghost use Rattle.pool_host.specs.Looks.{begun_look, Looked, refused_look, started_look};
-ghost use Rattle.pool_host.specs.Pausing.{begun_tags};
+ghost use Rattle.pool_host.specs.Pausing.{begun_tags, IsUnspent};
 ghost use Rattle.pool_host.specs.Starting.{HasRefused, refused_answer, refused_begun};
 ghost use Rattle.pool_host.specs.Taking.{HaveSlots, TookSlots};
 
@@ -16,7 +17,7 @@ use crate::slots::take_slots;
 use call_payload::{AnswerBuf, Call};
 use instance_calls::{Instance, Refusal, find_function};
 use module_store::{LoadedModule, Naming};
-use pool_worlds::Kind;
+use pool_model::Kind;
 use retired_tags::TagPass;
 
 // Why a call is not made.
@@ -50,6 +51,7 @@ impl Refused {
         ensures begun { result ≡ refused_begun self pass }
         ensures tags { begun_tags result ≡ pass.retired }
         ensures look { begun_look result ≡ refused_look self }
+        ensures left { IsUnspent pass.left result }
     {
         match self {
             Refused::NoExport => Begun::NoExport(pass),
@@ -83,6 +85,7 @@ pub(crate) fn start<N: Naming>(
     ensures refused { IfErr result (HasRefused N.config host.now loaded.now.module.now call.now.export.now call.now.args.now passes.old passes.new) }
     ensures looked { Looked host.now.retired.tags loaded.now.module.now.tag retired.old retired.new (started_look result) }
     ensures none { said.new ≡ [] }
+    ensures counted { KeepsCounts N.config.batch passes.old passes.new }
 {
     said.clear();
     let function = match find_function(loaded, call) {

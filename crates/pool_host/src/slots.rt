@@ -5,11 +5,13 @@ ghost use Rattle.slot_words.specs.Leases.{lease_number};
 ghost use Rattle.slot_words.specs.Owned.{IsPassOf, slots_of};
 ghost use Rattle.slot_words.specs.Parts.{Grew};
 ghost use Rattle.slot_words.specs.Passes.{Holds, IsIdle, IsSamePass, trail};
-ghost use Rattle.pool_worlds.specs.Contents.{Named};
-ghost use Rattle.pool_worlds.specs.declared.kinds.Kind.TheVariants as kind;
-ghost use Rattle.pool_worlds.specs.declared.kinds.Kind.TheVariants.{Memory, Table};
+ghost use Rattle.pool_model.specs.Contents.{Named};
+ghost use Rattle.pool_model.specs.declared.kinds.Kind.TheVariants as kind;
+ghost use Rattle.pool_model.specs.declared.kinds.Kind.TheVariants.{Memory, Table};
 ghost use Rattle.instance_calls.specs.Instances.{HasFreshMemory, IsFreshInstance, IsFreshTable};
 ghost use Rattle.instance_calls.specs.Parts.{BelongsTo, memory_slot, table_slot};
+ghost use Rattle.memory_counts.specs.Counted.{IsCounted};
+ghost use Rattle.pool_host.specs.Counting.{KeepsCounts};
 ghost use Rattle.pool_host.specs.Hosts.{AreIdle, ArePassesOf, AreSamePasses};
 ghost use Rattle.pool_host.specs.Kinds.{GaveSlot, IsGiveOf, IsTurnedAwayFrom, TookSlot};
 ghost use Rattle.pool_host.specs.Leases.{HoldsSlot};
@@ -21,17 +23,19 @@ use crate::host::Host;
 use crate::passes::Passes;
 use instance_calls::{Instance, needs_memory, needs_table};
 use instance_slots::Ticket;
+use memory_counts::MemoryTally;
 use memory_slots::{MemSlot, MemoryPool};
 use module_store::{LoadedModule, ModuleStore, Naming};
-use pool_worlds::Kind;
+use pool_model::Kind;
 use slot_pools::Full;
 use slot_words::{Lease, Pass};
 use table_slots::{TablePool, TableSlot};
 
-// Takes a memory for the module, if it has one.
+// Takes a memory for the module, if it has one, and counts that.
 pub(crate) fn take_memory<N: Naming>(
     pool: &MemoryPool<N>,
     pass: &mut Pass<MemSlot<N>>,
+    tally: &mut MemoryTally,
     loaded: &LoadedModule<'_, N>,
 ) -> Result<Option<Lease<MemSlot<N>>>, Full>
     requires own { IsPassOf pool.now pass.old }
@@ -43,11 +47,12 @@ pub(crate) fn take_memory<N: Naming>(
     ensures took { IfOk result (λ o. TookSlot Memory pool.now loaded.now.module.now pass.old pass.new (memory_slot o)) }
     ensures idle { OnErr result (IsIdle pass.new) }
     ensures full { OnErr result (IsTurnedAwayFrom Memory pool.now loaded.now.module.now pass.old pass.new) }
+    ensures counted { IsCounted N.config.batch pass.old tally.old → IsCounted N.config.batch pass.new tally.new }
 {
     if !needs_memory(loaded) {
         return Ok(None);
     }
-    let lease = pool.take_for(pass, loaded)?;
+    let lease = tally.take_for(pool, pass, loaded)?;
     Ok(Some(lease))
 }
 
@@ -89,6 +94,7 @@ pub(crate) fn give_table<N: Naming>(
     ensures idle { IsIdle passes.new.table }
     ensures gave { (m : Named) → BelongsTo m (table_slot table)
         → GaveSlot Table host.now.tables m N.config.batch passes.old.table passes.new.table (table_slot table) }
+    ensures counted { KeepsCounts N.config.batch passes.old passes.new }
 {
     if let Some(lease) = table {
         host.tables.give(&mut passes.table, lease, store);
@@ -107,13 +113,16 @@ pub(crate) fn give_memory<N: Naming>(
     requires belongs { (m : Named) × BelongsTo m (memory_slot memory) }
     requires table { IsIdle passes.old.table }
     ensures same { AreSamePasses passes.old passes.new }
-    ensures others { passes.new ≡ record passes.old { memory = passes.new.memory } }
+    ensures others { passes.new ≡ record passes.old { memory = passes.new.memory; tally = passes.new.tally } }
     ensures idle { IsIdle passes.new.memory }
     ensures gave { (m : Named) → BelongsTo m (memory_slot memory)
         → GaveSlot Memory host.now.memories m N.config.batch passes.old.memory passes.new.memory (memory_slot memory) }
+    ensures counted { KeepsCounts N.config.batch passes.old passes.new }
 {
     if let Some(lease) = memory {
-        host.memories.give(&mut passes.memory, lease, store);
+        passes
+            .tally
+            .give(&host.memories, &mut passes.memory, lease, store);
     }
 }
 
@@ -134,6 +143,7 @@ pub(crate) fn give_ticket<N: Naming>(
     ensures idle { IsIdle passes.new.ticket }
     ensures gave { (m : Named) → Grew (IsGiveOf kind.Instance host.now.tickets m N.config.batch (lease_number ticket))
         (trail passes.old.ticket) (trail passes.new.ticket) }
+    ensures counted { KeepsCounts N.config.batch passes.old passes.new }
 {
     host.tickets.give(&mut passes.ticket, ticket, store);
 }
@@ -154,11 +164,17 @@ pub(crate) fn take_slots<N: Naming>(
     ensures idle { OnErr result (AreIdle passes.new) }
     ensures trails { IfErr result (λ kind. AddsTrails N.config host.now loaded.now.module.now (Answer.Full kind) passes.old passes.new) }
     ensures full { IfErr result (HasCause N.config host.now loaded.now.module.now passes.old passes.new) }
+    ensures counted { KeepsCounts N.config.batch passes.old passes.new }
 {
     let Ok(ticket) = host.tickets.take_for(&mut passes.ticket, loaded) else {
         return Err(Kind::Instance);
     };
-    let Ok(memory) = take_memory(&host.memories, &mut passes.memory, loaded) else {
+    let Ok(memory) = take_memory(
+        &host.memories,
+        &mut passes.memory,
+        &mut passes.tally,
+        loaded,
+    ) else {
         give_ticket(host, passes, loaded.store, ticket);
         return Err(Kind::Memory);
     };

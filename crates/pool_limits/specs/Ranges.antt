@@ -6,6 +6,21 @@ use Rattle.pool_limits.specs.declared.numbers.Ranged.{Ranged}
 use Rattle.pool_limits.specs.declared.numbers.Setting.{Setting}
 use Rattle.pool_limits.specs.declared.numbers.Setting.TheVariants.{Workers, Instances, Memories, Tables, Warm, Batch, Pages, Elements, Depth, Frame}
 
+-- those of a run without options
+abbrev pub default_numbers : Numbers
+default_numbers = record {
+  workers = 1;
+  instances = 4;
+  memories = 4;
+  tables = 4;
+  warm = 2;
+  batch = 4;
+  pages = 32;
+  elements = 1024;
+  depth = 128;
+  frame = 1024;
+}
+
 -- the least number of slots of a kind: where there are several workers, one slot is not shared
 abbrev pub least_total : Numbers → ℕ
 least_total n = if nat_lt n.workers 2 then 1 else 2

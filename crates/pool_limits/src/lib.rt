@@ -3,7 +3,6 @@
 
 mod config;
 pub mod laws;
-mod limits;
 mod numbers;
 mod over;
 mod plans;

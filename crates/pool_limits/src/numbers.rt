@@ -80,6 +80,29 @@ impl Ranged {
     }
 }
 
+impl Default for Numbers {
+    ghost use Rattle.std.specs.Prelude.{◌≡◌};
+    ghost use Rattle.pool_limits.specs.Ranges.{default_numbers};
+
+    ghost is_default = { λ numbers. numbers ≡ default_numbers };
+
+    /// Those of `poolhost run` where no option is given. Takes no memory.
+    fn default() -> Numbers {
+        Numbers {
+            workers: 1,
+            instances: 4,
+            memories: 4,
+            tables: 4,
+            warm: 2,
+            batch: 4,
+            pages: 32,
+            elements: 1_024,
+            depth: 128,
+            frame: 1_024,
+        }
+    }
+}
+
 impl Numbers {
     // Where there are several workers, one slot of each kind is not shared.
     fn least_total(&self) -> u32

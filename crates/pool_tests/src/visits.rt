@@ -74,7 +74,9 @@ pub(crate) fn give(
     lease.value.tag = u32::from(tag);
     lease.value.visits = lease.value.visits.wrapping_add(1);
     match kind {
-        Batched(batch) => hand_in(words, pass, lease, &(), batch.max(1)),
+        Batched(batch) => {
+            hand_in(words, pass, lease, &(), batch.max(1));
+        }
         Affine => give_warm(words, pass, lease, &()),
         Any => give_cold(words, pass, lease),
     }

@@ -1,5 +1,5 @@
 //! The lines of a report.
-ghost use Rattle.std.specs.Prelude.{◌≡◌, ◌++◌, OnOk, OnErr, IfOk, IsOk};
+ghost use Rattle.std.specs.Prelude.{◌≡◌, ◌++◌, OnOk, OnErr, IfOk};
 ghost use Rattle.report_text.specs.Lines.{bytes_text, call_line, call_text, line_text, loading_text, module_line, outcome_text, report_text, retire_line, trap_text, value_text};
 
 use crate::digits::hex_digits;
@@ -188,19 +188,6 @@ fn push_line(alloc: Global, text: &mut Vec<u8>, line: &ReportLine) -> Result<(),
     }
 }
 
-// Appends a text, if it was made whole.
-pub(crate) fn append(
-    out: &mut Vec<u8>,
-    text: &[u8],
-    made: Result<(), AllocError>,
-) -> Result<(), NoMemory>
-    ensures text { OnOk result (IsOk made × (out.new.items ≡ out.old.items ++ text.now)) }
-    ensures memory { OnErr result (out.new.items ≡ out.old.items) }
-{
-    made.map_err(|_| NoMemory)?;
-    out.extend_from_slice(text).map_err(|_| NoMemory)
-}
-
 /// Appends the report's line of the module of this name. Source: `specs/Lines.antt`, `module_line`.
 ///
 /// # Errors
@@ -216,8 +203,8 @@ pub fn write_module(
     ensures memory { OnErr result (out.new.items ≡ out.old.items) }
 {
     let mut text = Vec::new(alloc);
-    let made = push_module_line(&mut text, name, line);
-    append(out, &text, made)
+    push_module_line(&mut text, name, line).map_err(|_| NoMemory)?;
+    out.extend_from_slice(&text).map_err(|_| NoMemory)
 }
 
 /// Appends the report's line of the retirement of the module of this name. Source: `specs/Lines.antt`, `retire_line`.
@@ -230,8 +217,8 @@ pub fn write_retire(alloc: Global, out: &mut Vec<u8>, name: &[u8]) -> Result<(),
     ensures memory { OnErr result (out.new.items ≡ out.old.items) }
 {
     let mut text = Vec::new(alloc);
-    let made = push_retire_line(&mut text, name);
-    append(out, &text, made)
+    push_retire_line(&mut text, name).map_err(|_| NoMemory)?;
+    out.extend_from_slice(&text).map_err(|_| NoMemory)
 }
 
 /// Appends the report's line of the `k`-th call of the file, from 1. Source: `specs/Lines.antt`, `call_line`.
@@ -244,8 +231,8 @@ pub fn write_call(alloc: Global, out: &mut Vec<u8>, k: u32, line: &CallLine) -> 
     ensures memory { OnErr result (out.new.items ≡ out.old.items) }
 {
     let mut text = Vec::new(alloc);
-    let made = push_call_line(alloc, &mut text, k, line);
-    append(out, &text, made)
+    push_call_line(alloc, &mut text, k, line).map_err(|_| NoMemory)?;
+    out.extend_from_slice(&text).map_err(|_| NoMemory)
 }
 
 /// The text of a report: its lines one after the other. Each line is freed once it is written. Source: `specs/Lines.antt`,

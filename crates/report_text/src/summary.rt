@@ -2,7 +2,7 @@
 ghost use Rattle.std.specs.Prelude.{◌≡◌, ◌++◌, OnErr, OnOk};
 ghost use Rattle.report_text.specs.Summary.{call_label, count_line, count_of, counts_under, module_label, summary_text};
 
-use crate::report::{CallLine, ModuleLine, ReportLine, append};
+use crate::report::{CallLine, ModuleLine, ReportLine};
 use itoa::Buffer;
 use std::alloc::{AllocError, Global};
 use wasm_values::{NoMemory, Outcome};
@@ -92,6 +92,6 @@ pub fn write_summary(alloc: Global, out: &mut Vec<u8>, lines: &[ReportLine]) -> 
     ensures memory { OnErr result (out.new.items ≡ out.old.items) }
 {
     let mut text = Vec::new(alloc);
-    let made = push_summary(&mut text, lines);
-    append(out, &text, made)
+    push_summary(&mut text, lines).map_err(|_| NoMemory)?;
+    out.extend_from_slice(&text).map_err(|_| NoMemory)
 }

@@ -1,6 +1,6 @@
 -- The lines of a file, read one by one.
 use Rattle.std.specs.Borrow.{Bor}
-use Rattle.std.proofs.Common.{◌≡◌, ◌+◌, ◌<◌, ◌≤◌, ℕ, List, [], ◌∷◌, length, Option, None, Some, MatchOption, refl, ap, ◌∙◌, Result, Ok, arith}
+use Rattle.std.proofs.Common.{◌≡◌, ◌+◌, ◌<◌, ◌≤◌, ℕ, List, [], ◌∷◌, length, Option, None, Some, MatchOption, refl, ◌∙◌, Result, Ok, arith}
 use Rattle.std.specs.Prelude.{IfSome}
 use Rattle.request_text.specs.declared.fault.LineFault.{LineFault}
 use Rattle.request_text.specs.declared.fault.LineFault.TheVariants.{Refused, NoMemory}

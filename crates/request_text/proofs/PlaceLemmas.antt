@@ -1,12 +1,12 @@
 -- The places of names, as a map has them.
-use Rattle.std.proofs.Common.{Vec, get_or, not, subst, ◌≡◌, ℕ, ◌+◌, ◌<◌, ◌≤◌, Bool, true, false, cond, nat_lt, List, [], ◌∷◌, ◌++◌, length, Option, Some, None, refl, sym, ap, ◌∙◌, arith, ⊎_elim}
+use Rattle.std.proofs.Common.{Vec, get_or, not, subst, ◌≡◌, ◌↔◌, ℕ, ◌+◌, ◌<◌, ◌≤◌, Bool, true, false, cond, nat_lt, List, [], ◌∷◌, ◌++◌, length, Option, Some, None, refl, sym, ap, ◌∙◌, arith, ⊎_elim}
 use Rattle.std.specs.Global.{Global}
 use Rattle.std.specs.Prelude.{IfSome}
-use Rattle.std.specs.Ordering.{is_eq, nat_cmp}
+use Rattle.std.specs.Ordering.{nat_cmp}
 use Rattle.std.specs.Cmp.{eq_by_cmp_equiv}
 use Rattle.std.specs.Cmp.Lexicographic.{slice_cmp, bytes_decides, nat_list_cmp_total, nat_list_eq_equiv}
-use Rattle.std.specs.BTreeMap.{BTreeMap, UpdatesBy, get_by}
-use Rattle.std.specs.Map.{KeepsOthers}
+use Rattle.std.specs.BTreeMap.{BTreeMap, UpdatesBy, get_by, is_at}
+use Rattle.std.specs.Map.{KeepsOthers, lookup}
 use Rattle.std.specs.List.{position_or_len, slice_get}
 use Rattle.std.specs.Str.{bytes_eq}
 use Rattle.std.proofs.Math.Dec.{eqb}
@@ -21,7 +21,7 @@ use Rattle.std.proofs.lemmas.Slice.Eq.{bytes_eq-Decides}
 use Rattle.std.proofs.lemmas.Map.Text.{is_eq-slice_cmp}
 use Rattle.std.proofs.lemmas.Bool.{cases_Bool, cond-true, cond-false}
 use Rattle.request_words.specs.Words.{place_of}
-use Rattle.request_text.specs.Reading.{ArePlaces}
+use Rattle.request_text.specs.Reading.{ArePlaces, IsOwnPlace}
 
 -- the place k, which is that of the first of n that passes, or n; of one more, where b says whether it passes
 abbrev at_most : ℕ → ℕ → Option ℕ
@@ -66,6 +66,37 @@ name_at names name place found =
     let at = position-Some (λ (other : List ℕ). bytes_eq other name) names place [] found in
     slice_get-get_or names place [] at.0 ∙ ap (λ (n : List ℕ). Some n) ((bytes_eq-Decides (get_or names place []) name).0 at.1)
 
+-- a name's place is its own
+pub own_place : (names : List (List ℕ)) (name : List ℕ) → IfSome (place_of names name) (IsOwnPlace names)
+own_place names name = split (place_of names name) refl where
+  split : (o : Option ℕ) → place_of names name ≡ o → IfSome o (IsOwnPlace names)
+  split None none = tt
+  split (Some place) found = subst (λ (o : Option (List ℕ)). IfSome o (λ n. place_of names n ≡ Some place)) (sym (name_at names name place found)) found
+
+-- so is that of one more name
+pub own_place-push : (names : List (List ℕ)) (name : List ℕ) → place_of names name ≡ None → IsOwnPlace (names ++ name ∷ []) (length names)
+own_place-push names name none =
+    let more : List (List ℕ) = names ++ name ∷ [] in
+    let is : place_of more name ≡ Some (length names) = place_of-push names name name none ∙ cond-true (bytes_eq name name) _ _ ((bytes_eq-Decides name name).1 refl) in
+    subst (λ (o : Option ℕ). IfSome o (IsOwnPlace more)) is (own_place more name)
+
+-- the name that stands at its own place is found there
+pub found_at_once : (names : List (List ℕ)) (place : ℕ) (name : List ℕ) → IsOwnPlace names place → slice_get names place ≡ Some name → place_of names name ≡ Some place
+found_at_once names place name own at = subst (λ (o : Option (List ℕ)). IfSome o (λ n. place_of names n ≡ Some place)) at own
+
+-- the name at a place is this one exactly where their bytes are equal
+pub same_name : (other name : List ℕ) (found : Option (List ℕ)) (same : Bool) → found ≡ Some other → same ≡ bytes_eq other name → (same ≡ true) ↔ (found ≡ Some name)
+same_name other name found same at is = (
+  λ yes. at ∙ ap (λ (n : List ℕ). Some n) ((bytes_eq-Decides other name).0 (sym is ∙ yes)),
+  λ here. let e : Some other ≡ Some name = sym at ∙ here in
+      let equal : other ≡ name = cc in
+      is ∙ (bytes_eq-Decides other name).1 equal,
+)
+
+-- at a place without a name there is none
+pub none_of_name : (name : List ℕ) (found : Option (List ℕ)) → found ≡ None → (false ≡ true) ↔ (found ≡ Some name)
+none_of_name name found none = (λ never. cc, λ here. cc)
+
 -- what stands at a place stays there where more follows
 pub slice_get-append : {A : Type 0} (xs ys : List A) (k : ℕ) (x : A) → slice_get xs k ≡ Some x → slice_get (xs ++ ys) k ≡ Some x
 slice_get-append {A = A} xs ys k x at =
@@ -92,3 +123,8 @@ pub places-push : (old new : BTreeMap (Vec ℕ Global) ℕ) (names : List (List 
     → UpdatesBy (λ x y. slice_cmp nat_cmp x.items y.items) (λ key. slice_cmp nat_cmp name key.items) old new (Some (length names)) → ArePlaces new (names ++ name ∷ [])
 places-push old new names name none places h q =
     updated_at name old new (Some (length names)) h q ∙ ap (cond (bytes_eq name q) (Some (length names))) (places q) ∙ sym (place_of-push names name q none)
+
+-- the same entries and the same names
+pub places-same : (old new : BTreeMap (Vec ℕ Global) ℕ) (names names' : List (List ℕ)) → new.entries ≡ old.entries → names' ≡ names → ArePlaces old names → ArePlaces new names'
+places-same old new names names' same kept places q =
+    ap (λ (es : List (Vec ℕ Global × ℕ)). lookup (is_at (λ key. slice_cmp nat_cmp q key.items)) es) same ∙ places q ∙ ap (λ (ns : List (List ℕ)). place_of ns q) (sym kept)

@@ -10,11 +10,12 @@ use Rattle.std.specs.List.{All, Contains, IsDistinct}
 use Rattle.std.specs.Prelude.{Result, Ok, Err, Option, IfOk, IfSome}
 use Rattle.pool_limits.specs.declared.numbers.Numbers.{Numbers}
 use Rattle.pool_limits.specs.declared.wants.Want.{Want}
+use Rattle.request_text.specs.declared.file_profile.FileProfile.{FileProfile}
 use Rattle.request_text.specs.declared.request.Directive.{Directive}
 use Rattle.request_text.specs.declared.request.Directive.TheVariants.{Module, Call, Retire}
 use Rattle.request_text.specs.declared.request.Reason.{Reason}
 use Rattle.request_text.specs.Tenants.{Tenants, for_after, tenant_after}
-use Rattle.request_text.specs.Text.{AreFlagged, AreRequests, Declared, IsNamed, IsOfTenant, IsPlacedFrom, ReadLines, call_count, declared_after, declared_by, is_call, is_retired, module_name, module_names, most_calls, most_modules, retired_place, retired_places, with_directive}
+use Rattle.request_text.specs.Text.{AreFlagged, AreRequests, Declared, HaveDeclared, IsNamed, IsOfTenant, IsPlacedFrom, ReadLines, call_count, declared_after, declared_by, is_call, is_retired, module_name, module_names, most_calls, most_modules, retired_place, retired_places, with_directive}
 use Rattle.request_text.specs.Reading.{HasRoom, declared_with}
 use Rattle.request_text.proofs.PlaceLemmas.{name_at, place_within, slice_get-append}
 use Rattle.request_text.proofs.TenantLemmas.{AddsTenant, for-keeps, tenant-adds}
@@ -186,6 +187,14 @@ requests_with before directive room are =
       few_calls = subst (λ (d : Declared). d.calls ≤ most_calls) more (few_calls_after (declared_by before) directive room are.few_calls);
       few_tenants = are.few_tenants;
     }
+
+-- what has not changed is declared as before
+pub declared-same : (profile : Option FileProfile) (before after : Declared) (directives directives' : List Directive) → after ≡ before → directives' ≡ directives
+    → HaveDeclared (record { profile = profile; tenants = before.tenants; directives = directives }) before
+    → HaveDeclared (record { profile = profile; tenants = after.tenants; directives = directives' }) after
+declared-same profile before after directives directives' same kept have =
+    subst (λ (d : Declared). HaveDeclared (record { profile = profile; tenants = d.tenants; directives = directives' }) d) (sym same)
+    (subst (λ (ds : List Directive). HaveDeclared (record { profile = profile; tenants = before.tenants; directives = ds }) before) (sym kept) have)
 
 -- no fewer tenants want a share, and few do
 pub record NoFewer (before after : Tenants) : Type 0 where

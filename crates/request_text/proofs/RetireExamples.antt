@@ -13,7 +13,7 @@ use Rattle.request_text.specs.declared.request.Reason.{Reason}
 use Rattle.request_text.specs.declared.request.Reason.TheVariants.{BadByte, UnknownDirective, BadWords, NameUsedTwice, UnknownModule, RetiredTwice}
 use Rattle.request_words.specs.Words.{line_words, number_up_to, place_of}
 use Rattle.request_text.specs.Profiles.{profile_of}
-use Rattle.request_text.specs.Tenants.{no_tenants, share_of, slots_in, tenant_after, tenants_with}
+use Rattle.request_text.specs.Tenants.{no_tenants, want_of, slots_in, tenant_after, tenants_with}
 use Rattle.request_text.specs.Text.{AreRequests, Asked, BadLine, Declared, FileRefusal, call_count, call_directive_of, call_of, directive_of, module_directive_of, is_retired, modules_of, profile_after, requests_after, requests_of, request_of, retire_directive_of, retired_places, send_directive_of, words_after}
 
 -- ---- the line
@@ -156,7 +156,7 @@ abbrev pools : Numbers
 pools = record { workers = 2; instances = 6; memories = 7; tables = 8; warm = 7; batch = 4; pages = 32; elements = 1024; depth = 128; frame = 1024 }
 
 tenant_is_no_module : requests_of pools (codes "profile 5\ntenant t 1 1 1 0\nretire t") ≡ refused 3 UnknownModule
-unfolding requests_of requests_after words_after profile_after profile_of line_words directive_of retire_directive_of tenant_after tenants_with place_of share_of slots_in number_up_to
+unfolding requests_of requests_after words_after profile_after profile_of line_words directive_of retire_directive_of tenant_after tenants_with place_of want_of slots_in number_up_to
 tenant_is_no_module = refl
 
 -- ---- what directives say

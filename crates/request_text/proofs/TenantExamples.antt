@@ -11,7 +11,7 @@ use Rattle.request_text.specs.declared.request.Reason.{Reason}
 use Rattle.request_text.specs.declared.request.Reason.TheVariants.{BadByte, UnknownDirective, LateProfile, BadWords, BadName, BadShare, NameUsedTwice, TooManyTenants, ShareTooLarge, UnknownModule, UnknownTenant}
 use Rattle.request_words.specs.Words.{line_words, number_up_to, place_of}
 use Rattle.request_text.specs.Profiles.{profile_of}
-use Rattle.request_text.specs.Tenants.{Tenants, for_after, share_number, share_of, slots_in, tenant_after, tenants_with}
+use Rattle.request_text.specs.Tenants.{Tenants, for_after, share_number, want_of, slots_in, tenant_after, tenants_with}
 use Rattle.request_text.specs.Text.{AreRequests, Asked, BadLine, FileRefusal, call_directive_of, call_of, directive_of, module_directive_of, profile_after, requests_after, requests_of, words_after}
 
 -- ---- the numbers of a share
@@ -55,28 +55,28 @@ one_warm_slot_more = refl
 abbrev want : (instances memories tables warm : ℕ) → Want
 want instances memories tables warm = record { instances = instances; memories = memories; tables = tables; warm = warm }
 
-in_their_order : share_of (codes "1") (codes "2") (codes "3") (codes "4") ≡ Ok (want 1 2 3 4)
-unfolding share_of slots_in number_up_to
+in_their_order : want_of (codes "1") (codes "2") (codes "3") (codes "4") ≡ Ok (want 1 2 3 4)
+unfolding want_of slots_in number_up_to
 in_their_order = refl
 
-without_warm_slots : share_of (codes "1") (codes "1") (codes "1") (codes "0") ≡ Ok (want 1 1 1 0)
-unfolding share_of slots_in number_up_to
+without_warm_slots : want_of (codes "1") (codes "1") (codes "1") (codes "0") ≡ Ok (want 1 1 1 0)
+unfolding want_of slots_in number_up_to
 without_warm_slots = refl
 
-no_instances : share_of (codes "0") (codes "1") (codes "1") (codes "0") ≡ Err BadShare
-unfolding share_of slots_in number_up_to
+no_instances : want_of (codes "0") (codes "1") (codes "1") (codes "0") ≡ Err BadShare
+unfolding want_of slots_in number_up_to
 no_instances = refl
 
-no_memories : share_of (codes "1") (codes "0") (codes "1") (codes "0") ≡ Err BadShare
-unfolding share_of slots_in number_up_to
+no_memories : want_of (codes "1") (codes "0") (codes "1") (codes "0") ≡ Err BadShare
+unfolding want_of slots_in number_up_to
 no_memories = refl
 
-no_tables : share_of (codes "1") (codes "1") (codes "0") (codes "0") ≡ Err BadShare
-unfolding share_of slots_in number_up_to
+no_tables : want_of (codes "1") (codes "1") (codes "0") (codes "0") ≡ Err BadShare
+unfolding want_of slots_in number_up_to
 no_tables = refl
 
-too_warm : share_of (codes "1") (codes "1") (codes "1") (codes "1025") ≡ Err BadShare
-unfolding share_of slots_in number_up_to
+too_warm : want_of (codes "1") (codes "1") (codes "1") (codes "1025") ≡ Err BadShare
+unfolding want_of slots_in number_up_to
 too_warm = refl
 
 -- ---- the line `tenant`
@@ -120,15 +120,15 @@ unfolding tenant_after
 name_before_share = refl
 
 longest_name : named (replicate 64 110) (codes "1") (codes "1") (codes "1") (codes "0") ≡ with_second (replicate 64 110) (want 1 1 1 0)
-unfolding tenant_after tenants_with place_of share_of slots_in number_up_to
+unfolding tenant_after tenants_with place_of want_of slots_in number_up_to
 longest_name = refl
 
 share_before_used_twice : named (codes "a") (codes "1") (codes "1") (codes "1") (codes "x") ≡ Err BadShare
-unfolding tenant_after share_of slots_in number_up_to
+unfolding tenant_after want_of slots_in number_up_to
 share_before_used_twice = refl
 
 used_twice_before_too_large : named (codes "a") (codes "9") (codes "1") (codes "1") (codes "0") ≡ Err NameUsedTwice
-unfolding tenant_after place_of share_of slots_in number_up_to
+unfolding tenant_after place_of want_of slots_in number_up_to
 used_twice_before_too_large = refl
 
 -- so many tenants, all named `m`
@@ -136,36 +136,36 @@ abbrev so_many : ℕ → Tenants
 so_many count = record { names = replicate count (codes "m"); wants = replicate count (want 1 1 1 0); current = 0 }
 
 used_twice_before_too_many : tenant_after greatest (so_many 15) (codes "m" ∷ codes "1" ∷ codes "1" ∷ codes "1" ∷ codes "0" ∷ []) ≡ Err NameUsedTwice
-unfolding tenant_after place_of share_of slots_in number_up_to
+unfolding tenant_after place_of want_of slots_in number_up_to
 used_twice_before_too_many = refl
 
 too_many_before_too_large : tenant_after greatest (so_many 15) (codes "n" ∷ codes "1024" ∷ codes "1" ∷ codes "1" ∷ codes "0" ∷ []) ≡ Err TooManyTenants
-unfolding tenant_after place_of share_of slots_in number_up_to
+unfolding tenant_after place_of want_of slots_in number_up_to
 too_many_before_too_large = refl
 
 fifteenth_too_large : tenant_after greatest (so_many 14) (codes "n" ∷ codes "1024" ∷ codes "1" ∷ codes "1" ∷ codes "0" ∷ []) ≡ Err ShareTooLarge
-unfolding tenant_after tenants_with place_of share_of slots_in number_up_to
+unfolding tenant_after tenants_with place_of want_of slots_in number_up_to
 fifteenth_too_large = refl
 
 -- with all slots of a kind but the lane's and one of tenant 0
 all_that_may_be_wanted : named (codes "b") (codes "2") (codes "3") (codes "4") (codes "5") ≡ with_second (codes "b") (want 2 3 4 5)
-unfolding tenant_after tenants_with place_of share_of slots_in number_up_to
+unfolding tenant_after tenants_with place_of want_of slots_in number_up_to
 all_that_may_be_wanted = refl
 
 one_instance_more : named (codes "b") (codes "3") (codes "3") (codes "4") (codes "5") ≡ Err ShareTooLarge
-unfolding tenant_after tenants_with place_of share_of slots_in number_up_to
+unfolding tenant_after tenants_with place_of want_of slots_in number_up_to
 one_instance_more = refl
 
 one_memory_more : named (codes "b") (codes "2") (codes "4") (codes "4") (codes "5") ≡ Err ShareTooLarge
-unfolding tenant_after tenants_with place_of share_of slots_in number_up_to
+unfolding tenant_after tenants_with place_of want_of slots_in number_up_to
 one_memory_more = refl
 
 one_table_more : named (codes "b") (codes "2") (codes "3") (codes "5") (codes "5") ≡ Err ShareTooLarge
-unfolding tenant_after tenants_with place_of share_of slots_in number_up_to
+unfolding tenant_after tenants_with place_of want_of slots_in number_up_to
 one_table_more = refl
 
 one_warm_more : named (codes "b") (codes "2") (codes "3") (codes "4") (codes "6") ≡ Err ShareTooLarge
-unfolding tenant_after tenants_with place_of share_of slots_in number_up_to
+unfolding tenant_after tenants_with place_of want_of slots_in number_up_to
 one_warm_more = refl
 
 -- ---- the line `for`
@@ -255,21 +255,21 @@ unfolding requests_of requests_after words_after profile_after profile_of line_w
 byte_before_words_of_for = refl
 
 profile_after_a_tenant : requests_of pools (codes "profile 4\ntenant a 1 1 1 0\nprofile 4") ≡ refused 3 LateProfile
-unfolding requests_of requests_after words_after profile_after profile_of line_words tenant_after tenants_with place_of share_of slots_in number_up_to
+unfolding requests_of requests_after words_after profile_after profile_of line_words tenant_after tenants_with place_of want_of slots_in number_up_to
 profile_after_a_tenant = refl
 
 wants_in_the_order_of_lines : requests_of pools (codes "profile 4\ntenant a 1 1 1 0\n#\ntenant b 2 2 2 2") ≡ asks (want 1 1 1 0 ∷ want 2 2 2 2 ∷ []) []
-unfolding requests_of requests_after words_after profile_after profile_of line_words tenant_after tenants_with place_of share_of slots_in number_up_to
+unfolding requests_of requests_after words_after profile_after profile_of line_words tenant_after tenants_with place_of want_of slots_in number_up_to
 wants_in_the_order_of_lines = refl
 
 -- with one slot of each kind nothing is left beside the lane's
 nothing_to_share : requests_of (record pools { workers = 1; instances = 1; memories = 1; tables = 1 }) (codes "profile 4\ntenant a 1 1 1 0") ≡ refused 2 ShareTooLarge
-unfolding requests_of requests_after words_after profile_after profile_of line_words tenant_after tenants_with place_of share_of slots_in number_up_to
+unfolding requests_of requests_after words_after profile_after profile_of line_words tenant_after tenants_with place_of want_of slots_in number_up_to
 nothing_to_share = refl
 
 -- a tenant and a module may have one name, which leads to each by its own lines
 one_name_of_two : requests_of pools (codes "profile 4\nmodule m 00\ntenant m 1 1 1 0\nfor m\ncall m f 5") ≡ asks (want 1 1 1 0 ∷ []) (module_m ∷ call 1 5 ∷ [])
-unfolding requests_of requests_after words_after profile_after profile_of line_words directive_of module_directive_of call_directive_of call_of decode_pairs tenant_after tenants_with for_after place_of share_of slots_in number_up_to
+unfolding requests_of requests_after words_after profile_after profile_of line_words directive_of module_directive_of call_directive_of call_of decode_pairs tenant_after tenants_with for_after place_of want_of slots_in number_up_to
 one_name_of_two = refl
 
 module_is_no_tenant : requests_of pools (codes "profile 4\nmodule m 00\nfor m") ≡ refused 3 UnknownTenant
@@ -277,7 +277,7 @@ unfolding requests_of requests_after words_after profile_after profile_of line_w
 module_is_no_tenant = refl
 
 tenant_is_no_module : requests_of pools (codes "profile 4\ntenant m 1 1 1 0\ncall m f 5") ≡ refused 3 UnknownModule
-unfolding requests_of requests_after words_after profile_after profile_of line_words directive_of call_directive_of tenant_after tenants_with place_of share_of slots_in number_up_to
+unfolding requests_of requests_after words_after profile_after profile_of line_words directive_of call_directive_of tenant_after tenants_with place_of want_of slots_in number_up_to
 tenant_is_no_module = refl
 
 later_tenant_is_unknown : requests_of pools (codes "profile 4\nfor a\ntenant a 1 1 1 0") ≡ refused 2 UnknownTenant
@@ -286,13 +286,13 @@ later_tenant_is_unknown = refl
 
 -- a call before any `for` is tenant 0's
 calls_of_tenant_0 : requests_of pools (codes "profile 4\nmodule m 00\ncall m f 5\ntenant a 1 1 1 0\ncall m f 6") ≡ asks (want 1 1 1 0 ∷ []) (module_m ∷ call 0 5 ∷ call 0 6 ∷ [])
-unfolding requests_of requests_after words_after profile_after profile_of line_words directive_of module_directive_of call_directive_of call_of decode_pairs tenant_after tenants_with place_of share_of slots_in number_up_to
+unfolding requests_of requests_after words_after profile_after profile_of line_words directive_of module_directive_of call_directive_of call_of decode_pairs tenant_after tenants_with place_of want_of slots_in number_up_to
 calls_of_tenant_0 = refl
 
 -- those after it are its tenant's until the next, whatever other lines stand between
 calls_until_the_next : requests_of pools (codes "profile 4\nmodule m 00\ntenant a 1 1 1 0\ntenant b 1 1 1 0\nfor b\ncall m f 5\n\ntenant c 1 1 1 0\nmodule n 00\ncall m f 6\nfor a\ncall m f 7")
     ≡ asks (want 1 1 1 0 ∷ want 1 1 1 0 ∷ want 1 1 1 0 ∷ []) (module_m ∷ call 2 5 ∷ Module (codes "n") (0 ∷ []) ∷ call 2 6 ∷ call 1 7 ∷ [])
-unfolding requests_of requests_after words_after profile_after profile_of line_words directive_of module_directive_of call_directive_of call_of decode_pairs tenant_after tenants_with for_after place_of share_of slots_in number_up_to
+unfolding requests_of requests_after words_after profile_after profile_of line_words directive_of module_directive_of call_directive_of call_of decode_pairs tenant_after tenants_with for_after place_of want_of slots_in number_up_to
 calls_until_the_next = refl
 
 -- without these lines too

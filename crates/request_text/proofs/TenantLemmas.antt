@@ -2,12 +2,10 @@
 use Rattle.std.proofs.Common.{◌≡◌, ℕ, ◌+◌, ◌<◌, ◌≤◌, Bool, true, false, List, [], ◌∷◌, ◌++◌, length, refl, ap, ◌∙◌, arith}
 use Rattle.std.specs.Prelude.{Option, Some, None, Result, Ok, Err, IfOk, is_none, nat_le, nat_lt}
 use Rattle.std.specs.List.{All}
-use Rattle.std.specs.Option.{ok_or, option_or, option_map}
+use Rattle.std.specs.Option.{ok_or, option_or}
 use Rattle.std.proofs.lemmas.Bool.{cond-false, le-ltb}
 use Rattle.std.proofs.lemmas.Bool.Decides.{nat_tests}
-use Rattle.std.proofs.lemmas.List.Elements.{All-head, All-tail}
 use Rattle.pool_limits.specs.declared.numbers.Numbers.{Numbers}
-use Rattle.pool_limits.specs.declared.wants.Part.{Part}
 use Rattle.pool_limits.specs.declared.wants.PlanFault.{PlanFault}
 use Rattle.pool_limits.specs.declared.wants.PlanFault.TheVariants.{BadShare}
 use Rattle.pool_limits.specs.declared.wants.Want.{Want}
@@ -16,7 +14,7 @@ use Rattle.pool_limits.proofs.WantLemmas.{none_bad}
 use Rattle.request_text.specs.declared.request.Reason.{Reason}
 use Rattle.request_text.specs.declared.request.Reason.TheVariants as why
 use Rattle.request_text.specs.Ladder.{◌>>=◌, demand}
-use Rattle.request_text.specs.Tenants.{Tenants, for_after, share_number, share_of, slots_in, tenant_after, tenant_named, tenants_with}
+use Rattle.request_text.specs.Tenants.{Tenants, for_after, share_number, want_of, slots_in, tenant_after, tenant_named, tenants_with}
 
 -- ---- what can't be had
 
@@ -49,8 +47,8 @@ slots-some word =
     step-IfOk (share_number word) _ (λ _. Unit {0}) _ (any-IfOk (share_number word)) (λ slots _.
     step-IfOk (demand (nat_le 1 slots) why.BadShare) _ (λ _. nat_le 1 slots ≡ true) _ (demand-IfOk (nat_le 1 slots) why.BadShare) (λ _ some. grind (arith, nat_tests)))
 
-share-has_slots : (instances memories tables warm : List ℕ) → IfOk (share_of instances memories tables warm) HasSlots
-unfolding share_of
+share-has_slots : (instances memories tables warm : List ℕ) → IfOk (want_of instances memories tables warm) HasSlots
+unfolding want_of
 share-has_slots instances memories tables warm =
     step-IfOk (slots_in instances) _ (λ i. 1 ≤ i) _ (slots-some instances) (λ i some_instances.
     step-IfOk (slots_in memories) _ (λ m. 1 ≤ m) _ (slots-some memories) (λ m some_memories.
@@ -81,7 +79,7 @@ pub tenant-adds : (n : Numbers) (before : Tenants) (words : List (List ℕ)) →
 unfolding tenant_after
 tenant-adds n before (name ∷ instances ∷ memories ∷ tables ∷ warm ∷ []) =
     step-IfOk (demand (nat_le (length name) 64) why.BadName) _ (λ _. Unit {0}) _ (any-IfOk (demand (nat_le (length name) 64) why.BadName)) (λ _ _.
-    step-IfOk (share_of instances memories tables warm) _ HasSlots _ (share-has_slots instances memories tables warm) (λ want slots.
+    step-IfOk (want_of instances memories tables warm) _ HasSlots _ (share-has_slots instances memories tables warm) (λ want slots.
     step-IfOk (demand (is_none (tenant_named before name)) why.NameUsedTwice) _ (λ _. Unit {0}) _ (any-IfOk (demand (is_none (tenant_named before name)) why.NameUsedTwice)) (λ _ _.
     step-IfOk (demand (nat_lt (length before.wants) 15) why.TooManyTenants) _ (λ _. nat_lt (length before.wants) 15 ≡ true) _ (demand-IfOk (nat_lt (length before.wants) 15) why.TooManyTenants) (λ _ few.
     joined n before name want slots (grind (arith, nat_tests))))))

@@ -1,7 +1,7 @@
 -- How the reader's answers agree with the definition of the request text.
 use Rattle.std.specs.Global.{Global}
-use Rattle.std.specs.Prelude.{None, Some, Vec, ◌≡◌, ◌<◌, ◌≤◌, ℕ, Bool, false, List, length, Result, Ok, Err, MatchResult, ⊤}
-use Rattle.std.specs.List.{All}
+use Rattle.std.specs.Prelude.{None, Some, Vec, ◌≡◌, ◌<◌, ◌≤◌, ℕ, Bool, false, List, length, Result, Ok, Err, IfSome, MatchResult, ⊤}
+use Rattle.std.specs.List.{All, slice_get}
 use Rattle.request_text.specs.declared.request.Directive.{Directive}
 use Rattle.request_text.specs.declared.request.Directive.TheVariants.{Module, Call, Retire}
 use Rattle.request_text.specs.declared.request.Reason.{Reason}
@@ -27,6 +27,10 @@ Explains judged.NoMemory meaning = ⊤
 abbrev pub Agrees : {A : Type 0} → Result A LineFault → Result A Reason → Type 0
 Agrees result meaning = MatchResult result (λ x. meaning ≡ Ok x) (λ fault. Explains fault meaning)
 
+-- what a line leaves is the definition's, where it is read; a refusal is the definition's too, but for want of memory
+abbrev pub Leaves : {T A : Type 0} → Result T LineFault → (left : A) → Result A Reason → Type 0
+Leaves result left meaning = MatchResult result (λ _. meaning ≡ Ok left) (λ fault. Explains fault meaning)
+
 -- the parser's fault for that of the line with this number
 abbrev pub fault_at : ℕ → LineFault → ParseFault
 fault_at line (judged.Refused reason) = TextFault line reason
@@ -41,6 +45,15 @@ Reports NoMemory meaning = ⊤
 -- the map has the place of each name, and no other name
 abbrev pub ArePlaces : BTreeMap (Vec ℕ Global) ℕ → List (List ℕ) → Type 0
 ArePlaces places names = (name : List ℕ) → get_by (λ key. slice_cmp nat_cmp name key.items) places ≡ place_of names name
+
+-- the module at this place is found there by its name; behind the last place there is none
+abbrev pub IsOwnPlace : (names : List (List ℕ)) → (place : ℕ) → Type 0
+IsOwnPlace names place = IfSome (slice_get names place) (λ name. place_of names name ≡ Some place)
+
+-- the map has the places of the names, and the place that was named last is its name's own
+pub record AreFound (places : BTreeMap (Vec ℕ Global) ℕ) (recent : ℕ) (names : List (List ℕ)) : Type 0 where
+  pub by_name : ArePlaces places names
+  pub at_once : IsOwnPlace names recent
 
 -- Each tenant has a name and a share, few share, and the calls that follow are those of tenant 0 or of one of them.
 pub record AreTenants (tenants : Tenants) : Type 0 where
@@ -57,6 +70,7 @@ AreRetired places retired = (place : ℕ) → contains nat_cmp places place ≡ 
 pub record TakesCall (before : Declared) (tenant place : ℕ) (retired : Bool) : Type 0 where
   pub few : before.calls < most_calls
   pub placed : place < length before.names
+  pub own : IsOwnPlace before.names place
   pub flagged : retired ≡ is_retired before.retired place
   pub by_tenant : tenant ≤ length before.tenants.wants
 

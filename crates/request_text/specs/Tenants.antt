@@ -36,8 +36,8 @@ slots_in word = do
   Ok slots
 
 -- what four words want: slots of each kind, and how many of the memories and of the tables may be warm, which may be none
-unfoldable pub share_of : (instance_word memory_word table_word warm_word : List ℕ) → Result Want Reason
-share_of instance_word memory_word table_word warm_word = do
+unfoldable pub want_of : (instance_word memory_word table_word warm_word : List ℕ) → Result Want Reason
+want_of instance_word memory_word table_word warm_word = do
   instances ← slots_in instance_word
   memories ← slots_in memory_word
   tables ← slots_in table_word
@@ -54,7 +54,7 @@ tenants_with numbers before name want = do
 unfoldable pub tenant_after : Numbers → Tenants → List (List ℕ) → Result Tenants Reason
 tenant_after numbers before (name ∷ instances ∷ memories ∷ tables ∷ warm ∷ []) = do
   _ ← demand (nat_le (length name) 64) BadName
-  want ← share_of instances memories tables warm
+  want ← want_of instances memories tables warm
   _ ← demand (is_none (tenant_named before name)) NameUsedTwice
   _ ← demand (nat_lt (length before.wants) 15) TooManyTenants
   tenants_with numbers before name want

@@ -3,7 +3,7 @@ ghost use Rattle.std.specs.Prelude.{◌≡◌, ◌<◌, IfOk, length};
 ghost use Rattle.std.specs.Option.{ok_or, option_map};
 ghost use Rattle.request_words.specs.Words.{arguments_of, hex_bytes, line_words};
 ghost use Rattle.request_text.specs.Text.{call_directive_of, call_of, directive_of, module_directive_of, request_of, retire_directive_of, send_directive_of};
-ghost use Rattle.request_text.specs.Reading.{Agrees, HasRoom};
+ghost use Rattle.request_text.specs.Reading.{Agrees, HasRoom, IsOwnPlace};
 
 use crate::fault::LineFault;
 use crate::file_profile::FileProfile;
@@ -42,6 +42,7 @@ fn hex_bytes(alloc: Global, digits: &[u8], reason: Reason) -> Result<Items<u8>, 
 }
 
 // What the words after `module` ask for.
+#[inline(never)]
 #[tactic(auto, unfolding(crate::specs::Text::module_directive_of))]
 fn module_directive(alloc: Global, scope: &Scope, words: &[u8]) -> Result<Directive, LineFault>
     ensures meaning { Agrees result (module_directive_of scope.now (line_words words.now)) }
@@ -95,6 +96,7 @@ fn request(alloc: Global, word: &[u8]) -> Result<Payload, LineFault>
 }
 
 // A call of the module at this place, which may be retired, with the arguments that the words are, by the tenant whose calls follow.
+#[inline(always)]
 #[tactic(auto, unfolding(crate::specs::Text::call_of))]
 fn call(
     alloc: Global,
@@ -105,7 +107,8 @@ fn call(
     request: Option<Payload>,
     words: &[u8],
 ) -> Result<Directive, LineFault>
-    requires { place < length scope.now.names }
+    requires placed { place < length scope.now.names }
+    requires own { IsOwnPlace scope.now.names place }
     ensures meaning { Agrees result (call_of scope.now place export.now fuel request (line_words words.now)) }
     ensures room { IfOk result (HasRoom scope.now) }
 {
@@ -142,6 +145,7 @@ fn call_directive(alloc: Global, scope: &Scope, words: &[u8]) -> Result<Directiv
 }
 
 // What the words after `send` ask for.
+#[inline(never)]
 #[tactic(auto, unfolding(crate::specs::Text::send_directive_of))]
 fn send_directive(alloc: Global, scope: &Scope, words: &[u8]) -> Result<Directive, LineFault>
     ensures meaning { Agrees result (send_directive_of scope.now (line_words words.now)) }
@@ -158,6 +162,7 @@ fn send_directive(alloc: Global, scope: &Scope, words: &[u8]) -> Result<Directiv
 }
 
 // What the words after `retire` ask for.
+#[inline(never)]
 #[tactic(auto, unfolding(crate::specs::Text::retire_directive_of))]
 fn retire_directive(alloc: Global, scope: &Scope, words: &[u8]) -> Result<Directive, LineFault>
     ensures meaning { Agrees result (retire_directive_of scope.now (line_words words.now)) }

@@ -10,7 +10,7 @@ mod parser;
 mod reading;
 mod refusal;
 mod request;
-mod retired;
+mod retired_places;
 mod scope;
 mod tenants;
 

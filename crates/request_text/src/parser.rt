@@ -34,11 +34,10 @@ fn read_lines(alloc: Global, config: &PoolConfig, text: &[u8]) -> Result<Reading
     while let Some(rest) = left {
         let (line, after) = next_line(rest);
         number += 1;
-        reading = match reading.after(alloc, config, line) {
-            Ok(reading) => reading,
+        match reading.read(alloc, config, line) {
+            Ok(()) => left = after,
             Err(fault) => return Err(at_line(number, fault)),
-        };
-        left = after;
+        }
     }
     Ok(reading)
 }

@@ -1,10 +1,10 @@
 //! What was read so far.
-ghost use Rattle.std.specs.Prelude.{◌≡◌, IfOk, IfErr, false};
+ghost use Rattle.std.specs.Prelude.{◌≡◌, IfErr, OnOk, false};
 ghost use Rattle.request_words.specs.Words.{line_words};
 ghost use Rattle.request_text.specs.Profiles.{runs_whole};
 ghost use Rattle.request_text.specs.Tenants.{for_after, tenant_after};
-ghost use Rattle.request_text.specs.Text.{MayRunInSlices, asked_by, declared_by, directive_of, nothing_read, profile_after, profile_in, requests_after, with_directive, with_tenants, words_after};
-ghost use Rattle.request_text.specs.Reading.{Agrees, HasRoom};
+ghost use Rattle.request_text.specs.Text.{MayRunInSlices, asked_by, declared_by, nothing_read, profile_after, profile_in, requests_after, with_directive, with_tenants, words_after};
+ghost use Rattle.request_text.specs.Reading.{Agrees, HasRoom, Leaves};
 
 use crate::directive::line_directive;
 use crate::fault::LineFault;
@@ -15,6 +15,7 @@ use pool_limits::PoolConfig;
 use request_words::{is_comment, is_printable, next_word};
 use std::alloc::Global;
 use std::marker::Model;
+use std::mem;
 
 // The profile and the directives that were read so far, and what the next line is judged by.
 #[derive(Drop)]
@@ -53,24 +54,16 @@ impl Reading {
         self.profile.unwrap_or(FileProfile::One)
     }
 
-    // The reading with one more directive.
-    fn with(self, alloc: Global, directive: Directive) -> Result<Reading, LineFault>
-        requires { HasRoom (declared_by self) directive }
-        ensures more { IfOk result (λ reading. reading ≡ with_directive self directive) }
+    // Adds one more directive.
+    fn add(&mut self, alloc: Global, directive: Directive) -> Result<(), LineFault>
+        requires { HasRoom (declared_by self.old) directive }
+        ensures more { OnOk result (self.new ≡ with_directive self.old directive) }
         ensures memory { IfErr result (λ fault. fault ≡ LineFault.NoMemory) }
     {
-        let Reading {
-            profile,
-            mut directives,
-            scope,
-        } = self;
-        let scope = scope.after(alloc, &directive)?;
-        directives.push(directive).map_err(|_| LineFault::NoMemory)?;
-        Ok(Reading {
-            profile,
-            directives,
-            scope,
-        })
+        self.directives.reserve(1).map_err(|_| LineFault::NoMemory)?;
+        self.scope.add(alloc, &directive)?;
+        self.directives.push_reserved(directive);
+        Ok(())
     }
 
     // The reading once the words after `profile` are read.
@@ -82,15 +75,9 @@ impl Reading {
             return Err(Reason::LateProfile);
         }
         let profile = FileProfile::read(words)?;
-        let Reading {
-            profile: _,
-            directives,
-            scope,
-        } = self;
         Ok(Reading {
             profile: Some(profile),
-            directives,
-            scope,
+            ..self
         })
     }
 
@@ -103,79 +90,96 @@ impl Reading {
     ) -> Result<Reading, LineFault>
         ensures { Agrees result (with_tenants self (tenant_after config.now self.tenants (line_words words.now))) }
     {
-        let Reading {
-            profile,
-            directives,
-            scope,
-        } = self;
-        let scope = scope.after_tenant(alloc, config, words)?;
-        Ok(Reading {
-            profile,
-            directives,
-            scope,
-        })
+        let scope = self.scope.after_tenant(alloc, config, words)?;
+        Ok(Reading { scope, ..self })
     }
 
     // The reading once the words after `for` are read.
     fn after_for(self, words: &[u8]) -> Result<Reading, Reason>
         ensures { result ≡ with_tenants self (for_after self.tenants (line_words words.now)) }
     {
-        let Reading {
-            profile,
-            directives,
-            scope,
-        } = self;
-        let scope = scope.after_for(words)?;
-        Ok(Reading {
-            profile,
-            directives,
-            scope,
-        })
+        let scope = self.scope.after_for(words)?;
+        Ok(Reading { scope, ..self })
     }
 
-    // The reading once a line of these words is read.
-    #[tactic(auto, unfolding(crate::specs::Text::words_after))]
-    fn after_words(
-        self,
+    // Reads the words after `profile`.
+    #[inline(never)]
+    fn read_profile(&mut self, alloc: Global, words: &[u8]) -> Result<(), LineFault>
+        ensures { Leaves result self.new (profile_after self.old (line_words words.now)) }
+    {
+        let before = mem::replace(self, Reading::new(alloc));
+        *self = before.after_profile(words)?;
+        Ok(())
+    }
+
+    // Reads the words after `tenant`.
+    #[inline(never)]
+    fn read_tenant(
+        &mut self,
         alloc: Global,
         config: &PoolConfig,
         words: &[u8],
-    ) -> Result<Reading, LineFault>
-        ensures { Agrees result (words_after config.now self (line_words words.now)) }
+    ) -> Result<(), LineFault>
+        ensures { Leaves result self.new (with_tenants self.old (tenant_after config.now self.old.tenants (line_words words.now))) }
+    {
+        let before = mem::replace(self, Reading::new(alloc));
+        *self = before.after_tenant(alloc, config, words)?;
+        Ok(())
+    }
+
+    // Reads the words after `for`.
+    #[inline(never)]
+    fn read_for(&mut self, alloc: Global, words: &[u8]) -> Result<(), LineFault>
+        ensures { Leaves result self.new (with_tenants self.old (for_after self.old.tenants (line_words words.now))) }
+    {
+        let before = mem::replace(self, Reading::new(alloc));
+        *self = before.after_for(words)?;
+        Ok(())
+    }
+
+    // Reads a line of these words.
+    #[tactic(auto, unfolding(crate::specs::Text::words_after))]
+    fn read_words(
+        &mut self,
+        alloc: Global,
+        config: &PoolConfig,
+        words: &[u8],
+    ) -> Result<(), LineFault>
+        ensures { Leaves result self.new (words_after config.now self.old (line_words words.now)) }
     {
         let Some((word, rest)) = next_word(words) else {
-            return Ok(self);
+            return Ok(());
         };
         let profile = self.profile();
         if word == b"profile".as_slice() {
-            Ok(self.after_profile(rest)?)
+            self.read_profile(alloc, rest)
         } else if profile.has_tenants() && word == b"tenant".as_slice() {
-            self.after_tenant(alloc, config, rest)
+            self.read_tenant(alloc, config, rest)
         } else if profile.has_tenants() && word == b"for".as_slice() {
-            Ok(self.after_for(rest)?)
+            self.read_for(alloc, rest)
         } else {
             let directive = line_directive(alloc, profile, &self.scope, word, rest)?;
-            self.with(alloc, directive)
+            self.add(alloc, directive)
         }
     }
 
-    // The reading once this line is read.
+    // Reads one more line. Nothing is read behind a line that is refused, so what is left then is not said.
     #[tactic(auto, unfolding(crate::specs::Text::requests_after))]
-    pub(crate) fn after(
-        self,
+    pub(crate) fn read(
+        &mut self,
         alloc: Global,
         config: &PoolConfig,
         line: &[u8],
-    ) -> Result<Reading, LineFault>
-        ensures { Agrees result (requests_after config.now self line.now) }
+    ) -> Result<(), LineFault>
+        ensures { Leaves result self.new (requests_after config.now self.old line.now) }
     {
         if is_comment(line) {
-            return Ok(self);
+            return Ok(());
         }
         if !is_printable(line) {
             return Err(LineFault::Refused(Reason::BadByte));
         }
-        self.after_words(alloc, config, line)
+        self.read_words(alloc, config, line)
     }
 
     // What a file of the lines that were read asks for. Takes no memory.

@@ -3,7 +3,7 @@ ghost use Rattle.std.specs.Prelude.{◌≡◌, ◌<◌, ◌≤◌, length, is_no
 ghost use Rattle.std.specs.List.{All};
 ghost use Rattle.pool_limits.specs.Plans.{first_over, HasSlots};
 ghost use Rattle.request_words.specs.Words.{line_words, place_of};
-ghost use Rattle.request_text.specs.Tenants.{for_after, no_tenants, share_number, share_of, slots_in, tenant_after, tenant_named, tenants_with};
+ghost use Rattle.request_text.specs.Tenants.{for_after, no_tenants, share_number, want_of, slots_in, tenant_after, tenant_named, tenants_with};
 ghost use Rattle.request_text.specs.Reading.{Agrees};
 
 use crate::fault::LineFault;
@@ -59,9 +59,9 @@ fn slots(word: &[u8]) -> Result<u32, Reason>
 }
 
 // What four words want.
-#[tactic(auto, unfolding(crate::specs::Tenants::share_of))]
+#[tactic(auto, unfolding(crate::specs::Tenants::want_of))]
 fn share(instances: &[u8], memories: &[u8], tables: &[u8], warm: &[u8]) -> Result<Want, Reason>
-    ensures share { result ≡ share_of instances.now memories.now tables.now warm.now }
+    ensures share { result ≡ want_of instances.now memories.now tables.now warm.now }
     ensures slots { IfOk result HasSlots }
 {
     Ok(Want {
@@ -204,15 +204,6 @@ impl TenantScope {
             return Err(Reason::BadName);
         }
         let current = self.named(name).ok_or(Reason::UnknownTenant)?;
-        let TenantScope {
-            names,
-            wants,
-            current: _,
-        } = self;
-        Ok(TenantScope {
-            names,
-            wants,
-            current,
-        })
+        Ok(TenantScope { current, ..self })
     }
 }

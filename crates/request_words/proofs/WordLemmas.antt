@@ -5,7 +5,7 @@ use Rattle.std.proofs.Common.{subst}
 use Rattle.std.specs.Prelude.{IfSome, Option}
 use Rattle.std.proofs.lemmas.Bool.{cond-true, cond-false, false_from_ne_true, le-ltb, lt-ltb, ltb-true, not-true}
 use Rattle.std.proofs.lemmas.Bool.Decides.{nat_tests}
-use Rattle.std.proofs.lemmas.List.{drop_all, get_or-take, length-take}
+use Rattle.std.proofs.lemmas.List.{drop_all, take_all}
 use Rattle.std.proofs.lemmas.List.Quantifiers.{position-Some}
 use Rattle.std.proofs.lemmas.List.Splits.{slice_split_first, slice_split_none}
 use Rattle.std.proofs.lemmas.List.Sums.{fails_before_first, position_or_len_is}
@@ -30,16 +30,6 @@ first_is_position p xs (Some k) (first, passes) =
 pub first_within : (p : ℕ → Bool) (xs : List ℕ) (r : Option ℕ) → IsFirstByte p xs r → IfSome r (λ k. k < length xs)
 first_within p xs None none = tt
 first_within p xs (Some k) (first, passes) = first.high
-
--- what is found among the first elements is the first of all
-pub position-near : (p : ℕ → Bool) (n k : ℕ) (xs : List ℕ) → position p (take n xs) ≡ Some k → position p xs ≡ Some k
-position-near p n k xs found =
-    let at = position-Some p (take n xs) k 0 found in
-    let short = length-take n xs in
-    let here : position_or_len p xs ≡ k = position_or_len_is p xs k 0 (omega (arith, short, at.0))
-    (λ j lt. ap p (sym (get_or-take n xs j 0 (omega (arith, short, at.0)))) ∙ at.2 j lt)
-    (λ lt. ap p (sym (get_or-take n xs k 0 (omega (arith, short, at.0)))) ∙ at.1) in
-    cond-true _ _ _ (lt-ltb (position_or_len p xs) (length xs) (omega (arith, here, short, at.0))) ∙ ap Some here
 
 -- ---- lines
 
@@ -123,6 +113,28 @@ words-word b rest other =
 
     kept : filter is_word (take (position_or_len is_space (b ∷ rest)) (b ∷ rest) ∷ later) ≡ take (position_or_len is_space (b ∷ rest)) (b ∷ rest) ∷ filter is_word later
     kept = let one : 1 + position_or_len is_space rest ≡ suc (position_or_len is_space rest) = omega arith in rw (other, one) refl
+
+-- a text with a space begins with the bytes before it
+pub word-ends : (text : List ℕ) (end : ℕ) → position is_space text ≡ Some end → take end text ≡ take (position_or_len is_space text) text
+word-ends text end found = ap (λ (n : ℕ). take n text) (sym (cond_some _ _ _ found).1)
+
+-- and behind it are the words of what follows those bytes
+pub words-after_space : (text : List ℕ) (end : ℕ) → position is_space text ≡ Some end → line_words (drop (end + 1) text) ≡ line_words (drop (position_or_len is_space text) text)
+words-after_space text end found =
+    let at = position-Some is_space text end 0 found in
+    let here = drop-cons text end 0 at.0 in
+    let one : end + 1 ≡ suc end = omega arith in
+    ap (λ n. line_words (drop n text)) one ∙ sym (words-space _ _ at.1) ∙ ap line_words (sym here) ∙ ap (λ n. line_words (drop n text)) (sym (cond_some _ _ _ found).1)
+
+-- one without a space is a word, with nothing behind it
+none_before : (text : List ℕ) → position is_space text ≡ None → length text ≤ position_or_len is_space text
+none_before text none = grind (arith, nat_tests)
+
+pub word-is_all : (text : List ℕ) → position is_space text ≡ None → text ≡ take (position_or_len is_space text) text
+word-is_all text none = sym (take_all (position_or_len is_space text) text (none_before text none))
+
+pub words-after_all : (text : List ℕ) → position is_space text ≡ None → line_words (drop (length text) text) ≡ line_words (drop (position_or_len is_space text) text)
+words-after_all text none = ap line_words (drop_all (length text) text (omega arith) ∙ sym (drop_all (position_or_len is_space text) text (none_before text none)))
 
 -- a line of spaces has no words
 pub words-none : (line : List ℕ) → position is_other line ≡ None → line_words line ≡ []

@@ -1,26 +1,11 @@
 //! What a word stands for: a fuel, an argument.
-ghost use Rattle.std.specs.Prelude.{◌≡◌, ◌+◌, ◌-◌, ◌*◌, ◌^◌, ◌≤◌, ◌&&◌, true, not, IfSome, MatchOption};
+ghost use Rattle.std.specs.Prelude.{◌≡◌, ◌+◌, ◌-◌, ◌*◌, ◌^◌, ◌≤◌, true, IfSome, MatchOption};
 ghost use Rattle.std.specs.Char.{is_ascii_digit};
 ghost use Rattle.std.specs.List.{list_all};
 ghost use Rattle.std.specs.Str.Parse.{digits_value};
-ghost use Rattle.request_words.specs.Words.{is_empty, number_up_to, fuel_of, integer_of, argument_of};
+ghost use Rattle.request_words.specs.Words.{number_up_to, fuel_of, integer_of, argument_of};
 
 use wasm_values::Val;
-
-// Whether each byte is a digit.
-fn are_digits(word: &[u8]) -> bool
-    ensures { result ≡ list_all is_ascii_digit word.now }
-{
-    word.iter().all(|byte| byte.is_ascii_digit())
-}
-
-// Whether a word is digits alone.
-#[tactic(auto, using(crate::proofs::NumberLemmas::empty_is))]
-fn is_numeral(word: &[u8]) -> bool
-    ensures { result ≡ (not (is_empty word.now) && list_all is_ascii_digit word.now) }
-{
-    !word.is_empty() && are_digits(word)
-}
 
 // The number with one digit more behind it, if that is below 2^64.
 fn with_digit(number: u64, digit: u8) -> Option<u64>
@@ -30,25 +15,28 @@ fn with_digit(number: u64, digit: u8) -> Option<u64>
     number.checked_mul(10)?.checked_add(u64::from(digit - b'0'))
 }
 
-// The number that digits write, if it is below 2^64.
-fn number(digits: &[u8]) -> Option<u64>
-    requires { list_all is_ascii_digit digits.now ≡ true }
-    ensures { MatchOption result (2 ^ 64 ≤ digits_value 10 digits.now) (λ n. n ≡ digits_value 10 digits.now) }
+// The number that a word of digits writes, if it is below 2^64. Each byte is looked at once.
+fn number(word: &[u8]) -> Option<u64>
+    ensures { MatchOption result (list_all is_ascii_digit word.now ≡ true → 2 ^ 64 ≤ digits_value 10 word.now)
+        (λ n. (list_all is_ascii_digit word.now ≡ true) × (n ≡ digits_value 10 word.now)) }
 {
     let mut number = 0;
-    for digit in digits {
-        number = with_digit(number, *digit)?;
+    for byte in word {
+        if !byte.is_ascii_digit() {
+            return None;
+        }
+        number = with_digit(number, *byte)?;
     }
     Some(number)
 }
 
 /// The number that a word of digits alone writes, if it is at most `most`.
-#[tactic(auto, unfolding(crate::specs::Words::number_up_to))]
+#[tactic(auto, unfolding(crate::specs::Words::number_up_to), using(crate::proofs::NumberLemmas::empty_is))]
 pub fn number_up_to(most: u64, word: &[u8]) -> Option<u64>
     ensures value { result ≡ number_up_to most word.now }
     ensures within { IfSome result (λ n. n ≤ most) }
 {
-    if !is_numeral(word) {
+    if word.is_empty() {
         return None;
     }
     let number = number(word)?;
@@ -56,6 +44,7 @@ pub fn number_up_to(most: u64, word: &[u8]) -> Option<u64>
 }
 
 /// The fuel that a word gives.
+#[inline(always)]
 pub fn fuel(word: &[u8]) -> Option<u32>
     ensures { result ≡ fuel_of word.now }
 {

@@ -5,8 +5,8 @@ ghost use Rattle.request_words.specs.Words.{is_comment, is_printable, line_words
 
 use memchr::memchr;
 
-// How many bytes a short word has at most.
-const SHORT_WORD: usize = 16;
+// How many bytes a short text has at most.
+const SHORT_TEXT: usize = 64;
 
 // Where a byte first stands in a text, if it stands there.
 fn first_place(byte: u8, text: &[u8]) -> Option<usize>
@@ -39,29 +39,32 @@ fn word_start(line: &[u8]) -> Option<usize>
 // Where the first space of a text is, if it has one, looking at byte after byte.
 fn near_space(text: &[u8]) -> Option<usize>
     ensures place { result ≡ position (λ b. b == 32) text.now }
+    ensures within { IfSome result (λ place. place < length text.now) }
 {
     text.iter().position(|byte| *byte == b' ')
 }
 
-// Where the first space of a text is, if it has one. Most words are short, so it looks at some bytes one by one first.
+// Where the first space of a text is, if it has one. Most lines are short, and a search costs as much as some bytes looked at one by one.
 fn first_space(text: &[u8]) -> Option<usize>
     ensures place { result ≡ position (λ b. b == 32) text.now }
     ensures within { IfSome result (λ place. place < length text.now) }
 {
-    let near = &text[..text.len().min(SHORT_WORD)];
-    if let Some(place) = near_space(near) {
-        return Some(place);
+    if text.len() <= SHORT_TEXT {
+        near_space(text)
+    } else {
+        first_place(b' ', text)
     }
-    first_place(b' ', text)
 }
 
-// The word with which a text begins, and what follows it.
+// The word with which a text begins, and what follows the space behind it.
 fn split_word(text: &[u8]) -> (&[u8], &[u8])
     ensures word { result.0.now ≡ take (position_or_len (λ b. b == 32) text.now) text.now }
-    ensures rest { result.1.now ≡ drop (position_or_len (λ b. b == 32) text.now) text.now }
+    ensures rest { line_words result.1.now ≡ line_words (drop (position_or_len (λ b. b == 32) text.now) text.now) }
 {
-    let end = first_space(text).unwrap_or(text.len());
-    text.split_at(end)
+    match first_space(text) {
+        Some(end) => (&text[..end], &text[end + 1..]),
+        None => (text, &text[text.len()..]),
+    }
 }
 
 /// The first word of a line, and what follows it.

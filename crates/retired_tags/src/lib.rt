@@ -4,12 +4,10 @@
 #![tactic(auto)]
 
 pub mod laws;
-mod opening;
+mod operations;
 mod outcomes;
-mod passes;
 mod rule;
 mod setup;
-mod steps;
 mod tags;
 mod views;
 

@@ -14,8 +14,8 @@ use Rattle.request_text.specs.declared.request.Directive.{Directive}
 use Rattle.request_text.specs.declared.request.Directive.TheVariants.{Module, Call, Retire}
 use Rattle.report_text.specs.declared.report.CallLine.{CallLine}
 use Rattle.request_text.specs.Text.{call_count, modules_of}
-use Rattle.due_calls.specs.declared.calls.Due.{Due}
-use Rattle.due_calls.specs.declared.entries.Worked.{Worked}
+use Rattle.call_jobs.specs.declared.calls.Due.{Due}
+use Rattle.call_jobs.specs.declared.entries.Worked.{Worked}
 use Rattle.run_books.specs.Collected.{AreToCollect, IsBoard, IsCollected, IsLineOf, IsOfWorked, call_at, line_made, stands}
 use Rattle.run_books.specs.Lines.{GoesAs, Limits}
 use Rattle.run_books.specs.Books.{HasLines}

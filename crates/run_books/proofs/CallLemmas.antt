@@ -5,7 +5,7 @@ use Rattle.wasm_types.specs.Tree.{ModuleTree}
 use Rattle.request_text.specs.declared.invocation.Invocation.{Invocation}
 use Rattle.pool_host.specs.declared.lane.LaneAnswer.{LaneAnswer}
 use Rattle.pool_host.specs.declared.lane.LaneAnswer.TheVariants as lane
-use Rattle.pool_worlds.specs.Contents.{Named}
+use Rattle.pool_model.specs.Contents.{Named}
 use Rattle.pool_host.specs.CallWords.{IsAnswer, is_retired}
 use Rattle.report_text.specs.declared.report.ModuleLine.{ModuleLine}
 use Rattle.report_text.specs.declared.report.CallLine.{CallLine}

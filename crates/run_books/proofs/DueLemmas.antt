@@ -7,8 +7,8 @@ use Rattle.request_text.specs.declared.invocation.Invocation.{Invocation}
 use Rattle.request_text.specs.declared.request.Directive.{Directive}
 use Rattle.request_text.specs.declared.request.Directive.TheVariants.{Module, Call, Retire}
 use Rattle.request_text.specs.Text.{IsOfTenant, call_count}
-use Rattle.due_calls.specs.declared.calls.Due.{Due}
-use Rattle.due_calls.specs.Entries.{IsOfTenants}
+use Rattle.call_jobs.specs.declared.calls.Due.{Due}
+use Rattle.call_jobs.specs.Entries.{IsOfTenants}
 use Rattle.run_books.specs.Collected.{call_at}
 use Rattle.run_books.specs.Due.{due_of, dues_from}
 use Rattle.run_books.proofs.PlaceLemmas.{call_count-call, call_count-module, call_count-retire}

@@ -10,7 +10,7 @@ use Rattle.wasm_spec.specs.Loading as loading
 use Rattle.wasm_spec.specs.Loading.{Loads}
 use Rattle.pool_limits.specs.Limits.{demand_of}
 use Rattle.initial_image.specs.Segments.{extent_of}
-use Rattle.pool_worlds.specs.Contents.{Named}
+use Rattle.pool_model.specs.Contents.{Named}
 use Rattle.module_store.specs.Faults.{IsRefusal}
 use Rattle.module_store.specs.declared.desk.DeskCounts.{DeskCounts}
 use Rattle.module_store.specs.declared.fault.LoadFault.{LoadFault}

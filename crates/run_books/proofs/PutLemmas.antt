@@ -8,13 +8,13 @@ use Rattle.std.proofs.lemmas.List.{replicate_more}
 use Rattle.std.proofs.lemmas.List.Elements.{All-append, All-cons, All-nil, All-replicate}
 use Rattle.std.proofs.lemmas.List.Sums.{sum_by-append, sum_by-cons}
 use Rattle.request_text.specs.declared.invocation.Invocation.{Invocation}
-use Rattle.pool_worlds.specs.Contents.{Named}
+use Rattle.pool_model.specs.Contents.{Named}
 use Rattle.job_queue.specs.declared.accounts.Account.{Account}
 use Rattle.job_queue.specs.Accounts.{with_put}
 use Rattle.request_text.specs.declared.request.Directive.{Directive}
 use Rattle.request_text.specs.declared.request.Directive.TheVariants.{Module, Call, Retire}
 use Rattle.request_text.specs.Text.{call_count}
-use Rattle.due_calls.specs.Entries.{EndsAll, Pair}
+use Rattle.call_jobs.specs.Entries.{EndsAll, Pair}
 use Rattle.run_books.specs.declared.books.Span.{Span}
 use Rattle.run_books.specs.Collected.{call_at}
 use Rattle.run_books.specs.Entries.{Entry}

@@ -8,8 +8,8 @@ use Rattle.request_text.specs.declared.request.Directive.TheVariants.{Module, Ca
 use Rattle.report_text.specs.declared.report.CallLine.{CallLine}
 use Rattle.report_text.specs.declared.report.CallLine.TheVariants as call_line
 use Rattle.request_text.specs.Text.{call_count, modules_of}
-use Rattle.due_calls.specs.declared.calls.Due.{Due}
-use Rattle.due_calls.specs.declared.entries.Worked.{Worked}
+use Rattle.call_jobs.specs.declared.calls.Due.{Due}
+use Rattle.call_jobs.specs.declared.entries.Worked.{Worked}
 use Rattle.pool_host.specs.declared.lane.LaneAnswer.{LaneAnswer}
 use Rattle.pool_host.specs.declared.lane.LaneAnswer.TheVariants as lane
 use Rattle.run_books.specs.Lines.{GoesAs, Limits, end_line}

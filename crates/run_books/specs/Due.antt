@@ -3,7 +3,7 @@ use Rattle.std.specs.Prelude.{ℕ, ◌+◌, Bool, List, [], ◌∷◌}
 use Rattle.request_text.specs.declared.invocation.Invocation.{Invocation}
 use Rattle.request_text.specs.declared.request.Directive.{Directive}
 use Rattle.request_text.specs.declared.request.Directive.TheVariants.{Module, Call, Retire}
-use Rattle.due_calls.specs.declared.calls.Due.{Due}
+use Rattle.call_jobs.specs.declared.calls.Due.{Due}
 
 abbrev pub due_of : (number tenant : ℕ) → (retired : Bool) → Invocation → Due
 due_of number tenant retired invocation = record { number = number; tenant = tenant; retired = retired; invocation = invocation }

@@ -5,7 +5,7 @@ use Rattle.module_store.specs.declared.desk.DeskCounts.{DeskCounts}
 use Rattle.module_store.specs.declared.fault.LoadFault.{LoadFault}
 use Rattle.module_store.specs.declared.fault.LoadFault.TheVariants as fault
 use Rattle.wasm_spec.specs.Loading.{Loads, Refusal}
-use Rattle.pool_worlds.specs.Contents.{Named}
+use Rattle.pool_model.specs.Contents.{Named}
 use Rattle.request_text.specs.declared.request.Directive.{Directive}
 use Rattle.request_text.specs.declared.request.Directive.TheVariants.{Module, Call, Retire}
 use Rattle.run_books.specs.declared.books.Registry.{Registry}

@@ -4,15 +4,15 @@ use Rattle.job_queue.specs.declared.accounts.Account.{Account}
 use Rattle.job_queue.specs.declared.jobs.Jobs.{Jobs}
 use Rattle.job_queue.specs.Passes.{IsJobPass, IsPutter, account_of, capacity_of, count_of, first_of, put_by}
 use Rattle.pool_limits.specs.declared.numbers.Numbers.{Numbers}
-use Rattle.pool_worlds.specs.Contents.{Named}
+use Rattle.pool_model.specs.Contents.{Named}
 use Rattle.request_text.specs.declared.request.Directive.{Directive}
 use Rattle.request_text.specs.declared.request.Directive.TheVariants.{Module, Call, Retire}
 use Rattle.request_text.specs.Text.{Asked}
-use Rattle.due_calls.specs.Entries.{Pair}
+use Rattle.call_jobs.specs.Entries.{Pair}
 use Rattle.run_books.specs.declared.books.Registry.{Registry}
 use Rattle.run_books.specs.declared.books.Span.{Span}
-use Rattle.run_books.specs.declared.putting.Put.{Put}
-use Rattle.run_books.specs.declared.putting.Putter.{Putter}
+use Rattle.run_books.specs.declared.putter.Put.{Put}
+use Rattle.run_books.specs.declared.putter.Putter.{Putter}
 use Rattle.run_books.specs.Entries.{AreKept, Entry}
 use Rattle.run_books.specs.Books.{HasEntered, IsSpan, calls_in, directives_in}
 
@@ -40,7 +40,7 @@ pairs_put entries first requests workers = pairs_from entries first requests ++ 
 abbrev pub round_calls : {N : Type 0} → Registry N → Asked → Span → List Pair
 round_calls registry asked span = pairs_from registry.entries.items (span.calls + 1) (directives_in asked.directives span)
 
--- the same, and then a 0 for each worker
+-- the calls of a round of a file, each with its module, and then a 0 for each worker
 abbrev pub round_pairs : {N : Type 0} → Registry N → Asked → Span → (workers : ℕ) → List Pair
 round_pairs registry asked span workers = pairs_put registry.entries.items (span.calls + 1) (directives_in asked.directives span) workers
 

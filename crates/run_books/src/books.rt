@@ -3,7 +3,7 @@ ghost use Rattle.std.specs.Prelude.{◌≡◌, ◌≤◌, IfOk, length};
 ghost use Rattle.request_text.specs.Text.{modules_of};
 ghost use Rattle.run_books.specs.Books.{AreBooks, IsSpan, whole_file};
 
-use crate::counting::count_calls;
+use crate::counts::count_calls;
 use crate::modules::Entry;
 use job_queue::Board;
 use module_store::{Desk, Naming};

@@ -2,15 +2,15 @@
 #![tactic(auto)]
 
 mod books;
-mod collecting;
-mod counting;
-mod listing;
+mod call_lines;
+mod counts;
+mod due_list;
 mod modules;
-mod putting;
+mod putter;
 
 pub use books::{Books, Registry, Span};
-pub use collecting::{answer_line, collect, collect_all};
-pub use counting::{calls_in, count_modules};
-pub use listing::dues;
+pub use call_lines::{answer_line, collect, collect_all};
+pub use counts::{calls_in, count_modules};
+pub use due_list::dues;
 pub use modules::{Entry, enter_round, entry_at, entry_line};
-pub use putting::{Put, Putter, put_all};
+pub use putter::{Put, Putter, put_all};

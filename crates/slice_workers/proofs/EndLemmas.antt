@@ -13,21 +13,21 @@ use Rattle.job_queue.specs.RunAccounts.{new_run_account, run_joined, with_run_gi
 use Rattle.job_queue.specs.RunPasses.{IsFirstRunPass, IsRunPass, RunPass, run_account_of, run_given_to, run_put_by, run_share}
 use Rattle.module_store.specs.declared.naming.Naming.{Ghosts}
 use Rattle.pool_limits.specs.declared.numbers.Numbers.{Numbers}
-use Rattle.pool_worlds.specs.Contents.{Named}
+use Rattle.pool_model.specs.Contents.{Named}
 use Rattle.pool_host.specs.declared.passes.HostPass.{HostPass}
 use Rattle.pool_host.specs.declared.paused.Paused.{Paused}
-use Rattle.due_calls.specs.declared.calls.Due.{Due}
-use Rattle.due_calls.specs.declared.entries.Worked.{Worked}
+use Rattle.call_jobs.specs.declared.calls.Due.{Due}
+use Rattle.call_jobs.specs.declared.entries.Worked.{Worked}
 use Rattle.slice_workers.specs.declared.queued.Queued.{Queued}
 use Rattle.slice_workers.specs.declared.queued.Queued.TheVariants as queued
-use Rattle.slice_workers.specs.declared.shared.SliceShared.{SliceShared}
-use Rattle.due_calls.specs.Entries.{Pair, called, zeros}
+use Rattle.slice_workers.specs.declared.slice_shared.SliceShared.{SliceShared}
+use Rattle.call_jobs.specs.Entries.{Pair, called, zeros}
 use Rattle.slice_workers.specs.Queued.{IsOfRun, pair_of, paused_pair, pairs_of}
 use Rattle.slice_workers.specs.Crews.{HasIdle}
 use Rattle.slice_workers.specs.Slices.{AreMade, DidSlices, HasSlicedAll, HaveSliced, IsMadeBy, IsSliced}
 use Rattle.slice_workers.proofs.Cancelling.{flat_map_same, without}
-use Rattle.due_calls.proofs.EndLemmas.{zeros-append}
-use Rattle.due_calls.proofs.EntryLemmas.{all_zip_append, called-append}
+use Rattle.call_jobs.proofs.EndLemmas.{zeros-append}
+use Rattle.call_jobs.proofs.EntryLemmas.{all_zip_append, called-append}
 use Rattle.slice_workers.proofs.SliceLemmas.{all_entries, all_sliced, both_even, paused_found, pairs_of-append}
 
 abbrev Given : Type 0
@@ -99,7 +99,7 @@ module _ {N A : Type 0} {G : Ghosts N} (config : Numbers) (shared : SliceShared 
             (both_even (called (given_to own)) (pairs_of (run_given_to first)) (pairs_of (run_put_by first)) h.made (called did.taken) (pairs_of did.work.given) (pairs_of did.work.put) did.work.made h.even did.work.even);
       }
 
-  -- the same as an answer, where memory may have been refused
+  -- one worker more, where memory may have been refused
   pub one_more : {V E : Type 0} (own after others : Own) (first later place : RunPass (Queued N G)) (entries made all : List Worked) (r : Result V E)
       → Have own first (share_of own) entries → IsJobPass shared.jobs after → IsRunPass queue later
       → account_of after ≡ joined (account_of own) (account_of others) → run_account_of later ≡ run_joined (run_account_of first) (run_account_of place) → Did others place made

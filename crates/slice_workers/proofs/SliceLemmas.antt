@@ -19,8 +19,8 @@ use Rattle.module_store.specs.declared.naming.Naming.{Ghosts}
 use Rattle.retired_tags.specs.Passes.{TagPass}
 use Rattle.instance_calls.specs.PausedViews.{PausedView}
 use Rattle.pool_limits.specs.declared.numbers.Numbers.{Numbers}
-use Rattle.pool_worlds.specs.Contents.{Named}
-use Rattle.pool_worlds.specs.declared.kinds.Kind.{Kind}
+use Rattle.pool_model.specs.Contents.{Named}
+use Rattle.pool_model.specs.declared.kinds.Kind.{Kind}
 use Rattle.pool_host.specs.declared.answers.Answer.{Answer}
 use Rattle.pool_host.specs.declared.answers.Answer.TheVariants as answer
 use Rattle.pool_host.specs.declared.host.Host.{Host}
@@ -32,20 +32,20 @@ use Rattle.pool_host.specs.Looks.{Looked, refused_look}
 use Rattle.pool_host.specs.Pausing.{HasEnded, IsPausedAgain, IsReady, WasRefused}
 use Rattle.pool_host.specs.Starting.{refused_answer}
 use Rattle.pool_host.specs.Taking.{TookThose}
-use Rattle.due_calls.specs.declared.calls.Due.{Due}
-use Rattle.due_calls.specs.declared.entries.Worked.{Worked}
+use Rattle.call_jobs.specs.declared.calls.Due.{Due}
+use Rattle.call_jobs.specs.declared.entries.Worked.{Worked}
 use Rattle.slice_workers.specs.declared.queued.Queued.{Queued}
 use Rattle.slice_workers.specs.declared.queued.Queued.TheVariants as queued
 use Rattle.slice_workers.specs.declared.slices.Slice.{Slice}
 use Rattle.slice_workers.specs.declared.slices.Tried.TheVariants as tried
-use Rattle.slice_workers.specs.declared.pacing.Came.{Came}
-use Rattle.due_calls.specs.Entries.{IsEntry, Pair, called}
+use Rattle.slice_workers.specs.declared.pace.Came.{Came}
+use Rattle.call_jobs.specs.Entries.{IsEntry, Pair, called}
 use Rattle.slice_workers.specs.Queued.{AreIdleOn, HasMadeSlices, IsOfRun, IsOnHost, IsPausedIn, NamesRun, goes_round, pair_of, paused_pair, pairs_of}
 use Rattle.slice_workers.specs.Slices.{AnsweredAtOnce, AnsweredBy, DidSlices, GoesOn, GoesRound, HasMore, HasTried, IsMade, IsMadeBy, IsPutBack, IsSliceOf, IsSliced, KeepsEntry, WasAnswered, WorkedOn, ends_of, full_in, full_kind, roomless}
 use Rattle.pool_host.proofs.StartLemmas.{look_is, refused_cause, refused_trails}
-use Rattle.due_calls.proofs.EndLemmas.{no_zeros_in, one_zero_in, zeros-append}
+use Rattle.call_jobs.proofs.EndLemmas.{no_zeros_in, one_zero_in, zeros-append}
 use Rattle.job_queue.proofs.AccountLemmas.{given_none, given_twice}
-use Rattle.due_calls.proofs.EntryLemmas.{all_zip_append, called-append, called_one, called_zero}
+use Rattle.call_jobs.proofs.EntryLemmas.{all_zip_append, called-append, called_one, called_zero}
 
 -- what is so of each pair of elements
 all_zip_of : {A B : Type 0} (R S : A → B → Type 0) → ((x : A) (y : B) → R x y → S x y) → (xs : List A) (ys : List B) → AllZip R xs ys → AllZip S xs ys

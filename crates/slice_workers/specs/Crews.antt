@@ -9,9 +9,9 @@ use Rattle.module_store.specs.declared.naming.Naming.{Ghosts}
 use Rattle.pool_limits.specs.declared.numbers.Numbers.{Numbers}
 use Rattle.pool_limits.specs.declared.share.Share.{Share}
 use Rattle.pool_host.specs.Hosts.{HandedOut, HasShare, IsHostPass, IsNewHostPass}
-use Rattle.due_calls.specs.declared.calls.Due.{Due}
+use Rattle.call_jobs.specs.declared.calls.Due.{Due}
 use Rattle.slice_workers.specs.declared.queued.Queued.{Queued}
-use Rattle.slice_workers.specs.declared.shared.SliceShared.{SliceShared}
+use Rattle.slice_workers.specs.declared.slice_shared.SliceShared.{SliceShared}
 use Rattle.slice_workers.specs.declared.crew.SliceCrew.{SliceCrew}
 use Rattle.slice_workers.specs.declared.crew.SliceDone.{SliceDone}
 use Rattle.slice_workers.specs.declared.steps.Slicer.{Slicer}

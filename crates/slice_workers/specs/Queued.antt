@@ -10,10 +10,10 @@ use Rattle.instance_calls.specs.PausedViews.{PausedView}
 use Rattle.instance_calls.specs.Resumed.{IsCallOf}
 use Rattle.pool_host.specs.Hosts.{ArePassesOf, IsHostPass}
 use Rattle.pool_host.specs.Pausing.{AreOfHost}
-use Rattle.due_calls.specs.declared.calls.Due.{Due}
+use Rattle.call_jobs.specs.declared.calls.Due.{Due}
 use Rattle.slice_workers.specs.declared.queued.Queued.{Queued}
 use Rattle.slice_workers.specs.declared.queued.Queued.TheVariants as queued
-use Rattle.due_calls.specs.Entries.{Pair}
+use Rattle.call_jobs.specs.Entries.{Pair}
 
 -- what is paused is the call of this number among these, which is sent nothing; its number and its fuel are of 32 bits
 pub record IsCallIn (calls : List Due) (number : ℕ) (v : PausedView) : Type 0 where
@@ -64,7 +64,7 @@ module _ {N : Type 0} {G : Ghosts N} where
   IsOnHost host calls (queued.Idle pass) = IsHostPass host pass
   IsOnHost host calls (queued.Paused p) = IsPausedIn host calls p.passes p.retired p.running p.number
 
-  -- the same of what goes round in slices of so many turns
+  -- a pass of the host, or a call of these that is paused there between slices of so many turns
   abbrev pub IsOfRun : Host N → List Due → (slice : ℕ) → Queued N G → Type 0
   IsOfRun host calls slice (queued.Idle pass) = IsHostPass host pass
   IsOfRun host calls slice (queued.Paused p) = IsSlicedIn host calls slice p.passes p.retired p.running p.number

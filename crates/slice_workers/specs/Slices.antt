@@ -12,8 +12,8 @@ use Rattle.job_queue.specs.Passes.{IsJobPass, JobPass, account_of, given_to, put
 use Rattle.job_queue.specs.RunPasses.{IsRunPass, RunPass, run_account_of, run_given_to, run_put_by, run_room, run_share}
 use Rattle.module_store.specs.declared.naming.Naming.{Ghosts}
 use Rattle.pool_limits.specs.declared.numbers.Numbers.{Numbers}
-use Rattle.pool_worlds.specs.Contents.{Named}
-use Rattle.pool_worlds.specs.declared.kinds.Kind.{Kind}
+use Rattle.pool_model.specs.Contents.{Named}
+use Rattle.pool_model.specs.declared.kinds.Kind.{Kind}
 use Rattle.pool_host.specs.declared.answers.Answer.{Answer}
 use Rattle.pool_host.specs.declared.answers.Answer.TheVariants as answer
 use Rattle.pool_host.specs.declared.host.Host.{Host}
@@ -25,28 +25,28 @@ use Rattle.pool_host.specs.Looks.{look_of, Looked}
 use Rattle.pool_host.specs.Pausing.{HasEnded, IsPausedAgain}
 use Rattle.pool_host.specs.Taking.{TookThose}
 use Rattle.pool_host.specs.Trails.{AddsTrails, HasCause}
-use Rattle.due_calls.specs.declared.calls.Due.{Due}
-use Rattle.due_calls.specs.declared.entries.Worked.{Worked}
+use Rattle.call_jobs.specs.declared.calls.Due.{Due}
+use Rattle.call_jobs.specs.declared.entries.Worked.{Worked}
 use Rattle.slice_workers.specs.declared.queued.Queued.{Queued}
 use Rattle.slice_workers.specs.declared.queued.Queued.TheVariants as queued
 use Rattle.slice_workers.specs.declared.crew.Sliced.{Sliced}
-use Rattle.slice_workers.specs.declared.shared.SliceShared.{SliceShared}
+use Rattle.slice_workers.specs.declared.slice_shared.SliceShared.{SliceShared}
 use Rattle.slice_workers.specs.declared.slices.Slice.{Slice}
 use Rattle.slice_workers.specs.declared.slices.Tried.{Tried}
 use Rattle.slice_workers.specs.declared.slices.Tried.TheVariants as tried
-use Rattle.slice_workers.specs.declared.pacing.Came.{Came}
-use Rattle.slice_workers.specs.declared.pacing.Came.TheVariants.{End}
+use Rattle.slice_workers.specs.declared.pace.Came.{Came}
+use Rattle.slice_workers.specs.declared.pace.Came.TheVariants.{End}
 use Rattle.slice_workers.specs.declared.steps.Hand.{Hand}
 use Rattle.slice_workers.specs.declared.steps.Slicer.{Slicer}
-use Rattle.due_calls.specs.Entries.{IsEntry, Pair, called, zeros}
+use Rattle.call_jobs.specs.Entries.{IsEntry, Pair, called, zeros}
 use Rattle.slice_workers.specs.Queued.{IsOfRun, IsOnHost, pair_of, paused_pair, pairs_of}
 
--- the kind that a call was answered to have found full
+-- the kind that a call found full, by its answer
 abbrev pub full_in : Option Answer → Option Kind
 full_in (Some (answer.Full kind)) = Some kind
 full_in _ = None
 
--- the same of its entry, if it has one
+-- the kind that a call found full, by its entry, if it has one
 abbrev pub full_kind : Result (Option Worked) NoMemory → Option Kind
 full_kind (Ok (Some worked)) = full_in worked.answer
 full_kind _ = None
@@ -185,7 +185,7 @@ module _ {N : Type 0} {G : Ghosts N} (config : Numbers) (host : Host N) (calls :
     pub ended : zeros taken ≡ ends
     pub work : WorkedOn (called taken) was now entries
 
--- ---- the same of a worker, by its passes and its entries before and after
+-- ---- what a worker did, by its passes and its entries before and after
 
 module _ {N : Type 0} {G : Ghosts N} (config : Numbers) (shared : SliceShared N) (slice : ℕ) where
   -- it worked on the calls that it had in hand, and on what went round
@@ -199,7 +199,7 @@ module _ {N : Type 0} {G : Ghosts N} (config : Numbers) (shared : SliceShared N)
   WorkerDid ends old new entries = DidSlices config shared.host shared.calls.items slice ends (account_of old.own) (account_of new.own)
       (run_account_of old.place) (run_account_of new.place) entries
 
-  -- the same of what it made more
+  -- it worked on what it was given too, and made the entries that it has more
   abbrev pub HandDid : (ends : ℕ) → (old new : Slicer N G) → (before after : Hand N G) → Type 0
   HandDid ends old new before after =
       HasMore (WorkerDid ends old new) before.made.items after.made.items
@@ -228,7 +228,7 @@ pub record HaveSliced {N A : Type 0} {G : Ghosts N} (config : Numbers) (shared :
   pub entries_are : AllZip (IsSliced G config shared.host shared.calls.items slice) made entries
   pub even : IsPermutation (called (given_to own) ++ pairs_of (run_given_to place)) (pairs_of (run_put_by place) ++ made)
 
--- the same of as many workers as the pass of the queue of calls stands for
+-- what passes of both queues did, for as many workers as the pass of the queue of calls stands for
 abbrev pub WorkersHaveSliced : {N A : Type 0} {G : Ghosts N} → Numbers → SliceShared N → RunQueue (Queued N G) A → (slice : ℕ) → Sliced N → RunPass (Queued N G) → Type 0
 WorkersHaveSliced config shared queue slice sliced place = HaveSliced config shared queue slice sliced.own place (share_of sliced.own) sliced.entries.items
 

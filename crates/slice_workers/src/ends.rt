@@ -2,7 +2,7 @@
 ghost use Rattle.std.specs.Prelude.{◌≡◌, ◌+◌, ◌<◌, [], All, IfOk, OnOk, length};
 ghost use Rattle.job_queue.specs.Passes.{IsJobPass, given_to, passes_of, put_by, share_of};
 ghost use Rattle.job_queue.specs.RunPasses.{FitsWhere, HasAllRunPasses, run_capacity};
-ghost use Rattle.due_calls.specs.Entries.{AnswersAll, EndsAll};
+ghost use Rattle.call_jobs.specs.Entries.{AnswersAll, EndsAll};
 ghost use Rattle.slice_workers.specs.Crews.{HasIdle, IsSliceDone};
 ghost use Rattle.slice_workers.specs.Queued.{IsOfRun, IsPausedIn};
 ghost use Rattle.slice_workers.specs.Slices.{AreCaused, HasSlicedAll, HaveSliced, IsEndOf, SlicedAll, WorkersHaveSliced};
@@ -10,10 +10,10 @@ ghost use Rattle.slice_workers.specs.Slices.{AreCaused, HasSlicedAll, HaveSliced
 use crate::crew::{SliceDone, Sliced};
 use crate::queued::Queued;
 use crate::run_names::InSlices;
-use crate::shared::SliceShared;
+use crate::slice_shared::SliceShared;
 use crate::slices::{Slice, resume};
 use crate::steps::Slicer;
-use due_calls::{Item, Worked, put_behind};
+use call_jobs::{Item, Worked, put_behind};
 use host_edge::Gate;
 use job_queue::{Admits, JobPass, RunPass, RunQueue};
 use module_store::{ModuleStore, Naming};

@@ -3,14 +3,14 @@
 
 mod crew;
 mod ends;
-mod pacing;
+mod pace;
 mod queued;
 mod run_names;
-mod shared;
+mod slice_shared;
 mod slices;
-mod slicing;
 mod steps;
+mod work_loop;
 
 pub use crew::{SliceCrew, Sliced, open_slice_crew, slice_all};
 pub use ends::finish_slices;
-pub use shared::SliceShared;
+pub use slice_shared::SliceShared;

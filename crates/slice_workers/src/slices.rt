@@ -6,12 +6,12 @@ ghost use Rattle.slice_workers.specs.Queued.{IsPausedIn, paused_pair};
 ghost use Rattle.slice_workers.specs.Slices.{HasTried, IsSliceOf, full_in, full_kind};
 
 use crate::queued::Queued;
-use crate::shared::SliceShared;
-use due_calls::{Due, Item, Worked, due_at};
+use crate::slice_shared::SliceShared;
+use call_jobs::{Due, Item, Worked, due_at};
 use host_edge::Gate;
 use module_store::{ModuleRef, ModuleStore, Naming};
 use pool_host::{Answer, Begun, HostPass, Paused, Turned};
-use pool_worlds::Kind;
+use pool_model::Kind;
 use std::alloc::Global;
 use wasm_values::NoMemory;
 
@@ -148,7 +148,7 @@ fn begin_call<N: Naming, G: Gate>(
     }
 }
 
-// The kind that a call was answered to have found full.
+// The kind that a call found full, by its answer.
 fn full_in(answer: Option<Answer>) -> Option<Kind>
     ensures { result ≡ full_in answer }
 {
@@ -158,7 +158,7 @@ fn full_in(answer: Option<Answer>) -> Option<Kind>
     }
 }
 
-// The same of its entry, if it has one.
+// The kind that a call found full, by its entry, if it has one.
 fn full_kind(entry: &Result<Option<Worked>, NoMemory>) -> Option<Kind>
     ensures { result ≡ full_kind entry.now }
 {

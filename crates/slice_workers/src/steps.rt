@@ -8,12 +8,12 @@ ghost use Rattle.pool_host.specs.Hosts.{IsHostPass};
 ghost use Rattle.slice_workers.specs.Queued.{IsOfRun, paused_pair};
 ghost use Rattle.slice_workers.specs.Slices.{HandDid, HandWorked, IsAtWork, KeepsEntry, WorkedOn, begun_of, ends_of};
 
-use crate::pacing::{Came, Pace};
+use crate::pace::{Came, Pace};
 use crate::queued::Queued;
 use crate::run_names::InSlices;
-use crate::shared::SliceShared;
+use crate::slice_shared::SliceShared;
 use crate::slices::{Slice, Tried, resume, try_call};
-use due_calls::{Item, Worked};
+use call_jobs::{Item, Worked};
 use host_edge::Gate;
 use job_queue::{Admits, JobPass, RunPass, RunQueue};
 use module_store::{ModuleStore, Naming};

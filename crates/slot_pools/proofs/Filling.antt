@@ -13,7 +13,7 @@ use Rattle.slot_pools.specs.declared.policy.Policy.TheVariants.{Batched, Affine,
 use Rattle.slot_pools.specs.Looks.{AreWords, IsLook, IsReading}
 use Rattle.slot_pools.specs.LookWins.{reads, IsOrderBy}
 
-on_err : {T E P : Type 0} (r : Result T E) → P → OnErr r P
+pub on_err : {T E P : Type 0} (r : Result T E) → P → OnErr r P
 on_err (Ok x) p = tt
 on_err (Err e) p = p
 

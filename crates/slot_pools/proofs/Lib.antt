@@ -2,5 +2,6 @@ mod Causing
 mod Filling
 mod LastClaiming
 mod Preferring
+pub mod ToldLemmas
 mod WonRows
 mod UnheldRows

@@ -1,5 +1,6 @@
 -- What a take does, by what it reads. What is won gives back its permit or its mark.
-use Rattle.std.specs.Prelude.{ℕ, List}
+use Rattle.std.specs.Prelude.{◌≡◌, ℕ, ◌+◌, Bool, List}
+use Rattle.pool_core.specs.StateWords.{bit}
 use Rattle.slot_words.specs.declared.leases.Lease.{Lease}
 use Rattle.slot_words.specs.declared.words.Words.{Words}
 use Rattle.slot_words.specs.declared.views.Operation.{Operation}
@@ -7,6 +8,7 @@ use Rattle.slot_words.specs.Leases.{lease_number, lease_word}
 use Rattle.slot_words.specs.Owned.{limit_of, slots_of}
 use Rattle.slot_words.specs.Parts.{Grew, Then}
 use Rattle.slot_words.specs.Passes.{Pass, IsIdle, trail}
+use Rattle.decommit_batch.specs.Counts.{flushes_in}
 use Rattle.decommit_batch.specs.Settle.{IsSettled}
 use Rattle.slot_pools.specs.declared.policy.Policy.{Policy}
 use Rattle.slot_pools.specs.Looks.{IsReading}
@@ -29,3 +31,7 @@ module _ {V I : Type 0} (words : Words V I) (policy : Policy) where
   -- it won none
   abbrev pub MeetsFull : (old new : Pass V) → Type 0
   MeetsFull old new = IsIdle new × Grew (IsFullTake policy (limit_of words) (slots_of words)) (trail old) (trail new)
+
+-- between two moments the pass flushed once, or not, as this says
+abbrev pub FlushedAs : {V : Type 0} → Bool → (old new : Pass V) → Type 0
+FlushedAs flushed old new = (batch : ℕ) → flushes_in batch (trail new) ≡ flushes_in batch (trail old) + bit flushed

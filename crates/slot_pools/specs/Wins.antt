@@ -1,5 +1,5 @@
 -- Which claims a take makes.
-use Rattle.std.specs.Prelude.{◌≡◌, ◌⊎◌, ℕ, List, [], ◌∷◌}
+use Rattle.std.specs.Prelude.{◌≡◌, ◌⊎◌, ℕ, Bool, true, false, List, [], ◌∷◌}
 use Rattle.std.specs.List.{range_with_len}
 use Rattle.slot_words.specs.declared.views.Operation.{Operation}
 use Rattle.slot_words.specs.declared.views.Operation.TheVariants.{AwaitLoad}
@@ -16,6 +16,12 @@ all_numbers slots = range_with_len 0 slots
 -- The await word is read: the flush mark.
 abbrev pub IsMark : List Operation → Type 0
 IsMark done = (r : ℕ) × (done ≡ AwaitLoad r ∷ [])
+
+-- where slots may await, a flush comes before the last claims
+abbrev pub flushes_last : Policy → Bool
+flushes_last (Batched tag) = true
+flushes_last (Affine tag) = false
+flushes_last Any = false
 
 -- the last claims, before which comes, where slots may await, the flush mark and a flush
 abbrev pub IsLastTry : Policy → (limit slots : ℕ) → (Claims : List Operation → Type 0) → List Operation → Type 0

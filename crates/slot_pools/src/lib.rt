@@ -4,19 +4,19 @@
 #![tactic(auto)]
 
 mod answers;
-mod claiming;
-mod giving;
+mod claims;
+mod gives;
 pub mod laws;
-mod looking;
-mod opening;
+mod looks;
+mod open_slot;
 mod policy;
 mod rows;
-mod taking;
-mod winning;
+mod takes;
+mod wins;
 
-pub use answers::Full;
+pub use answers::{Full, Taken};
 pub use decommit_batch::sweep;
-pub use giving::{give_cold, give_warm};
-pub use opening::{OpenSlot, open};
+pub use gives::{give_cold, give_warm};
+pub use open_slot::{OpenSlot, open};
 pub use policy::Policy;
-pub use taking::take;
+pub use takes::{take, take_telling};

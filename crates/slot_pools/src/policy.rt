@@ -10,3 +10,18 @@ pub enum Policy {
     /// For any module: by a scan.
     Any,
 }
+
+impl Policy {
+    ghost use Rattle.std.specs.Prelude.{◌≡◌};
+    ghost use Rattle.slot_pools.specs.Wins.{flushes_last};
+
+    // Whether slots may await, so that a flush comes before the last claims.
+    pub(crate) fn flushes_last(self) -> bool
+        ensures { result ≡ flushes_last self }
+    {
+        match self {
+            Policy::Batched(_) => true,
+            Policy::Affine(_) | Policy::Any => false,
+        }
+    }
+}

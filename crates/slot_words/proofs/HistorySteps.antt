@@ -4,7 +4,7 @@ use mathlib.Core.Option.{some, some-injective, some-ne-none}
 use lib.ListN.{get_elem?}
 use Rattle.std.specs.Prelude.{◌==◌, flat_map}
 use Rattle.std.specs.List.{All, count_by, sum_by}
-use Rattle.std.proofs.lemmas.Bool.{eq-eqb, ne_eqb}
+use Rattle.std.proofs.lemmas.Bool.{eq-eqb}
 use Rattle.std.proofs.lemmas.Bool.Decides.{nat_tests}
 use Rattle.std.proofs.lemmas.List.Elements.{All-nil, All-cons, All-head, All-tail, All-append}
 use Rattle.std.proofs.lemmas.List.Sums.{sum_by-append, sum_by-cons, get_or-le-sum_by}
@@ -28,6 +28,7 @@ use Rattle.slot_words.specs.History.{noted, noted_by, trail_of, trails_in, is_of
 use Rattle.slot_words.proofs.AccountSteps.{count_by-views, count_by-set_view, count_by-view_more}
 use Rattle.slot_words.proofs.SharedPasses.{two-le-sum_by}
 use Rattle.slot_words.proofs.Lookups.{found}
+use Rattle.slot_words.proofs.NotedBySeats.{noted_here, noted_elsewhere}
 
 trail_of-push : (s : ℕ) (c : PoolCore) (es : List Event) (e : Event) → trail_of s c (es ++ e ∷ []) ≡ trail_of s c es ++ noted_by s (core_after_all c es) e
 trail_of-push s c [] e = append-nil (noted_by s c e)
@@ -39,12 +40,6 @@ at_end [] a b zero e = inr (refl, some-injective a b e)
 at_end [] a b (suc j) e = absurd (some-ne-none b (sym e))
 at_end (x ∷ xs) a b zero e = inl e
 at_end (x ∷ xs) a b (suc j) e = ⊎_elim (λ h. inl h) (λ t. inr (ap suc t.0, t.1)) (at_end xs a b j e)
-
-pub noted_here : (s : ℕ) (c : PoolCore) (e : Event) → seat_of e ≡ s → noted_by s c e ≡ noted c e
-noted_here s c e own = ap (λ (b : Bool). if b then noted c e else []) (eq-eqb (seat_of e) s own)
-
-pub noted_elsewhere : (s : ℕ) (c : PoolCore) (e : Event) → seat_of e ≢ s → noted_by s c e ≡ []
-noted_elsewhere s c e other = ap (λ (b : Bool). if b then noted c e else []) (ne_eqb (seat_of e) s other)
 
 -- an event of which nothing is noted
 noted_nowhere : (s : ℕ) (c : PoolCore) (e : Event) → noted c e ≡ [] → noted_by s c e ≡ []

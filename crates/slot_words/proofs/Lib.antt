@@ -8,7 +8,9 @@ mod HistoryAccounts
 mod HistorySteps
 mod Holdings
 mod KindSums
+mod LookSums
 pub mod Lookups
+pub mod NotedBySeats
 mod NotedSums
 mod OneCount
 mod Openings

@@ -21,11 +21,8 @@ use Rattle.slot_words.specs.declared.views.SeatTrail.{SeatTrail}
 use Rattle.slot_words.specs.Views.{in_one, trails_of}
 use Rattle.slot_words.specs.History.{all_noted, all_operations, is_of, noted, noted_by, trail_of, trails_in, IsHistory, IsTrail}
 use Rattle.pool_core.proofs.WordBits.{bit_le}
-use Rattle.slot_words.proofs.HistorySteps.{noted_here, noted_elsewhere, trails_here}
-
-both_empty : {A : Type 0} (xs ys : List A) → xs ++ ys ≡ [] → (xs ≡ []) × (ys ≡ [])
-both_empty [] ys e = (refl, e)
-both_empty (x ∷ xs) ys e = absurd (cc)
+use Rattle.slot_words.proofs.HistorySteps.{trails_here}
+use Rattle.slot_words.proofs.NotedBySeats.{both_empty, noted_here, noted_elsewhere}
 
 module _ {X : Type 0} where
   sum_of_both : (h f g : X → ℕ) → ((x : X) → h x ≡ f x + g x) → (xs : List X) → sum_by h xs ≡ sum_by f xs + sum_by g xs

@@ -64,7 +64,7 @@ module _ {V : Type 0} where
         history = subst (λ (k : ℕ). IsHistory (opening_core k bounds.limit passes) c (first_view bounds ∷ [])) (sym lw) (history_at_opening bounds c);
       }
 
-  -- the same of lists that are those
+  -- an opened table shows the opening of its pool, by lists that are equal to those of the opening
   pub shows_opening_of : CoreLaws → (fits : State → ℕ → V → Type 0) (bounds : Bounds) (ws : List ℕ) (ss : List (Option V)) (xs : List V) (n : ℕ)
       → ws ≡ replicate (n + 3) 0 → ss ≡ map (λ x. Some x) xs → length xs ≡ n → 1 ≤ bounds.passes → n + 2 * bounds.passes < 2 ^ 63
       → All (λ x. fits Cold 0 x) xs → IsKept fits bounds (opening ws ss (first_view bounds))

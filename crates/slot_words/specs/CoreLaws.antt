@@ -22,6 +22,6 @@ pub record CoreLaws : Type 0 where
   pub bit_says : LowestBitSaysHeld
   pub bit_sets : LowestBitMakesHeld
 
--- the same as one fact, which no tactic looks into
+-- all these laws as one fact, which no tactic looks into
 unfoldable pub CoresAreLawful : Type 0
 CoresAreLawful = CoreLaws

@@ -5,6 +5,7 @@ pub mod Events
 pub mod History
 pub mod KindCounts
 pub mod Leases
+pub mod Looking
 pub mod Outcomes
 pub mod Owned
 pub mod Parts

@@ -18,8 +18,16 @@ pub struct KindCounts {
 }
 
 impl KindCounts {
+    // No word.
+    pub(crate) const NONE: KindCounts = KindCounts {
+        cold: 0,
+        warm: 0,
+        awaiting: 0,
+        held: 0,
+    };
+
     // One word more.
-    fn with(mut self, target: Target, held: bool) -> KindCounts
+    pub(crate) fn with(mut self, target: Target, held: bool) -> KindCounts
         requires { (self.cold < MOST_SLOTS) × (self.warm < MOST_SLOTS) × (self.awaiting < MOST_SLOTS) × (self.held < MOST_SLOTS) }
         ensures { result ≡ counts_with self (record { target = target; held = held }) }
     {
@@ -42,12 +50,7 @@ pub(crate) fn count_kinds<S>(closed: &Closed<S, Global>, slots: usize) -> KindCo
     requires words { (ws : List StateWord) × (length ws ≡ slots) × BeginsWith (slots_items closed.now.words) ws }
     ensures { (ws : List StateWord) → length ws ≡ slots → BeginsWith (slots_items closed.now.words) ws → result ≡ kind_counts ws }
 {
-    let mut counts = KindCounts {
-        cold: 0,
-        warm: 0,
-        awaiting: 0,
-        held: 0,
-    };
+    let mut counts = KindCounts::NONE;
     for i in 0..slots {
         let (target, held) = unpack(closed.word(i));
         counts = counts.with(target, held);

@@ -4,20 +4,19 @@
 #![tactic(auto)]
 
 mod claims;
-mod closing;
 mod cores;
 mod counts;
 mod kinds;
 pub mod laws;
 mod leases;
-mod opening;
+mod lifetime;
+mod looks;
 mod outcomes;
 mod passes;
 mod pooled;
 mod rule;
 mod scans;
 mod seen;
-mod sizes;
 mod views;
 mod words;
 

@@ -44,7 +44,7 @@ impl<V: Pooled> Words<V> {
         seen.count = self.slots;
     }
 
-    /// The same scan into the first places of a row, which has one for each slot at least.
+    /// Scans as [`Words::scan`] does, into the first places of a row, which has one for each slot at least.
     pub fn scan_into(&self, pass: &mut Pass<V>, row: &mut [u64])
         requires own { IsPassOf self.now pass.old }
         requires room { slots_of self.now ≤ length row.old }

@@ -1,21 +1,19 @@
 -- A piece that is written into one block.
 use Rattle.std.specs.Global.{Global}
-use Rattle.std.proofs.Common.{◌≡◌, ◌≢◌, ℕ, ◌+◌, ◌-◌, ◌*◌, ◌/◌, ◌%◌, ◌<◌, ◌≤◌, ◌⊎◌, ⊎_elim, inl, inr, false, Bool, List, [], length, take, get_or, ap, refl, subst, sym, true, ◌∙◌, arith}
+use Rattle.std.proofs.Common.{◌≡◌, ◌≢◌, ℕ, ◌+◌, ◌-◌, ◌*◌, ◌/◌, ◌%◌, ◌<◌, ◌≤◌, ◌⊎◌, ⊎_elim, inl, inr, false, Bool, List, [], length, get_or, ap, refl, subst, sym, true, ◌∙◌, arith}
 use Rattle.std.specs.Prelude.{Box, Err, IfOk, None, Ok, Option, Result, Some, is_some, slice_index}
 use Rattle.std.specs.Ordering.{nat_cmp}
 use Rattle.std.specs.BTreeMap.{get}
-use Rattle.std.specs.List.{between}
 use Rattle.std.proofs.lemmas.Bool.{cases_eq}
 use Rattle.std.proofs.Math.Nat.{div-div-eq-div-mul}
 use borrow.Rule.Slice.PartMut.{put_mid}
 use Rattle.sparse_bytes.specs.declared.bytes.SparseBytes.{SparseBytes}
 use Rattle.sparse_bytes.specs.declared.cells.Cells.{Cells}
-use Rattle.sparse_bytes.specs.Written.{IsOver, Touches}
+use Rattle.sparse_bytes.specs.Written.{Touches}
 use Rattle.sparse_bytes.specs.Cells.{HasCell, WritesCells, cell_byte}
 use Rattle.sparse_bytes.specs.SparseBytes.{HasBlock, IsWritten, byte_at, shown_byte}
 use Rattle.sparse_bytes.proofs.MarkedBlocks.{IsMarkedBut}
 use Rattle.sparse_bytes.proofs.WrittenCells.{put_outside, put_within}
-use Rattle.sparse_bytes.proofs.WrittenParts.{over_more, touches_more}
 
 -- a byte, by what its block is
 pub byte_is : (bytes : SparseBytes) (i number : ℕ) (block : Option (Box (List ℕ) Global)) → i / 4096 ≡ number → get nat_cmp bytes.whole number ≡ block
@@ -32,98 +30,105 @@ byte_in bytes number i block lt is = byte_is bytes (4096 * number + i) number bl
 place_apart : (number from k i : ℕ) → i / 4096 ≡ number → (i < 4096 * number + from) ⊎ (4096 * number + from + k ≤ i) → (i % 4096 < from) ⊎ (from + k ≤ i % 4096)
 place_apart number from k i e w = ⊎_elim (λ (l : i < 4096 * number + from). inl (omega arith)) (λ (l : 4096 * number + from + k ≤ i). inr (omega arith)) w
 
--- the piece is written into a block that is kept whole
-module _ (old new : SparseBytes) (number from k : ℕ) (block piece : List ℕ) (kept : Box (List ℕ) Global)
-    (is : get nat_cmp new.whole number ≡ Some kept) (value : kept.value ≡ put_mid from k block piece)
-    (others : (q : ℕ) → q ≢ number → get nat_cmp new.whole q ≡ get nat_cmp old.whole q) (cells : new.cells ≡ old.cells)
-    (size : k ≡ length piece) (some : 0 < k) (fits : from + k ≤ 4096) (long : length block ≡ 4096)
-    (shows : (j : ℕ) → j < 4096 → slice_index block j ≡ byte_at old (4096 * number + j)) where
+-- What one piece leaves: its bytes, the others as they were, and no whole block and no cell but those that were and those that it touches.
+written_if : (old new : SparseBytes) (place : ℕ) (piece : List ℕ) → ((i : ℕ) → place ≤ i → i < place + length piece → byte_at new i ≡ slice_index piece (i - place))
+    → ((i : ℕ) → (i < place) ⊎ (place + length piece ≤ i) → byte_at new i ≡ byte_at old i)
+    → ((q : ℕ) → is_some (get nat_cmp new.whole q) ≡ true → (is_some (get nat_cmp old.whole q) ≡ true) ⊎ Touches 4096 place (length piece) q)
+    → ((c : ℕ) → HasCell new.cells c → HasCell old.cells c ⊎ Touches 64 place (length piece) c) → IsWritten place piece old new
+written_if old new place piece within outside whole cells = record {
+  bytes = record { within = within; before = λ i l. outside i (inl l); after = λ i l. outside i (inr l) };
+  parts = λ q has. ⊎_elim
+      (λ (is : is_some (get nat_cmp new.whole q) ≡ true). ⊎_elim
+      (λ (was : is_some (get nat_cmp old.whole q) ≡ true). inl (inl was))
+      (λ (t : Touches 4096 place (length piece) q). inr t)
+      (whole q is))
+      (λ (cell : (c : ℕ) × HasCell new.cells c × (c / 64 ≡ q)). ⊎_elim
+      (λ (was : HasCell old.cells cell.0). inl (inr (cell.0, was, cell.2)))
+      (λ (t : Touches 64 place (length piece) cell.0).
+      let quotient : t.place / 64 / 64 ≡ t.place / 4096 = div-div-eq-div-mul t.place 64 64 in
+      inr (record { place = t.place; from = t.from; below = t.below; in_part = sym quotient ∙ ap (λ (n : ℕ). n / 64) t.in_part ∙ cell.2 }))
+      (cells cell.0 cell.1))
+      has;
+}
+
+-- a block that is kept whole has the piece from a place in it on
+pub record WritesWhole (old new : SparseBytes) (number from k : ℕ) (block piece : List ℕ) (kept : Box (List ℕ) Global) : Type 0 where
+  pub is : get nat_cmp new.whole number ≡ Some kept
+  pub value : kept.value ≡ put_mid from k block piece
+  pub others : (q : ℕ) → q ≢ number → get nat_cmp new.whole q ≡ get nat_cmp old.whole q
+  pub cells : new.cells ≡ old.cells
+  pub size : k ≡ length piece
+  pub some : 0 < k
+  pub fits : from + k ≤ 4096
+  pub long : length block ≡ 4096
+  pub shows : (j : ℕ) → j < 4096 → slice_index block j ≡ byte_at old (4096 * number + j)
+
+module _ (old new : SparseBytes) (number from k : ℕ) (block piece : List ℕ) (kept : Box (List ℕ) Global) (w : WritesWhole old new number from k block piece kept) where
   here : (i : ℕ) → i / 4096 ≡ number → byte_at new i ≡ get_or (put_mid from k block piece) (i % 4096) 0
-  here i e = byte_is new i number (Some kept) e is ∙ ap (λ (l : List ℕ). get_or l (i % 4096) 0) value
+  here i e = byte_is new i number (Some kept) e w.is ∙ ap (λ (l : List ℕ). get_or l (i % 4096) 0) w.value
 
   there : (i : ℕ) → i / 4096 ≢ number → byte_at new i ≡ byte_at old i
   there i ne =
-      byte_is new i (i / 4096) (get nat_cmp old.whole (i / 4096)) refl (others (i / 4096) ne)
-      ∙ ap (λ (c : Cells). shown_byte (get nat_cmp old.whole (i / 4096)) c i) cells
+      byte_is new i (i / 4096) (get nat_cmp old.whole (i / 4096)) refl (w.others (i / 4096) ne)
+      ∙ ap (λ (c : Cells). shown_byte (get nat_cmp old.whole (i / 4096)) c i) w.cells
       ∙ sym (byte_is old i (i / 4096) (get nat_cmp old.whole (i / 4096)) refl refl)
 
+  within : (i : ℕ) → 4096 * number + from ≤ i → i < 4096 * number + from + length piece → byte_at new i ≡ slice_index piece (i - (4096 * number + from))
+  within i l u =
+      let size = w.size in
+      let fits = w.fits in
+      here i (omega arith)
+      ∙ put_within from k block piece (i % 4096) size (let long = w.long in omega arith) (omega arith) (omega arith)
+      ∙ ap (λ (n : ℕ). get_or piece n 0) (omega arith)
+
   outside : (i : ℕ) → (i < 4096 * number + from) ⊎ (4096 * number + from + k ≤ i) → byte_at new i ≡ byte_at old i
-  outside i w = ⊎_elim
+  outside i apart = ⊎_elim
       (λ (e : i / 4096 ≡ number).
       here i e
-      ∙ put_outside from k block piece (i % 4096) size (omega arith) (place_apart number from k i e w)
-      ∙ shows (i % 4096) (omega arith)
+      ∙ put_outside from k block piece (i % 4096) w.size (let long = w.long in let fits = w.fits in omega arith) (place_apart number from k i e apart)
+      ∙ w.shows (i % 4096) (omega arith)
       ∙ ap (byte_at old) (omega arith))
       (there i)
       (cases_eq (i / 4096) number)
 
-  found : (q : ℕ) → HasBlock new q → HasBlock old q ⊎ Touches 4096 (4096 * number + from) (length piece) q
-  found q has = ⊎_elim
+  kept_or_touched : (q : ℕ) → is_some (get nat_cmp new.whole q) ≡ true → (is_some (get nat_cmp old.whole q) ≡ true) ⊎ Touches 4096 (4096 * number + from) (length piece) q
+  kept_or_touched q has = let size = w.size in let some = w.some in let fits = w.fits in ⊎_elim
       (λ (e : q ≡ number). inr (record { place = 4096 * number + from; from = omega arith; below = omega arith; in_part = omega arith }))
-      (λ (ne : q ≢ number). inl (⊎_elim
-      (λ (whole : is_some (get nat_cmp new.whole q) ≡ true). inl (ap is_some (sym (others q ne)) ∙ whole))
-      (λ (cell : (c : ℕ) × HasCell new.cells c × (c / 64 ≡ q)). inr (subst (λ (cs : Cells). (c : ℕ) × HasCell cs c × (c / 64 ≡ q)) cells cell))
-      has))
+      (λ (ne : q ≢ number). inl (ap is_some (sym (w.others q ne)) ∙ has))
       (cases_eq q number)
 
-  pub written_whole : IsWritten (4096 * number + from) piece old new
-  written_whole = record {
-    bytes = record {
-      within = λ i l u. here i (omega arith) ∙ put_within from k block piece (i % 4096) size (omega arith) (omega arith) (omega arith) ∙ ap (λ (n : ℕ). get_or piece n 0) (omega arith);
-      before = λ i l. outside i (inl l);
-      after = λ i l. outside i (inr (omega arith));
-    };
-    blocks = found;
-  }
+-- so the piece is written
+pub written_whole : (old new : SparseBytes) (number from k : ℕ) (block piece : List ℕ) (kept : Box (List ℕ) Global) → WritesWhole old new number from k block piece kept
+    → IsWritten (4096 * number + from) piece old new
+written_whole old new number from k block piece kept w =
+    written_if old new (4096 * number + from) piece (within old new number from k block piece kept w)
+    (λ i apart. outside old new number from k block piece kept w i (subst (λ (n : ℕ). (i < 4096 * number + from) ⊎ (4096 * number + from + n ≤ i)) (sym w.size) apart))
+    (kept_or_touched old new number from k block piece kept w)
+    (λ c has. inl (subst (λ (cs : Cells). HasCell cs c) w.cells has))
 
--- the piece is written into the cells of a block that is not
+-- the piece is written into the cells of a block that is not kept whole
 module _ (old new : SparseBytes) (number from : ℕ) (piece : List ℕ) (whole : new.whole ≡ old.whole) (none : get nat_cmp old.whole number ≡ None)
     (fits : from + length piece ≤ 4096) (writes : WritesCells (4096 * number + from) piece old.cells new.cells) where
   block_same : (q : ℕ) → get nat_cmp new.whole q ≡ get nat_cmp old.whole q
   block_same q = ap (λ m. get nat_cmp m q) whole
-
-  cell_same : (i : ℕ) → (i < 4096 * number + from) ⊎ (4096 * number + from + length piece ≤ i) → cell_byte new.cells i ≡ cell_byte old.cells i
-  cell_same i w = ⊎_elim (writes.bytes.before i) (writes.bytes.after i) w
 
   shown_same : (block : Option (Box (List ℕ) Global)) (i : ℕ) → cell_byte new.cells i ≡ cell_byte old.cells i → shown_byte block new.cells i ≡ shown_byte block old.cells i
   shown_same (Some b) i e = refl
   shown_same None i e = e
 
   beside : (i : ℕ) → (i < 4096 * number + from) ⊎ (4096 * number + from + length piece ≤ i) → byte_at new i ≡ byte_at old i
-  beside i w =
+  beside i apart =
       byte_is new i (i / 4096) (get nat_cmp old.whole (i / 4096)) refl (block_same (i / 4096))
-      ∙ shown_same (get nat_cmp old.whole (i / 4096)) i (cell_same i w)
+      ∙ shown_same (get nat_cmp old.whole (i / 4096)) i (⊎_elim (writes.bytes.before i) (writes.bytes.after i) apart)
       ∙ sym (byte_is old i (i / 4096) (get nat_cmp old.whole (i / 4096)) refl refl)
 
-  touched : (q : ℕ) → HasBlock new q → HasBlock old q ⊎ Touches 4096 (4096 * number + from) (length piece) q
-  touched q has = ⊎_elim
-      (λ (is : is_some (get nat_cmp new.whole q) ≡ true). inl (inl (ap is_some (sym (block_same q)) ∙ is)))
-      (λ (cell : (c : ℕ) × HasCell new.cells c × (c / 64 ≡ q)). ⊎_elim
-      (λ (h : HasCell old.cells cell.0). inl (inr (cell.0, h, cell.2)))
-      (λ (t : Touches 64 (4096 * number + from) (length piece) cell.0).
-      let quotient : t.place / 64 / 64 ≡ t.place / 4096 = div-div-eq-div-mul t.place 64 64 in
-      inr (record { place = t.place; from = t.from; below = t.below; in_part = sym quotient ∙ ap (λ (n : ℕ). n / 64) t.in_part ∙ cell.2 }))
-      (writes.cells cell.0 cell.1))
-      has
-
-  pub written_in_cells : IsWritten (4096 * number + from) piece old new
-  written_in_cells = record {
-    bytes = record {
-      within = λ i l u. byte_is new i number None (omega arith) (block_same number ∙ none) ∙ writes.bytes.within i l u;
-      before = λ i l. beside i (inl l);
-      after = λ i l. beside i (inr l);
-    };
-    blocks = touched;
-  }
-
--- the first bytes are written, and those after them into what that left
-pub blocks_more : (bytes : List ℕ) (start done count place : ℕ) (old middle new : SparseBytes) → done + count ≤ length bytes → place ≡ start + done
-    → IsWritten start (take done bytes) old middle → IsWritten place (between done (done + count) bytes) middle new
-    → IsWritten start (take (done + count) bytes) old new
-blocks_more bytes start done count place old middle new h e first second = record {
-  bytes = over_more bytes start done count place h e (byte_at old) (byte_at middle) (byte_at new) first.bytes second.bytes;
-  blocks = λ q has. touches_more bytes start done count place h e 4096 q (HasBlock old q) (HasBlock middle q) (HasBlock new q) (first.blocks q) (second.blocks q) has;
-}
+  pub in_cells : IsWritten (4096 * number + from) piece old new
+  in_cells =
+      written_if old new (4096 * number + from) piece
+      (λ i l u. byte_is new i number None (omega arith) (block_same number ∙ none) ∙ writes.bytes.within i l u)
+      beside
+      (λ q is. inl (ap is_some (sym (block_same q)) ∙ is))
+      writes.parts
 
 -- ---- blocks that are marked
 

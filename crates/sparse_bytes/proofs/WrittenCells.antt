@@ -1,18 +1,15 @@
--- A piece that is written into one cell, and one piece after another.
-use Rattle.std.proofs.Common.{◌≡◌, ◌≢◌, ℕ, ◌+◌, ◌-◌, ◌*◌, ◌/◌, ◌%◌, ◌<◌, ◌≤◌, ◌⊎◌, ⊎_elim, inl, inr, List, [], length, take, get_or, ap, sym, ◌∙◌, arith}
+-- A piece that is written into one cell.
+use Rattle.std.proofs.Common.{◌≡◌, ◌≢◌, ℕ, ◌+◌, ◌-◌, ◌*◌, ◌/◌, ◌%◌, ◌<◌, ◌≤◌, ◌⊎◌, ⊎_elim, inl, inr, List, [], length, get_or, ap, sym, ◌∙◌, arith}
 use Rattle.std.specs.Prelude.{Some, is_some, unwrap_or}
 use Rattle.std.specs.Ordering.{nat_cmp}
 use Rattle.std.specs.BTreeMap.{get, Updates}
-use Rattle.std.specs.List.{between}
-use Rattle.std.proofs.lemmas.Bool.{cases_eq, cases_lt}
+use Rattle.std.proofs.lemmas.Bool.{cases_eq}
 use Rattle.std.proofs.lemmas.Grind.{common_steps}
-use Rattle.std.proofs.lemmas.List.{places, get_or-take, length-take}
-use Rattle.std.proofs.lemmas.List.Edits.{get_or-between, length-between}
+use Rattle.std.proofs.lemmas.List.{places}
 use borrow.Rule.Slice.PartMut.{put_mid}
 use Rattle.sparse_bytes.specs.declared.cells.Cells.{Cells}
-use Rattle.sparse_bytes.specs.Written.{IsOver, Touches}
+use Rattle.sparse_bytes.specs.Written.{Touches}
 use Rattle.sparse_bytes.specs.Cells.{HasCell, WritesCells, cell_at, cell_byte}
-use Rattle.sparse_bytes.proofs.WrittenParts.{over_more, touches_more}
 
 -- ---- one cell
 
@@ -64,16 +61,5 @@ module _ (old new : Cells) (number from k : ℕ) (cell piece : List ℕ)
       before = λ i l. outside i (inl l);
       after = λ i l. outside i (inr (omega arith));
     };
-    cells = found;
+    parts = found;
   }
-
--- ---- one piece after another
-
--- the first bytes are written, and those after them into what that left
-pub written_more : (bytes : List ℕ) (start done count place : ℕ) (old middle new : Cells) → done + count ≤ length bytes → place ≡ start + done
-    → WritesCells start (take done bytes) old middle → WritesCells place (between done (done + count) bytes) middle new
-    → WritesCells start (take (done + count) bytes) old new
-written_more bytes start done count place old middle new h e first second = record {
-  bytes = over_more bytes start done count place h e (cell_byte old) (cell_byte middle) (cell_byte new) first.bytes second.bytes;
-  cells = λ q has. touches_more bytes start done count place h e 64 q (HasCell old q) (HasCell middle q) (HasCell new q) (first.cells q) (second.cells q) has;
-}

@@ -4,7 +4,7 @@ use Rattle.std.specs.List.{between}
 use Rattle.std.proofs.lemmas.Bool.{cases_lt}
 use Rattle.std.proofs.lemmas.List.{get_or-take, length-take}
 use Rattle.std.proofs.lemmas.List.Edits.{get_or-between, length-between}
-use Rattle.sparse_bytes.specs.Written.{IsOver, Touches}
+use Rattle.sparse_bytes.specs.Written.{IsOver, Touches, Writes}
 
 module _ (bytes : List ℕ) (start done count place : ℕ) (h : done + count ≤ length bytes) (e : place ≡ start + done) where
   short : length (take done bytes) ≡ done
@@ -16,8 +16,8 @@ module _ (bytes : List ℕ) (start done count place : ℕ) (h : done + count ≤
   piece : length (between done (done + count) bytes) ≡ count
   piece = omega (arith, length-between bytes done (done + count) h)
 
-  -- the first bytes are written, and those after them over what that left
-  pub over_more : (old middle new : ℕ → ℕ) → IsOver start (take done bytes) old middle → IsOver place (between done (done + count) bytes) middle new
+  -- the bytes of both pieces
+  over_more : (old middle new : ℕ → ℕ) → IsOver start (take done bytes) old middle → IsOver place (between done (done + count) bytes) middle new
       → IsOver start (take (done + count) bytes) old new
   over_more old middle new first second = record {
     within = λ i l u. ⊎_elim
@@ -37,7 +37,7 @@ module _ (bytes : List ℕ) (start done count place : ℕ) (h : done + count ≤
   }
 
   -- and a part that was there, or that one of the pieces touches
-  pub touches_more : (size q : ℕ) (Old Middle New : Type 0) → (Middle → Old ⊎ Touches size start (length (take done bytes)) q)
+  touches_more : (size q : ℕ) (Old Middle New : Type 0) → (Middle → Old ⊎ Touches size start (length (take done bytes)) q)
       → (New → Middle ⊎ Touches size place (length (between done (done + count) bytes)) q) → New → Old ⊎ Touches size start (length (take (done + count) bytes)) q
   touches_more size q Old Middle New first second has = ⊎_elim
       (λ (m : Middle). ⊎_elim
@@ -46,3 +46,11 @@ module _ (bytes : List ℕ) (start done count place : ℕ) (h : done + count ≤
       (first m))
       (λ (t : Touches size place (length (between done (done + count) bytes)) q). inr (record { place = t.place; from = omega (arith, t.from); below = omega (arith, t.below, piece, whole); in_part = t.in_part }))
       (second has)
+
+  -- the first bytes are written, and those after them over what that left
+  pub written_more : (size : ℕ) (old middle new : ℕ → ℕ) (Old Middle New : ℕ → Type 0) → Writes size start (take done bytes) old middle Old Middle
+      → Writes size place (between done (done + count) bytes) middle new Middle New → Writes size start (take (done + count) bytes) old new Old New
+  written_more size old middle new Old Middle New first second = record {
+    bytes = over_more old middle new first.bytes second.bytes;
+    parts = λ q has. touches_more size q (Old q) (Middle q) (New q) (first.parts q) (second.parts q) has;
+  }

@@ -1,8 +1,8 @@
 -- Which bytes cells show.
-use Rattle.std.specs.Prelude.{ℕ, ◌/◌, ◌%◌, ◌⊎◌, List, [], IsSome, length, slice_index, unwrap_or}
+use Rattle.std.specs.Prelude.{ℕ, ◌/◌, ◌%◌, List, [], IsSome, slice_index, unwrap_or}
 use Rattle.std.specs.Ordering.{nat_cmp}
 use Rattle.std.specs.BTreeMap.{get}
-use Rattle.sparse_bytes.specs.Written.{IsOver, Touches}
+use Rattle.sparse_bytes.specs.Written.{Writes}
 use Rattle.sparse_bytes.specs.declared.cells.Cells.{Cells}
 use Rattle.sparse_bytes.specs.declared.cells.TheConstants.{CELL_SIZE}
 
@@ -18,7 +18,6 @@ cell_byte bytes i = slice_index (cell_at bytes (i / CELL_SIZE)) (i % CELL_SIZE)
 abbrev pub HasCell : Cells → ℕ → Type 0
 HasCell bytes number = IsSome (get nat_cmp bytes.cells number)
 
--- The piece lies from a place on. A cell is there only if it was before or the piece touches it.
-pub record WritesCells (start : ℕ) (piece : List ℕ) (old new : Cells) : Type 0 where
-  pub bytes : IsOver start piece (cell_byte old) (cell_byte new)
-  pub cells : (number : ℕ) → HasCell new number → HasCell old number ⊎ Touches CELL_SIZE start (length piece) number
+-- The piece lies from a place on, and no cell is there but those that were and those that it touches.
+abbrev pub WritesCells : (start : ℕ) → (piece : List ℕ) → (old new : Cells) → Type 0
+WritesCells start piece old new = Writes CELL_SIZE start piece (cell_byte old) (cell_byte new) (HasCell old) (HasCell new)

@@ -1,9 +1,9 @@
 -- Which bytes a sparse image shows.
 use Rattle.std.specs.Global.{Global}
-use Rattle.std.specs.Prelude.{◌≡◌, ℕ, ◌/◌, ◌%◌, ◌⊎◌, List, Box, Option, None, Some, IsSome, length, slice_index}
+use Rattle.std.specs.Prelude.{◌≡◌, ℕ, ◌/◌, ◌%◌, ◌⊎◌, List, Box, Option, None, Some, IsSome, slice_index}
 use Rattle.std.specs.Ordering.{nat_cmp}
 use Rattle.std.specs.BTreeMap.{get}
-use Rattle.sparse_bytes.specs.Written.{IsOver, Touches}
+use Rattle.sparse_bytes.specs.Written.{Writes}
 use Rattle.sparse_bytes.specs.Cells.{HasCell, cell_byte}
 use Rattle.sparse_bytes.specs.declared.bytes.SparseBytes.{SparseBytes}
 use Rattle.sparse_bytes.specs.declared.bytes.TheConstants.{BLOCK_SIZE}
@@ -23,6 +23,5 @@ abbrev pub HasBlock : SparseBytes → ℕ → Type 0
 HasBlock bytes number = IsSome (get nat_cmp bytes.whole number) ⊎ ((cell : ℕ) × HasCell bytes.cells cell × (cell / 64 ≡ number))
 
 -- The piece lies from a place on. A block was written to only if it was before or the piece touches it.
-pub record IsWritten (start : ℕ) (piece : List ℕ) (old new : SparseBytes) : Type 0 where
-  pub bytes : IsOver start piece (byte_at old) (byte_at new)
-  pub blocks : (number : ℕ) → HasBlock new number → HasBlock old number ⊎ Touches BLOCK_SIZE start (length piece) number
+abbrev pub IsWritten : (start : ℕ) → (piece : List ℕ) → (old new : SparseBytes) → Type 0
+IsWritten start piece old new = Writes BLOCK_SIZE start piece (byte_at old) (byte_at new) (HasBlock old) (HasBlock new)

@@ -1,5 +1,5 @@
 -- Bytes that were written over others, as functions of places.
-use Rattle.std.specs.Prelude.{◌≡◌, ℕ, ◌+◌, ◌-◌, ◌/◌, ◌<◌, ◌≤◌, List, length, slice_index}
+use Rattle.std.specs.Prelude.{◌≡◌, ℕ, ◌+◌, ◌-◌, ◌/◌, ◌<◌, ◌≤◌, ◌⊎◌, List, length, slice_index}
 
 -- the piece lies from a place on, and every other byte is as it was
 pub record IsOver (start : ℕ) (piece : List ℕ) (old new : ℕ → ℕ) : Type 0 where
@@ -13,3 +13,8 @@ pub record Touches (size start count number : ℕ) : Type 0 where
   pub from : start ≤ place
   pub below : place < start + count
   pub in_part : place / size ≡ number
+
+-- The piece lies from a place on. A part of this size is there afterwards only if it was before or the piece touches it.
+pub record Writes (size start : ℕ) (piece : List ℕ) (old new : ℕ → ℕ) (HadPart HasPart : ℕ → Type 0) : Type 0 where
+  pub bytes : IsOver start piece old new
+  pub parts : (number : ℕ) → HasPart number → HadPart number ⊎ Touches size start (length piece) number

@@ -5,7 +5,8 @@ ghost use Rattle.std.specs.BTreeMap.{get};
 ghost use Rattle.sparse_bytes.specs.Cells.{cell_byte};
 ghost use Rattle.sparse_bytes.specs.SparseBytes.{HasBlock, IsWritten, byte_at};
 
-use crate::cells::{CELL_SIZE, Cells, mark};
+use crate::cells::{CELL_SIZE, Cells};
+use memory_blocks::Marks;
 use std::alloc::Global;
 use std::collections::BTreeMap;
 use wasm_values::NoMemory;
@@ -158,16 +159,16 @@ impl SparseBytes {
 
     /// Marks each block that was written to, and leaves the other marks as they were: a byte in a block with no mark is zero. Takes no
     /// memory, and time in proportion to the blocks and cells that were written to.
-    pub fn mark_blocks(&self, marks: &mut [bool])
-        ensures covered { (i : ℕ) → i < BLOCK_SIZE * length marks.new
-            → slice_index_or marks.new (i / BLOCK_SIZE) false ≡ false → byte_at self.now i ≡ 0 }
-        ensures kept { (k : ℕ) → slice_index_or marks.new k false ≡ false → slice_index_or marks.old k false ≡ false }
-        ensures least { (k : ℕ) → slice_index_or marks.old k false ≡ false → slice_index_or marks.new k false ≡ true → HasBlock self.now k }
-        ensures room { length marks.new ≡ length marks.old }
+    pub fn mark_blocks(&self, marks: &mut Marks)
+        ensures covered { (i : ℕ) → i < BLOCK_SIZE * length marks.new.items
+            → slice_index_or marks.new.items (i / BLOCK_SIZE) false ≡ false → byte_at self.now i ≡ 0 }
+        ensures kept { (k : ℕ) → slice_index_or marks.new.items k false ≡ false → slice_index_or marks.old.items k false ≡ false }
+        ensures least { (k : ℕ) → slice_index_or marks.old.items k false ≡ false → slice_index_or marks.new.items k false ≡ true → HasBlock self.now k }
+        ensures room { length marks.new.items ≡ length marks.old.items }
     {
         self.cells.mark_blocks(CELLS_IN_BLOCK as u32, marks);
         for number in self.whole.keys() {
-            mark(marks, *number);
+            marks.mark(*number);
         }
     }
 }

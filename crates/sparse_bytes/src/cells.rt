@@ -1,7 +1,8 @@
 //! Bytes in cells of 64.
-ghost use Rattle.std.specs.Prelude.{◌≡◌, ℕ, ◌+◌, ◌-◌, ◌*◌, ◌/◌, ◌^◌, ◌<◌, ◌≤◌, false, true, OnOk, length, set, slice_index, slice_index_or};
+ghost use Rattle.std.specs.Prelude.{◌≡◌, ℕ, ◌+◌, ◌-◌, ◌*◌, ◌/◌, ◌^◌, ◌<◌, ◌≤◌, false, true, OnOk, length, slice_index, slice_index_or};
 ghost use Rattle.sparse_bytes.specs.Cells.{HasCell, WritesCells, cell_at, cell_byte};
 
+use memory_blocks::Marks;
 use std::alloc::Global;
 use std::collections::BTreeMap;
 use wasm_values::NoMemory;
@@ -31,15 +32,6 @@ fn put_cell(part: &mut [u8], start: usize, cell: &[u8; CELL_SIZE])
 {
     let count = (part.len() - start).min(CELL_SIZE);
     part[start..start + count].copy_from_slice(&cell[..count]);
-}
-
-// Marks a block, if there is a mark for it.
-pub(crate) fn mark(marks: &mut [bool], block: usize)
-    ensures { marks.new ≡ set marks.old block true }
-{
-    if block < marks.len() {
-        marks[block] = true;
-    }
 }
 
 impl Cells {
@@ -109,17 +101,17 @@ impl Cells {
 
     // Marks each block of so many cells that has a cell that was written to, and leaves the other marks as they were: a byte
     // in a block with no mark is zero. Takes no memory, and time in proportion to the cells that were written to.
-    pub(crate) fn mark_blocks(&self, cells: u32, marks: &mut [bool])
+    pub(crate) fn mark_blocks(&self, cells: u32, marks: &mut Marks)
         requires { 0 < cells }
-        ensures covered { (i : ℕ) → i < CELL_SIZE * cells * length marks.new
-            → slice_index_or marks.new (i / (CELL_SIZE * cells)) false ≡ false → cell_byte self.now i ≡ 0 }
-        ensures kept { (k : ℕ) → slice_index_or marks.new k false ≡ false → slice_index_or marks.old k false ≡ false }
-        ensures least { (k : ℕ) → slice_index_or marks.old k false ≡ false → slice_index_or marks.new k false ≡ true
+        ensures covered { (i : ℕ) → i < CELL_SIZE * cells * length marks.new.items
+            → slice_index_or marks.new.items (i / (CELL_SIZE * cells)) false ≡ false → cell_byte self.now i ≡ 0 }
+        ensures kept { (k : ℕ) → slice_index_or marks.new.items k false ≡ false → slice_index_or marks.old.items k false ≡ false }
+        ensures least { (k : ℕ) → slice_index_or marks.old.items k false ≡ false → slice_index_or marks.new.items k false ≡ true
             → (number : ℕ) × HasCell self.now number × (number / cells ≡ k) }
-        ensures room { length marks.new ≡ length marks.old }
+        ensures room { length marks.new.items ≡ length marks.old.items }
     {
         for number in self.cells.keys() {
-            mark(marks, *number / cells as usize);
+            marks.mark(*number / cells as usize);
         }
     }
 }

@@ -4,10 +4,10 @@ use Rattle.std.proofs.lemmas.List.{length-drop, take_at}
 use Rattle.std.specs.Prelude.{Option, Some}
 use Rattle.wasm_spec.specs.Store.{fresh_store, table_size}
 use Rattle.wasm_spec.proofs.ResultLaws.{length-fresh_table}
-use Rattle.pool_worlds.specs.Contents.{Named, table_image}
+use Rattle.pool_model.specs.Contents.{Named, table_image}
 use Rattle.pool_limits.specs.declared.numbers.Numbers.{Numbers}
 use Rattle.pool_limits.specs.Limits.{load_limits}
-use Rattle.loaded_modules.specs.Within.{IsWithin}
+use Rattle.wasm_spec.specs.Within.{IsWithin}
 use Rattle.table_slots.specs.Kept.{IsKeptTable}
 
 -- the module's table, written over the first entries

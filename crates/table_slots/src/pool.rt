@@ -9,9 +9,9 @@ ghost use Rattle.slot_words.specs.Passes.{Holds, IsIdle, IsSamePass, joined_trai
 ghost use Rattle.slot_pools.specs.Gives.{GivesWarm};
 ghost use Rattle.slot_pools.specs.declared.policy.Policy.TheVariants.{Affine};
 ghost use Rattle.slot_pools.specs.Takes.{Takes, MeetsFull};
-ghost use Rattle.pool_worlds.specs.Contents.{IsTableOf};
-ghost use Rattle.pool_worlds.specs.declared.kinds.Kind.TheVariants.{Table};
-ghost use Rattle.pool_worlds.specs.OwnTags.{own_tag};
+ghost use Rattle.pool_model.specs.Contents.{IsTableOf};
+ghost use Rattle.pool_model.specs.declared.kinds.Kind.TheVariants.{Table};
+ghost use Rattle.pool_model.specs.OwnTags.{own_tag};
 
 use crate::slot::TableSlot;
 use module_store::{LoadedModule, ModuleRef, ModuleStore, Naming};
@@ -29,7 +29,7 @@ pub struct TablePool<N: Naming> {
 impl<N: Naming> Model for TablePool<N> {
     ghost use Rattle.slot_words.specs.declared.words.Words.{Words};
     ghost use Rattle.pool_limits.specs.declared.numbers.Numbers.{Numbers};
-    ghost use Rattle.pool_worlds.specs.Contents.{TableContents};
+    ghost use Rattle.pool_model.specs.Contents.{TableContents};
 
     ghost Value = { Words TableContents Numbers };
 
@@ -104,7 +104,7 @@ impl<N: Naming> TablePool<N> {
         self.take_for(pass, &loaded)
     }
 
-    /// The same for a module that was looked up.
+    /// Takes a table as [`TablePool::take`] does, for a module that was looked up.
     ///
     /// # Errors
     ///

@@ -1,9 +1,9 @@
 //! Tables in slots, and the modules that they belong to.
 ghost use Rattle.std.specs.Prelude.{◌≡◌, ◌≤◌, true, is_some, IfOk, length, max, vec_capacity};
 ghost use Rattle.pool_core.specs.declared.words.State.TheVariants.{Warm};
-ghost use Rattle.pool_worlds.specs.Contents.{prepared, restored, IsCold, IsTableOf, Matches};
-ghost use Rattle.pool_worlds.specs.declared.kinds.Kind.TheVariants.{Table};
-ghost use Rattle.pool_worlds.specs.OwnTags.{own_tag, fits-own_tag};
+ghost use Rattle.pool_model.specs.Contents.{prepared, restored, IsCold, IsTableOf, Matches};
+ghost use Rattle.pool_model.specs.declared.kinds.Kind.TheVariants.{Table};
+ghost use Rattle.pool_model.specs.OwnTags.{own_tag, fits-own_tag};
 
 use initial_image::{table_length, write_table};
 use module_store::{LoadedModule, ModuleRef, ModuleStore, Naming};
@@ -24,8 +24,8 @@ pub struct TableSlot<N: Naming> {
 
 impl<N: Naming> Model for TableSlot<N> {
     ghost use Rattle.std.specs.Prelude.{◌≤◌, take, vec_capacity};
-    ghost use Rattle.pool_worlds.specs.Contents.{TableContents};
-    ghost use Rattle.pool_worlds.specs.Codes.{coded_table};
+    ghost use Rattle.pool_model.specs.Contents.{TableContents};
+    ghost use Rattle.pool_model.specs.Codes.{coded_table};
     ghost use Rattle.table_slots.specs.Kept.{IsKeptTable};
 
     ghost Value = { TableContents };
@@ -55,8 +55,7 @@ fn reach(entries: &mut Vec<Option<u32>>, count: usize)
     ensures capacity { vec_capacity entries.old ≤ vec_capacity entries.new }
 {
     if count > entries.len() {
-        let reached = entries.resize(count, None);
-        prove!(reached.is_ok());
+        entries.resize(count, None).unwrap();
     }
 }
 

@@ -16,7 +16,7 @@ use Rattle.tenant_share.specs.declared.passes.Caller.{Caller}
 use Rattle.tenant_share.specs.declared.passes.TenantPass.{TenantPass}
 use Rattle.tenant_share.specs.declared.share_host.ShareHost.{ShareHost}
 use Rattle.tenant_share.specs.Opening.{of_tenant, AddsHost, IsEmptyCaller, IsFresh}
-use Rattle.tenant_share.specs.Tenants.{share_of, tenants_of, AreInOrder, HaveShares, IsCaller, IsHostOf, IsNewCaller, IsNewTenantPass, IsTenantPass}
+use Rattle.tenant_share.specs.Tenants.{wanted_share, tenants_of, AreInOrder, HaveShares, IsCaller, IsHostOf, IsNewCaller, IsNewTenantPass, IsTenantPass}
 use Rattle.tenant_share.proofs.PlaceLemmas.{get-append, get-push, get_front, get_seam, option_map_some, All-at, All-reverse}
 
 module _ {A B : Type 0} (f : A → B) where
@@ -49,7 +49,7 @@ module _ {N : Type 0} {G : Ghosts N} where
   shares_more all passes before after own adds each = λ tenant want host at there.
       elim (get-push before.hosts.items adds.host tenant host (rw adds.hosts_are at there)) [
         | inl front ↦ each tenant want host at front
-        | inr last ↦ subst (λ (h : Host N). HasShare want.warm (share_of want) h × HandedOut h passes) last.1
+        | inr last ↦ subst (λ (h : Host N). HasShare want.warm (wanted_share want) h × HandedOut h passes) last.1
             (adds.has want (rw last.0 at at), adds.out)
       ]
 

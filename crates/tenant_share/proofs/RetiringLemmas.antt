@@ -9,7 +9,7 @@ use Rattle.retired_tags.specs.declared.views.TagStep.{TagStep}
 use Rattle.retired_tags.specs.Passes.{IsSameTagPass, TagPass, steps, trail}
 use Rattle.retired_tags.specs.Steps.{Knows, tells}
 use Rattle.module_store.specs.declared.naming.Naming.{Ghosts}
-use Rattle.pool_worlds.specs.Contents.{Named}
+use Rattle.pool_model.specs.Contents.{Named}
 use Rattle.pool_host.specs.declared.host.Host.{Host}
 use Rattle.tenant_share.specs.declared.passes.Caller.{Caller}
 use Rattle.tenant_share.specs.declared.passes.TenantPass.{TenantPass}

@@ -14,10 +14,10 @@ use Rattle.pool_limits.specs.Plans.{amount, kept, plan_fault, total, wanted, Has
 use Rattle.pool_limits.specs.Ranges.{AreInRange}
 use Rattle.pool_limits.specs.Shares.{AreAllSlots, lane_share, shared_share}
 use Rattle.pool_limits.proofs.WantLemmas.{may_want}
-use Rattle.pool_worlds.specs.Tenants.{all_free_warm, pools_after_all, WarmSlotsStayWithin}
+use Rattle.pool_model.specs.Tenants.{all_free_warm, pools_after_all, WarmSlotsStayWithin}
 use Rattle.pool_host.specs.Hosts.{IsShare}
 use Rattle.tenant_share.specs.Shares.{all_of, rest, shares, IsPlan}
-use Rattle.tenant_share.specs.Tenants.{share_of}
+use Rattle.tenant_share.specs.Tenants.{wanted_share}
 use Rattle.tenant_share.specs.Worlds.{warm_of, PlansBoundWarmSlots}
 use Rattle.tenant_share.proofs.PlaceLemmas.{All-at}
 
@@ -75,7 +75,7 @@ amount-within all part tenant w there =
     subst (λ (v : Want). amount part v ≤ wanted part all) (get_or_from_slice_get all tenant w w there) (get_or-le-sum_by (amount part) all tenant w (slice_get_within all tenant w there))
 
 -- so its slots can be those of pools
-pub is-share : (n : Numbers) (all : List Want) (tenant : ℕ) (w : Want) → AreInRange n → IsPlan n all → slice_get all tenant ≡ Some w → IsShare (share_of w)
+pub is-share : (n : Numbers) (all : List Want) (tenant : ℕ) (w : Want) → AreInRange n → IsPlan n all → slice_get all tenant ≡ Some w → IsShare (wanted_share w)
 is-share n all tenant w in_range plan there =
     let has = All-at HasSlots all tenant w plan.each there in
     let i = amount-within all Instance tenant w there in let m = amount-within all Memory tenant w there in let t = amount-within all Table tenant w there in

@@ -9,7 +9,7 @@ use Rattle.pool_host.specs.Hosts.{HandedOut, HasShare, IsNewHostPass}
 use Rattle.tenant_share.specs.declared.passes.Caller.{Caller}
 use Rattle.tenant_share.specs.declared.passes.TenantPass.{TenantPass}
 use Rattle.tenant_share.specs.declared.share_host.ShareHost.{ShareHost}
-use Rattle.tenant_share.specs.Tenants.{share_of, tenants_of, IsNewTenantPass}
+use Rattle.tenant_share.specs.Tenants.{wanted_share, tenants_of, IsNewTenantPass}
 
 module _ {N : Type 0} {G : Ghosts N} where
   -- a host's pass as this tenant's
@@ -20,7 +20,7 @@ module _ {N : Type 0} {G : Ghosts N} where
   pub record AddsHost (all : List Want) (passes : ℕ) (before after : ShareHost N) (own : List (HostPass N G)) : Type 0 where
     pub host : Host N
     pub hosts_are : after.hosts.items ≡ before.hosts.items ++ host ∷ []
-    pub has : (want : Want) → slice_get all (tenants_of before) ≡ Some want → HasShare want.warm (share_of want) host
+    pub has : (want : Want) → slice_get all (tenants_of before) ≡ Some want → HasShare want.warm (wanted_share want) host
     pub out : HandedOut host passes
     pub many : length own ≡ passes
     pub new : All (IsNewHostPass host) own

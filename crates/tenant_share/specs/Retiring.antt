@@ -3,7 +3,7 @@ use Rattle.std.specs.Prelude.{◌≡◌, ◌≢◌, ℕ, Some, slice_get}
 use Rattle.retired_tags.specs.Passes.{steps}
 use Rattle.retired_tags.specs.Steps.{Knows}
 use Rattle.module_store.specs.declared.naming.Naming.{Ghosts}
-use Rattle.pool_worlds.specs.Contents.{Named}
+use Rattle.pool_model.specs.Contents.{Named}
 use Rattle.pool_host.specs.declared.host.Host.{Host}
 use Rattle.pool_host.specs.declared.passes.HostPass.{HostPass}
 use Rattle.pool_host.specs.declared.answers.Retire.{Retire}

@@ -14,8 +14,8 @@ use Rattle.tenant_share.specs.declared.passes.TenantPass.{TenantPass}
 use Rattle.tenant_share.specs.declared.share_host.ShareHost.{ShareHost}
 
 -- a tenant's slots
-abbrev pub share_of : Want → Share
-share_of w = record { instances = w.instances; memories = w.memories; tables = w.tables }
+abbrev pub wanted_share : Want → Share
+wanted_share w = record { instances = w.instances; memories = w.memories; tables = w.tables }
 
 module _ {N : Type 0} where
   -- how many tenants have a host
@@ -29,7 +29,7 @@ module _ {N : Type 0} where
   -- each of these hosts has the slots of its tenant's share, of which at most the warm ones are warm, and so many passes
   abbrev pub HaveShares : List Want → (passes : ℕ) → ShareHost N → Type 0
   HaveShares all passes share = (tenant : ℕ) (want : Want) (host : Host N) → slice_get all tenant ≡ Some want → IsHostOf share tenant host
-      → HasShare want.warm (share_of want) host × HandedOut host passes
+      → HasShare want.warm (wanted_share want) host × HandedOut host passes
 
   -- there is a host for each share, and has these
   pub record HasShares (all : List Want) (passes : ℕ) (share : ShareHost N) : Type 0 where

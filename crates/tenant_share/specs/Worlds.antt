@@ -2,8 +2,8 @@
 use Rattle.std.specs.Prelude.{ℕ, ◌≤◌, List, length, map}
 use Rattle.pool_limits.specs.declared.numbers.Numbers.{Numbers}
 use Rattle.pool_limits.specs.declared.wants.Want.{Want}
-use Rattle.pool_worlds.specs.declared.kinds.Kind.{Kind}
-use Rattle.pool_worlds.specs.Tenants.{all_free_warm, pools_after_all, AllMayCome, OpenWithin, Pools, TenantEvent, Tenants}
+use Rattle.pool_model.specs.declared.kinds.Kind.{Kind}
+use Rattle.pool_model.specs.Tenants.{all_free_warm, pools_after_all, AllMayCome, OpenWithin, Pools, TenantEvent, Tenants}
 use Rattle.tenant_share.specs.Shares.{IsPlan}
 
 -- how many of a share's slots of a kind may be warm

@@ -4,11 +4,11 @@ ghost use Rattle.pool_limits.specs.declared.numbers.Numbers.{Numbers};
 ghost use Rattle.pool_limits.specs.declared.wants.Want.{Want};
 ghost use Rattle.pool_limits.specs.Plans.{plan_fault};
 ghost use Rattle.pool_limits.specs.Shares.{AreAllSlots, lane_share, shared_share};
-ghost use Rattle.pool_worlds.specs.Tenants.{OwnEventsDecide};
+ghost use Rattle.pool_model.specs.Tenants.{OwnEventsDecide};
 ghost use Rattle.tenant_share.specs.Shares.{all_of, rest, shares, IsPlan};
 ghost use Rattle.tenant_share.specs.Worlds.{PlansBoundWarmSlots};
 
-use pool_worlds::laws as worlds;
+use pool_model::laws as worlds;
 
 /// Where tenants may have what they want, each has a slot of each kind, and the warm shares add up to the limit. The slots of the shares and the lane's one slot of each kind are all slots: with several workers those of the lane's share.
 pub fn shares_add_up()

@@ -14,7 +14,7 @@ ghost use Rattle.retired_tags.specs.Passes.{steps};
 ghost use Rattle.retired_tags.specs.Steps.{Knows};
 ghost use Rattle.tenant_share.specs.Opening.{AddsHost, IsFresh, WereFresh};
 ghost use Rattle.tenant_share.specs.Retiring.{RetiredAt, RetiredForAll};
-ghost use Rattle.tenant_share.specs.Tenants.{answer_of, passes_at, share_of, tags_at, tenants_of, AreInOrder, HasShares, IsCaller, IsHostOf, IsNewCaller, IsSameTenantPass, IsTenantPass, OnTenant};
+ghost use Rattle.tenant_share.specs.Tenants.{answer_of, passes_at, wanted_share, tags_at, tenants_of, AreInOrder, HasShares, IsCaller, IsHostOf, IsNewCaller, IsSameTenantPass, IsTenantPass, OnTenant};
 
 use crate::passes::{Caller, TenantPass, empty_callers, put_all};
 use crate::plan::Plan;
@@ -37,8 +37,9 @@ fn planned_share<N: Naming>(store: &ModuleStore<N>, plan: &Plan, tenant: usize) 
     requires plan { plan.now.0 ≡ N.config }
     requires tenant { tenant < length plan.now.1 }
     ensures share { IsShare result }
-    ensures slots { (want : Want) → slice_get plan.now.1 tenant ≡ Some want → result ≡ share_of want }
+    ensures slots { (want : Want) → slice_get plan.now.1 tenant ≡ Some want → result ≡ wanted_share want }
 {
+    // The numbers of a configuration are in range.
     let _numbers = store.config().numbers();
     let want = plan.share(tenant);
     Share {
@@ -120,7 +121,7 @@ impl<N: Naming> ShareHost<N> {
         Ok((share, all))
     }
 
-    /// The same for so many callers, each with a pass of each tenant.
+    /// Opens hosts as [`ShareHost::open`] does, for so many callers, each with a pass of each tenant.
     ///
     /// # Errors
     ///

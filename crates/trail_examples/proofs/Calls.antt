@@ -16,8 +16,8 @@ use Rattle.retired_tags.specs.Steps.{tells, Knows}
 use Rattle.affinity_index.specs.Preference.{IsOwnSeen}
 use Rattle.slot_pools.specs.Causes.{FullAfterMark, HasLostClaim}
 use Rattle.slot_pools.specs.Gives.{IsWarmGive}
-use Rattle.pool_worlds.specs.Contents.{Named}
-use Rattle.pool_worlds.specs.declared.kinds.Kind.TheVariants.{Memory}
+use Rattle.pool_model.specs.Contents.{Named}
+use Rattle.pool_model.specs.declared.kinds.Kind.TheVariants.{Memory}
 use Rattle.pool_host.specs.declared.host.Host.{Host}
 use Rattle.pool_host.specs.declared.passes.Passes.{Passes}
 use Rattle.pool_host.specs.declared.answers.Retire.TheVariants.{First}

@@ -8,12 +8,12 @@ use Rattle.slot_words.specs.Parts.{Then}
 use Rattle.slot_words.specs.Trails.{loads_from}
 use Rattle.decommit_batch.specs.Flush.{IsFlush}
 use Rattle.affinity_index.specs.Orders.{seen_rank}
-use Rattle.slot_pools.specs.Causes.{AllFoundHeld, FullAfterLook, FullAfterMark, FullAfterScan}
+use Rattle.slot_pools.specs.Causes.{AllFoundHeld, FullAfterLook, FullAfterMark, FullAfterScan, HasLostClaim}
 use Rattle.slot_pools.specs.Looks.{IsLook, IsScan}
 use Rattle.slot_pools.specs.Rows.{AreLost}
 use Rattle.slot_pools.specs.declared.policy.Policy.TheVariants.{Affine, Any, Batched}
 use Rattle.slot_pools.specs.Takes.{IsFullTake}
-use Rattle.slot_pools.specs.Wins.{all_numbers}
+use Rattle.slot_pools.specs.Wins.{all_numbers, IsMark}
 use Rattle.trail_examples.proofs.LostClaims.{counted, is_lost_claim, lost_among, lost_cold, lost_is_counted, lost_warm}
 use Rattle.trail_examples.proofs.SlotWords.{cold_held, warm_5, warm_5_held}
 
@@ -115,8 +115,11 @@ found_held First slots n done below full = let both = both_counted First (AllFou
 abbrev pub one_left_out : List Operation
 one_left_out = looked ++ (marked ++ Claim 0 cold_held ∷ [])
 
+-- it stands without the lemma, so that a wrong line of the cause is refused here
 pub slot_1_is_left_out : FullAfterMark 2 one_left_out → ⊥
-slot_1_is_left_out full = let one : ◌≤◌ 1 0 = found_held _ 2 1 _ (omega arith) full in omega (arith, one)
+slot_1_is_left_out full =
+    let lost : HasLostClaim 1 full.second = full.is_second 1 (omega arith) in let some = lost_among 1 full.second lost in
+    let none : 0 ≡ count_by (is_lost_claim 1) full.first + count_by (is_lost_claim 1) full.second = both_counted _ _ (is_lost_claim 1) _ full in omega arith
 
 slot_1_is_found_free : FullAfterMark 2 (looked ++ (marked ++ Claim 0 cold_held ∷ Claim 1 warm_5 ∷ [])) → ⊥
 slot_1_is_found_free full = let one : ◌≤◌ 1 0 = found_held _ 2 1 _ (omega arith) full in omega (arith, one)
@@ -134,7 +137,7 @@ claim_comes_before_the_mark full = let (before, r, ends) = full.is_first in by b
     by (o ∷ []) e some = let none : full.second ≡ [] = cc in let zero = ap (λ (os : List Operation). count_by (is_lost_claim 0) os) none in omega arith
     by (o ∷ p ∷ os) e some = let few = ap length e in let long = length-append (os ++ AwaitLoad full.is_first.1 ∷ []) full.second in let more = length-append os (AwaitLoad full.is_first.1 ∷ []) in omega arith
 
--- the same of a table, after its look, and of a ticket, after its scan
+-- a slot is left out: a table, after its look, and a ticket, after its scan
 table_1_is_left_out : FullAfterLook 0 2 5 (looked ++ Claim 0 cold_held ∷ []) → ⊥
 table_1_is_left_out full = let one : ◌≤◌ 1 0 = found_held _ 2 1 _ (omega arith) full in omega (arith, one)
 
@@ -165,11 +168,22 @@ batched_take_claims_one (order, take) =
     let a : 0 ≡ count_by (is_lost_claim 1) take.first + count_by (is_lost_claim 1) take.second = both_counted _ _ (is_lost_claim 1) _ take in let b = both_counted _ _ (is_lost_claim 1) _ loss in
     let c = both_counted _ _ (is_lost_claim 1) _ flushed in let d = both_counted _ _ (is_lost_claim 1) _ swept in omega arith
 
+-- a take of slots that may await sets its mark before the last claims
+mark_in : (Look Lost Mark Rest : List Operation → Type 0) → ((os : List Operation) → Mark os → count_by is_mark os ≡ 1) → (done : List Operation) → Then Look (Then Lost (Then Mark Rest)) done → 1 ≤ count_by is_mark done
+mark_in Look Lost Mark Rest one done take =
+    let loss = take.is_second in let flushed = loss.is_second in let mark = one flushed.first flushed.is_first in
+    let a = both_counted _ _ is_mark _ take in let b = both_counted _ _ is_mark _ loss in let c = both_counted _ _ is_mark _ flushed in omega arith
+
 batched_take_sets_no_mark : IsFullTake (Batched 5) 0 2 (looked ++ (scanned ++ claims)) → ⊥
 batched_take_sets_no_mark (order, take) =
-    let loss = take.is_second in let flushed = loss.is_second in let (r, is) = flushed.is_first in
-    let mark : count_by is_mark flushed.first ≡ 1 = ap (λ (os : List Operation). count_by is_mark os) is in
-    let a : 0 ≡ count_by is_mark take.first + count_by is_mark take.second = both_counted _ _ is_mark _ take in let b = both_counted _ _ is_mark _ loss in let c = both_counted _ _ is_mark _ flushed in omega arith
+    let one : (os : List Operation) → IsMark os → count_by is_mark os ≡ 1 = λ os (r, is). ap (λ (ps : List Operation). count_by is_mark ps) is in
+    let some : ◌≤◌ 1 0 = mark_in _ _ IsMark _ one _ take in omega (arith, some)
+
+-- neither the flush mark nor a flush comes before the claims
+batched_take_goes_without_a_flush : IsFullTake (Batched 5) 0 2 (looked ++ claims) → ⊥
+batched_take_goes_without_a_flush (order, take) =
+    let one : (os : List Operation) → IsMark os → count_by is_mark os ≡ 1 = λ os (r, is). ap (λ (ps : List Operation). count_by is_mark ps) is in
+    let some : ◌≤◌ 1 0 = mark_in _ _ IsMark _ one _ take in omega (arith, some)
 
 affine_take_claims_one : IsFullTake (Affine 5) 0 2 (looked ++ Claim 0 cold_held ∷ []) → ⊥
 affine_take_claims_one (order, take) =

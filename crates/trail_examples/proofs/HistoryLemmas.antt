@@ -1,5 +1,5 @@
 -- What each history obeys, whatever its events are.
-use Rattle.std.proofs.Common.{◌≡◌, ◌≢◌, ◌⊎◌, ⊎_elim, inl, inr, ℕ, ◌≤◌, ◌<◌, ◌%◌, ◌||◌, not, if◌then◌else◌, Bool, true, false, true≢false, List, [], ◌∷◌, ◌++◌, length, refl, sym, ap, ◌∙◌, subst, arith, eq-eqb, ne_eqb, get_or-set_same}
+use Rattle.std.proofs.Common.{◌≡◌, ◌≢◌, ◌⊎◌, ⊎_elim, inl, inr, ℕ, ◌≤◌, ◌<◌, ◌%◌, ◌||◌, not, Bool, true, false, true≢false, List, [], ◌∷◌, ◌++◌, length, refl, sym, ap, ◌∙◌, subst, arith, get_or-set_same}
 use Rattle.std.specs.Prelude.{slice_index_or}
 use Rattle.std.proofs.lemmas.Bool.{not-false, ltb-true}
 use Rattle.pool_core.specs.declared.events.Event.{Event}
@@ -16,12 +16,7 @@ use Rattle.pool_core.proofs.WordBits.{packed-mod_2}
 use Rattle.slot_words.specs.declared.views.Operation.{Operation}
 use Rattle.slot_words.specs.declared.views.Operation.TheVariants as operation
 use Rattle.slot_words.specs.History.{noted, noted_by, trail_of}
-
--- ---- lists
-
-neither : {A : Type 0} (xs ys : List A) → xs ++ ys ≡ [] → (xs ≡ []) × (ys ≡ [])
-neither [] ys e = (refl, e)
-neither (x ∷ xs) ys e = absurd cc
+use Rattle.slot_words.proofs.NotedBySeats.{both_empty, noted_elsewhere, noted_here}
 
 -- ---- which seats act
 
@@ -37,18 +32,12 @@ acts_live c e may = not-false _ (no_rule_broken c e may).seat
 acts_within : (c : PoolCore) (e : Event) → refusal_of c e ≡ 0 → seat_of e < length c.seats
 acts_within c e may = live_in c.seats (seat_of e) (acts_live c e may)
 
-pub own : (s : ℕ) (c : PoolCore) (e : Event) → seat_of e ≡ s → noted_by s c e ≡ noted c e
-own s c e same = ap (λ (b : Bool). if b then noted c e else []) (eq-eqb (seat_of e) s same)
-
-pub another's : (s : ℕ) (c : PoolCore) (e : Event) → seat_of e ≢ s → noted_by s c e ≡ []
-another's s c e other = ap (λ (b : Bool). if b then noted c e else []) (ne_eqb (seat_of e) s other)
-
 -- a seat that no pass was handed out for notes nothing
 pub silent_past : (c : PoolCore) (es : List Event) → AllAllowed c es → (s : ℕ) → length c.seats ≤ s → trail_of s c es ≡ []
 silent_past c [] may s past = refl
 silent_past c (e ∷ es) may s past =
     let within = acts_within c e may.0 in let as_many = (changes_only c e).seat_count in
-    rw (another's s c e (λ same. absurd (omega arith))) (silent_past (core_after c e) es may.1 s (omega arith))
+    rw (noted_elsewhere s c e (λ same. absurd (omega arith))) (silent_past (core_after c e) es may.1 s (omega arith))
 
 -- a pool keeps its slots
 pub same_slots : (c : PoolCore) (es : List Event) → length (core_after_all c es).words ≡ length c.words
@@ -73,10 +62,10 @@ notes c e = one _ refl
 -- where no seat notes anything the words stay
 pub silent_words : (c : PoolCore) (es : List Event) → ((s : ℕ) → trail_of s c es ≡ []) → (core_after_all c es).words ≡ c.words
 silent_words c [] silent = refl
-silent_words c (e ∷ es) silent = silent_words (core_after c e) es (λ s. (neither (noted_by s c e) _ (silent s)).1) ∙ still (notes c e)
+silent_words c (e ∷ es) silent = silent_words (core_after c e) es (λ s. (both_empty (noted_by s c e) _ (silent s)).1) ∙ still (notes c e)
   where
     none : noted c e ≡ []
-    none = sym (own (seat_of e) c e refl) ∙ (neither (noted_by (seat_of e) c e) _ (silent (seat_of e))).0
+    none = sym (noted_here (seat_of e) c e refl) ∙ (both_empty (noted_by (seat_of e) c e) _ (silent (seat_of e))).0
 
     still : Notes c e → (core_after c e).words ≡ c.words
     still (nothing is same) = same
@@ -111,8 +100,8 @@ turned : (s t : ℕ) → AreBoth s t → AreBoth t s
 turned s t both = record { apart = λ e. both.apart (sym e); each = λ k less. ⊎_elim (λ e. inr e) (λ e. inl e) (both.each k less) }
 
 step_of_first : (s t : ℕ) (c : PoolCore) (e : Event) → s ≢ t → seat_of e ≡ s → Notes c e → Step s t c e
-step_of_first s t c e apart is (nothing none same) = quiet (own s c e is ∙ none) (another's t c e (λ q. apart (sym is ∙ q))) same
-step_of_first s t c e apart is (one o noted) = first o noted (own s c e is ∙ noted) (another's t c e (λ q. apart (sym is ∙ q)))
+step_of_first s t c e apart is (nothing none same) = quiet (noted_here s c e is ∙ none) (noted_elsewhere t c e (λ q. apart (sym is ∙ q))) same
+step_of_first s t c e apart is (one o noted) = first o noted (noted_here s c e is ∙ noted) (noted_elsewhere t c e (λ q. apart (sym is ∙ q)))
 
 other_way : (s t : ℕ) (c : PoolCore) (e : Event) → Step t s c e → Step s t c e
 other_way s t c e (quiet a b same) = quiet b a same

@@ -23,7 +23,7 @@ impl Checker {
         self.push_result(t)
     }
 
-    /// The same with an index on the top of these operands.
+    /// Takes an index from the top, then operands of these types, and gives this result.
     pub(crate) fn operate_at_index(
         &mut self,
         takes: &[ValType],

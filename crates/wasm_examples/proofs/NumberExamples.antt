@@ -47,6 +47,11 @@ goes_on_behind_five first x behind rest le h =
 six_bytes : (x : ℕ) (rest : List ℕ) → TakesUnsigned 32 x (0x80 ∷ 0x80 ∷ 0x80 ∷ 0x80 ∷ 0x80 ∷ 0x00 ∷ []) rest → ⊥
 six_bytes x rest h = goes_on_behind_five 0x80 x (0x00 ∷ []) rest (omega arith) h
 
+-- the second byte of eight bits is the last
+three_bytes_of_8_bits : (x : ℕ) (rest : List ℕ) → TakesUnsigned 8 x (0x80 ∷ 0x80 ∷ 0x00 ∷ []) rest → ⊥
+three_bytes_of_8_bits x rest (inl a) = absurd (omega (arith, a.0))
+three_bytes_of_8_bits x rest (inr a) = elim (a.3) [ inl b ↦ absurd (omega (arith, b.0)) | inr b ↦ absurd (omega (arith, b.1)) ]
+
 -- the bytes end in the middle
 cut_off : (x : ℕ) (rest : List ℕ) → TakesUnsigned 32 x (0x80 ∷ []) rest → ⊥
 cut_off x rest h =
@@ -147,3 +152,9 @@ eleven_bytes x rest h =
     let a7 = signed_goes_on 15 a6.0 255 (0xFF ∷ 0xFF ∷ 0x7F ∷ []) rest (omega arith) a6.2 in
     let a8 = signed_goes_on 8 a7.0 255 (0xFF ∷ 0x7F ∷ []) rest (omega arith) a7.2 in
     elim (a8.2) [ inl b ↦ absurd (omega (arith, b.0, b.1)) | inr b ↦ elim b [ inl d ↦ absurd (omega (arith, d.0, d.1, d.2)) | inr d ↦ absurd (omega (arith, d.0, d.1)) ] ]
+
+-- the second byte of eight bits is the last
+three_bytes_of_8_signed_bits : (x : ℤ) (rest : List ℕ) → TakesSigned 8 x (0xFF ∷ 0xFF ∷ 0x7F ∷ []) rest → ⊥
+three_bytes_of_8_signed_bits x rest (inl a) = absurd (omega (arith, a.0))
+three_bytes_of_8_signed_bits x rest (inr (inl a)) = absurd (omega (arith, a.1))
+three_bytes_of_8_signed_bits x rest (inr (inr a)) = elim (a.3) [ inl b ↦ absurd (omega (arith, b.0)) | inr b ↦ elim b [ inl d ↦ absurd (omega (arith, d.1)) | inr d ↦ absurd (omega (arith, d.1)) ] ]

@@ -17,7 +17,7 @@ use Rattle.wasm_examples.proofs.NumberExamples.{unused_bits_are_not_zero, goes_o
 abbrev too_great : List ℕ → List ℕ
 too_great behind = 0x80 ∷ 0x80 ∷ 0x80 ∷ 0x80 ∷ 0x10 ∷ behind
 
--- the same where these are the bytes by an equation
+-- bytes that are equal to these spell no number of 32 bits
 refuted : (x : ℕ) (behind bytes rest : List ℕ) → bytes ≡ too_great behind → TakesUnsigned 32 x bytes rest → ⊥
 refuted x behind bytes rest e h = unused_bits_are_not_zero x behind rest (subst (λ (l : List ℕ). TakesUnsigned 32 x l rest) e h)
 

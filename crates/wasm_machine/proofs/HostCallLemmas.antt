@@ -37,7 +37,7 @@ use Rattle.machine_steps.proofs.HostLemmas.{ThreeNumbers, TwoNumbers, at_three, 
 use Rattle.machine_steps.proofs.StackLayoutLemmas.{room_kept}
 use Rattle.wasm_machine.specs.Remaining.{resume_at, after_sequence, function_of}
 use Rattle.wasm_machine.specs.TypedConfiguration.{operand_count, IsRunnable, IsTypedAt, IsTypedContext, IsTypedStore, context}
-use Rattle.wasm_machine.specs.declared.running.Step.{Step}
+use Rattle.wasm_machine.specs.declared.interpreter.Step.{Step}
 use Rattle.wasm_machine.specs.Simulation.{SimulatesCall, SimulatesCalling, SimulatesUnlessTrapped, SimulatesStep, step_unless_trapped}
 use Rattle.wasm_machine.proofs.RemainingLemmas.{after_sequence-Trapped}
 use Rattle.wasm_machine.proofs.RoomLemmas.{free_value}

@@ -14,8 +14,10 @@ pub mod RemainingLemmas
 pub mod ResultLemmas
 pub mod ReturnLemmas
 pub mod RoomLemmas
+pub mod PlaceLemmas
 pub mod RunLemmas
 pub mod StepLemmas
+pub mod StretchLemmas
 pub mod TypeLemmas
 pub mod ZeroLemmas
 pub mod HostCallLemmas

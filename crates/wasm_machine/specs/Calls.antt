@@ -20,7 +20,7 @@ pub record IsCall (m : Module) (x : ℕ) (args : List Val) : Type 0 where
   pub typed : function_type (module_tree m) x ≡ Some type
   pub args_fit : map type_of args ≡ type.params
 
--- the same of one of the module's own functions, by its number among these
+-- the module has this function of its own, by its number among these, and the arguments have its types
 pub record IsOwnCall (m : Module) (x : ℕ) (args : List Val) : Type 0 where
   pub function : FunctionTree
   pub type : FuncType

@@ -1,6 +1,7 @@
 pub mod Remaining
 pub mod TypedConfiguration
 pub mod Simulation
+pub mod Stretches
 pub mod Lent
 pub mod Calls
 pub mod Room

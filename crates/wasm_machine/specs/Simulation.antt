@@ -17,11 +17,11 @@ use Rattle.wasm_spec.specs.Functions.{Callee, callee_at, callee_type}
 use Rattle.wasm_spec.specs.Execution.{Terms, call, State, Signal, Next, Branch, Returned, Trapped, OutOfFuel, Stuck, Ended, exec, invoke, zero_of}
 use Rattle.wasm_types.specs.Sequences.{code_at, earlier, named_in, ops_of}
 use Rattle.machine_steps.specs.declared.machine.Machine.{Machine}
-use Rattle.wasm_machine.specs.declared.running.Step.{Step}
-use Rattle.wasm_machine.specs.declared.running.Step.TheVariants as step
+use Rattle.wasm_machine.specs.declared.interpreter.Step.{Step}
+use Rattle.wasm_machine.specs.declared.interpreter.Step.TheVariants as step
 use Rattle.linear_memory.specs.declared.memory.Memory.{Memory}
-use Rattle.wasm_machine.specs.declared.running.Halt.{Halt}
-use Rattle.wasm_machine.specs.declared.running.Halt.TheVariants as halt
+use Rattle.wasm_machine.specs.declared.interpreter.Halt.{Halt}
+use Rattle.wasm_machine.specs.declared.interpreter.Halt.TheVariants as halt
 use Rattle.memory_blocks.specs.Blocks.{KeepsUnmarked}
 use Rattle.machine_steps.specs.Configuration.{Configuration, state}
 use Rattle.wasm_machine.specs.Remaining.{function_of, results, resume_at, after_sequence, run_from}
@@ -62,7 +62,7 @@ HasExitOperands m frame AtEnd k = map type_of k.operands ≡ ends_of m frame k.f
 HasExitOperands m frame (ToLabel l) k = HasLabelOperands (context m frame k.function k.blocks).labels l (map type_of k.operands)
 HasExitOperands m frame ByReturn k = (below : List ValType) × (map type_of k.operands ≡ results m k.function ++ below)
 
--- the same, where the current sequence is left this way
+-- from here a run that leaves the current sequence this way comes to what r gives for its fuel
 pub record SimulatesExit (way : Exit) (m : Module) (limits : Terms) (frame : ℕ) (machine : Machine) (store : Store) (r : ℕ → Ended) : Type 0 where
   pub configuration : Configuration
   pub represents : Represents configuration machine
@@ -82,6 +82,16 @@ SimulatesStep step.Stays m limits frame machine store r = Simulates m limits fra
 SimulatesStep step.Continues m limits frame machine store r = Simulates m limits frame machine store r
 SimulatesStep step.Finishes m limits frame machine store r = IsOver m machine store r
 SimulatesStep (step.Traps t) m limits frame machine store r = (fuel : ℕ) → r fuel ≡ (Trapped t store, fuel)
+
+-- the machine at another place of its sequence
+abbrev pub placed : Machine → ℕ → Machine
+placed machine place = record { at = record machine.at { place = place }; values = machine.values; labels = machine.labels; frames = machine.frames }
+
+-- where the run goes on after a step: behind the instruction where it stays, since the machine is not told of that place, and else
+-- where the machine stands
+abbrev pub standing : Step → (behind : ℕ) → Machine → Machine
+standing step.Stays behind machine = placed machine behind
+standing _ behind machine = machine
 
 -- with one unit of fuel paid
 abbrev pub paid : (ℕ → Ended) → ℕ → Ended

@@ -1,14 +1,16 @@
 //! The ways out of a sequence: its end, a branch and a return.
-ghost use Rattle.std.specs.Prelude.{ℕ, ◌<◌, IsFalse, IsTrue};
+ghost use Rattle.std.specs.Prelude.{◌≡◌, ◌≢◌, ℕ, ◌<◌, IsFalse, IsTrue};
+ghost use Rattle.wasm_machine.specs.declared.interpreter.Step.TheVariants as step;
 ghost use Rattle.wasm_types.specs.declared.instr.Instr.TheVariants as instr;
 ghost use Rattle.wasm_types.specs.declared.instr.Op.TheVariants as op;
 ghost use Rattle.wasm_spec.specs.Execution.{Terms};
 ghost use Rattle.wasm_spec.specs.Execution.{Ended};
 ghost use Rattle.wasm_spec.specs.Store.{Store};
 ghost use Rattle.machine_steps.specs.StackLayout.{KeepsRoom};
-ghost use Rattle.wasm_machine.specs.Simulation.{AtEnd, ByReturn, HasFetched, CanExit, CanExecuteNext, paid, SimulatesExit, SimulatesUnlessOver, ToLabel, depth_of};
+ghost use Rattle.wasm_machine.specs.Simulation.{AtEnd, ByReturn, HasFetched, CanExit, CanExecuteNext, paid, SimulatesExit, SimulatesStep, SimulatesUnlessOver, ToLabel, depth_of, step_unless_over};
 ghost use Rattle.machine_steps.specs.InstructionKinds.{jumps};
 
+use crate::interpreter::Step;
 use crate::lookup::{label_at, result_count};
 use machine_steps::Machine;
 use wasm_types::{Instr, Module};
@@ -77,17 +79,35 @@ pub(crate) fn end_sequence(machine: &mut Machine, m: &Module) -> bool
     }
 }
 
-// A branch to the label l where the topmost operand is not 0. Says whether the run is over.
+// Whether a run is over.
 #[inline(always)]
-pub(crate) fn branch_if(machine: &mut Machine, m: &Module, l: usize) -> bool
+fn unless_over(over: bool) -> Step
+    ensures is { result ≡ step_unless_over over }
+    ensures moves { result ≢ step.Stays }
+{
+    if over {
+        Step::Finishes
+    } else {
+        Step::Continues
+    }
+}
+
+// A branch to the label l where the topmost operand is not 0. Where it is, the run stays in its sequence.
+#[inline(always)]
+pub(crate) fn branch_if(machine: &mut Machine, m: &Module, l: usize) -> Step
     requires { CanExecuteNext m.now (op.Plain (instr.BrIf l)) machine.old }
     ensures steps { (limits : Terms) (frame : ℕ) (store : Store) (here : ℕ) (r : ℕ → Ended)
         → HasFetched m.now limits frame machine.old store here (op.Plain (instr.BrIf l)) r
-        → SimulatesUnlessOver result m.now limits frame machine.new store (paid r) }
+        → SimulatesStep result m.now limits frame machine.new store (paid r) }
     ensures room { KeepsRoom machine.old machine.new }
+    ensures stays { result ≡ step.Stays → machine.new.at ≡ machine.old.at }
 {
     let n = machine.pop32();
-    if n == 0 { false } else { branch(machine, m, l) }
+    if n == 0 {
+        Step::Stays
+    } else {
+        unless_over(branch(machine, m, l))
+    }
 }
 
 // A branch to the label that the topmost operand chooses of these, or else to the last one. Says whether the run is over.
@@ -102,20 +122,23 @@ pub(crate) fn branch_by_table(machine: &mut Machine, m: &Module, labels: &[u32],
     branch(machine, m, label_at(labels, n, last) as usize)
 }
 
-// An instruction that may leave its sequence. Says whether the run is over.
-pub(crate) fn jump(machine: &mut Machine, m: &Module, instr: &Instr) -> bool
+// An instruction that may leave its sequence.
+pub(crate) fn jump(machine: &mut Machine, m: &Module, instr: &Instr) -> Step
     requires kind { IsTrue (jumps instr.now) }
     requires can { CanExecuteNext m.now (op.Plain instr.now) machine.old }
     ensures steps { (limits : Terms) (frame : ℕ) (store : Store) (here : ℕ) (r : ℕ → Ended)
         → HasFetched m.now limits frame machine.old store here (op.Plain instr.now) r
-        → SimulatesUnlessOver result m.now limits frame machine.new store (paid r) }
+        → SimulatesStep result m.now limits frame machine.new store (paid r) }
     ensures room { KeepsRoom machine.old machine.new }
+    ensures stays { result ≡ step.Stays → machine.new.at ≡ machine.old.at }
 {
     match instr {
-        Instr::Br(l) => branch(machine, m, *l as usize),
+        Instr::Br(l) => unless_over(branch(machine, m, *l as usize)),
         Instr::BrIf(l) => branch_if(machine, m, *l as usize),
-        Instr::BrTable(labels, last) => branch_by_table(machine, m, labels.as_slice(), *last),
-        Instr::Return => return_from_function(machine, m),
+        Instr::BrTable(labels, last) => {
+            unless_over(branch_by_table(machine, m, labels.as_slice(), *last))
+        }
+        Instr::Return => unless_over(return_from_function(machine, m)),
         _ => unreachable!(),
     }
 }

@@ -15,7 +15,7 @@ pub struct RunInputs<'a> {
     ghost few: { length request.now ≤ 65536 },
 }
 
-/// The same as the loop of a run reads it.
+/// What a run reads and does not change, as its loop reads it: the module in place of the valid module.
 #[derive(Clone, Copy)]
 pub(crate) struct Inputs<'a> {
     pub m: &'a Module,

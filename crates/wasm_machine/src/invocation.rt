@@ -26,8 +26,8 @@ ghost use Rattle.wasm_machine.specs.TypedConfiguration.{IsRunnable, IsTypedStore
 
 use crate::calls::begin;
 use crate::inputs::{Inputs, RunInputs};
+use crate::interpreter::{Halt, advance};
 use crate::lookup::host_of;
-use crate::running::{Halt, advance};
 use crate::stacks::Stacks;
 use call_payload::AnswerBuf;
 use linear_memory::Memory;
@@ -86,7 +86,7 @@ fn host_from_outside(
     }
 }
 
-// The same of an import, which costs nothing.
+// Runs an import that is called from outside, which costs nothing.
 fn run_import(
     m: &Module,
     x: usize,

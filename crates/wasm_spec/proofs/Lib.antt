@@ -16,3 +16,4 @@ pub mod StoreSizes
 pub mod FunctionNumbers
 pub mod Supported
 pub mod AddModule
+pub mod WithinLemmas

@@ -161,7 +161,7 @@ module _ (P : Store → Type 0) where
   with_function-keeps m x next h =
       if_there-keeps (callee_at m x) (λ c. if_there (callee_type m c) (next c)) (λ c. if_there-keeps (callee_type m c) (next c) (h c))
 
-  -- the same of one state
+  -- what goes on behind an item that is there keeps the state, of one state alone
   if_there-keeps_at : {A : Type 0} (o : Option A) (next : A → Continuation) (s : State) (fuel : ℕ)
       → ((x : A) → o ≡ Some x → KeptIn P (next x s fuel).0) → KeptIn P (if_there o next s fuel).0
   if_there-keeps_at None next s fuel h = tt

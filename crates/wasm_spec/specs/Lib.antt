@@ -14,3 +14,4 @@ pub mod InstrGrammar
 pub mod Grammar
 pub mod Bulk
 pub mod Loading
+pub mod Within

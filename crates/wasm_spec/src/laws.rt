@@ -1,6 +1,6 @@
 //! Laws of the definitions, as contracts of functions that do nothing.
 
-ghost use Rattle.std.specs.Prelude.{◌≡◌, ◌≢◌, ◌<◌, ◌≤◌, ◌+◌, ℕ, suc, true, false, List, length, Option, Some, None, Result};
+ghost use Rattle.std.specs.Prelude.{◌≡◌, ◌≢◌, ◌<◌, ◌≤◌, ◌+◌, ℕ, suc, true, false, List, length, Option, Some, None, Result, Ok};
 ghost use Rattle.wasm_values.specs.declared.outcome.Val.{Val};
 ghost use Rattle.wasm_types.specs.declared.types.ValType.{ValType};
 ghost use Rattle.wasm_types.specs.declared.instr.Instr.{Instr};
@@ -16,6 +16,7 @@ ghost use Rattle.wasm_spec.specs.Instances.{IsInstance};
 ghost use Rattle.wasm_spec.specs.MoreFuel.{is_fuel_end, with_more};
 ghost use Rattle.wasm_spec.specs.Loading.{Refusal, LoadsBy, Loads};
 ghost use Rattle.wasm_spec.specs.Validity.{IsSupported};
+ghost use Rattle.wasm_spec.specs.Within.{IsWithin};
 
 pub use crate::grammar_laws::{
     bytes_spell_at_most_one_module, modules_of_profile_1_are_those_of_profile_2,
@@ -114,10 +115,15 @@ impl Hosting for Supported {
     ghost runs = { IsSupported };
 }
 
-/// The same of such a host.
+/// Bytes load to at most one answer in the same profile and under the same limits, by a host that runs every supported module.
 pub fn loading_has_at_most_one_answer()
     ensures { (profile : Profile) (bytes : List ℕ) (limits : LoadLimits) (a b : Result ModuleTree Refusal)
         → Loads profile bytes limits a → Loads profile bytes limits b → a ≡ b }
 {
     bytes_have_at_most_one_answer::<Supported>();
 }
+
+/// A module that loading gives is supported and valid, its segments fit, and it asks for no more than the limits.
+pub fn a_loaded_module_is_within_its_limits()
+    ensures { (profile : Profile) (bytes : List ℕ) (limits : LoadLimits) (m : ModuleTree) → Loads profile bytes limits (Ok m) → IsWithin limits m }
+{}

@@ -56,7 +56,11 @@ const SIZES: [(u32, u32); 3] = [(1, 1), (128, 1_024), (1_000, 4_096)];
 fn memories_and_stacks_are_had(rt: HostRuntime) {
     let memory = Memory::zeroed(rt.alloc(), 2).expect(&rt, "memory");
     assert_eq!(rt;
-        (memory.bytes.len(), memory.marks.len(), memory.pages),
+        (
+            memory.bytes.len(),
+            memory.marks.as_slice().len(),
+            memory.pages
+        ),
         (131_072, 32, 0)
     );
     for (depth, frame) in SIZES {

@@ -28,7 +28,7 @@ fn drop_empty_runs(alloc: Global, f: &mut Function)
     f.locals = with_locals(runs);
 }
 
-// The same in each function.
+// Drops the runs of no locals of each function.
 fn drop_all_empty_runs(alloc: Global, functions: &mut Vec<Function>)
     ensures trees { map function_tree functions.new.items ≡ map function_tree functions.old.items }
     ensures kept { All HasNoEmptyRun functions.new.items }

@@ -1,26 +1,15 @@
-use Rattle.std.proofs.Common.{◌≡◌, ◌<◌, ◌+◌, Option, ℕ, IfSome, length, refl, unwrap_or, sym, ap, ◌∙◌, subst, arith}
+use Rattle.std.proofs.Common.{◌∙◌, sym, arith}
 use Rattle.std.proofs.lemmas.List.{get_or_default}
-use Rattle.pool_core.specs.StateWords.{unpacked}
-use Rattle.affinity_index.specs.declared.ranks.TheConstants.{NO_RANK}
-use Rattle.affinity_index.specs.Orders.{rank_of, seen_rank}
-use Rattle.affinity_index.specs.Rankings.{IsLeastBelow}
-use Rattle.affinity_index.proofs.Leasts.{IsFirstSoFar, first_more}
+use Rattle.affinity_index.proofs.WordRanks.{cold_first, no_cold, warm_first}
 use Rattle.affinity_index.proofs.least.least_of_all.Goals as goal
 
-pub loop-n-init : goal.loop-n-init
-loop-n-init c = record { most = omega arith; below = λ m less. absurd (omega arith) }
+pub returns-then-comes_before_cold : goal.returns-then-comes_before_cold
+returns-then-comes_before_cold c =
+    warm_first c.args.seen.now c.args.tag c.args.full c.least_warm-warm.result _ (sym c.comes_before_cold.ensures ∙ c.if-comes_before_cold.true) c.least_warm-warm.ensures
 
-pub loop-n-preserved : goal.loop-n-preserved
-loop-n-preserved c =
-    let seen = c.args.seen.now in let tag = c.args.tag in let full = c.args.full in let n = c.loop-n.n in
-    let at : ℕ → Option ℕ = seen_rank seen tag full in
-    let there = get_or_default seen n 0 1 c.loop-n-test.true in
-    let rank : c.rank_or_none-rank.result ≡ unwrap_or (at n) NO_RANK = c.rank_or_none-rank.ensures.is ∙ ap (λ (r : ℕ). unwrap_or (rank_of tag full (unpacked r)) NO_RANK) there in
-    let small : IfSome (at n) (λ (k : ℕ). k < NO_RANK) = subst (λ (r : ℕ). IfSome (rank_of tag full (unpacked r)) (λ (k : ℕ). k < NO_RANK)) there c.rank_or_none-rank.ensures.small in
-    subst (IsFirstSoFar at (n + 1)) (sym c.earlier-least.ensures) (first_more at n c.rank_or_none-rank.result c.loop-n.least (at n) refl rank small c.loop-n.invariant)
+pub returns-in-Some : goal.returns-in-Some
+returns-in-Some c = rw c.cold_rank.ensures
+    (cold_first c.args.seen.now c.args.tag c.args.full c.least_warm-warm.result _ c.in-Some.number (λ m lt. omega (arith, get_or_default c.args.seen.now m 0 1 lt, c.type_inv.seen m)) (sym c.comes_before_cold.ensures ∙ c.if-comes_before_cold.false) c.least_warm-warm.ensures c.in-Some.ensures)
 
-pub returns : goal.returns
-returns c =
-    let at : ℕ → Option ℕ = seen_rank c.args.seen.now c.args.tag c.args.full in
-    let all : c.loop-n.n ≡ length c.args.seen.now = omega arith in
-    subst (λ (k : ℕ). IsLeastBelow at k c.if_ranked.result) all (subst (IsLeastBelow at c.loop-n.n) (sym c.if_ranked.ensures) c.loop-n.invariant.below)
+pub returns-in-None : goal.returns-in-None
+returns-in-None c = no_cold c.args.seen.now c.args.tag c.args.full c.least_warm-warm.result _ c.in-None.ensures c.least_warm-warm.ensures

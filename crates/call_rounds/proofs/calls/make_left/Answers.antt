@@ -46,6 +46,18 @@ call_line-requires-after_bounds g c κs within =
     unset_here _ _ _ all c.args.span.from c.loop-at.at _ _ _ _ (steps c.loop-at.lane.pass.retired) c.directives-directives.ensures.lawful c.requires.books.entered.tagged (λ tag has. c.requires.tags tag (c.loop-at.invariant.tags tag has)) c.loop-at.invariant.above here
     c.entry_at-entry.result.now there
 
+pub is_left-requires : goal.is_left-requires
+is_left-requires g c =
+    let all = c.args.requests.now.directives in
+    let inside = c.requires.span.within in
+    let test = c.loop-at-test.true in
+    let i = c.loop-at.invariant in
+    let here = got_item all c.loop-at.at _ (omega arith) (rw c.directives-directives.ensures.all at c.index-directives-at.is) ∙ ap (λ (d : Directive). Some d) c.in-Call.is in
+    let room = call_room all c.loop-at.at (length all) _ _ _ _ (omega arith) here in
+    let many = i.lines.board_is.many in
+    let number = i.number_is in
+    (omega arith, omega (arith, all_calls all, room.1))
+
 pub returns-in_err-line-clause-known : goal.returns-in_err-line-clause-known
 returns-in_err-line-clause-known g c = λ tag knows. c.in_err-line.ensures.known tag (c.loop-at.invariant.known tag knows)
 

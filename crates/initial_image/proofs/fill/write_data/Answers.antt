@@ -45,6 +45,6 @@ loop-segment-preserved c =
       bytes = written inv.bytes at tree.bytes;
       long = length-written inv.bytes at tree.bytes fits ∙ inv.long;
       shows = shows-written at tree.bytes inv.bytes fits c.loop-segment.memory c.write.new.self inv.shows written_there;
-      blocks = λ number has. ⊎_elim (inv.blocks number) (λ touches. record { place = i; segment = tree; is_there = here; touches = touches }) (written_there.blocks number has);
+      blocks = λ number has. ⊎_elim (inv.blocks number) (λ touches. record { place = i; segment = tree; is_there = here; touches = touches }) (written_there.parts number has);
       left = fold-next data_tree (write_data m) segments i s lt is inv.bytes ∙ inv.left;
     }

@@ -3,7 +3,7 @@ use Rattle.std.proofs.lemmas.Bool.{not-false}
 use Rattle.wasm_types.specs.declared.module.Module.{Module}
 use Rattle.wasm_types.specs.Tree.{ModuleTree}
 use Rattle.wasm_spec.proofs.ResultLaws.{length-fresh_memory}
-use Rattle.loaded_modules.proofs.WithinLemmas.{loaded-within}
+use Rattle.wasm_spec.proofs.WithinLemmas.{loaded-within}
 use Rattle.pool_limits.specs.Limits.{load_limits}
 use Rattle.instance_calls.proofs.InstanceLemmas.{bare_memory}
 use Rattle.instance_calls.proofs.needs.needs_memory.Goals as goal

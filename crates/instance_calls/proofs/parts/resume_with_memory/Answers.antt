@@ -6,9 +6,10 @@ use Rattle.wasm_spec.specs.Store.{Store}
 use Rattle.wasm_machine.specs.Lent.{run_terms}
 use Rattle.instance_slots.specs.Tickets.{TicketView}
 use Rattle.memory_slots.specs.Lent.{store_in}
+use Rattle.paused_call.specs.Fuel.{fuel_left}
 use Rattle.paused_call.specs.Standing.{Stands}
 use Rattle.instance_calls.proofs.InstanceLemmas.{written_back}
-use Rattle.instance_calls.proofs.PausedLemmas.{leaves_same, stands_same, turned_same}
+use Rattle.instance_calls.proofs.PausedLemmas.{leaves_same, left_same, stands_same, turned_same}
 use Rattle.instance_calls.proofs.parts.resume_with_memory.Given.{Over}
 use Rattle.instance_calls.proofs.parts.resume_with_memory.Goals as goal
 use Rattle.instance_calls.proofs.parts.resume_with_memory.Goals.{After-resume}
@@ -49,6 +50,11 @@ pub returns-clause-turned : goal.returns-clause-turned
 returns-clause-turned g c begun h =
     let at = (goal.at.returns-clause-turned g c).After-resume in
     turned_same (m g at) (limits g at) begun c.args.call.now c.args.slice c.resume.result _ _ _ _ (args_lent g at) (store_left g at) (c.resume.ensures.turned begun (stands_lent g at begun h))
+
+pub returns-clause-left : goal.returns-clause-left
+returns-clause-left g c begun h =
+    let at = (goal.at.returns-clause-left g c).After-resume in
+    left_same (m g at) (limits g at) begun c.args.call.now c.resume.result (fuel_left c.resume.new.call) _ _ (args_lent g at) (c.resume.ensures.left begun (stands_lent g at begun h))
 
 pub returns-clause-stands : goal.returns-clause-stands
 returns-clause-stands g c again begun h =

@@ -9,10 +9,11 @@ use Rattle.linear_memory.specs.Bytes.{IsMemory}
 use Rattle.wasm_machine.specs.Lent.{run_store, run_terms}
 use Rattle.wasm_machine.specs.TypedConfiguration.{IsTypedStore}
 use Rattle.instance_slots.specs.Tickets.{TicketView}
+use Rattle.paused_call.specs.Fuel.{fuel_left}
 use Rattle.paused_call.specs.Standing.{Stands, Went, upto, whole}
 use Rattle.instance_calls.specs.Instances.{bare_store}
 use Rattle.instance_calls.proofs.InstanceLemmas.{bare_is, leaves_bare_from, written_back}
-use Rattle.instance_calls.proofs.PausedLemmas.{leaves_same, stands_same, turned_same}
+use Rattle.instance_calls.proofs.PausedLemmas.{leaves_same, left_same, stands_same, turned_same}
 use Rattle.instance_calls.proofs.parts.resume_without_memory.Given.{Over}
 use Rattle.instance_calls.proofs.parts.resume_without_memory.Goals as goal
 use Rattle.instance_calls.proofs.parts.resume_without_memory.Goals.{After-resume}
@@ -92,6 +93,11 @@ pub returns-clause-turned : goal.returns-clause-turned
 returns-clause-turned g c begun h =
     let at = (goal.at.returns-clause-turned g c).After-resume in
     turned_same (m g at) (limits g at) begun c.args.call.now c.args.slice c.resume.result _ _ _ _ (lent g at).2 (store_left g at begun h) (c.resume.ensures.turned begun (stands_lent g at begun h))
+
+pub returns-clause-left : goal.returns-clause-left
+returns-clause-left g c begun h =
+    let at = (goal.at.returns-clause-left g c).After-resume in
+    left_same (m g at) (limits g at) begun c.args.call.now c.resume.result (fuel_left c.resume.new.self) _ _ (lent g at).2 (c.resume.ensures.left begun (stands_lent g at begun h))
 
 pub returns-clause-stands : goal.returns-clause-stands
 returns-clause-stands g c again begun h =

@@ -1,7 +1,8 @@
-use Rattle.std.proofs.Common.{rules}
+use Rattle.std.proofs.Common.{refl, rules}
 use Rattle.std.proofs.lemmas.List.Elements.{All-pop, All-push}
 use Rattle.slot_words.specs.Owned.{IsNewPassOf}
 use Rattle.retired_tags.specs.Passes.{IsNewTagPass}
+use Rattle.memory_counts.proofs.CountLemmas.{counted_new}
 use Rattle.pool_host.specs.Hosts.{IsNewHostPass}
 use Rattle.pool_host.proofs.IdleLemmas.{idle_rests}
 use Rattle.pool_host.proofs.new_passes.deal.Goals as goal
@@ -23,7 +24,7 @@ loop-preserved g c =
       memories = memories.0;
       tables = tables.0;
       tags = tags.0;
-      passes = rw c.push_reserved.ensures.items (All-push (IsNewHostPass host) c.loop.all.items _ i.passes (record { pools = record { ticket = ticket; memory = memory; table = table }; tags = tag; no_answer = c.in_ok-answer.ensures }));
+      passes = rw c.push_reserved.ensures.items (All-push (IsNewHostPass host) c.loop.all.items _ i.passes (record { pools = record { ticket = ticket; memory = memory; table = table }; tags = tag; no_answer = c.in_ok-answer.ensures; none_left = refl }));
       tickets_left = search rules;
       memories_left = search rules;
       tables_left = search rules;
@@ -53,4 +54,5 @@ invariant_of-push_reserved g c =
       one_memory = memory.share_is;
       one_table = table.share_is;
       one_retired = tag.share_is;
+      counted = counted_new g.N.Naming.config.batch c.unwrap-in-loop.result memory.idle memory.trail_is;
     }

@@ -1,7 +1,7 @@
 use Rattle.std.proofs.Common.{ap, ◌∙◌}
 use Rattle.slot_words.specs.Passes.{trail}
-use Rattle.pool_worlds.specs.Contents.{needs}
-use Rattle.pool_worlds.specs.declared.kinds.Kind.TheVariants.{Instance, Memory, Table}
+use Rattle.pool_model.specs.Contents.{needs}
+use Rattle.pool_model.specs.declared.kinds.Kind.TheVariants.{Instance, Memory, Table}
 use Rattle.instance_calls.specs.Parts.{memory_slot}
 use Rattle.pool_host.specs.Kinds.{IsFullTakeOf, IsGiveOf, IsTakeOf}
 use Rattle.pool_host.proofs.VisitLemmas.{grew_from, grew_to, memory_slot_some, nothing_if, served, turned_away, visited}
@@ -20,6 +20,12 @@ returns-in_default-take_memory-clause-trails g c =
       table = nothing_if (IsTakeOf Table host.tables m) (IsGiveOf Table host.tables m config.batch) (IsFullTakeOf Table host.tables m) (needs Table m.tree) _ _ (ap (λ p. trail p.table) back);
     }
 
+pub returns-in_default-take_memory-clause-counted : goal.returns-in_default-take_memory-clause-counted
+returns-in_default-take_memory-clause-counted g c = λ was. c.give_ticket.ensures.counted (c.take_memory.ensures.counted was)
+
+pub returns-in_default-take_table-clause-counted : goal.returns-in_default-take_table-clause-counted
+returns-in_default-take_table-clause-counted g c = λ was. c.give_ticket-in_default-take_table.ensures.counted (c.give_memory.ensures.counted (c.take_memory.ensures.counted was))
+
 pub returns-in_default-take_table-clause-trails : goal.returns-in_default-take_table-clause-trails
 returns-in_default-take_table-clause-trails g c =
     let config = g.N.Naming.config in
@@ -36,3 +42,6 @@ returns-in_default-take_table-clause-trails g c =
       table = grew_to _ _ _ _ (turned_away (IsTakeOf Table host.tables m) (IsGiveOf Table host.tables m config.batch) (IsFullTakeOf Table host.tables m) (needs Table m.tree) _ _ full.needed_is full.full)
           (ap (λ p. trail p.table) then ∙ ap (λ p. trail p.table) first);
     }
+
+pub returns-clause-counted : goal.returns-clause-counted
+returns-clause-counted g c = λ was. c.take_memory.ensures.counted was

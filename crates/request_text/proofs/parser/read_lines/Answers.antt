@@ -11,7 +11,7 @@ loop-left-preserved c =
     let fewer = fewer_left rest _ c.next_line.ensures.shorter in
     let size = ap bytes_left c.in-Some.is in
     record {
-      lines = one_read n c.loop-left.number c.loop-left.reading c.in-Ok.reading _ _ _ (c.loop-left.invariant.lines ∙ ap (requests_from n (c.loop-left.number + 1) c.loop-left.reading) is) c.in-Ok.ensures;
+      lines = one_read n c.loop-left.number c.loop-left.reading c.read.new.self _ _ _ (c.loop-left.invariant.lines ∙ ap (requests_from n (c.loop-left.number + 1) c.loop-left.reading) is) c.in-Ok.ensures;
       room = omega (arith, fewer, size, c.loop-left.invariant.room);
     }
 

@@ -1,4 +1,4 @@
-use Rattle.std.proofs.Common.{◌+◌, ◌∙◌, sym, ap, rules}
+use Rattle.std.proofs.Common.{◌∙◌, sym, rules}
 use Rattle.std.proofs.lemmas.List.{take_rest}
 use Rattle.request_words.proofs.WordLemmas.{lines-first, lines-last}
 use Rattle.request_words.proofs.words.next_line.Goals as goal

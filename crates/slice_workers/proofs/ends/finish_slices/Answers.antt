@@ -1,7 +1,7 @@
 use Rattle.std.proofs.Common.{◌∙◌, ap, arith, sym}
-use Rattle.due_calls.specs.Entries.{zeros}
-use Rattle.due_calls.proofs.EndLemmas.{nothing_left}
-use Rattle.due_calls.proofs.EntryLemmas.{answers_all}
+use Rattle.call_jobs.specs.Entries.{zeros}
+use Rattle.call_jobs.proofs.EndLemmas.{nothing_left}
+use Rattle.call_jobs.proofs.EntryLemmas.{answers_all}
 use Rattle.slice_workers.proofs.EndLemmas.{joined_whole}
 use Rattle.slice_workers.proofs.ends.finish_slices.Goals as goal
 

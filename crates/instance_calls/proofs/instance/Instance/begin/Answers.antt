@@ -6,8 +6,8 @@ use Rattle.wasm_spec.specs.Execution.{terms_of}
 use Rattle.wasm_spec.specs.Store.{fresh_store}
 use Rattle.wasm_machine.specs.Calls.{FitsFrame}
 use Rattle.wasm_machine.specs.TypedConfiguration.{IsTypedStore}
-use Rattle.loaded_modules.specs.Within.{IsWithin}
-use Rattle.loaded_modules.proofs.WithinLemmas.{loaded-within}
+use Rattle.wasm_spec.specs.Within.{IsWithin}
+use Rattle.wasm_spec.proofs.WithinLemmas.{loaded-within}
 use Rattle.instance_slots.proofs.TypedLemmas.{frames-fit, fresh-typed}
 use Rattle.pool_limits.specs.Limits.{load_limits}
 use Rattle.paused_call.specs.Standing.{Stands}

@@ -8,15 +8,16 @@ use Rattle.machine_steps.specs.Lent.{answer_set}
 use Rattle.wasm_spec.specs.Instances.{room_for}
 use Rattle.wasm_spec.specs.Store.{Store, fresh_store}
 use Rattle.slot_words.specs.declared.leases.Lease.{Lease}
-use Rattle.pool_worlds.specs.Contents.{Contents, MemoryContents, shown_store}
-use Rattle.pool_worlds.specs.declared.kinds.Kind.{Kind}
-use Rattle.pool_worlds.specs.Runs.{LeavesFrom}
+use Rattle.pool_model.specs.Contents.{Contents, MemoryContents, shown_store}
+use Rattle.pool_model.specs.declared.kinds.Kind.{Kind}
+use Rattle.pool_model.specs.Runs.{LeavesFrom}
 use Rattle.memory_slots.specs.Lent.{IsReady, parts}
+use Rattle.paused_call.specs.Fuel.{fuel_left}
 use Rattle.paused_call.specs.Standing.{Stands, upto, whole}
 use Rattle.instance_calls.specs.Parts.{memory_in, table_in}
 use Rattle.instance_calls.specs.CallWords.{comes_of}
 use Rattle.instance_calls.proofs.CallLemmas.{kept_on, sliced}
-use Rattle.instance_calls.proofs.PausedLemmas.{IsLent, paused_there, shown_bare, shown_with, stands_with_memory, stands_without_memory, turned_there, went_there}
+use Rattle.instance_calls.proofs.PausedLemmas.{IsLent, left_there, paused_there, shown_bare, shown_with, stands_with_memory, stands_without_memory, turned_there, went_there}
 use Rattle.instance_calls.proofs.instance.Instance.resume.Given.{Over}
 use Rattle.instance_calls.proofs.instance.Instance.resume.Goals as goal
 use Rattle.instance_calls.proofs.instance.Instance.resume.Goals.{After-entries_of-table}
@@ -49,6 +50,12 @@ returns-in-Some-clause-sliced g c =
     (shown_with (lent g at) c.in-Some.memory new.memory new.ticket.globals new.answer c.in-Some.is)
     (c.resume_with_memory-turned.ensures.turned (from g at) (stands_with_memory (lent g at) c.in-Some.memory c.in-Some.is)) in
     sliced (comes_of g.N.Naming.config c.args.loaded.now.module.now.tree c.args.request.now c.args.call.now.function c.args.self.now.ticket.value.args) c.args.call.now c.args.slice _ c.resume_with_memory-turned.result _ c.keep.ensures turned
+
+pub returns-in-Some-clause-left : goal.returns-in-Some-clause-left
+returns-in-Some-clause-left g c =
+    let at = (goal.at.returns-in-Some-clause-left g c).After-entries_of-table in
+    let ran = c.resume_with_memory-turned in
+    left_there (lent g at) ran.result (fuel_left ran.new.call) (ran.ensures.left (from g at) (stands_with_memory (lent g at) c.in-Some.memory c.in-Some.is))
 
 pub returns-in-Some-clause-paused : goal.returns-in-Some-clause-paused
 returns-in-Some-clause-paused g c again =
@@ -93,6 +100,12 @@ returns-in-None-clause-sliced g c =
     (shown_bare (lent g at) new.ticket.globals new.answer c.in-None.is)
     (c.resume_without_memory-turned.ensures.turned (from g at) (stands_without_memory (lent g at) c.in-None.is)) in
     sliced (comes_of g.N.Naming.config c.args.loaded.now.module.now.tree c.args.request.now c.args.call.now.function c.args.self.now.ticket.value.args) c.args.call.now c.args.slice _ c.resume_without_memory-turned.result _ c.keep-in-None.ensures turned
+
+pub returns-in-None-clause-left : goal.returns-in-None-clause-left
+returns-in-None-clause-left g c =
+    let at = (goal.at.returns-in-None-clause-left g c).After-entries_of-table in
+    let ran = c.resume_without_memory-turned in
+    left_there (lent g at) ran.result (fuel_left ran.new.call) (ran.ensures.left (from g at) (stands_without_memory (lent g at) c.in-None.is))
 
 pub returns-in-None-clause-paused : goal.returns-in-None-clause-paused
 returns-in-None-clause-paused g c again =

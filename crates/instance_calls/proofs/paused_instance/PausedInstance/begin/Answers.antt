@@ -1,6 +1,6 @@
 use Rattle.std.proofs.Common.{ℕ, List, [], sym, ap, subst}
 use Rattle.wasm_values.specs.declared.outcome.Val.{Val}
-use Rattle.pool_worlds.specs.Contents.{Named}
+use Rattle.pool_model.specs.Contents.{Named}
 use Rattle.instance_calls.specs.CallWords.{MayCall}
 use Rattle.instance_calls.specs.Parts.{BelongsTo, table_slot}
 use Rattle.instance_calls.specs.Paused.{IsPausedOn}

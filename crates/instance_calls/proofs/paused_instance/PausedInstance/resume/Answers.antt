@@ -1,7 +1,8 @@
-use Rattle.std.proofs.Common.{◌+◌, ℕ, List, refl, sym, ap, subst}
+use Rattle.std.proofs.Common.{◌≡◌, ◌+◌, ◌∙◌, ℕ, List, Some, refl, sym, ap, subst}
 use Rattle.wasm_values.specs.declared.outcome.Val.{Val}
-use Rattle.paused_call.specs.declared.call.Turned.{Turned}
-use Rattle.paused_call.specs.declared.call.Turned.TheVariants as turned
+use Rattle.paused_call.specs.declared.call.SliceEnd.{SliceEnd}
+use Rattle.paused_call.specs.declared.call.SliceEnd.TheVariants as turned
+use Rattle.paused_call.specs.Fuel.{LeavesFuel, fuel_left, left_in}
 use Rattle.instance_calls.specs.CallWords.{EndsAs, HasSliced, MayCall}
 use Rattle.instance_calls.specs.Parts.{BelongsTo, table_slot}
 use Rattle.instance_calls.specs.PausedInstances.{comes_to, paused_view}
@@ -30,7 +31,7 @@ returns-in-Again g c =
     let v = paused_view c.self.inside.instance m call c.self.inside.answer in
     let w = paused_view c.resume-turned.new.self m c.resume-turned.new.call c.resume-turned.new.answer in
     let more : HasMore config v c.args.slice w = record {
-      waits = subst (λ (t : Turned). HasSliced (comes_to config v) call.fuel (call.turns + c.args.slice) t c.resume-turned.new.answer) c.in-Again.is c.resume-turned.ensures.sliced;
+      waits = subst (λ (t : SliceEnd). HasSliced (comes_to config v) call.fuel (call.turns + c.args.slice) t c.resume-turned.new.answer) c.in-Again.is c.resume-turned.ensures.sliced;
       goes_on = record {
         ticket = c.resume-turned.ensures.slots.ticket;
         memory = c.resume-turned.ensures.slots.memory;
@@ -52,7 +53,9 @@ returns-in-Done g c =
     let call = c.self.inside.call in
     let v = paused_view c.self.inside.instance m call c.self.inside.answer in
     let sliced : HasSliced (comes_to config v) call.fuel (call.turns + c.args.slice) (turned.Done c.in-Done.outcome) c.resume-turned.new.answer =
-    subst (λ (t : Turned). HasSliced (comes_to config v) call.fuel (call.turns + c.args.slice) t c.resume-turned.new.answer) c.in-Done.is c.resume-turned.ensures.sliced in
+    subst (λ (t : SliceEnd). HasSliced (comes_to config v) call.fuel (call.turns + c.args.slice) t c.resume-turned.new.answer) c.in-Done.is c.resume-turned.ensures.sliced in
+    let left : LeavesFuel (comes_to config v) call.fuel (turned.Done c.in-Done.outcome) (fuel_left c.resume-turned.new.call) =
+    subst (λ (t : SliceEnd). LeavesFuel (comes_to config v) call.fuel t (fuel_left c.resume-turned.new.call)) c.in-Done.is c.resume-turned.ensures.left in
     let over : IsOver config v c.args.slice c.resume-turned.new.self = record {
       over = sliced.0;
       slots = record { ticket = sym c.resume-turned.ensures.slots.ticket; memory = sym c.resume-turned.ensures.slots.memory; table = ap table_slot (sym c.resume-turned.ensures.slots.table) };
@@ -61,4 +64,5 @@ returns-in-Done g c =
     } in (
       subst (λ (v : PausedView). IsOver config v c.args.slice c.resume-turned.new.self) c.self.view_is over,
       subst (λ (v : PausedView). EndsAs (comes_to config v) v.call.fuel c.in-Done.outcome c.resume-turned.new.answer) c.self.view_is sliced.1,
+      subst (λ (v : PausedView). left_in (comes_to config v v.call.fuel) ≡ Some c.left.result) c.self.view_is (left ∙ ap (λ (n : ℕ). Some n) (sym c.left.ensures)),
     )

@@ -1,5 +1,5 @@
 use Rattle.std.proofs.Common.{arith}
-use Rattle.counted_blocks.proofs.MarkLemmas.{count_within}
+use Rattle.block_restore.proofs.MarkLemmas.{count_within}
 use Rattle.memory_slots.proofs.slot.MemSlot.prepare_counted.Goals as goal
 
 -- the marked blocks are among those of each such set

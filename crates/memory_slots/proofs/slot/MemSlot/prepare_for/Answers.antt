@@ -1,4 +1,4 @@
-use Rattle.loaded_modules.proofs.WithinLemmas.{loaded-within}
+use Rattle.wasm_spec.proofs.WithinLemmas.{loaded-within}
 use Rattle.memory_slots.proofs.KeptLemmas.{fresh_ready, fresh_shown}
 use Rattle.memory_slots.proofs.slot.MemSlot.prepare_for.Goals as goal
 

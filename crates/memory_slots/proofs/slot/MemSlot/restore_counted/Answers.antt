@@ -1,6 +1,6 @@
 use Rattle.std.proofs.Common.{◌≡◌, subst}
-use Rattle.pool_worlds.specs.declared.kinds.Kind.TheVariants as kind
-use Rattle.pool_worlds.specs.Contents.{MemoryContents, restored}
+use Rattle.pool_model.specs.declared.kinds.Kind.TheVariants as kind
+use Rattle.pool_model.specs.Contents.{MemoryContents, restored}
 use Rattle.memory_slots.specs.Kept.{contents_of}
 use Rattle.memory_slots.proofs.KeptLemmas.{restored_is}
 use Rattle.memory_slots.proofs.slot.MemSlot.restore_counted.Goals as goal

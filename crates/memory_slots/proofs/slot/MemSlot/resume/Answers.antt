@@ -6,10 +6,10 @@ use Rattle.wasm_spec.specs.Result.{CallResult}
 use Rattle.wasm_spec.specs.Store.{Store}
 use Rattle.memory_blocks.specs.Blocks.{KeepsUnmarked}
 use Rattle.wasm_machine.specs.Lent.{lent_store, run_terms}
-use Rattle.pool_worlds.specs.Contents as contents
-use Rattle.pool_worlds.specs.declared.kinds.Kind.{Kind}
-use Rattle.pool_worlds.specs.Contents.{MemoryContents, turned}
-use Rattle.pool_worlds.specs.Runs.{LeavesFrom}
+use Rattle.pool_model.specs.Contents as contents
+use Rattle.pool_model.specs.declared.kinds.Kind.{Kind}
+use Rattle.pool_model.specs.Contents.{MemoryContents, turned}
+use Rattle.pool_model.specs.Runs.{LeavesFrom}
 use Rattle.paused_call.specs.Standing.{CanResume, Stands, upto, whole}
 use Rattle.memory_slots.specs.Kept.{contents_of}
 use Rattle.memory_slots.specs.Lent.{IsReady, dirty_blocks, parts, store_in}
@@ -65,6 +65,12 @@ returns-clause-stands g c again begun h =
     let m = c.args.inputs.now.valid.now in
     let limits = run_terms c.args.inputs.now in
     c.resume.ensures.stands again begun (subst (λ (x : MemoryContents). Stands m limits begun c.args.args.now c.args.call.now c.args.stacks.now (store_in m x c.args.inputs.now.table.now c.args.globals.now c.args.answer.now)) (sym c.self.view_is) h)
+
+pub returns-clause-left : goal.returns-clause-left
+returns-clause-left g c begun h =
+    let m = c.args.inputs.now.valid.now in
+    let limits = run_terms c.args.inputs.now in
+    c.resume.ensures.left begun (subst (λ (x : MemoryContents). Stands m limits begun c.args.args.now c.args.call.now c.args.stacks.now (store_in m x c.args.inputs.now.table.now c.args.globals.now c.args.answer.now)) (sym c.self.view_is) h)
 
 pub returns-clause-ready : goal.returns-clause-ready
 returns-clause-ready g c =

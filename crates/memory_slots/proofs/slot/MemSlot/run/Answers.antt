@@ -4,7 +4,7 @@ use Rattle.wasm_spec.specs.Instances.{room_for}
 use Rattle.wasm_spec.specs.Execution.{terms_of}
 use Rattle.wasm_spec.specs.Result.{function_result}
 use Rattle.memory_blocks.specs.Blocks.{KeepsUnmarked}
-use Rattle.pool_worlds.specs.Contents.{MemoryContents, filled}
+use Rattle.pool_model.specs.Contents.{MemoryContents, filled}
 use Rattle.memory_slots.specs.Lent.{IsReady, store_in}
 use Rattle.memory_slots.proofs.LentLemmas.{room_within, is_memory, is_ready, is_kept, marks_are}
 use Rattle.memory_slots.proofs.slot.MemSlot.run.Goals as goal

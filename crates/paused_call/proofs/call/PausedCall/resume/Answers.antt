@@ -6,7 +6,7 @@ use Rattle.wasm_machine.specs.Lent.{run_store, run_terms}
 use Rattle.wasm_machine.specs.Resuming.{IsOutOfFuel}
 use Rattle.paused_call.specs.declared.call.PausedCall.{PausedCall}
 use Rattle.paused_call.specs.Standing.{Stands, upto, whole}
-use Rattle.paused_call.proofs.SliceLemmas.{not_fuel, turned_again, turned_early, turned_late, went_to}
+use Rattle.paused_call.proofs.SliceLemmas.{left_early, left_late, not_fuel, turned_again, turned_early, turned_late, went_to}
 use Rattle.paused_call.proofs.call.PausedCall.resume.Goals as goal
 
 -- ---- it goes on
@@ -69,6 +69,20 @@ returns-in_default-clause-went c begun h =
     went_to m (whole m limits call args begun) call.turns c.args.slice (upto call c.args.slice) c.args.memory.now c.go_on-end.new.memory end (omega arith) (c.go_on-end.ensures.result begun h)
     (c.go_on-end.ensures.marked begun h) c.go_on-end.ensures.still c.go_on-end.ensures.marks
 
+pub returns-in_default-clause-left : goal.returns-in_default-clause-left
+returns-in_default-clause-left c begun h =
+    let m = c.args.inputs.now.valid.now in
+    let limits = run_terms c.args.inputs.now in
+    let args = c.args.args.now in
+    let call = c.args.self.now in
+    let left : ℕ = c.go_on-end.result.left in
+    let end : CallResult = record { outcome = c.go_on-end.result.outcome; store = run_store c.args.inputs.now c.go_on-end.new.memory c.go_on-end.new.globals c.go_on-end.new.answer; fuel = left } in
+    let lt = c.if-slice-most.true in
+    let le = h.within in
+    let same = c.go_on-end.ensures.call in
+    left_early m limits begun args call c.args.slice end (omega arith) c.go_on-end.ensures.left (c.go_on-end.ensures.result begun h) (not_fuel c.go_on-end.result.outcome c.in_default.not-Fuel)
+    (c.go_on-end.new.self.turns + (c.args.slice - left)) c.go_on-end.new.self.fuel (ap (λ (p : PausedCall). p.turns + (c.args.slice - left)) same) (ap (λ (p : PausedCall). p.fuel) same)
+
 -- ---- it has all its fuel
 
 pub returns-else-slice-most-clause-turned : goal.returns-else-slice-most-clause-turned
@@ -93,3 +107,17 @@ returns-else-slice-most-clause-went c begun h =
     let le = h.within in
     went_to m (whole m limits call args begun) call.turns (call.fuel - call.turns) (upto call c.args.slice) c.args.memory.now c.go_on-end-else-slice-most.new.memory end (omega arith) (c.go_on-end-else-slice-most.ensures.result begun h)
     (c.go_on-end-else-slice-most.ensures.marked begun h) c.go_on-end-else-slice-most.ensures.still c.go_on-end-else-slice-most.ensures.marks
+
+pub returns-else-slice-most-clause-left : goal.returns-else-slice-most-clause-left
+returns-else-slice-most-clause-left c begun h =
+    let m = c.args.inputs.now.valid.now in
+    let limits = run_terms c.args.inputs.now in
+    let args = c.args.args.now in
+    let call = c.args.self.now in
+    let ran = c.go_on-end-else-slice-most in
+    let left : ℕ = ran.result.left in
+    let end : CallResult = record { outcome = ran.result.outcome; store = run_store c.args.inputs.now ran.new.memory ran.new.globals ran.new.answer; fuel = left } in
+    let le = h.within in
+    let same = ran.ensures.call in
+    left_late m limits begun args call c.args.slice end le ran.ensures.left (ran.ensures.result begun h)
+    (ran.new.self.turns + (call.fuel - call.turns - left)) ran.new.self.fuel (ap (λ (p : PausedCall). p.turns + (call.fuel - call.turns - left)) same) (ap (λ (p : PausedCall). p.fuel) same)

@@ -22,4 +22,5 @@ returns g c =
         gave = those_given host self.passes c.give.new.passes self.running end.result.0.instance end.ensures.slots g.N.Naming.config (c.give.ensures.gave self.running.named had);
       };
       no_answer = end.ensures.answer;
+      left_is = end.ensures.left;
     }

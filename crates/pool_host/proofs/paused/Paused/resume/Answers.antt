@@ -23,4 +23,5 @@ returns-in-Done g c =
       };
       over = over.over;
       ends = c.in-Done.ensures.1;
+      left_is = c.in-Done.ensures.2;
     }

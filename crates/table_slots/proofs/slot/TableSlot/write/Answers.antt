@@ -4,8 +4,8 @@ use Rattle.std.specs.Prelude.{Option, Some, None}
 use Rattle.wasm_types.specs.Tree.{ModuleTree}
 use Rattle.wasm_spec.specs.Store.{first_misfit, fresh_store, table_size}
 use Rattle.wasm_spec.proofs.ResultLaws.{length-fresh_table}
-use Rattle.pool_worlds.specs.Contents.{Named}
-use Rattle.loaded_modules.proofs.WithinLemmas.{loaded-within}
+use Rattle.pool_model.specs.Contents.{Named}
+use Rattle.wasm_spec.proofs.WithinLemmas.{loaded-within}
 use Rattle.table_slots.proofs.TableLemmas.{write_kept}
 use Rattle.table_slots.proofs.slot.TableSlot.write.Goals as goal
 

@@ -1,0 +1,8 @@
+use Rattle.call_rounds.proofs.RunLemmas.{sliced_run}
+use Rattle.call_rounds.proofs.modes.in_slices.Goals as goal
+
+pub returns : goal.returns
+returns g c =
+    sliced_run g.N.Naming.config c.args.requests.now c.args.slice _ _ _ _ c.in_ok-crew.crew _ c.in_ok-lane.lane c.make_left.new.lane c.requires.several c.requires.sliced c.requires.may
+    (c.runs_whole-whole.ensures.slices c.requires.may) c.in_ok-crew.ensures.crew c.in_ok-made.ensures.shared c.in_ok-lane.ensures.share c.in_ok-lane.ensures.new c.requires.books c.in_ok-made.ensures.made
+    c.of_all-span.ensures.whole c.in_ok-make_left.ensures.lane c.in_ok-make_left.ensures.made c.in_ok-make_left.ensures.registry c.in_ok-make_left.ensures.books

@@ -1,0 +1,28 @@
+use Rattle.std.proofs.Common.{arith}
+use Rattle.call_workers.proofs.TakenLemmas.{begins, ends, gave_then_failed, goes_on}
+use Rattle.call_workers.proofs.work_loop.work.Goals as goal
+
+pub loop-init : goal.loop-init
+loop-init g c = record {
+  caller = c.requires.caller;
+  own = c.requires.own;
+  working = rw c.new-made.ensures.items (begins g.N.Naming.config c.args.share.now c.args.calls.now _ _);
+}
+
+pub returns-in_err-worked-in-Some-next-clause-spent : goal.returns-in_err-worked-in-Some-next-clause-spent
+returns-in_err-worked-in-Some-next-clause-spent g c =
+    let h = c.loop.invariant.working in
+    gave_then_failed c.from_residual-in_err-worked-in-Some-next.result _ _ _ h.taken (c.in-Some-next.number, c.in-Some-next.item) h.account_is c.in-Some-next.ensures.given
+
+pub returns-then-number-eq0-clause-made : goal.returns-then-number-eq0-clause-made
+returns-then-number-eq0-clause-made g c =
+    rw c.reserve.ensures.items (ends _ _ _ _ _ _ _ _ c.loop.invariant.working _ (c.in-Some-next.number, c.in-Some-next.item) c.if-number-eq0.true c.in-Some-next.ensures.given)
+
+pub loop-preserved : goal.loop-preserved
+loop-preserved g c =
+    let counted = c.if-number-eq0.false in
+    let working = goes_on _ _ _ _ _ _ _ _ c.loop.invariant.working _ _ (c.in-Some-next.number, c.in-Some-next.item) _ c.loop.invariant.caller (omega arith) c.in-Some-next.ensures.given c.in_ok-worked-in-Some-next.ensures.entry c.in_ok-worked-in-Some-next.ensures.made in record {
+      caller = c.make.ensures.own;
+      own = c.next-in-loop.ensures.own;
+      working = rw (c.push_reserved.ensures.items, c.reserve.ensures.items) working;
+    }

@@ -1,4 +1,0 @@
-use Rattle.host_report.proofs.reporting.report.Given as goal
-
-abbrev pub ghosts-report_in : goal.ghosts-report_in
-ghosts-report_in g a = record { shelves = a.opened.modules; config = a.opened.config; most = a.opened.most }

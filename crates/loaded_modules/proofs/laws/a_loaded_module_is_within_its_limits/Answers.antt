@@ -1,5 +1,0 @@
-use Rattle.loaded_modules.proofs.WithinLemmas.{loaded-within}
-use Rattle.loaded_modules.proofs.laws.a_loaded_module_is_within_its_limits.Goals as goal
-
-pub returns : goal.returns
-returns c = loaded-within

@@ -1,4 +1,0 @@
-//! What is known of every module that was loaded.
-#![tactic(auto)]
-
-pub mod laws;

@@ -1,5 +1,0 @@
-use Rattle.pool_host.specs.Hosts.{IsHostPass}
-use Rattle.pool_runs.proofs.paused.check_slices.Given as goal
-
-abbrev pub invariant-loop-row : goal.invariant-loop-row
-invariant-loop-row g l = IsHostPass l.host l.pass

@@ -1,5 +1,0 @@
-use Rattle.pool_host.specs.Hosts.{IsHostPass}
-use Rattle.pool_runs.proofs.warm_slots.memories_after.Given as goal
-
-abbrev pub invariant-loop-call : goal.invariant-loop-call
-invariant-loop-call g l = IsHostPass l.host l.pass

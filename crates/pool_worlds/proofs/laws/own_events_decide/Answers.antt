@@ -1,5 +1,0 @@
-use Rattle.pool_worlds.proofs.Tenants.{own-events-decide}
-use Rattle.pool_worlds.proofs.laws.own_events_decide.Goals as goal
-
-pub returns : goal.returns
-returns c = own-events-decide

@@ -1,5 +1,0 @@
-use Rattle.pool_worlds.proofs.Turns.{preparing-twice}
-use Rattle.pool_worlds.proofs.laws.preparing_twice_is_once.Goals as goal
-
-pub returns : goal.returns
-returns c = preparing-twice

@@ -1,5 +1,0 @@
-use Rattle.pool_worlds.proofs.Histories.{steps-are-histories}
-use Rattle.pool_worlds.proofs.laws.steps_are_histories.Goals as goal
-
-pub returns : goal.returns
-returns c = steps-are-histories

@@ -1,8 +1,0 @@
-use Rattle.pool_worlds.proofs.Shadows.{two-worlds, answers-agree}
-use Rattle.pool_worlds.proofs.laws.two_worlds.Goals as goal
-
-pub returns-clause-turns : goal.returns-clause-turns
-returns-clause-turns c = two-worlds
-
-pub returns-clause-answers : goal.returns-clause-answers
-returns-clause-answers c = answers-agree

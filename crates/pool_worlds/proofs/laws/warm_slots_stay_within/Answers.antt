@@ -1,5 +1,0 @@
-use Rattle.pool_worlds.proofs.Tenants.{warm-slots-stay-within}
-use Rattle.pool_worlds.proofs.laws.warm_slots_stay_within.Goals as goal
-
-pub returns : goal.returns
-returns c = warm-slots-stay-within
