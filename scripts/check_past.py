@@ -1,32 +1,18 @@
 #!/usr/bin/env python3
 """Checks a crate past libraries that are not proved yet: check_past.py CRATE [words of rattle check, as --only PATH].
 
-Each library below that `rt ci` proved on this machine, of the same texts, is taken as it kept it. The others are passed as source: their
+Each library below that `rt ci` or `scripts/prove.py` kept on this machine, of the same texts, is taken. The others are passed as source: their
 functions that CRATE calls are checked with it, past open goals, which are printed. So all crates of a large change can be mended side by
 side, and not one after another. It is no verdict: that is `rt ci`'s. What was checked is kept in out/past of the crate.
 """
-import importlib.machinery
-import importlib.util
 import os
 import pathlib
 import shutil
 import subprocess
 import sys
 
-TOP = str(pathlib.Path(__file__).resolve().parent.parent)
-KIT = os.path.dirname(subprocess.run(["rt", "doc"], capture_output=True, text=True, check=True).stdout.strip())
-
-
-def rt_as_module():
-    """The kit's own code of `rt`."""
-    sys.path.insert(0, f"{KIT}/bin")
-    loader = importlib.machinery.SourceFileLoader("rt_as_module", f"{KIT}/bin/rt")
-    rt = importlib.util.module_from_spec(importlib.util.spec_from_loader("rt_as_module", loader))
-    loader.exec_module(rt)
-    import rtlib
-
-    rt.Crate.cuts_libraries, rt.Crate.allowed, rtlib.Crate = True, rt.handles_of(TOP), rt.Crate
-    return rt, rtlib
+import prove
+from prove import KIT, TOP
 
 
 def is_ours(crate):
@@ -35,6 +21,9 @@ def is_ours(crate):
 
 def lend(rt, crates):
     """Gives each library that was kept, and returns the names of all that stand."""
+    if not hasattr(rt, "Kept"):
+        checkout = prove.Checkout()
+        return {it.name for it in checkout.crates if not it.is_program and checkout.lend(it)}
     kept, standing = rt.Kept(crates), set()
     for crate in sorted(crates, key=lambda it: len(it.below())):
         if crate.is_program or any(it.name not in standing for it in crate.below() if is_ours(it)):
@@ -78,8 +67,8 @@ def command(crate, standing, words):
 
 def main():
     os.chdir(TOP)
-    rt, rtlib = rt_as_module()
-    crates = {it.name: it for it in rtlib.crates_below(TOP) if is_ours(it)}
+    rt = prove.rt_as_module()
+    crates = {it.name: it for it in rt.rtlib.crates_below(TOP) if is_ours(it)}
     if len(sys.argv) < 2 or sys.argv[1] not in crates:
         sys.exit(__doc__)
     crate = crates[sys.argv[1]]

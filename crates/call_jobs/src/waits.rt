@@ -2,8 +2,8 @@
 ghost use Rattle.std.specs.Prelude.{◌≡◌};
 ghost use Rattle.call_jobs.specs.Waits.{longer, no_wait, waits_after};
 
+use crate::turns::TurnsLeft;
 use pool_host::Answer;
-use std::thread;
 
 // In turns.
 const SHORT_WAIT: u64 = 1 << 18;
@@ -56,9 +56,13 @@ impl Waits {
     }
 
     /// Waits once: leaves so many turns to other threads.
-    pub fn wait(self) {
+    pub fn wait(self) -> TurnsLeft
+        ensures { result.count ≡ self.next }
+    {
+        let mut left = TurnsLeft::none();
         for _ in 0..self.next {
-            thread::yield_now();
+            left.leave_one();
         }
+        left
     }
 }

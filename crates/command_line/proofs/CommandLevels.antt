@@ -1,10 +1,11 @@
 -- The levels of `run` and `make`: where no fault comes, each number has its range, and the flag is set or not.
-use Rattle.std.proofs.Common.{◌≡◌, ℕ, zero, suc, true, false, List, [], ◌∷◌, Some, refl, codes}
+use Rattle.std.proofs.Common.{◌≡◌, ℕ, zero, suc, true, false, List, [], ◌∷◌, Some, refl, codes, pos}
 use Rattle.clap.specs.Words.{Shape, Text, built, one_of}
 use Rattle.clap.specs.Simple.{filled, with_index}
 use Rattle.clap.specs.Walk.{Rule, arg_by_id, nothing_held, rows_after}
 use Rattle.clap.specs.Faults.{level_fault}
-use Rattle.command_line.specs.Command.{count_argument, flag, number_option, poolhost_command, seed_argument}
+use Rattle.clap.specs.declared.builder.value_parser.ValueParser.TheVariants as vp
+use Rattle.command_line.specs.Command.{flag, number_argument, number_option, poolhost_command}
 use Rattle.command_line.specs.Matches.{HasMake, HasNumbers, HasRun, IsNumberIn}
 use Rattle.command_line.proofs.LevelValues.{is_readable, reads_value}
 use Rattle.command_line.proofs.NumberTexts.{flag_text, signed_number, unsigned_number}
@@ -59,10 +60,10 @@ run_complete rest e =
 
 -- the arguments of `make`, as they are built
 abbrev seed_rule : Rule
-seed_rule = with_index 1 (filled seed_argument)
+seed_rule = with_index 1 (filled (number_argument (codes "seed") (vp.Unsigned 0 18446744073709551615)))
 
 abbrev count_rule : Rule
-count_rule = with_index 2 (filled count_argument)
+count_rule = with_index 2 (filled (number_argument (codes "count") (vp.Signed (pos 1) (pos 100000))))
 
 pub make_complete : (rest : List Text) → level_fault make_level [] nothing_held rest false [] ≡ [] → HasMake (rows_after make_level.rules [] rest)
 make_complete rest e =

@@ -1,6 +1,6 @@
 -- From the clauses of a parse to the command.
 use Rattle.std.proofs.Common.{◌≡◌, ◌≢◌, ◌≤◌, ◌∙◌, ◌==◌, ℕ, true, false, List, [], ◌∷◌, Option, Some, None, refl, ap, subst, arith, length, inl, inr}
-use Rattle.std.specs.Prelude.{IfOk, IsErrOf, IsSomeAnd, Result}
+use Rattle.std.specs.Prelude.{IfOk, IsErrOf, IsSomeAnd, Result, option_and_then}
 use Rattle.std.specs.Option.{ok_or}
 use Rattle.std.proofs.lemmas.Bool.{ne_eqb}
 use Rattle.clap.specs.Kinds.{HasKind, IsAmong, Kinds}
@@ -13,7 +13,7 @@ use Rattle.clap.specs.declared.error.kind.ErrorKind.TheVariants.{OutOfMemory}
 use Rattle.clap.specs.declared.parser.matches.ArgMatches.{ArgMatches}
 use Rattle.command_line.specs.Command.{poolhost_command}
 use Rattle.command_line.specs.Matches.{IsComplete}
-use Rattle.command_line.specs.Words.{asked_in, command_of, entered_by}
+use Rattle.command_line.specs.Words.{command_in, command_of, entered_by}
 use Rattle.command_line.specs.declared.words.Command.{Command}
 use Rattle.command_line.specs.declared.words.Command.TheVariants.{Make}
 use Rattle.command_line.specs.declared.words.WordsFault.{WordsFault}
@@ -44,7 +44,7 @@ no_command words e (inr among) other =
 -- the words have no fault, and their command is that of the matches
 pub record IsParsed (words : List Text) (m : ArgMatches) : Type 0 where
   pub complete : IsSomeAnd (subcommand_rows_of m) IsComplete
-  pub command : command_of words ≡ asked_in (subcommand_rows_of m)
+  pub command : command_of words ≡ option_and_then command_in (subcommand_rows_of m)
 
 entered_complete : (sub : Shape) (rest : List Text) → IsOneOf sub (built poolhost_command).subs → level_fault sub [] nothing_held rest false [] ≡ []
     → IsComplete (sub.name, rows_after sub.rules [] rest)
@@ -57,7 +57,7 @@ entered_complete sub rest (inr (inl is)) none =
 entered_complete sub rest (inr (inr other)) none = absurd other
 
 command_when_free : (words : List Text) (o : Option (Text × List Row)) → fault_of poolhost_command words ≡ [] → o ≡ subcommand_of poolhost_command words
-    → command_of words ≡ asked_in o
+    → command_of words ≡ option_and_then command_in o
 unfolding command_of entered_by
 command_when_free words o none same =
     let free : (length (fault_of poolhost_command words) == 0) ≡ true = rw none refl in

@@ -33,32 +33,25 @@ run_options = number_option (codes "workers") 1 16 (codes "1")
 abbrev pub flag : (name : Text) → Rule
 flag name = record (new_rule name) { long = Some name; action = Some SetTrue }
 
--- `run`, with its options, its flag and no help
+-- the command of this name, with these rules and no help
+abbrev pub command_named : (name : Text) → List Rule → App
+command_named name rules = on_top (λ s. record s { rules = rules; disable_help_flag = true }) (new_app name)
+
+-- `run`, with its options and its flag
 abbrev pub run_command : App
-run_command =
-    on_top (λ s. record s { rules = run_options ++ flag (codes "summary") ∷ []; disable_help_flag = true }) (new_app (codes "run"))
+run_command = command_named (codes "run") (run_options ++ flag (codes "summary") ∷ [])
 
 -- a number that must be given, in its place among the words
 abbrev pub number_argument : (name : Text) → ValueParser → Rule
 number_argument name parser = record (new_rule name) { action = Some Set; parser = Some parser; required = true }
 
-abbrev pub seed_argument : Rule
-seed_argument = number_argument (codes "seed") (vp.Unsigned 0 18446744073709551615)
-
-abbrev pub count_argument : Rule
-count_argument = number_argument (codes "count") (vp.Signed (pos 1) (pos 100000))
-
--- `make SEED COUNT`, with no help
+-- `make SEED COUNT`
 abbrev pub make_command : App
-make_command = on_top (λ s. record s {
-  rules = seed_argument ∷ count_argument ∷ [];
-  disable_help_flag = true;
-}) (new_app (codes "make"))
+make_command = command_named (codes "make") (number_argument (codes "seed") (vp.Unsigned 0 18446744073709551615)
+    ∷ number_argument (codes "count") (vp.Signed (pos 1) (pos 100000)) ∷ [])
 
 -- `poolhost`, which wants a subcommand: it has `run` and `make`
 abbrev pub poolhost_command : App
-poolhost_command = with_subcommand (with_subcommand (on_top (λ s. record s {
-  disable_help_flag = true;
-  disable_help_subcommand = true;
-  subcommand_required = true;
-}) (new_app (codes "poolhost"))) run_command.top) make_command.top
+poolhost_command =
+    let empty = on_top (λ s. record s { disable_help_subcommand = true; subcommand_required = true }) (command_named (codes "poolhost") []) in
+    with_subcommand (with_subcommand empty run_command.top) make_command.top

@@ -1,8 +1,8 @@
 //! The words of a command line, read as a command.
-ghost use Rattle.std.specs.Prelude.{◌≡◌, ◌↔◌, ◌≤◌, ℕ, None, Some, IfOk, IsErrOf, IsSomeAnd, map};
+ghost use Rattle.std.specs.Prelude.{◌≡◌, ◌↔◌, ◌≤◌, ℕ, None, Some, IfOk, IsErrOf, IsSomeAnd, map, option_and_then};
 ghost use Rattle.clap.specs.Words.{found_of, rows_of, subcommand_rows_of};
 ghost use Rattle.command_line.specs.Matches.{HasRun, IsComplete};
-ghost use Rattle.command_line.specs.Words.{asked_in, command_of, if_allowed, run_in};
+ghost use Rattle.command_line.specs.Words.{command_in, command_of, run_in};
 ghost use Rattle.command_line.specs.declared.words.Command.TheVariants.{Make};
 
 use crate::numbers::{flag_at, long_number_at, number_at, numbers_at};
@@ -72,7 +72,7 @@ pub fn read_command(alloc: Global, words: &[&str]) -> Result<Command, WordsFault
 // What the matches of a command line ask for, or none where no configuration has the numbers of a run.
 fn command_at(matches: &ArgMatches<'_>) -> Option<Command>
     requires { IsSomeAnd (subcommand_rows_of matches.now) IsComplete }
-    ensures command { result ≡ asked_in (subcommand_rows_of matches.now) }
+    ensures command { result ≡ option_and_then command_in (subcommand_rows_of matches.now) }
     ensures count { (seed count : ℕ) → result ≡ Some (Make seed count) → (1 ≤ count) × (count ≤ 100000) }
 {
     if let Some(make) = matches.subcommand_matches("make") {
@@ -86,7 +86,7 @@ fn command_at(matches: &ArgMatches<'_>) -> Option<Command>
 // The run that these matches ask for, or none where no configuration has its numbers.
 fn run_at(run: &ArgMatches<'_>) -> Option<Command>
     requires { HasRun (rows_of (found_of run.now)) }
-    ensures { result ≡ if_allowed (run_in (rows_of (found_of run.now))) }
+    ensures { result ≡ run_in (rows_of (found_of run.now)) }
 {
     match PoolConfig::new(numbers_at(run)) {
         Ok(config) => Some(Command::Run {

@@ -2,7 +2,7 @@
 use Rattle.wasm_types.specs.declared.limits.RunLimits.{RunLimits}
 use Rattle.wasm_types.specs.declared.limits.LoadLimits.{LoadLimits}
 use Rattle.std.proofs.Common.{◌≡◌, ℕ, zero, suc, ◌+◌, Bool, true, false, List, [], ◌∷◌, Some, Ok, Err, take, sym, ap, ◌∙◌, subst, arith}
-use Rattle.std.specs.Prelude.{Result, slice_get}
+use Rattle.std.specs.Prelude.{Result, if◌then◌else◌, slice_get}
 use Rattle.wasm_values.specs.declared.outcome.Val.{Val}
 use Rattle.request_text.specs.declared.invocation.Invocation.{Invocation}
 use Rattle.wasm_values.specs.declared.profile.Profile.{Profile}
@@ -19,8 +19,8 @@ use Rattle.report_text.specs.declared.report.ModuleLine.{ModuleLine}
 use Rattle.report_text.specs.declared.report.ReportLine.{ReportLine}
 use Rattle.report_text.specs.declared.report.ReportLine.TheVariants as report
 use Rattle.request_text.specs.Invocations.{sent_by, shown_of}
-use Rattle.request_text.specs.Text.{call_count}
-use Rattle.host_report.specs.Report.{AreLines, IsLine, IsModuleLine, next_number}
+use Rattle.request_text.specs.Text.{call_count, is_call}
+use Rattle.host_report.specs.Report.{AreLines, IsLine, IsModuleLine}
 use Rattle.run_books.specs.Collected.{answer_line}
 use Rattle.run_books.specs.Lines.{IsCallLine, Limits, ShowsCall, load_limits, loading_line, run_limits}
 use Rattle.run_books.proofs.CallLemmas.{as_answered}
@@ -79,9 +79,13 @@ module _ (one_load : LoadsOnce) (within : LoadsWithin) (one_answer : AnswersOnce
   one_report limits modules (d ∷ requests) number (x ∷ a) [] h g = absurd g
   one_report limits modules (d ∷ requests) number (x ∷ a) (y ∷ b) h g =
       ap (λ (l : ReportLine). l ∷ a) (one_line limits modules number d x y h.0 g.0)
-      ∙ ap (λ (ls : List ReportLine). y ∷ ls) (one_report limits modules requests (next_number number d) a b h.1 g.1)
+      ∙ ap (λ (ls : List ReportLine). y ∷ ls) (one_report limits modules requests _ a b h.1 g.1)
 
 -- ---- the line of a call
+
+-- the number of the first call after a directive
+abbrev next_number : ℕ → Directive → ℕ
+next_number number d = if is_call d then number + 1 else number
 
 next_count : (number : ℕ) (d : Directive) (ds : List Directive) → next_number number d + call_count ds ≡ number + call_count (d ∷ ds)
 next_count number (Module name bytes) ds = omega (arith, call_count-module name bytes ds)

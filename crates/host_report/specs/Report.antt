@@ -1,5 +1,5 @@
 -- The report on a request file: one line for each directive, in file order.
-use Rattle.std.specs.Prelude.{◌≡◌, ℕ, ◌+◌, List, [], ◌∷◌, Result}
+use Rattle.std.specs.Prelude.{◌≡◌, ℕ, ◌+◌, if◌then◌else◌, List, [], ◌∷◌, Result}
 use Rattle.wasm_types.specs.Tree.{ModuleTree}
 use Rattle.wasm_spec.specs.Loading.{Loads, Refusal}
 use Rattle.pool_limits.specs.declared.numbers.Numbers.{Numbers}
@@ -9,7 +9,7 @@ use Rattle.report_text.specs.declared.report.ModuleLine.{ModuleLine}
 use Rattle.report_text.specs.declared.report.CallLine.{CallLine}
 use Rattle.report_text.specs.declared.report.ReportLine.{ReportLine}
 use Rattle.report_text.specs.declared.report.ReportLine.TheVariants as report
-use Rattle.request_text.specs.Text.{Asked, modules_of}
+use Rattle.request_text.specs.Text.{Asked, is_call, modules_of}
 use Rattle.run_books.specs.Lines.{GoesAs, Limits, limits_in, load_limits, loading_line}
 
 -- how the loading of these bytes goes
@@ -26,18 +26,13 @@ IsLine limits modules number (Call tenant place retired invocation) line =
     (how : CallLine) × GoesAs limits modules place retired invocation how × (line ≡ report.Call number how)
 IsLine limits modules number (Retire place name) line = line ≡ report.Retired name
 
--- the number of the first call after a directive
-abbrev pub next_number : ℕ → Directive → ℕ
-next_number number (Module name bytes) = number
-next_number number (Call tenant place retired invocation) = number + 1
-next_number number (Retire place name) = number
-
 -- the lines of these directives, one of each, the first call among which has this number
 abbrev pub AreLines : Limits → (modules : List (List ℕ)) → (number : ℕ) → List Directive → List ReportLine → Type 0
 AreLines limits modules number [] lines = lines ≡ []
 AreLines limits modules number (directive ∷ requests) [] = ⊥
 AreLines limits modules number (directive ∷ requests) (line ∷ lines) =
-    IsLine limits modules number directive line × AreLines limits modules (next_number number directive) requests lines
+    IsLine limits modules number directive line
+    × AreLines limits modules (if is_call directive then number + 1 else number) requests lines
 
 -- the report on a request file that asks for this; calls are numbered from 1
 abbrev pub IsReport : Numbers → Asked → List ReportLine → Type 0

@@ -3,7 +3,7 @@ use Rattle.std.proofs.Common.{◌≡◌, ◌∙◌, Bool, ◌≤◌, ◌<◌, �
 use Rattle.std.proofs.lemmas.Bool.{cases_lt, lt-ltb}
 use Rattle.std.specs.Io.KnownBytes.{Consumes, IsAtEnd}
 use Rattle.request_text.specs.declared.request.TheConstants.{MOST_BYTES}
-use Rattle.host_run.specs.Serving.{DueAnswer, IsFileAnswer, refused}
+use Rattle.host_run.specs.Serving.{DueAnswer, IsFileAnswer}
 use Rattle.host_run.specs.Streams.{ReadsInput}
 use Rattle.request_text.specs.Refusal.{refusal_line}
 use Rattle.request_text.specs.Text.{FileTooLong, requests_of}
@@ -15,7 +15,7 @@ too_long numbers text long = let over : nat_lt MOST_BYTES (length text) ≡ true
 
 -- what is answered to a text that is too long
 pub answer_too_long : (numbers : Numbers) (summary : Bool) (text : List ℕ) (answer : DueAnswer) → MOST_BYTES < length text
-    → IsFileAnswer numbers summary text answer → answer ≡ refused (refusal_line FileTooLong)
+    → IsFileAnswer numbers summary text answer → answer ≡ record { status = 2; text = refusal_line FileTooLong }
 answer_too_long numbers summary text answer long is = rw (too_long numbers text long) at is
 
 -- all known bytes were taken

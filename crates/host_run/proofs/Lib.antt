@@ -1,4 +1,5 @@
 pub mod AnswerLemmas
+pub mod DeliveryLemmas
 pub mod DueLemmas
 pub mod OwedLemmas
 pub mod StreamLemmas

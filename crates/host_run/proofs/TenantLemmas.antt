@@ -7,7 +7,7 @@ use Rattle.pool_limits.specs.declared.numbers.Numbers.{Numbers}
 use Rattle.request_text.specs.declared.request.Directive.TheVariants.{Call}
 use Rattle.report_text.specs.declared.report.CallLine.{CallLine}
 use Rattle.report_text.specs.declared.report.ReportLine.{ReportLine}
-use Rattle.report_text.specs.Lines.{call_line, call_text, line_text}
+use Rattle.report_text.specs.Lines.{call_text, line_text}
 use Rattle.request_text.specs.Text.{Asked, modules_of}
 use Rattle.run_books.specs.Lines.{IsCallLine, Limits, limits_in}
 use Rattle.host_report.specs.Report.{IsReport}
@@ -47,7 +47,7 @@ texts-at text (y ∷ ys) (suc at) x is =
     ap (λ l. text y ++ l) more ∙ grind (arith, append_assoc)
 
 pub written : (requests : Asked) (lines : List ReportLine) (at : ℕ) (how : CallLine) → TellsAt requests lines at how → WritesAt requests lines at (call_text how)
-unfolding call_line
+unfolding line_text
 written requests lines at how is = rw (add-one at) (texts-at line_text lines at _ is)
 
 pub same_written : CallsTold → CallsOnce → (words words' : List (List ℕ)) (numbers numbers' : Numbers) (bytes bytes' : List ℕ) (requests requests' : Asked) (lines lines' : List ReportLine)

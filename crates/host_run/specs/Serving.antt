@@ -1,7 +1,6 @@
 -- What a run of the program owes.
-use Rattle.std.specs.Prelude.{◌≡◌, ◌⊎◌, ℕ, Bool, true, false, List, codes, map, if◌then◌else◌, MatchOption, MatchResult}
+use Rattle.std.specs.Prelude.{◌≡◌, ◌⊎◌, ℕ, Bool, true, false, List, codes, map, if◌then◌else◌, MatchResult, Some, None}
 use Rattle.std.specs.Borrow.{Bor}
-use Rattle.std.specs.Option.{option_map_or}
 use Rattle.std.specs.declared.option.Option.{Option}
 use Rattle.std.specs.Io.KnownBytes.{Appends}
 use Rattle.host_run.specs.Streams.{AppendsPart}
@@ -28,12 +27,9 @@ pub record DueAnswer : Type 0 where
   pub status : ℕ
   pub text : List ℕ
 
-abbrev pub refused : List ℕ → DueAnswer
-refused line = record { status = 2; text = line }
-
--- words that are not accepted are refused by this line
+-- words that are not accepted are refused by this line, with status 2
 abbrev pub refused_words : DueAnswer
-refused_words = refused (codes "refused words\n")
+refused_words = record { status = 2; text = codes "refused words\n" }
 
 -- what a run writes on the lines of a report: their text, or their summary
 abbrev pub lines_text : (summary : Bool) → List ReportLine → List ℕ
@@ -46,40 +42,30 @@ pub record IsReported (numbers : Numbers) (summary : Bool) (requests : Asked) (a
   pub report : IsReport numbers requests lines
   pub text : answer.text ≡ lines_text summary lines
 
--- what a request file is answered: the report on what it asks for, or the line that tells why it is refused
+-- what a request file is answered: the report on what it asks for, or, with status 2, the line that tells why it is refused
 abbrev pub IsFileAnswer : Numbers → (summary : Bool) → List ℕ → DueAnswer → Type 0
 IsFileAnswer numbers summary bytes answer = MatchResult (requests_of numbers bytes)
     (λ requests. IsReported numbers summary requests answer)
-    (λ refusal. answer ≡ refused (refusal_line refusal))
+    (λ refusal. answer ≡ record { status = 2; text = refusal_line refusal })
 
 -- a load is written with status 0
 abbrev pub load_of : (seed count : ℕ) → DueAnswer
 load_of seed count = record { status = 0; text = made_file seed count }
 
--- what is due for a command and all bytes of the source, whatever the slices of a run
-abbrev pub IsCommandAnswer : Command → List ℕ → DueAnswer → Type 0
-IsCommandAnswer (Run numbers summary slice) bytes answer = IsFileAnswer numbers summary bytes answer
-IsCommandAnswer (Make seed count) bytes answer = answer ≡ load_of seed count
-
--- what is due for a command, if there is one, and all bytes of the source
+-- what is due for a command, if there is one, and all bytes of the source, whatever the slices of a run
 abbrev pub IsOwed : Option Command → List ℕ → DueAnswer → Type 0
-IsOwed asked bytes answer = MatchOption asked (answer ≡ refused_words) (λ command. IsCommandAnswer command bytes answer)
+IsOwed None bytes answer = answer ≡ refused_words
+IsOwed (Some (Run numbers summary slice)) bytes answer = IsFileAnswer numbers summary bytes answer
+IsOwed (Some (Make seed count)) bytes answer = answer ≡ load_of seed count
 
 -- what is due for the words of the command line and all bytes of the source
 abbrev pub IsDue : List (List ℕ) → List ℕ → DueAnswer → Type 0
 IsDue words bytes answer = IsOwed (command_of words) bytes answer
 
-abbrev pub is_run : Command → Bool
-is_run (Run numbers summary slice) = true
-is_run (Make seed count) = false
-
 -- a run is asked for: nothing else has the source read
 abbrev pub reads_source : Option Command → Bool
-reads_source asked = option_map_or is_run asked false
-
--- the words are those of a run
-abbrev pub reads : List (List ℕ) → Bool
-reads words = reads_source (command_of words)
+reads_source (Some (Run numbers summary slice)) = true
+reads_source asked = false
 
 abbrev pub due_answer : RunOutput → DueAnswer
 due_answer due = record { status = due.status; text = bytes_of due.text }

@@ -3,7 +3,7 @@ ghost use Rattle.std.specs.Prelude.{[], ◌≡◌, ◌⊎◌, ◌<◌, IfOk, IsO
 ghost use Rattle.std.specs.Result.{result_ok};
 ghost use Rattle.host_run.specs.Made.{FileWasMade, IsOfRun};
 ghost use Rattle.host_run.specs.Refusal.{told};
-ghost use Rattle.host_run.specs.Serving.{IsFileAnswer, IsReported, lines_text, refused, due_answer};
+ghost use Rattle.host_run.specs.Serving.{IsFileAnswer, IsReported, lines_text, due_answer};
 ghost use Rattle.pool_limits.specs.Plans.{plan_fault};
 ghost use Rattle.request_text.specs.Refusal.{refusal_line};
 ghost use Rattle.request_text.specs.Text.{BadLine, file_refusal_of};
@@ -99,7 +99,7 @@ fn refusal_of(fault: ParseFault) -> Result<Refusal, NoMemory>
 
 // What is due for a request file that is refused, unless the fault was want of memory.
 fn refused_file(alloc: Global, fault: ParseFault) -> Result<RunOutput, NoMemory>
-    ensures due { IfOk result (λ due. IsSomeAnd (file_refusal_of fault) (λ why. due_answer due ≡ refused (refusal_line why))) }
+    ensures due { IfOk result (λ due. IsSomeAnd (file_refusal_of fault) (λ why. due_answer due ≡ record { status = 2; text = refusal_line why })) }
     ensures too_long { fault ≡ ParseFault.TooLong → IsOk result }
 {
     match refusal_of(fault)? {
@@ -110,7 +110,7 @@ fn refused_file(alloc: Global, fault: ParseFault) -> Result<RunOutput, NoMemory>
 
 // What is due for a request file of which this line is refused.
 fn line_due(alloc: Global, line: u32, reason: Reason) -> Result<RunOutput, NoMemory>
-    ensures { IfOk result (λ due. due_answer due ≡ refused (refusal_line (BadLine line reason))) }
+    ensures { IfOk result (λ due. due_answer due ≡ record { status = 2; text = refusal_line (BadLine line reason) }) }
 {
     let mut text = Vec::new(alloc);
     write_text_fault(alloc, &mut text, line, reason)?;

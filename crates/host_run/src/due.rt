@@ -2,7 +2,7 @@
 ghost use Rattle.std.specs.Prelude.{◌≡◌, IfOk, MatchResult, Some};
 ghost use Rattle.host_run.specs.Made.{WasMade};
 ghost use Rattle.host_run.specs.Owed.{Owes};
-ghost use Rattle.host_run.specs.Serving.{load_of, refused, refused_words, due_answer, texts_of};
+ghost use Rattle.host_run.specs.Serving.{load_of, refused_words, due_answer, texts_of};
 ghost use Rattle.command_line.specs.Words.{command_of};
 ghost use Rattle.command_line.specs.declared.words.Command.TheVariants.{Run};
 
@@ -50,7 +50,7 @@ pub(crate) struct RunOutput {
 
 // What is due for a refusal: this line, with status 2.
 pub(crate) fn refusal(line: &'static [u8]) -> RunOutput
-    ensures { due_answer result ≡ refused line.now }
+    ensures { due_answer result ≡ record { status = 2; text = line.now } }
 {
     RunOutput {
         status: Status::Refused.code(),

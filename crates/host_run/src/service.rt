@@ -1,15 +1,15 @@
 //! The host as one call.
-ghost use Rattle.std.specs.Prelude.{◌≡◌, ◌⊎◌, ◌+◌, ◌≤◌, ℕ, Bool, List, Some, None, IfSome, IsErrAnd, IsOk, IsOkAnd, false, length, true};
+ghost use Rattle.std.specs.Prelude.{◌≡◌, ◌⊎◌, ◌+◌, ◌≤◌, ℕ, Bool, List, Some, None, IfSome, IsErrAnd, IsOk, IsOkAnd, false, is_some, length, true};
 ghost use Rattle.std.specs.Io.KnownBytes.{Appends, Consumes, IsAtEnd};
 ghost use Rattle.host_edge.specs.Streams.{Rose};
-ghost use Rattle.host_run.specs.Serving.{Delivers, IsDue, IsStatus, lines_text, load_of, reads, refused_words, texts_of};
+ghost use Rattle.host_run.specs.Serving.{Delivers, IsDue, IsStatus, lines_text, load_of, reads_source, refused_words, texts_of};
 ghost use Rattle.host_run.specs.Streams.{TakesAtMost};
 ghost use Rattle.host_report.specs.Report.{IsReport};
 ghost use Rattle.report_text.specs.declared.report.ReportLine.{ReportLine};
 ghost use Rattle.request_text.specs.Refusal.{refusal_line};
 ghost use Rattle.request_text.specs.Text.{requests_of};
 ghost use Rattle.pool_limits.specs.declared.numbers.Numbers.{Numbers};
-ghost use Rattle.command_line.specs.Words.{command_of, is_accepted};
+ghost use Rattle.command_line.specs.Words.{command_of};
 ghost use Rattle.command_line.specs.declared.words.Command.TheVariants.{Make, Run};
 
 use crate::due::{REFUSED_WORDS, due_text};
@@ -42,18 +42,18 @@ pub fn serve<S: Source, K: Sink, G: Gate>(
         → result ≡ 0 → IfSome (S.left source.old) (λ bytes. IsOkAnd (requests_of numbers bytes) (λ requests.
         (lines : List ReportLine) × IsReport numbers requests lines
         × Appends (K.written sink.old) (K.written sink.new) (lines_text summary lines))) }
-    ensures end { reads (texts_of words.now) ≡ true → result ≡ 0 → IsAtEnd (S.left source.new) }
+    ensures end { reads_source (command_of (texts_of words.now)) ≡ true → result ≡ 0 → IsAtEnd (S.left source.new) }
     ensures load { (seed count : ℕ) → command_of (texts_of words.now) ≡ Some (Make seed count)
         → Delivers (λ due. due ≡ load_of seed count) (K.written sink.old) (K.written sink.new) result }
 
     // 2, after the line that refuses the words, or the file that was read
     ensures refused_words { command_of (texts_of words.now) ≡ None
         → Delivers (λ due. due ≡ refused_words) (K.written sink.old) (K.written sink.new) result }
-    ensures unread { reads (texts_of words.now) ≡ false → source.new ≡ source.old }
+    ensures unread { reads_source (command_of (texts_of words.now)) ≡ false → source.new ≡ source.old }
     ensures refused_file { (numbers : Numbers) (summary : Bool) (slice : ℕ) → command_of (texts_of words.now) ≡ Some (Run numbers summary slice)
         → result ≡ 2 → IfSome (S.left source.old) (λ bytes. IsErrAnd (requests_of numbers bytes) (λ why.
         Appends (K.written sink.old) (K.written sink.new) (refusal_line why))) }
-    ensures all_read { reads (texts_of words.now) ≡ true → (result ≡ 0) ⊎ ((result ≡ 2) ⊎ (result ≡ 4))
+    ensures all_read { reads_source (command_of (texts_of words.now)) ≡ true → (result ≡ 0) ⊎ ((result ≡ 2) ⊎ (result ≡ 4))
         → IfSome (S.left source.old) (λ bytes. length bytes ≤ MOST_BYTES → IsAtEnd (S.left source.new)) }
 
     // 3 and 4, for a fault alone, and 5
@@ -73,8 +73,8 @@ pub fn serve<S: Source, K: Sink, G: Gate>(
         × Consumes (S.left source.old) (S.left source.new) bytes
         × Delivers (IsDue (texts_of words.now) bytes) (K.written sink.old) (K.written sink.new) result }
 
-    ensures accepted { result ≡ 0 → is_accepted (texts_of words.now) ≡ true }
-    ensures read { result ≡ 3 → reads (texts_of words.now) ≡ true }
+    ensures accepted { result ≡ 0 → is_some (command_of (texts_of words.now)) ≡ true }
+    ensures read { result ≡ 3 → reads_source (command_of (texts_of words.now)) ≡ true }
     ensures at_most { TakesAtMost (S.left source.old) (S.left source.new) (MOST_BYTES + 1) }
     ensures complete { (numbers : Numbers) (summary : Bool) (slice : ℕ) → command_of (texts_of words.now) ≡ Some (Run numbers summary slice)
         → IfSome (S.left source.old) (λ bytes. IsOk (requests_of numbers bytes)

@@ -12,7 +12,7 @@ use crate::callers::{BUMP, ONE, open, register};
 use call_payload::{AnswerBuf, Call};
 use instance_calls::{Instance, find_function, needs_memory, needs_table};
 use instance_slots::{Ticket, TicketPool};
-use memory_slots::{MemSlot, MemoryPool};
+use memory_slots::{LeftMemory, MemSlot, MemoryPool};
 use module_store::{LoadedModule, ModuleRef, ModuleStore, Naming, Opened};
 use slot_words::{Lease, Pass};
 use std::alloc::Global;
@@ -125,7 +125,7 @@ fn marked_by<N: Naming, R: Abort>(
     let (outcome, memory) = call_on(rt, alloc, store, module, memory, &call);
     let number = memory.number();
     let marked = memory.value.dirty();
-    pool.give(&mut pass, memory, store);
+    pool.give_left(&mut pass, LeftMemory::of(memory), store);
     match pool.words().claim(&mut pass, number) {
         Ok(memory) => (outcome, marked, memory.value.dirty()),
         Err(_) => panic!(rt; "the memory is held"),

@@ -12,8 +12,10 @@ use Rattle.pool_limits.specs.declared.numbers.Numbers.{Numbers}
 use Rattle.pool_model.specs.Contents.{Contents, MemoryContents, TableContents, needs, shown_store, shown_memory, shown_table}
 use Rattle.pool_model.specs.declared.kinds.Kind.{Kind}
 use Rattle.pool_model.specs.declared.kinds.Kind.TheVariants.{Memory, Table}
+use Rattle.memory_slots.specs.Left.{lease_left}
 use Rattle.memory_slots.specs.Lent.{IsReady, parts}
 use Rattle.instance_calls.specs.declared.instance.Instance.{Instance}
+use Rattle.instance_calls.specs.declared.left_instance.LeftInstance.{LeftInstance}
 use Rattle.instance_calls.specs.Parts.{memory_in, memory_slot, table_in, ticket_slot}
 
 -- the store of a module without a memory in this table, these globals and this answer
@@ -56,3 +58,7 @@ module _ {N : Type 0} where
     pub ticket : ticket_slot y.ticket ≡ ticket_slot x.ticket
     pub memory : memory_slot y.memory ≡ memory_slot x.memory
     pub table : y.table ≡ x.table
+
+  -- the instance that a call left
+  abbrev pub left_by : LeftInstance N → Instance N
+  left_by left = record { ticket = left.ticket; memory = lease_left left.memory; table = left.table }

@@ -12,10 +12,11 @@ ghost use Rattle.wasm_spec.specs.Store.{fresh_store};
 ghost use Rattle.pool_model.specs.Contents.{IsFreshMemory, shown_memory};
 ghost use Rattle.pool_model.specs.declared.kinds.Kind.TheVariants as kind;
 ghost use Rattle.pool_model.specs.OwnTags.{own_tag};
+ghost use Rattle.memory_slots.specs.Left.{lease_in};
 ghost use Rattle.memory_slots.specs.Lent.{IsReady};
 
 use crate::counting::{is_own_warm, one_more};
-use memory_slots::{Full, MemSlot, MemoryPool, Taken};
+use memory_slots::{Full, LeftMemory, MemSlot, MemoryPool, Taken};
 use module_store::{LoadedModule, ModuleStore, Naming};
 use pool_core::{Target, unpack};
 use slot_words::{Lease, Pass};
@@ -138,26 +139,26 @@ impl MemoryTally {
         }
     }
 
-    /// Gives a memory back as [`MemoryPool::give`] does, and counts it.
+    /// Gives a memory back that a call left, as [`MemoryPool::give_left`] does, and counts it.
     pub fn give<N: Naming>(
         &mut self,
         pool: &MemoryPool<N>,
         pass: &mut Pass<MemSlot<N>>,
-        lease: Lease<MemSlot<N>>,
+        left: LeftMemory<N>,
         store: &ModuleStore<N>,
     )
         requires own { IsPassOf pool.now pass.old }
-        requires number { lease_number lease < slots_of pool.now }
-        requires holds { Holds pass.old (lease_number lease) false false false }
-        requires belongs { is_some lease.value.holds ≡ true }
+        requires number { lease_number (lease_in left) < slots_of pool.now }
+        requires holds { Holds pass.old (lease_number (lease_in left)) false false false }
+        requires belongs { is_some (lease_in left).value.holds ≡ true }
         ensures same { IsSamePass pass.old pass.new }
         ensures idle { IsIdle pass.new }
-        ensures trail { HandsIn pool.now (own_tag kind.Memory lease.value) N.config.batch lease pass.old pass.new }
+        ensures trail { HandsIn pool.now (own_tag kind.Memory (lease_in left).value) N.config.batch (lease_in left) pass.old pass.new }
         ensures counted { IsCounted N.config.batch pass.old self.old → IsCounted N.config.batch pass.new self.new }
     {
-        let tag = lease.value.module_tag();
+        let tag = left.module_tag();
         let own = is_own_warm(self.claimed, tag);
-        let flushed = pool.give(pass, lease, store);
+        let flushed = pool.give_left(pass, left, store);
         self.note_given(own, flushed);
     }
 }

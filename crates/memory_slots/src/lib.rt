@@ -3,10 +3,12 @@
 #![tactic(auto)]
 
 mod images;
+mod left;
 mod pool;
 mod slot;
 
 pub use block_restore::Steps;
+pub use left::LeftMemory;
 pub use linear_memory::Memory;
 pub use pool::MemoryPool;
 pub use slot::MemSlot;

@@ -17,8 +17,10 @@ ghost use Rattle.wasm_spec.specs.Store.{fresh_store};
 ghost use Rattle.pool_model.specs.declared.kinds.Kind.TheVariants as kind;
 ghost use Rattle.pool_model.specs.Contents.{shown_memory, IsFreshMemory};
 ghost use Rattle.pool_model.specs.OwnTags.{own_tag};
+ghost use Rattle.memory_slots.specs.Left.{lease_in};
 ghost use Rattle.memory_slots.specs.Lent.{IsReady};
 
+use crate::left::LeftMemory;
 use crate::slot::MemSlot;
 use decommit_batch::hand_in;
 use module_store::{LoadedModule, ModuleRef, ModuleStore, Naming};
@@ -164,6 +166,26 @@ impl<N: Naming> MemoryPool<N> {
         lease.value.is_used();
         let batch = store.config().numbers().batch;
         hand_in(&self.words, pass, lease, store, batch)
+    }
+
+    /// Gives a memory back that a call left, as [`MemoryPool::give`] does. Nothing has written to it since.
+    pub fn give_left(
+        &self,
+        pass: &mut Pass<MemSlot<N>>,
+        left: LeftMemory<N>,
+        store: &ModuleStore<N>,
+    ) -> bool
+        requires own { IsPassOf self.now pass.old }
+        requires number { lease_number (lease_in left) < slots_of self.now }
+        requires holds { Holds pass.old (lease_number (lease_in left)) false false false }
+        requires belongs { is_some (lease_in left).value.holds ≡ true }
+        ensures same { IsSamePass pass.old pass.new }
+        ensures idle { IsIdle pass.new }
+        ensures trail { HandsIn self.now (own_tag kind.Memory (lease_in left).value) N.config.batch (lease_in left) pass.old pass.new }
+        ensures told { flushes_in N.config.batch (trail pass.new) ≡ flushes_in N.config.batch (trail pass.old) + bit result }
+    {
+        let lease = left.lease();
+        self.give(pass, lease, store)
     }
 
     /// Joins another pass of this pool into this one, which then stands for both. Takes no memory.

@@ -36,14 +36,6 @@ impl<N: Naming> Model for RetiredModules<N> {
     ghost invariant = { λ r. N.most ≤ tags_of r.bits.tags };
 }
 
-// How many bits there are where a store may have so many modules: one is the least.
-fn bits_for(most: u32) -> u32
-    ensures enough { most ≤ result }
-    ensures some { 1 ≤ result }
-{
-    if most == 0 { 1 } else { most }
-}
-
 impl<N: Naming> RetiredModules<N> {
     // No module is retired, and there are as many passes as are asked for.
     pub(crate) fn open(
@@ -55,7 +47,8 @@ impl<N: Naming> RetiredModules<N> {
         ensures count { IfOk result (λ o. passes_of o.0.tags ≡ passes) }
         ensures passes { IfOk result (λ o. (length o.1.items ≡ passes) × All (IsNewTagPass o.0.tags) o.1.items) }
     {
-        let many = bits_for(store.most());
+        // a bit is the least
+        let many = store.most().max(1);
         let (tags, all) = RetiredTags::open(alloc, many, passes).map_err(|_| NoMemory)?;
         let retired = RetiredModules {
             bits: Bits { tags },

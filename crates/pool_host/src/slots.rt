@@ -10,6 +10,7 @@ ghost use Rattle.pool_model.specs.declared.kinds.Kind.TheVariants as kind;
 ghost use Rattle.pool_model.specs.declared.kinds.Kind.TheVariants.{Memory, Table};
 ghost use Rattle.instance_calls.specs.Instances.{HasFreshMemory, IsFreshInstance, IsFreshTable};
 ghost use Rattle.instance_calls.specs.Parts.{BelongsTo, memory_slot, table_slot};
+ghost use Rattle.memory_slots.specs.Left.{lease_left};
 ghost use Rattle.memory_counts.specs.Counted.{IsCounted};
 ghost use Rattle.pool_host.specs.Counting.{KeepsCounts};
 ghost use Rattle.pool_host.specs.Hosts.{AreIdle, ArePassesOf, AreSamePasses};
@@ -24,7 +25,7 @@ use crate::passes::Passes;
 use instance_calls::{Instance, needs_memory, needs_table};
 use instance_slots::Ticket;
 use memory_counts::MemoryTally;
-use memory_slots::{MemSlot, MemoryPool};
+use memory_slots::{LeftMemory, MemSlot, MemoryPool};
 use module_store::{LoadedModule, ModuleStore, Naming};
 use pool_model::Kind;
 use slot_pools::Full;
@@ -106,23 +107,23 @@ pub(crate) fn give_memory<N: Naming>(
     host: &Host<N>,
     passes: &mut Passes<N>,
     store: &ModuleStore<N>,
-    memory: Option<Lease<MemSlot<N>>>,
+    memory: Option<LeftMemory<N>>,
 )
     requires own { ArePassesOf host.now passes.old }
-    requires has { HoldsSlot (slots_of host.now.memories) passes.old.memory (memory_slot memory) }
-    requires belongs { (m : Named) × BelongsTo m (memory_slot memory) }
+    requires has { HoldsSlot (slots_of host.now.memories) passes.old.memory (memory_slot (lease_left memory)) }
+    requires belongs { (m : Named) × BelongsTo m (memory_slot (lease_left memory)) }
     requires table { IsIdle passes.old.table }
     ensures same { AreSamePasses passes.old passes.new }
     ensures others { passes.new ≡ record passes.old { memory = passes.new.memory; tally = passes.new.tally } }
     ensures idle { IsIdle passes.new.memory }
-    ensures gave { (m : Named) → BelongsTo m (memory_slot memory)
-        → GaveSlot Memory host.now.memories m N.config.batch passes.old.memory passes.new.memory (memory_slot memory) }
+    ensures gave { (m : Named) → BelongsTo m (memory_slot (lease_left memory))
+        → GaveSlot Memory host.now.memories m N.config.batch passes.old.memory passes.new.memory (memory_slot (lease_left memory)) }
     ensures counted { KeepsCounts N.config.batch passes.old passes.new }
 {
-    if let Some(lease) = memory {
+    if let Some(left) = memory {
         passes
             .tally
-            .give(&host.memories, &mut passes.memory, lease, store);
+            .give(&host.memories, &mut passes.memory, left, store);
     }
 }
 
@@ -179,7 +180,7 @@ pub(crate) fn take_slots<N: Naming>(
         return Err(Kind::Memory);
     };
     let Ok(table) = take_table(&host.tables, &mut passes.table, loaded) else {
-        give_memory(host, passes, loaded.store, memory);
+        give_memory(host, passes, loaded.store, LeftMemory::of_call(memory));
         give_ticket(host, passes, loaded.store, ticket);
         return Err(Kind::Table);
     };

@@ -16,7 +16,7 @@ use Rattle.report_text.specs.declared.report.CallLine.TheVariants as call
 use Rattle.report_text.specs.declared.report.ReportLine.{ReportLine}
 use Rattle.report_text.specs.declared.report.ReportLine.TheVariants as report
 
--- ---- the line of a module
+-- ---- how the loading of a module went
 
 abbrev pub loading_text : ModuleLine → List ℕ
 loading_text loading.Accepted = codes "ok"
@@ -26,17 +26,7 @@ loading_text loading.Invalid = codes "refused invalid"
 loading_text loading.Limit = codes "refused limit"
 loading_text loading.Segment = codes "refused segment"
 
--- `module NAME ok`, or `module NAME refused R`
-unfoldable pub module_line : List ℕ → ModuleLine → List ℕ
-module_line name line = codes "module " ++ name ++ codes " " ++ loading_text line ++ codes "\n"
-
--- ---- the line of a retirement
-
--- `retire NAME done`
-unfoldable pub retire_line : List ℕ → List ℕ
-retire_line name = codes "retire " ++ name ++ codes " done\n"
-
--- ---- the line of a call
+-- ---- how a call went
 
 -- a value with its type, in signed decimal
 abbrev pub value_text : Val → List ℕ
@@ -72,16 +62,13 @@ call_text call.Retired = codes "refused retired"
 call_text call.NoExport = codes "refused export"
 call_text call.BadArgs = codes "refused args"
 
--- the line of the call with this number: the number, a space, and how it went
-unfoldable pub call_line : ℕ → CallLine → List ℕ
-call_line number line = decimal number ++ codes " " ++ call_text line ++ codes "\n"
-
 -- ---- the report
 
-abbrev pub line_text : ReportLine → List ℕ
-line_text (report.Module name line) = module_line name line
-line_text (report.Retired name) = retire_line name
-line_text (report.Call number line) = call_line number line
+-- `module NAME ok` or `module NAME refused R`; `retire NAME done`; the number of a call, a space, and how it went
+unfoldable pub line_text : ReportLine → List ℕ
+line_text (report.Module name line) = codes "module " ++ name ++ codes " " ++ loading_text line ++ codes "\n"
+line_text (report.Retired name) = codes "retire " ++ name ++ codes " done\n"
+line_text (report.Call number line) = decimal number ++ codes " " ++ call_text line ++ codes "\n"
 
 -- the text of a report: its lines one after the other
 abbrev pub report_text : List ReportLine → List ℕ

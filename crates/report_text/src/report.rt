@@ -1,6 +1,6 @@
 //! The lines of a report.
 ghost use Rattle.std.specs.Prelude.{◌≡◌, ◌++◌, OnOk, OnErr, IfOk};
-ghost use Rattle.report_text.specs.Lines.{bytes_text, call_line, call_text, line_text, loading_text, module_line, outcome_text, report_text, retire_line, trap_text, value_text};
+ghost use Rattle.report_text.specs.Lines.{bytes_text, call_text, line_text, loading_text, outcome_text, report_text, trap_text, value_text};
 
 use crate::digits::hex_digits;
 use itoa::Buffer;
@@ -139,9 +139,9 @@ fn push_call(alloc: Global, line: &mut Vec<u8>, call: &CallLine) -> Result<(), A
 }
 
 // Appends the line of the module of this name.
-#[tactic(auto, unfolding(crate::specs::Lines::module_line))]
+#[tactic(auto, unfolding(crate::specs::Lines::line_text))]
 fn push_module_line(text: &mut Vec<u8>, name: &[u8], line: ModuleLine) -> Result<(), AllocError>
-    ensures { OnOk result (text.new.items ≡ text.old.items ++ module_line name.now line) }
+    ensures { OnOk result (text.new.items ≡ text.old.items ++ line_text (ReportLine.Module name.now line)) }
 {
     text.extend_from_slice(b"module ")?;
     text.extend_from_slice(name)?;
@@ -151,9 +151,9 @@ fn push_module_line(text: &mut Vec<u8>, name: &[u8], line: ModuleLine) -> Result
 }
 
 // Appends the line of the retirement of the module of this name.
-#[tactic(auto, unfolding(crate::specs::Lines::retire_line))]
+#[tactic(auto, unfolding(crate::specs::Lines::line_text))]
 fn push_retire_line(text: &mut Vec<u8>, name: &[u8]) -> Result<(), AllocError>
-    ensures { OnOk result (text.new.items ≡ text.old.items ++ retire_line name.now) }
+    ensures { OnOk result (text.new.items ≡ text.old.items ++ line_text (ReportLine.Retired name.now)) }
 {
     text.extend_from_slice(b"retire ")?;
     text.extend_from_slice(name)?;
@@ -161,14 +161,14 @@ fn push_retire_line(text: &mut Vec<u8>, name: &[u8]) -> Result<(), AllocError>
 }
 
 // Appends the line of the `k`-th call.
-#[tactic(auto, unfolding(crate::specs::Lines::call_line))]
+#[tactic(auto, unfolding(crate::specs::Lines::line_text))]
 fn push_call_line(
     alloc: Global,
     text: &mut Vec<u8>,
     k: u32,
     line: &CallLine,
 ) -> Result<(), AllocError>
-    ensures { OnOk result (text.new.items ≡ text.old.items ++ call_line k line.now) }
+    ensures { OnOk result (text.new.items ≡ text.old.items ++ line_text (ReportLine.Call k line.now)) }
 {
     let mut number = Buffer::new();
     text.extend_from_slice(number.format(k).as_bytes())?;
@@ -188,7 +188,7 @@ fn push_line(alloc: Global, text: &mut Vec<u8>, line: &ReportLine) -> Result<(),
     }
 }
 
-/// Appends the report's line of the module of this name. Source: `specs/Lines.antt`, `module_line`.
+/// Appends the report's line of the module of this name. Source: `specs/Lines.antt`, `line_text`.
 ///
 /// # Errors
 ///
@@ -199,7 +199,7 @@ pub fn write_module(
     name: &[u8],
     line: ModuleLine,
 ) -> Result<(), NoMemory>
-    ensures line { OnOk result (out.new.items ≡ out.old.items ++ module_line name.now line) }
+    ensures line { OnOk result (out.new.items ≡ out.old.items ++ line_text (ReportLine.Module name.now line)) }
     ensures memory { OnErr result (out.new.items ≡ out.old.items) }
 {
     let mut text = Vec::new(alloc);
@@ -207,13 +207,13 @@ pub fn write_module(
     out.extend_from_slice(&text).map_err(|_| NoMemory)
 }
 
-/// Appends the report's line of the retirement of the module of this name. Source: `specs/Lines.antt`, `retire_line`.
+/// Appends the report's line of the retirement of the module of this name. Source: `specs/Lines.antt`, `line_text`.
 ///
 /// # Errors
 ///
 /// `NoMemory` where memory is refused: `out` stays as it was.
 pub fn write_retire(alloc: Global, out: &mut Vec<u8>, name: &[u8]) -> Result<(), NoMemory>
-    ensures line { OnOk result (out.new.items ≡ out.old.items ++ retire_line name.now) }
+    ensures line { OnOk result (out.new.items ≡ out.old.items ++ line_text (ReportLine.Retired name.now)) }
     ensures memory { OnErr result (out.new.items ≡ out.old.items) }
 {
     let mut text = Vec::new(alloc);
@@ -221,13 +221,13 @@ pub fn write_retire(alloc: Global, out: &mut Vec<u8>, name: &[u8]) -> Result<(),
     out.extend_from_slice(&text).map_err(|_| NoMemory)
 }
 
-/// Appends the report's line of the `k`-th call of the file, from 1. Source: `specs/Lines.antt`, `call_line`.
+/// Appends the report's line of the `k`-th call of the file, from 1. Source: `specs/Lines.antt`, `line_text`.
 ///
 /// # Errors
 ///
 /// `NoMemory` where memory is refused: `out` stays as it was.
 pub fn write_call(alloc: Global, out: &mut Vec<u8>, k: u32, line: &CallLine) -> Result<(), NoMemory>
-    ensures line { OnOk result (out.new.items ≡ out.old.items ++ call_line k line.now) }
+    ensures line { OnOk result (out.new.items ≡ out.old.items ++ line_text (ReportLine.Call k line.now)) }
     ensures memory { OnErr result (out.new.items ≡ out.old.items) }
 {
     let mut text = Vec::new(alloc);

@@ -8,7 +8,7 @@ use Rattle.request_text.specs.declared.request.Reason.{Reason}
 use Rattle.request_text.specs.declared.request.Reason.TheVariants as why
 use Rattle.request_text.specs.Ladder.{demand}
 use Rattle.request_words.specs.Words.{is_comment, is_printable, line_words, text_lines}
-use Rattle.request_text.specs.Text.{Asked, FileRefusal, ReadLines, asked_by, at_line, most_bytes, nothing_read, requests_after, requests_from, requests_of, words_after}
+use Rattle.request_text.specs.Text.{Asked, FileRefusal, ReadLines, asked_by, at_line, nothing_read, requests_after, requests_from, requests_of, words_after}
 use Rattle.request_text.proofs.TenantLemmas.{any-IfOk, step-IfOk}
 
 -- the words of each line keep this of what was read before
@@ -37,5 +37,5 @@ pub file_has : (n : Numbers) (P : ReadLines → Type 0) (Q : Asked → Type 0) �
     → (text : List ℕ) → IfOk (requests_of n text) Q
 unfolding requests_of
 file_has n P Q keep none asks text =
-    cond_both (nat_lt most_bytes (length text)) _ _ (λ (asked : Result Asked FileRefusal). IfOk asked Q) (λ _. tt) (λ _.
+    cond_both (nat_lt 67108864 (length text)) _ _ (λ (asked : Result Asked FileRefusal). IfOk asked Q) (λ _. tt) (λ _.
     step-IfOk (requests_from n 1 nothing_read (text_lines text)) _ P _ (lines_keep n P keep 1 nothing_read (text_lines text) none) asks)

@@ -1,6 +1,6 @@
 -- The tenants of a file that is read may have what they want.
 use Rattle.std.proofs.Common.{◌≡◌, ◌∙◌, ◌+◌, ◌≤◌, ◌&&◌, ◌++◌, ℕ, List, [], ◌∷◌, length, subst, sym, codes, arith, length-append}
-use Rattle.std.specs.Prelude.{Result, Ok, Err, None, IfOk}
+use Rattle.std.specs.Prelude.{Result, Ok, Err, None, IfOk, is_none}
 use Rattle.std.specs.Str.{bytes_eq}
 use Rattle.std.specs.List.{All}
 use Rattle.std.proofs.lemmas.Bool.{cond_both}
@@ -13,9 +13,10 @@ use Rattle.request_text.specs.declared.request.Directive.{Directive}
 use Rattle.request_text.specs.declared.request.Reason.{Reason}
 use Rattle.request_text.specs.declared.request.Reason.TheVariants as why
 use Rattle.request_text.specs.Ladder.{◌>>=◌, demand}
+use Rattle.request_words.specs.Words.{is_empty}
 use Rattle.request_text.specs.Profiles.{has_tenants, profile_of}
 use Rattle.request_text.specs.Tenants.{Tenants, for_after, tenant_after}
-use Rattle.request_text.specs.Text.{Asked, ReadLines, declared_by, directive_of, is_first, profile_after, profile_in, requests_of, with_directive, with_tenants, words_after}
+use Rattle.request_text.specs.Text.{Asked, ReadLines, declared_by, directive_of, profile_after, profile_in, requests_of, with_directive, with_tenants, words_after}
 use Rattle.request_text.proofs.FileLemmas.{file_has}
 use Rattle.request_text.proofs.TenantLemmas.{AddsTenant, any-IfOk, fault_is_over, for-keeps, step-IfOk, tenant-adds}
 
@@ -46,7 +47,8 @@ with_any n before (Err reason) plan = tt
 plan_after_profile : (n : Numbers) (before : ReadLines) (words : List (List ℕ)) → HasPlan n before → IfOk (profile_after before words) (HasPlan n)
 unfolding profile_after
 plan_after_profile n before words plan =
-    step-IfOk (demand (is_first before) why.LateProfile) _ (λ _. Unit {0}) _ (any-IfOk (demand (is_first before) why.LateProfile)) (λ _ _.
+    let early = demand (is_none before.profile && is_empty before.directives) why.LateProfile in
+    step-IfOk early _ (λ _. Unit {0}) _ (any-IfOk early) (λ _ _.
     step-IfOk (profile_of words) _ (λ _. Unit {0}) _ (any-IfOk (profile_of words)) (λ profile _. plan))
 
 plan_after_words : (n : Numbers) (before : ReadLines) (words : List (List ℕ)) → HasPlan n before → IfOk (words_after n before words) (HasPlan n)

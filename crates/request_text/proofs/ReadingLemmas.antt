@@ -15,7 +15,7 @@ use Rattle.request_text.specs.declared.request.Directive.{Directive}
 use Rattle.request_text.specs.declared.request.Directive.TheVariants.{Module, Call, Retire}
 use Rattle.request_text.specs.declared.request.Reason.{Reason}
 use Rattle.request_text.specs.Tenants.{Tenants, for_after, tenant_after}
-use Rattle.request_text.specs.Text.{AreFlagged, AreRequests, Declared, HaveDeclared, IsNamed, IsOfTenant, IsPlacedFrom, ReadLines, call_count, declared_after, declared_by, is_call, is_retired, module_name, module_names, most_calls, most_modules, retired_place, retired_places, with_directive}
+use Rattle.request_text.specs.Text.{AreFlagged, AreRequests, Declared, HaveDeclared, IsNamed, IsOfTenant, IsPlacedFrom, ReadLines, call_count, declared_after, declared_by, is_call, is_retired, module_name, module_names, retired_place, retired_places, with_directive}
 use Rattle.request_text.specs.Reading.{HasRoom, declared_with}
 use Rattle.request_text.proofs.PlaceLemmas.{name_at, place_within, slice_get-append}
 use Rattle.request_text.proofs.TenantLemmas.{AddsTenant, for-keeps, tenant-adds}
@@ -54,12 +54,12 @@ tenants_after-same before (Module name bytes) = refl
 tenants_after-same before (Call tenant place retired invocation) = refl
 tenants_after-same before (Retire place name) = refl
 
-few_names_after : (before : Declared) (directive : Directive) → HasRoom before directive → length before.names ≤ most_modules → length (declared_after before directive).names ≤ most_modules
+few_names_after : (before : Declared) (directive : Directive) → HasRoom before directive → length before.names ≤ 1048576 → length (declared_after before directive).names ≤ 1048576
 few_names_after before (Module name bytes) room few = omega (arith, room.0, length-append before.names (name ∷ []))
 few_names_after before (Call tenant place retired invocation) room few = few
 few_names_after before (Retire place name) room few = few
 
-few_calls_after : (before : Declared) (directive : Directive) → HasRoom before directive → before.calls ≤ most_calls → (declared_after before directive).calls ≤ most_calls
+few_calls_after : (before : Declared) (directive : Directive) → HasRoom before directive → before.calls ≤ 1000000 → (declared_after before directive).calls ≤ 1000000
 few_calls_after before (Module name bytes) room few = few
 few_calls_after before (Call tenant place retired invocation) room few = omega (arith, room.few)
 few_calls_after before (Retire place name) room few = few
@@ -183,8 +183,8 @@ requests_with before directive room are =
       retired_once = retired_once_after before directive room are.retired_once;
       flagged = flagged_after before directive room are.flagged;
       by_tenants = All-push (IsOfTenant (length before.tenants.wants)) before.directives directive are.by_tenants (by_tenant (declared_by before) directive room);
-      few_modules = subst (λ (d : Declared). length d.names ≤ most_modules) more (few_names_after (declared_by before) directive room are.few_modules);
-      few_calls = subst (λ (d : Declared). d.calls ≤ most_calls) more (few_calls_after (declared_by before) directive room are.few_calls);
+      few_modules = subst (λ (d : Declared). length d.names ≤ 1048576) more (few_names_after (declared_by before) directive room are.few_modules);
+      few_calls = subst (λ (d : Declared). d.calls ≤ 1000000) more (few_calls_after (declared_by before) directive room are.few_calls);
       few_tenants = are.few_tenants;
     }
 

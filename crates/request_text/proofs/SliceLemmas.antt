@@ -15,25 +15,17 @@ use Rattle.request_text.specs.declared.request.Reason.{Reason}
 use Rattle.request_text.specs.declared.request.Reason.TheVariants as why
 use Rattle.request_text.specs.Ladder.{◌>>=◌, demand}
 use Rattle.request_words.specs.Words.{arguments_of, fuel_of, hex_bytes, is_empty, place_of}
-use Rattle.request_text.specs.Profiles.{has_tenants, profile_of, retires, runs_whole, sends}
+use Rattle.request_text.specs.Profiles.{has_tenants, profile_of, retires, sends}
 use Rattle.request_text.specs.Tenants.{Tenants, for_after, tenant_after}
-use Rattle.request_text.specs.Text.{Asked, Declared, MayRunInSlices, ReadLines, call_directive_of, call_of, declared_by, directive_of, is_first, module_directive_of, most_calls, most_modules, profile_after, nothing_read, profile_in, request_of, requests_from, requests_of, retire_directive_of, retired_place, retired_places, send_directive_of, with_directive, with_tenants, words_after}
+use Rattle.request_text.specs.Text.{Asked, Declared, MayRunInSlices, ReadLines, call_directive_of, call_of, declared_by, directive_of, module_directive_of, profile_after, nothing_read, profile_in, request_of, requests_from, requests_of, retire_directive_of, retired_place, retired_places, send_directive_of, with_directive, with_tenants, words_after}
 use Rattle.request_text.proofs.FileLemmas.{file_has, lines_keep}
 use Rattle.request_text.proofs.ReadingLemmas.{retired_places-more}
 use Rattle.request_text.proofs.TenantLemmas.{any-IfOk, demand-IfOk, step-IfOk}
 
 -- ---- profiles
 
--- a file with tenants has its calls made whole
-whole_with_tenants : (profile : FileProfile) → has_tenants profile ≡ true → runs_whole profile ≡ true
-whole_with_tenants One has = absurd (cc)
-whole_with_tenants Two has = absurd (cc)
-whole_with_tenants Three has = absurd (cc)
-whole_with_tenants Four has = refl
-whole_with_tenants Five has = refl
-
--- and so has one that retires modules
-whole_with_retirements : (profile : FileProfile) → retires profile ≡ true → runs_whole profile ≡ true
+-- a file that retires modules has its calls made whole
+whole_with_retirements : (profile : FileProfile) → retires profile ≡ true → has_tenants profile ≡ true
 whole_with_retirements One has = absurd (cc)
 whole_with_retirements Two has = absurd (cc)
 whole_with_retirements Three has = absurd (cc)
@@ -41,7 +33,7 @@ whole_with_retirements Four has = absurd (cc)
 whole_with_retirements Five has = refl
 
 -- a file that names no profile yet
-unnamed_in_slices : (profile : Option FileProfile) → is_none profile ≡ true → runs_whole (unwrap_or profile One) ≡ false
+unnamed_in_slices : (profile : Option FileProfile) → is_none profile ≡ true → has_tenants (unwrap_or profile One) ≡ false
 unnamed_in_slices None none = refl
 unnamed_in_slices (Some profile) none = absurd (cc)
 
@@ -61,14 +53,14 @@ module_retires_nothing before (name ∷ digits ∷ []) =
     past-IfOk (demand (nat_le (length name) 64) why.BadName) _ RetiresNothing (λ _.
     past-IfOk (ok_or (hex_bytes digits) why.BadHex) _ RetiresNothing (λ bytes.
     past-IfOk (demand (is_none (place_of before.names name)) why.NameUsedTwice) _ RetiresNothing (λ _.
-    past-IfOk (demand (nat_lt (length before.names) most_modules) why.TooManyModules) _ RetiresNothing (λ _. refl))))
+    past-IfOk (demand (nat_lt (length before.names) 1048576) why.TooManyModules) _ RetiresNothing (λ _. refl))))
 module_retires_nothing before words = tt
 
 call_of_retires_nothing : (before : Declared) (place : ℕ) (export : List ℕ) (fuel : ℕ) (request : Option (List ℕ)) (words : List (List ℕ)) → IfOk (call_of before place export fuel request words) RetiresNothing
 unfolding call_of
 call_of_retires_nothing before place export fuel request words =
     past-IfOk (ok_or (arguments_of words) why.BadArgument) _ RetiresNothing (λ args.
-    past-IfOk (demand (nat_lt before.calls most_calls) why.TooManyCalls) _ RetiresNothing (λ _. refl))
+    past-IfOk (demand (nat_lt before.calls 1000000) why.TooManyCalls) _ RetiresNothing (λ _. refl))
 
 call_retires_nothing : (before : Declared) (words : List (List ℕ)) → IfOk (call_directive_of before words) RetiresNothing
 unfolding call_directive_of
@@ -89,14 +81,14 @@ send_retires_nothing before words = tt
 
 -- unless calls are made whole in this profile
 abbrev RetiresNothingInSlices : FileProfile → Directive → Type 0
-RetiresNothingInSlices profile directive = runs_whole profile ≡ false → RetiresNothing directive
+RetiresNothingInSlices profile directive = has_tenants profile ≡ false → RetiresNothing directive
 
 in_slices : (profile : FileProfile) (directive : Result Directive Reason) → IfOk directive RetiresNothing → IfOk directive (RetiresNothingInSlices profile)
 in_slices profile directive none = IfOk-weaker directive RetiresNothing (RetiresNothingInSlices profile) (λ d nothing _. nothing) none
 
-not_in_slices : (profile : FileProfile) (directive : Result Directive Reason) → runs_whole profile ≡ true → IfOk directive (RetiresNothingInSlices profile)
+not_in_slices : (profile : FileProfile) (directive : Result Directive Reason) → has_tenants profile ≡ true → IfOk directive (RetiresNothingInSlices profile)
 not_in_slices profile directive whole =
-    IfOk-weaker directive (λ _. Unit {0}) (RetiresNothingInSlices profile) (λ d _ sliced. absurd (both_ways (runs_whole profile) sliced whole)) (any-IfOk directive)
+    IfOk-weaker directive (λ _. Unit {0}) (RetiresNothingInSlices profile) (λ d _ sliced. absurd (both_ways (has_tenants profile) sliced whole)) (any-IfOk directive)
 
 directive_retires_nothing : (profile : FileProfile) (before : Declared) (word : List ℕ) (words : List (List ℕ)) → IfOk (directive_of profile before word words) (RetiresNothingInSlices profile)
 unfolding directive_of
@@ -112,7 +104,7 @@ directive_retires_nothing profile before word words =
 
 -- unless calls are made whole in the profile of these lines, they may be made in slices
 abbrev pub AreInSlices : ReadLines → Type 0
-AreInSlices read = runs_whole (profile_in read) ≡ false → MayRunInSlices read.tenants.wants read.directives
+AreInSlices read = has_tenants (profile_in read) ≡ false → MayRunInSlices read.tenants.wants read.directives
 
 none_retired_after : (directives : List Directive) (directive : Directive) → retired_places directives ≡ [] → RetiresNothing directive → retired_places (directives ++ directive ∷ []) ≡ []
 none_retired_after directives (Module name bytes) none nothing = retired_places-more directives (Module name bytes) ∙ append-nil (retired_places directives) ∙ none
@@ -127,15 +119,16 @@ with_directive_in_slices before (Ok directive) stood none = λ sliced. let may =
 with_directive_in_slices before (Err reason) stood none = tt
 
 with_tenants_in_slices : (before : ReadLines) (tenants : Result Tenants Reason) → has_tenants (profile_in before) ≡ true → IfOk (with_tenants before tenants) AreInSlices
-with_tenants_in_slices before (Ok tenants) has = λ sliced. absurd (both_ways (runs_whole (profile_in before)) sliced (whole_with_tenants (profile_in before) has))
+with_tenants_in_slices before (Ok tenants) has = λ sliced. absurd (both_ways (has_tenants (profile_in before)) sliced has)
 with_tenants_in_slices before (Err reason) has = tt
 
 profile_in_slices : (before : ReadLines) (words : List (List ℕ)) → AreInSlices before → IfOk (profile_after before words) AreInSlices
 unfolding profile_after
 profile_in_slices before words stood =
-    step-IfOk (demand (is_first before) why.LateProfile) _ (λ _. is_first before ≡ true) _ (demand-IfOk (is_first before) why.LateProfile) (λ _ first.
+    let first = is_none before.profile && is_empty before.directives in
+    step-IfOk (demand first why.LateProfile) _ (λ _. first ≡ true) _ (demand-IfOk first why.LateProfile) (λ _ both.
     past-IfOk (profile_of words) _ AreInSlices (λ profile _.
-    stood (unnamed_in_slices before.profile (and_parts (is_none before.profile) (is_empty before.directives) first).0)))
+    stood (unnamed_in_slices before.profile (and_parts (is_none before.profile) (is_empty before.directives) both).0)))
 
 words_in_slices : (n : Numbers) (before : ReadLines) (words : List (List ℕ)) → AreInSlices before → IfOk (words_after n before words) AreInSlices
 unfolding words_after

@@ -1,5 +1,5 @@
 -- The ladder of reasons: what a line asks for, or the first reason that applies.
-use Rattle.std.specs.Prelude.{Bool, true, false, Result, Ok, Err}
+use Rattle.std.specs.Prelude.{Bool, Result, Ok, Err, if◌then◌else◌}
 use Rattle.request_text.specs.declared.request.Reason.{Reason}
 
 -- the next step where the one before gave a value, else its error
@@ -10,5 +10,4 @@ Err e >>= next = Err e
 
 -- a line is refused for this reason, unless the test holds
 abbrev pub demand : Bool → Reason → Result (Unit {0}) Reason
-demand true reason = Ok tt
-demand false reason = Err reason
+demand test reason = if test then Ok tt else Err reason

@@ -8,37 +8,30 @@ use Rattle.request_text.specs.declared.file_profile.FileProfile.TheVariants.{One
 use Rattle.request_text.specs.declared.request.Reason.{Reason}
 use Rattle.request_text.specs.declared.request.Reason.TheVariants.{BadProfile}
 
--- the profile of this number
-abbrev pub profile_named : List ℕ → Result FileProfile Reason
-profile_named word =
+-- the profile that the words after `profile` name, by its number
+unfoldable pub profile_of : List (List ℕ) → Result FileProfile Reason
+profile_of (word ∷ []) =
     if bytes_eq word (codes "1") then Ok One
     else if bytes_eq word (codes "2") then Ok Two
     else if bytes_eq word (codes "3") then Ok Three
     else if bytes_eq word (codes "4") then Ok Four
     else if bytes_eq word (codes "5") then Ok Five
     else Err BadProfile
-
--- the profile that the words after `profile` name
-unfoldable pub profile_of : List (List ℕ) → Result FileProfile Reason
-profile_of (word ∷ []) = profile_named word
 profile_of words = Err BadProfile
 
--- the profile in which the modules of a file are read
+-- the profile in which the modules of a file are read, which is 3 from profile 3 on
 abbrev pub modules_profile : FileProfile → Profile
 modules_profile One = modules.One
 modules_profile Two = modules.Two
-modules_profile Three = modules.Three
-modules_profile Four = modules.Three
-modules_profile Five = modules.Three
+modules_profile profile = modules.Three
 
 -- lines send from profile 3 on
 abbrev pub sends : FileProfile → Bool
-sends Three = true
-sends Four = true
-sends Five = true
-sends profile = false
+sends One = false
+sends Two = false
+sends profile = true
 
--- lines name tenants from profile 4 on
+-- lines name tenants from profile 4 on, and each call is made whole
 abbrev pub has_tenants : FileProfile → Bool
 has_tenants Four = true
 has_tenants Five = true
@@ -48,9 +41,3 @@ has_tenants profile = false
 abbrev pub retires : FileProfile → Bool
 retires Five = true
 retires profile = false
-
--- each call is made whole from profile 4 on
-abbrev pub runs_whole : FileProfile → Bool
-runs_whole Four = true
-runs_whole Five = true
-runs_whole profile = false

@@ -12,7 +12,7 @@ use Rattle.request_text.specs.declared.fault.LineFault.TheVariants as judged
 use Rattle.pool_limits.specs.Plans.{HasSlots}
 use Rattle.request_words.specs.Words.{place_of}
 use Rattle.request_text.specs.Tenants.{Tenants}
-use Rattle.request_text.specs.Text.{BadLine, Declared, FileRefusal, is_retired, most_calls, most_modules}
+use Rattle.request_text.specs.Text.{BadLine, Declared, FileRefusal, is_retired}
 use Rattle.std.specs.BTreeMap.{BTreeMap, get_by}
 use Rattle.std.specs.BTreeSet.{BTreeSet, contains}
 use Rattle.std.specs.Cmp.Lexicographic.{slice_cmp}
@@ -68,7 +68,7 @@ AreRetired places retired = (place : ℕ) → contains nat_cmp places place ≡ 
 
 -- one more call keeps within their number, is of one of the modules, flagged where it is retired, and by one of the tenants
 pub record TakesCall (before : Declared) (tenant place : ℕ) (retired : Bool) : Type 0 where
-  pub few : before.calls < most_calls
+  pub few : before.calls < 1000000
   pub placed : place < length before.names
   pub own : IsOwnPlace before.names place
   pub flagged : retired ≡ is_retired before.retired place
@@ -81,7 +81,7 @@ pub record TakesRetirement (before : Declared) (place : ℕ) (name : List ℕ) :
 
 -- one more directive keeps within the numbers of modules and calls; a module's name is new, and a module is retired once
 abbrev pub HasRoom : Declared → Directive → Type 0
-HasRoom before (Module name bytes) = (length before.names < most_modules) × (place_of before.names name ≡ None)
+HasRoom before (Module name bytes) = (length before.names < 1048576) × (place_of before.names name ≡ None)
 HasRoom before (Call tenant place retired invocation) = TakesCall before tenant place retired
 HasRoom before (Retire place name) = TakesRetirement before place name
 

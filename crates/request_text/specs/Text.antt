@@ -16,20 +16,10 @@ use Rattle.request_text.specs.declared.request.ParseFault.{ParseFault}
 use Rattle.request_text.specs.declared.request.ParseFault.TheVariants.{TextFault, TooLong, NoMemory}
 use Rattle.request_text.specs.Ladder.{◌>>=◌, demand}
 use Rattle.request_words.specs.Words.{arguments_of, fuel_of, hex_bytes, is_comment, is_empty, is_printable, line_words, place_of, text_lines}
-use Rattle.request_text.specs.Profiles.{has_tenants, modules_profile, profile_of, retires, runs_whole, sends}
+use Rattle.request_text.specs.Profiles.{has_tenants, modules_profile, profile_of, retires, sends}
 use Rattle.request_text.specs.Tenants.{Tenants, for_after, no_tenants, tenant_after}
 
 -- ---- directives: the lines that are answered by a line of the report
-
--- the most that a file has: bytes, module lines and call lines
-abbrev pub most_bytes : ℕ
-most_bytes = 67108864
-
-abbrev pub most_modules : ℕ
-most_modules = 1048576
-
-abbrev pub most_calls : ℕ
-most_calls = 1000000
 
 -- what the lines before have declared: the names of their modules, the places of those that are retired, in the order of the retire
 -- lines, how many calls, and the tenants
@@ -49,7 +39,7 @@ module_directive_of before (name ∷ digits ∷ []) = do
   _ ← demand (nat_le (length name) 64) BadName
   bytes ← ok_or (hex_bytes digits) BadHex
   _ ← demand (is_none (place_of before.names name)) NameUsedTwice
-  _ ← demand (nat_lt (length before.names) most_modules) TooManyModules
+  _ ← demand (nat_lt (length before.names) 1048576) TooManyModules
   Ok (Module name bytes)
 module_directive_of before words = Err BadWords
 
@@ -64,7 +54,7 @@ request_of word = if bytes_eq word (codes "-") then Ok [] else do
 unfoldable pub call_of : Declared → (place : ℕ) (export : List ℕ) (fuel : ℕ) (request : Option (List ℕ)) → List (List ℕ) → Result Directive Reason
 call_of before place export fuel request words = do
   args ← ok_or (arguments_of words) BadArgument
-  _ ← demand (nat_lt before.calls most_calls) TooManyCalls
+  _ ← demand (nat_lt before.calls 1000000) TooManyCalls
   Ok (Call before.tenants.current place (is_retired before.retired place) (record { export = export; fuel = fuel; request = request; args = args }))
 
 -- what the words after `call` ask for
@@ -106,8 +96,7 @@ directive_of profile before word words =
 -- the name of a module line
 abbrev pub module_name : Directive → Option (List ℕ)
 module_name (Module name bytes) = Some name
-module_name (Call tenant place retired invocation) = None
-module_name (Retire place name) = None
+module_name directive = None
 
 abbrev pub module_names : List Directive → List (List ℕ)
 module_names directives = filter_map module_name directives
@@ -115,26 +104,23 @@ module_names directives = filter_map module_name directives
 -- the bytes of a module line
 abbrev pub module_bytes : Directive → Option (List ℕ)
 module_bytes (Module name bytes) = Some bytes
-module_bytes (Call tenant place retired invocation) = None
-module_bytes (Retire place name) = None
+module_bytes directive = None
 
 -- the modules of a request file, in the order of their lines
 abbrev pub modules_of : List Directive → List (List ℕ)
 modules_of directives = filter_map module_bytes directives
 
 abbrev pub is_call : Directive → Bool
-is_call (Module name bytes) = false
 is_call (Call tenant place retired invocation) = true
-is_call (Retire place name) = false
+is_call directive = false
 
 abbrev pub call_count : List Directive → ℕ
 call_count directives = count_by is_call directives
 
 -- the place of the module of a retire line
 abbrev pub retired_place : Directive → Option ℕ
-retired_place (Module name bytes) = None
-retired_place (Call tenant place retired invocation) = None
 retired_place (Retire place name) = Some place
+retired_place directive = None
 
 -- the places of the modules that are retired, in the order of the retire lines
 abbrev pub retired_places : List Directive → List ℕ
@@ -173,8 +159,8 @@ pub record AreRequests (wants : List Want) (directives : List Directive) : Type 
   pub retired_once : IsDistinct (λ place other. place == other) (retired_places directives)
   pub flagged : AreFlagged [] directives
   pub by_tenants : All (IsOfTenant (length wants)) directives
-  pub few_modules : length (module_names directives) ≤ most_modules
-  pub few_calls : call_count directives ≤ most_calls
+  pub few_modules : length (module_names directives) ≤ 1048576
+  pub few_calls : call_count directives ≤ 1000000
   pub few_tenants : length wants ≤ 15
 
 -- where the calls of a file may be made in slices no tenant wants a share, and no module is retired
@@ -185,7 +171,7 @@ pub record MayRunInSlices (wants : List Want) (directives : List Directive) : Ty
 -- what holds of each file that is read in this profile: its calls are made whole, or they may be made in slices
 pub record IsFile (profile : FileProfile) (wants : List Want) (directives : List Directive) : Type 0 where
   pub lawful : AreRequests wants directives
-  pub slices : runs_whole profile ≡ false → MayRunInSlices wants directives
+  pub slices : has_tenants profile ≡ false → MayRunInSlices wants directives
 
 -- ---- the lines in turn
 
@@ -200,13 +186,12 @@ nothing_read = record { profile = None; tenants = no_tenants; directives = [] }
 
 -- what they declare
 abbrev pub declared_by : ReadLines → Declared
-declared_by before =
-    record {
-      names = module_names before.directives;
-      retired = retired_places before.directives;
-      calls = call_count before.directives;
-      tenants = before.tenants;
-    }
+declared_by before = record {
+  names = module_names before.directives;
+  retired = retired_places before.directives;
+  calls = call_count before.directives;
+  tenants = before.tenants;
+}
 
 -- they declare this, and what holds of each file that is read holds of them
 abbrev pub HaveDeclared : ReadLines → Declared → Type 0
@@ -223,21 +208,16 @@ with_directive before directive = record before { directives = before.directives
 
 -- what is asked for with these tenants, or the reason for which there are none
 abbrev pub with_tenants : ReadLines → Result Tenants Reason → Result ReadLines Reason
-with_tenants before (Ok tenants) = Ok (record before { tenants = tenants })
-with_tenants before (Err reason) = Err reason
+with_tenants before asked = (asked >>= λ tenants. Ok (record before { tenants = tenants }))
 
 -- the profile of the lines that follow: where none names one it is 1
 abbrev pub profile_in : ReadLines → FileProfile
 profile_in before = unwrap_or before.profile One
 
--- each line before asks for nothing
-abbrev pub is_first : ReadLines → Bool
-is_first before = is_none before.profile && is_empty before.directives
-
--- what is asked for once the words after `profile` are read
+-- what is asked for once the words after `profile` are read, which come too late where a line before asks for something
 unfoldable pub profile_after : ReadLines → List (List ℕ) → Result ReadLines Reason
 profile_after before words = do
-  _ ← demand (is_first before) LateProfile
+  _ ← demand (is_none before.profile && is_empty before.directives) LateProfile
   profile ← profile_of words
   Ok (record before { profile = Some profile })
 
@@ -291,16 +271,15 @@ pub record Asked : Type 0 where
 
 -- what lines ask for that are all of a file
 abbrev pub asked_by : ReadLines → Asked
-asked_by read =
-    record {
-      profile = modules_profile (profile_in read);
-      whole = runs_whole (profile_in read);
-      wants = read.tenants.wants;
-      directives = read.directives;
-    }
+asked_by read = record {
+  profile = modules_profile (profile_in read);
+  whole = has_tenants (profile_in read);
+  wants = read.tenants.wants;
+  directives = read.directives;
+}
 
 -- what a request file of these bytes asks for where the pools have these numbers, or why it is refused
 unfoldable pub requests_of : Numbers → List ℕ → Result Asked FileRefusal
 requests_of numbers text =
-    if nat_lt most_bytes (length text) then Err FileTooLong
+    if nat_lt 67108864 (length text) then Err FileTooLong
     else (requests_from numbers 1 nothing_read (text_lines text) >>= λ read. Ok (asked_by read))

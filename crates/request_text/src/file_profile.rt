@@ -1,7 +1,7 @@
 //! The profile of a request file.
-ghost use Rattle.std.specs.Prelude.{◌≡◌};
+ghost use Rattle.std.specs.Prelude.{◌≡◌, [], ◌∷◌};
 ghost use Rattle.request_words.specs.Words.{line_words};
-ghost use Rattle.request_text.specs.Profiles.{has_tenants, modules_profile, profile_named, profile_of, retires, runs_whole, sends};
+ghost use Rattle.request_text.specs.Profiles.{has_tenants, modules_profile, profile_of, retires, sends};
 
 use crate::request::Reason;
 use request_words::next_word;
@@ -19,8 +19,9 @@ pub(crate) enum FileProfile {
 
 impl FileProfile {
     // The profile of this number.
+    #[tactic(auto, unfolding(crate::specs::Profiles::profile_of))]
     fn named(word: &[u8]) -> Result<FileProfile, Reason>
-        ensures { result ≡ profile_named word.now }
+        ensures { result ≡ profile_of (word.now ∷ []) }
     {
         if word == b"1".as_slice() {
             Ok(FileProfile::One)
@@ -92,7 +93,7 @@ impl FileProfile {
 
     // Whether each call is made whole.
     pub(crate) fn runs_whole(self) -> bool
-        ensures { result ≡ runs_whole self }
+        ensures { result ≡ has_tenants self }
     {
         match self {
             FileProfile::One | FileProfile::Two | FileProfile::Three => false,

@@ -1,7 +1,7 @@
 //! What was read so far.
 ghost use Rattle.std.specs.Prelude.{◌≡◌, IfErr, OnOk, false};
 ghost use Rattle.request_words.specs.Words.{line_words};
-ghost use Rattle.request_text.specs.Profiles.{runs_whole};
+ghost use Rattle.request_text.specs.Profiles.{has_tenants};
 ghost use Rattle.request_text.specs.Tenants.{for_after, tenant_after};
 ghost use Rattle.request_text.specs.Text.{MayRunInSlices, asked_by, declared_by, nothing_read, profile_after, profile_in, requests_after, with_directive, with_tenants, words_after};
 ghost use Rattle.request_text.specs.Reading.{Agrees, HasRoom, Leaves};
@@ -184,7 +184,7 @@ impl Reading {
 
     // What a file of the lines that were read asks for. Takes no memory.
     pub(crate) fn requests(self) -> Requests
-        requires { runs_whole (profile_in self) ≡ false → MayRunInSlices self.tenants.wants self.directives }
+        requires { has_tenants (profile_in self) ≡ false → MayRunInSlices self.tenants.wants self.directives }
         ensures { result ≡ asked_by self }
     {
         let profile = self.profile();

@@ -1,7 +1,7 @@
 //! What a request file asks for, and why one is refused.
 ghost use Rattle.std.specs.Prelude.{◌≡◌, ◌≤◌, Some, false, length};
 ghost use Rattle.request_text.specs.Refusal.{reason_text};
-ghost use Rattle.request_text.specs.Profiles.{modules_profile, runs_whole};
+ghost use Rattle.request_text.specs.Profiles.{has_tenants, modules_profile};
 ghost use Rattle.request_text.specs.Text.{AreRequests, MayRunInSlices};
 
 use crate::file_profile::FileProfile;
@@ -59,12 +59,12 @@ pub struct Requests {
 }
 
 impl Model for Requests {
-    ghost use Rattle.request_text.specs.Profiles.{modules_profile, runs_whole};
+    ghost use Rattle.request_text.specs.Profiles.{has_tenants, modules_profile};
     ghost use Rattle.request_text.specs.Text.{Asked, IsFile};
 
     ghost Value = { Asked };
 
-    ghost view = { λ r. record { profile = modules_profile r.profile; whole = runs_whole r.profile; wants = r.wants.items; directives = r.directives.items } };
+    ghost view = { λ r. record { profile = modules_profile r.profile; whole = has_tenants r.profile; wants = r.wants.items; directives = r.directives.items } };
 
     ghost invariant = { λ r. IsFile r.profile r.wants.items r.directives.items };
 }
@@ -73,9 +73,9 @@ impl Requests {
     // The requests of these directives, in this profile, of tenants that want this. Takes no memory.
     pub(crate) fn new(profile: FileProfile, wants: Vec<Want>, directives: Vec<Directive>) -> Self
         requires lawful { AreRequests wants.items directives.items }
-        requires slices { runs_whole profile ≡ false → MayRunInSlices wants.items directives.items }
+        requires slices { has_tenants profile ≡ false → MayRunInSlices wants.items directives.items }
         ensures profile { result.profile ≡ modules_profile profile }
-        ensures whole { result.whole ≡ runs_whole profile }
+        ensures whole { result.whole ≡ has_tenants profile }
         ensures wants { result.wants ≡ wants.items }
         ensures directives { result.directives ≡ directives.items }
     {

@@ -1,7 +1,6 @@
 //! Calls, from outside and of one function by another.
-ghost use Rattle.std.specs.Prelude.{◌≡◌, ◌≢◌, ℕ, List, Option, ◌+◌, ◌-◌, ◌<◌, ◌≤◌, ◌++◌, All, length, map, replicate, slice_get, vec_len, vec_capacity};
+ghost use Rattle.std.specs.Prelude.{◌≡◌, ℕ, List, Option, ◌+◌, ◌-◌, ◌<◌, ◌≤◌, ◌++◌, All, length, map, replicate, slice_get, vec_len, vec_capacity};
 ghost use Rattle.std.specs.List.{flat_map};
-ghost use Rattle.wasm_types.specs.declared.limits.RunLimits.{RunLimits as Limits};
 ghost use Rattle.wasm_values.specs.declared.outcome.Val.{Val as AVal};
 ghost use Rattle.linear_memory.specs.Bytes.{IsMemory};
 ghost use Rattle.machine_steps.specs.Lent.{store_of};
@@ -24,7 +23,7 @@ use crate::lookup::{has_type, host_of, local_runs, param_count, start_of};
 use call_payload::AnswerBuf;
 use linear_memory::Memory;
 use machine_steps::{Frame, Machine, Position, ValueStack};
-use wasm_types::{LocalRun, Module, RunLimits, ValType};
+use wasm_types::{LocalRun, Module, ValType};
 use wasm_values::{TrapKind, Val};
 
 // The value that a local begins with.

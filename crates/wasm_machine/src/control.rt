@@ -3,8 +3,7 @@ ghost use Rattle.std.specs.Prelude.{◌≡◌, ◌≢◌, ℕ, ◌<◌, IsFalse,
 ghost use Rattle.wasm_machine.specs.declared.interpreter.Step.TheVariants as step;
 ghost use Rattle.wasm_types.specs.declared.instr.Instr.TheVariants as instr;
 ghost use Rattle.wasm_types.specs.declared.instr.Op.TheVariants as op;
-ghost use Rattle.wasm_spec.specs.Execution.{Terms};
-ghost use Rattle.wasm_spec.specs.Execution.{Ended};
+ghost use Rattle.wasm_spec.specs.Execution.{Terms, Ended};
 ghost use Rattle.wasm_spec.specs.Store.{Store};
 ghost use Rattle.machine_steps.specs.StackLayout.{KeepsRoom};
 ghost use Rattle.wasm_machine.specs.Simulation.{AtEnd, ByReturn, HasFetched, CanExit, CanExecuteNext, paid, SimulatesExit, SimulatesStep, SimulatesUnlessOver, ToLabel, depth_of, step_unless_over};

@@ -111,10 +111,7 @@ pub(crate) fn start_of(m: &Module, x: usize) -> usize
 pub(crate) fn label_at(labels: &[u32], i: u32, last: u32) -> u32
     ensures { result ≡ unwrap_or (slice_get labels.now i) last }
 {
-    match labels.get(i as usize) {
-        Some(l) => *l,
-        None => last,
-    }
+    labels.get(i as usize).copied().unwrap_or(last)
 }
 
 // Whether a function has the type that is named.
@@ -134,10 +131,7 @@ pub(crate) fn has_type(m: &Module, function: u32, type_index: usize) -> bool
 pub(crate) fn host_of(m: &Module, x: usize) -> Option<HostFunction>
     ensures { result ≡ option_and_then named_function (slice_get m.now.imports x) }
 {
-    match m.imports.as_slice().get(x) {
-        Some(import) => host_function(import),
-        None => None,
-    }
+    host_function(m.imports.as_slice().get(x)?)
 }
 
 // The pages that a module's memory may have, where a run's may have so many.

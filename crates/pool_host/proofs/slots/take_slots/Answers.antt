@@ -38,7 +38,7 @@ returns-in_default-take_table-clause-trails g c =
       ticket = served (IsTakeOf Instance host.tickets m) (IsGiveOf Instance host.tickets m config.batch) (IsFullTakeOf Instance host.tickets m) _ _ _ _ _ c.in-Ok.ensures.trail
           (grew_from _ _ _ _ (c.give_ticket-in_default-take_table.ensures.gave m) (ap (λ p. trail p.ticket) first));
       memory = grew_to _ _ _ _ (visited (IsTakeOf Memory host.memories m) (IsGiveOf Memory host.memories m config.batch) (IsFullTakeOf Memory host.memories m) (memory_slot memory.memory) (needs Memory m.tree) _ _ _
-          (memory_slot_some memory.memory _ memory.ensures.fresh.had) memory.ensures.took (c.give_memory.ensures.gave m memory.ensures.belongs)) (ap (λ p. trail p.memory) then);
+          (memory_slot_some memory.memory _ memory.ensures.fresh.had) memory.ensures.took (rw c.of_call.ensures at (c.give_memory.ensures.gave m (rw c.of_call.ensures memory.ensures.belongs)))) (ap (λ p. trail p.memory) then);
       table = grew_to _ _ _ _ (turned_away (IsTakeOf Table host.tables m) (IsGiveOf Table host.tables m config.batch) (IsFullTakeOf Table host.tables m) (needs Table m.tree) _ _ full.needed_is full.full)
           (ap (λ p. trail p.table) then ∙ ap (λ p. trail p.table) first);
     }

@@ -1,11 +1,12 @@
 use Rattle.pool_host.proofs.SlotLemmas.{all_served, gave_those, still_have}
 use Rattle.pool_host.proofs.StartLemmas.{look_is, refused_cause, refused_left, refused_so, refused_trails}
+use Rattle.instance_calls.specs.Instances.{left_by}
 use Rattle.instance_calls.proofs.CallLemmas.{ends_with}
 use Rattle.pool_host.proofs.host.Host.answer.Goals as goal
 
 pub give-requires-clause-have : goal.give-requires-clause-have
 give-requires-clause-have g c =
-    (c.args.loaded.now.module.now, still_have g.N.Naming.config c.args.self.now c.args.loaded.now.module.now c.in-Ok.instance c.run-ended.result.1.instance c.run-ended.ensures.slots c.start.new.passes c.in-Ok.ensures.have)
+    (c.args.loaded.now.module.now, still_have g.N.Naming.config c.args.self.now c.args.loaded.now.module.now c.in-Ok.instance (left_by c.run-ended.result.1.instance) c.run-ended.ensures.slots c.start.new.passes c.in-Ok.ensures.have)
 
 pub returns-in-Ok-clause-trails : goal.returns-in-Ok-clause-trails
 returns-in-Ok-clause-trails g c =
@@ -13,7 +14,7 @@ returns-in-Ok-clause-trails g c =
     let host = c.args.self.now in
     let m = c.args.loaded.now.module.now in
     let x = c.in-Ok.instance in
-    let y = c.run-ended.result.1.instance in
+    let y = left_by c.run-ended.result.1.instance in
     let keeps = c.run-ended.ensures.slots in
     let have = still_have config host m x y keeps c.start.new.passes c.in-Ok.ensures.have in
     let gave = gave_those config host m x y keeps c.start.new.passes c.give.new.passes (c.give.ensures.gave m have) in

@@ -1,4 +1,5 @@
 use Rattle.std.proofs.Common.{refl}
+use Rattle.instance_calls.specs.Instances.{left_by}
 use Rattle.pool_host.proofs.PausedLemmas.{slots_had, still_of, those_given}
 use Rattle.pool_host.proofs.paused.Paused.resume.Goals as goal
 
@@ -6,20 +7,20 @@ pub give-requires-clause-have : goal.give-requires-clause-have
 give-requires-clause-have g c =
     let self = c.args.self in
     let over = c.in-Done.ensures.0 in
-    (self.running.named, slots_had c.args.host.now self.passes self.passes self.running c.in-Done.ended.instance over.slots c.requires.own.pools self.has_ticket self.has_memory self.has_table over.belongs)
+    (self.running.named, slots_had c.args.host.now self.passes self.passes self.running (left_by c.in-Done.ended.instance) over.slots c.requires.own.pools self.has_ticket self.has_memory self.has_table over.belongs)
 
 pub returns-in-Done : goal.returns-in-Done
 returns-in-Done g c =
     let self = c.args.self in
     let host = c.args.host.now in
     let over = c.in-Done.ensures.0 in
-    let had = slots_had host self.passes self.passes self.running c.in-Done.ended.instance over.slots c.requires.own.pools self.has_ticket self.has_memory self.has_table over.belongs in
+    let had = slots_had host self.passes self.passes self.running (left_by c.in-Done.ended.instance) over.slots c.requires.own.pools self.has_ticket self.has_memory self.has_table over.belongs in
     record {
       back = record {
         own = record { pools = still_of host self.passes c.give.new.passes c.requires.own.pools.own c.give.ensures.same; tags = c.requires.own.tags };
         same = c.give.ensures.same;
         tags_are = refl;
-        gave = those_given host self.passes c.give.new.passes self.running c.in-Done.ended.instance over.slots g.N.Naming.config (c.give.ensures.gave self.running.named had);
+        gave = those_given host self.passes c.give.new.passes self.running (left_by c.in-Done.ended.instance) over.slots g.N.Naming.config (c.give.ensures.gave self.running.named had);
       };
       over = over.over;
       ends = c.in-Done.ensures.1;
