@@ -7,8 +7,8 @@ use Rattle.pool_model.specs.Contents.{Named}
 use Rattle.pool_host.specs.declared.answers.Answer.{Answer}
 use Rattle.instance_calls.specs.CallWords.{run_limits}
 use Rattle.pool_host.specs.CallWords.{IsHostAnswer}
-use Rattle.request_text.specs.declared.invocation.Invocation.{Invocation}
-use Rattle.request_text.specs.Invocations.{sent_by, shown_of}
+use Rattle.request_calls.specs.declared.invocation.Invocation.{Invocation}
+use Rattle.request_calls.specs.Invocations.{sent_by, shown_of}
 use Rattle.call_jobs.specs.declared.calls.Due.{Due}
 use Rattle.call_jobs.specs.declared.entries.Worked.{Worked}
 

@@ -11,7 +11,7 @@ pub struct Worked {
     pub number: u32,
     /// How the host answered it, or none where it has no module.
     pub answer: Option<Answer>,
-    /// The bytes that it answered, if it was sent a request.
+    /// The bytes that it answered, if its line shows them.
     pub bytes: Option<Items<u8>>,
 }
 

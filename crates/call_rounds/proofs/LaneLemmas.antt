@@ -15,7 +15,7 @@ use Rattle.pool_host.specs.CallWords.{host_answer, is_retired}
 use Rattle.pool_host.specs.Looks.{IsDecidedBy, Looked, SetsBit, look_of, look_steps}
 use Rattle.pool_model.specs.Contents.{Named}
 use Rattle.module_store.specs.declared.desk.DeskCounts.{DeskCounts}
-use Rattle.request_text.specs.declared.invocation.Invocation.{Invocation}
+use Rattle.request_calls.specs.declared.invocation.Invocation.{Invocation}
 use Rattle.request_text.specs.declared.request.Directive.{Directive}
 use Rattle.request_text.specs.declared.request.Directive.TheVariants.{Call, Retire}
 use Rattle.pool_limits.specs.declared.wants.Want.{Want}

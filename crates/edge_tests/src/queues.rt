@@ -1,4 +1,4 @@
-//! The board of calls, the queue of jobs and the run queue, each with one item.
+//! The board of calls and the queue of jobs, each with one item, and the run queue with two.
 use job_queue::{Board, Jobs, RunQueue, Stray};
 use report_text::CallLine;
 use std::marker::Brand;
@@ -32,17 +32,22 @@ fn a_job_is_handed_out_once(rt: HostRuntime) -> Result<(), Fail> {
 }
 
 #[test]
-fn what_is_put_back_comes_again(rt: HostRuntime) -> Result<(), Fail> {
-    let (queue, mut first, mut others) = RunQueue::<u64, Brand>::open(rt.alloc(), 1, 1)?;
+fn what_is_put_back_comes_behind_what_waits(rt: HostRuntime) -> Result<(), Fail> {
+    let (queue, mut first, mut others) = RunQueue::<u64, Brand>::open(rt.alloc(), 2, 1)?;
     let mut second = others.pop().unwrap();
     queue.put(&rt, &mut first, 5);
+    queue.put(&rt, &mut first, 6);
     let Some(item) = queue.next(&rt, &mut second) else {
         panic!(rt; "none");
     };
     queue.put(&rt, &mut second, item);
     queue.join_pass(&mut first, second);
+    let next = queue.next(&rt, &mut first);
     let again = queue.next(&rt, &mut first);
     let left = queue.next(&rt, &mut first);
-    assert_eq!(rt; [again, left], [Some(5), None]);
+    assert_eq!(rt;
+        [Some(item), next, again, left],
+        [Some(5), Some(6), Some(5), None]
+    );
     Ok(())
 }

@@ -4,7 +4,7 @@ use Rattle.wasm_types.specs.declared.limits.LoadLimits.{LoadLimits}
 use Rattle.std.proofs.Common.{◌≡◌, ℕ, zero, suc, ◌+◌, Bool, true, false, List, [], ◌∷◌, Some, Ok, Err, take, sym, ap, ◌∙◌, subst, arith}
 use Rattle.std.specs.Prelude.{Result, if◌then◌else◌, slice_get}
 use Rattle.wasm_values.specs.declared.outcome.Val.{Val}
-use Rattle.request_text.specs.declared.invocation.Invocation.{Invocation}
+use Rattle.request_calls.specs.declared.invocation.Invocation.{Invocation}
 use Rattle.wasm_values.specs.declared.profile.Profile.{Profile}
 use Rattle.wasm_types.specs.Tree.{ModuleTree}
 use Rattle.wasm_spec.specs.Loading.{Loads, Refusal}
@@ -18,11 +18,11 @@ use Rattle.report_text.specs.declared.report.CallLine.{CallLine}
 use Rattle.report_text.specs.declared.report.ModuleLine.{ModuleLine}
 use Rattle.report_text.specs.declared.report.ReportLine.{ReportLine}
 use Rattle.report_text.specs.declared.report.ReportLine.TheVariants as report
-use Rattle.request_text.specs.Invocations.{sent_by, shown_of}
+use Rattle.request_calls.specs.Invocations.{sent_by, shown_of}
 use Rattle.request_text.specs.Text.{call_count, is_call}
 use Rattle.host_report.specs.Report.{AreLines, IsLine, IsModuleLine}
 use Rattle.run_books.specs.Collected.{answer_line}
-use Rattle.run_books.specs.Lines.{IsCallLine, Limits, ShowsCall, load_limits, loading_line, run_limits}
+use Rattle.run_books.specs.Lines.{IsCallLine, Limits, ShowsCall, loading_line}
 use Rattle.run_books.proofs.CallLemmas.{as_answered}
 use Rattle.run_books.proofs.PlaceLemmas.{call_count-call, call_count-module, call_count-retire}
 
@@ -39,26 +39,26 @@ AnswersOnce = (m : ModuleTree) (limits : RunLimits) (export : List ℕ) (args : 
 
 pub one_module_line : LoadsOnce → (limits : Limits) (bytes : List ℕ) (a b : ModuleLine) → IsModuleLine limits bytes a → IsModuleLine limits bytes b → a ≡ b
 one_module_line one_load limits bytes a b h g =
-    let same : h.loaded ≡ g.loaded = one_load limits.profile bytes (load_limits limits) h.loaded g.loaded h.loads g.loads in
+    let same : h.loaded ≡ g.loaded = one_load limits.profile bytes limits.load h.loaded g.loaded h.loads g.loads in
     h.shows ∙ ap loading_line same ∙ sym g.shows
 
 module _ (one_load : LoadsOnce) (within : LoadsWithin) (one_answer : AnswersOnce) where
   shown_once : (limits : Limits) (bytes : List ℕ) (retired : Bool) (invocation : Invocation) (loaded : Result ModuleTree Refusal) (a b : CallLine)
-      → Loads limits.profile bytes (load_limits limits) loaded → ShowsCall limits retired loaded invocation a → ShowsCall limits retired loaded invocation b → a ≡ b
+      → Loads limits.profile bytes limits.load loaded → ShowsCall limits retired loaded invocation a → ShowsCall limits retired loaded invocation b → a ≡ b
   shown_once limits bytes true invocation (Err why) a b loads h g = h ∙ sym g
   shown_once limits bytes false invocation (Err why) a b loads h g = h ∙ sym g
   shown_once limits bytes true invocation (Ok m) a b loads h g = h ∙ sym g
   shown_once limits bytes false asked (Ok m) a b loads h g =
-      let valid = (within limits.profile bytes (load_limits limits) m loads).valid in
-      let one = as_answered m (run_limits limits) asked a h in
-      let other = as_answered m (run_limits limits) asked b g in
-      let (same, bytes_same) = one_answer m (run_limits limits) asked.export asked.args (sent_by asked) asked.fuel one.answer other.answer one.bytes other.bytes valid one.answered other.answered (one.free ∙ sym other.free) in
+      let valid = (within limits.profile bytes limits.load m loads).valid in
+      let one = as_answered m limits.run asked a h in
+      let other = as_answered m limits.run asked b g in
+      let (same, bytes_same) = one_answer m limits.run asked.export asked.args (sent_by asked) asked.fuel one.answer other.answer one.bytes other.bytes valid one.answered other.answered (one.free ∙ sym other.free) in
       one.shows ∙ ap (λ (l : LaneAnswer). answer_line l (shown_of asked one.bytes)) same ∙ ap (λ (s : List ℕ). answer_line other.answer (shown_of asked s)) bytes_same ∙ sym other.shows
 
   pub one_call_line : (limits : Limits) (bytes : List ℕ) (retired : Bool) (invocation : Invocation) (a b : CallLine)
       → IsCallLine limits bytes retired invocation a → IsCallLine limits bytes retired invocation b → a ≡ b
   one_call_line limits bytes retired invocation a b h g =
-      let same : g.loaded ≡ h.loaded = one_load limits.profile bytes (load_limits limits) g.loaded h.loaded g.loads h.loads in
+      let same : g.loaded ≡ h.loaded = one_load limits.profile bytes limits.load g.loaded h.loaded g.loads h.loads in
       shown_once limits bytes retired invocation h.loaded a b h.loads h.shows (subst (λ (r : Result ModuleTree Refusal). ShowsCall limits retired r invocation b) same g.shows)
 
   one_line : (limits : Limits) (modules : List (List ℕ)) (number : ℕ) (d : Directive) (a b : ReportLine) → IsLine limits modules number d a → IsLine limits modules number d b → a ≡ b

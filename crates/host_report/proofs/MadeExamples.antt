@@ -6,7 +6,7 @@ use Rattle.wasm_values.specs.declared.profile.Profile.TheVariants.{Two}
 use Rattle.wasm_types.specs.Tree.{ModuleTree}
 use Rattle.wasm_spec.specs.Loading.{Refusal}
 use Rattle.pool_limits.specs.declared.numbers.Numbers.{Numbers}
-use Rattle.request_text.specs.declared.invocation.Invocation.{Invocation}
+use Rattle.request_calls.specs.declared.invocation.Invocation.{Invocation}
 use Rattle.request_text.specs.declared.request.Directive.{Directive}
 use Rattle.request_text.specs.declared.request.Directive.TheVariants.{Module, Call, Retire}
 use Rattle.request_text.specs.Text.{Asked, call_count, modules_of}

@@ -10,12 +10,12 @@ use Rattle.report_text.specs.declared.report.CallLine.{CallLine}
 use Rattle.report_text.specs.declared.report.ReportLine.{ReportLine}
 use Rattle.report_text.specs.declared.report.ReportLine.TheVariants as report
 use Rattle.request_text.specs.Text.{Asked, is_call, modules_of}
-use Rattle.run_books.specs.Lines.{GoesAs, Limits, limits_in, load_limits, loading_line}
+use Rattle.run_books.specs.Lines.{GoesAs, Limits, limits_in, loading_line}
 
 -- how the loading of these bytes goes
 pub record IsModuleLine (limits : Limits) (bytes : List ℕ) (line : ModuleLine) : Type 0 where
   pub loaded : Result ModuleTree Refusal
-  pub loads : Loads limits.profile bytes (load_limits limits) loaded
+  pub loads : Loads limits.profile bytes limits.load loaded
   pub shows : line ≡ loading_line loaded
 
 -- the line of a directive, which has this number if it is a call

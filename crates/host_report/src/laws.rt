@@ -1,6 +1,6 @@
 //! Laws of the definitions, as contracts of functions that do nothing.
 ghost use Rattle.std.specs.Prelude.{◌≡◌, ◌+◌, ℕ, Bool, List, Some, length, slice_get, take};
-ghost use Rattle.request_text.specs.declared.invocation.Invocation.{Invocation};
+ghost use Rattle.request_calls.specs.declared.invocation.Invocation.{Invocation};
 ghost use Rattle.pool_limits.specs.declared.numbers.Numbers.{Numbers};
 ghost use Rattle.report_text.specs.declared.report.CallLine.{CallLine};
 ghost use Rattle.report_text.specs.declared.report.ModuleLine.{ModuleLine};

@@ -1,5 +1,5 @@
--- At most one answer is due.
-use Rattle.std.proofs.Common.{◌≡◌, ℕ, List, Bool, Option, Some, None, Ok, Err, refl, sym, ap, ◌∙◌}
+-- What a run writes is what is due, and at most one answer is.
+use Rattle.std.proofs.Common.{◌≡◌, ℕ, List, Bool, true, false, Option, Some, None, Ok, Err, refl, sym, ap, ◌∙◌}
 use Rattle.std.specs.Prelude.{Result}
 use Rattle.pool_limits.specs.declared.numbers.Numbers.{Numbers}
 use Rattle.report_text.specs.declared.report.ReportLine.{ReportLine}
@@ -8,7 +8,17 @@ use Rattle.command_line.specs.Words.{command_of}
 use Rattle.command_line.specs.declared.words.Command.{Command}
 use Rattle.command_line.specs.declared.words.Command.TheVariants.{Make, Run}
 use Rattle.host_report.specs.Report.{IsReport}
-use Rattle.host_run.specs.Serving.{DueAnswer, IsDue, IsFileAnswer, lines_text}
+use Rattle.host_report.proofs.QuietLemmas.{report_aloud}
+use Rattle.host_run.specs.Made.{asked_in}
+use Rattle.host_run.specs.Serving.{DueAnswer, IsDue, IsFileAnswer, IsReported, lines_text}
+
+-- the report on what is asked of a run is written as the report on what the file asks for
+pub written_as_due : (numbers : Numbers) (summary : Bool) (requests : Asked) (lines : List ReportLine) (answer : DueAnswer) → answer.status ≡ 0
+    → IsReport numbers (asked_in summary requests) lines → answer.text ≡ lines_text summary lines → IsReported numbers summary requests answer
+written_as_due numbers true requests lines answer status is text =
+    let (all, report, same) = report_aloud numbers requests lines is in
+    record { status = status; lines = all; report = report; text = text ∙ sym same }
+written_as_due numbers false requests lines answer status is text = record { status = status; lines = lines; report = is; text = text }
 
 -- what a file asks for has at most one report
 abbrev pub ReportsOnce : Type 0

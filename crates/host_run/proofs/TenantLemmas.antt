@@ -2,7 +2,7 @@
 use Rattle.std.proofs.Common.{◌≡◌, ◌∙◌, ◌++◌, ℕ, Bool, zero, suc, List, [], ◌∷◌, Some, ap, subst, take, drop, append_assoc, add-one, arith}
 use Rattle.std.specs.Prelude.{slice_get}
 use Rattle.std.specs.List.{flat_map}
-use Rattle.request_text.specs.declared.invocation.Invocation.{Invocation}
+use Rattle.request_calls.specs.declared.invocation.Invocation.{Invocation}
 use Rattle.pool_limits.specs.declared.numbers.Numbers.{Numbers}
 use Rattle.request_text.specs.declared.request.Directive.TheVariants.{Call}
 use Rattle.report_text.specs.declared.report.CallLine.{CallLine}

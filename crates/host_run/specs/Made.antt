@@ -1,7 +1,8 @@
 -- How what a run writes came about.
-use Rattle.std.specs.Prelude.{◌≡◌, ℕ, Bool, List, Option, IfOk}
+use Rattle.std.specs.Prelude.{◌≡◌, ℕ, Bool, List, Option, IfOk, if◌then◌else◌}
 use Rattle.std.specs.Io.KnownBytes.{Consumes}
 use Rattle.pool_limits.specs.declared.numbers.Numbers.{Numbers}
+use Rattle.request_text.specs.Quiet.{quiet}
 use Rattle.request_text.specs.Text.{Asked, requests_of}
 use Rattle.report_text.specs.declared.report.ReportLine.{ReportLine}
 use Rattle.command_line.specs.declared.words.Command.{Command}
@@ -9,10 +10,14 @@ use Rattle.command_line.specs.declared.words.Command.TheVariants.{Make, Run}
 use Rattle.host_report.specs.Made.{WereMade}
 use Rattle.host_run.specs.Serving.{DueAnswer, lines_text}
 
+-- what is asked of a run: where it writes a summary no line shows bytes, so that it keeps none of an answer
+abbrev pub asked_in : (summary : Bool) → Asked → Asked
+asked_in summary requests = if summary then quiet requests else requests
+
 -- the answer is what a run writes on lines that came about so: all calls of the file were made, in slices of this length where that is how they are made
 pub record IsOfRun (numbers : Numbers) (summary : Bool) (slice : ℕ) (requests : Asked) (answer : DueAnswer) : Type 0 where
   pub lines : List ReportLine
-  pub made : WereMade numbers requests slice lines
+  pub made : WereMade numbers (asked_in summary requests) slice lines
   pub text : answer.text ≡ lines_text summary lines
 
 -- where a file is accepted, so did what it is answered

@@ -1,7 +1,7 @@
 -- Request files that have a call in common, and differ in anything else.
 use Rattle.std.specs.Prelude.{◌≡◌, ℕ, ◌+◌, ◌++◌, Bool, false, List, Ok, Some, codes, drop, slice_get, take}
 use Rattle.std.specs.Fmt.{decimal}
-use Rattle.request_text.specs.declared.invocation.Invocation.{Invocation}
+use Rattle.request_calls.specs.declared.invocation.Invocation.{Invocation}
 use Rattle.request_text.specs.declared.request.Directive.TheVariants.{Call}
 use Rattle.report_text.specs.declared.report.CallLine.{CallLine}
 use Rattle.report_text.specs.declared.report.ReportLine.{ReportLine}

@@ -1,7 +1,7 @@
 //! What a request file is answered.
 ghost use Rattle.std.specs.Prelude.{[], ◌≡◌, ◌⊎◌, ◌<◌, IfOk, IsOk, IsSomeAnd, None, length, option_map};
 ghost use Rattle.std.specs.Result.{result_ok};
-ghost use Rattle.host_run.specs.Made.{FileWasMade, IsOfRun};
+ghost use Rattle.host_run.specs.Made.{FileWasMade, IsOfRun, asked_in};
 ghost use Rattle.host_run.specs.Refusal.{told};
 ghost use Rattle.host_run.specs.Serving.{IsFileAnswer, IsReported, lines_text, due_answer};
 ghost use Rattle.pool_limits.specs.Plans.{plan_fault};
@@ -36,6 +36,17 @@ fn lines_text(alloc: Global, lines: Vec<ReportLine>, summary: bool) -> Result<Ve
     }
 }
 
+// What is asked of a run: where it writes a summary no line shows bytes, so that it keeps none of an answer.
+fn asked_in(summary: bool, requests: Requests) -> Requests
+    ensures asked { result ≡ asked_in summary requests }
+    ensures wants { result.wants ≡ requests.wants }
+{
+    if !summary {
+        return requests;
+    }
+    requests.quiet()
+}
+
 // What a request file is answered that asks for this, once its calls are made.
 fn reported<R: Threads + Wait + Sync, G: Gate>(
     rt: &R,
@@ -43,14 +54,15 @@ fn reported<R: Threads + Wait + Sync, G: Gate>(
     config: PoolConfig,
     summary: bool,
     slice: u32,
-    requests: &Requests,
+    requests: Requests,
     gate: &G,
 ) -> Result<RunOutput, NoMemory>
-    requires plan { (plan_fault config [] ≡ None) → plan_fault config requests.now.wants ≡ None }
-    ensures reported { IfOk result (λ due. IsReported config summary requests.now (due_answer due)) }
-    ensures made { IfOk result (λ due. IsOfRun config summary slice requests.now (due_answer due)) }
+    requires plan { (plan_fault config [] ≡ None) → plan_fault config requests.wants ≡ None }
+    ensures reported { IfOk result (λ due. IsReported config summary requests (due_answer due)) }
+    ensures made { IfOk result (λ due. IsOfRun config summary slice requests (due_answer due)) }
 {
-    let lines = report(rt, alloc, config, slice, requests, gate)?;
+    let asked = asked_in(summary, requests);
+    let lines = report(rt, alloc, config, slice, &asked, gate)?;
     let text = lines_text(alloc, lines, summary)?;
     Ok(RunOutput {
         status: Status::Reported.code(),
@@ -74,7 +86,7 @@ pub(crate) fn answer<R: Threads + Wait + Sync, G: Gate>(
     ensures too_long { MOST_BYTES < length bytes.now → IsOk result }
 {
     match parse(alloc, &config, bytes) {
-        Ok(requests) => reported(rt, alloc, config, summary, slice, &requests, gate),
+        Ok(requests) => reported(rt, alloc, config, summary, slice, requests, gate),
         Err(fault) => refused_file(alloc, fault),
     }
 }

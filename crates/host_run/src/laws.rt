@@ -1,6 +1,6 @@
 //! Laws of the definitions, as contracts of functions that do nothing.
 ghost use Rattle.std.specs.Prelude.{◌≡◌, ℕ, Bool, List};
-ghost use Rattle.request_text.specs.declared.invocation.Invocation.{Invocation};
+ghost use Rattle.request_calls.specs.declared.invocation.Invocation.{Invocation};
 ghost use Rattle.report_text.specs.declared.report.CallLine.{CallLine};
 ghost use Rattle.report_text.specs.declared.report.ReportLine.{ReportLine};
 ghost use Rattle.request_text.specs.Text.{Asked};

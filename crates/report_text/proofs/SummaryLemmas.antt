@@ -1,15 +1,16 @@
 -- The lines of a summary in turn, and what their counts add to.
-use Rattle.std.proofs.Common.{◌≡◌, ℕ, suc, ◌+◌, List, [], ◌∷◌, ◌++◌, ◌∙◌, append_assoc, length, refl, arith, cond, Result, Ok, Err}
+use Rattle.std.proofs.Common.{◌≡◌, ℕ, suc, ◌+◌, List, [], ◌∷◌, ◌++◌, ◌∙◌, ap, append_assoc, codes, length, refl, sym, arith, cond, Bool, Result, Ok, Err}
 use Rattle.std.specs.Prelude.{OnOk, count_by}
 use Rattle.std.proofs.lemmas.List.{append-nil}
 use Rattle.std.proofs.lemmas.List.Sums.{sum_by-cons}
+use Rattle.std.specs.Fmt.{decimal}
 use Rattle.std.specs.List.{flat_map, sum_by}
 use Rattle.wasm_values.specs.declared.outcome.Outcome.TheVariants as outcome
 use Rattle.report_text.specs.declared.report.ModuleLine.TheVariants as loading
 use Rattle.report_text.specs.declared.report.CallLine.TheVariants as call
 use Rattle.report_text.specs.declared.report.ReportLine.{ReportLine}
 use Rattle.report_text.specs.declared.report.ReportLine.TheVariants as report
-use Rattle.report_text.specs.Summary.{count_of, counts_under, is_retirement, labels}
+use Rattle.report_text.specs.Summary.{count_line, count_of, counts_under, is_retirement, labels, summary_text}
 
 -- six texts, each appended to those before, the last if memory lasts
 pub six_in_turn : {E : Type 0} (text : List ℕ → List ℕ) (a b c d e f : List ℕ) (t0 t1 t2 t3 t4 t5 t6 : List ℕ) (r : Result (Unit {0}) E) → t1 ≡ t0 ++ text a → t2 ≡ t1 ++ text b
@@ -61,3 +62,27 @@ all_counted (line ∷ lines) =
     let counted = λ (label : List ℕ). sum_by-cons (λ (r : ReportLine). one_under r label) line lines in
     one_more _ (sum_by (one_under line) labels) _ _ (one_retired line) _ _ (sum_of_sums (one_under line) (λ label. count_of lines label) (λ label. count_of (line ∷ lines) label) counted labels) (sum_by-cons one_retired line lines)
     (one_label line) (all_counted lines)
+
+-- ---- reports with the same summary
+
+-- under each label as many of these lines count as of those
+abbrev pub CountAlike : (lines others : List ReportLine) → Type 0
+CountAlike lines others = (label : List ℕ) → count_of lines label ≡ count_of others label
+
+-- so it is with one line more that counts under the same label
+pub alike-cons : (line other : ReportLine) (lines others : List ReportLine) → ((label : List ℕ) → counts_under label line ≡ counts_under label other) → CountAlike lines others
+    → CountAlike (line ∷ lines) (other ∷ others)
+alike-cons line other lines others same alike label =
+    sum_by-cons (λ (r : ReportLine). one_under r label) line lines ∙ ap (λ (under : Bool). cond under 1 0 + count_of lines label) (same label)
+    ∙ ap (λ (count : ℕ). one_under other label + count) (alike label) ∙ sym (sum_by-cons (λ (r : ReportLine). one_under r label) other others)
+
+same_counts : (lines others : List ReportLine) (ls : List (List ℕ)) → CountAlike lines others → flat_map (λ label. count_line lines label) ls ≡ flat_map (λ label. count_line others label) ls
+unfolding count_line
+same_counts lines others [] alike = refl
+same_counts lines others (label ∷ ls) alike =
+    ap (λ (count : ℕ). (label ++ codes " " ++ decimal count ++ codes "\n") ++ flat_map (λ l. count_line lines l) ls) (alike label)
+    ∙ ap (λ (rest : List ℕ). count_line others label ++ rest) (same_counts lines others ls alike)
+
+-- they have the same summary
+pub same_summary : (lines others : List ReportLine) → CountAlike lines others → summary_text lines ≡ summary_text others
+same_summary lines others alike = same_counts lines others labels alike

@@ -1,10 +1,10 @@
-pub mod InvocationLemmas
 pub mod LineLemmas
 pub mod ReadingLemmas
 pub mod PlaceLemmas
 pub mod TenantLemmas
 pub mod FileLemmas
 pub mod PlanLemmas
+pub mod QuietLemmas
 pub mod SliceLemmas
 pub mod TextExamples
 pub mod ProfileExamples

@@ -3,7 +3,7 @@ use Rattle.std.proofs.Common.{◌≡◌, ◌<◌, ℕ, Bool, true, false, List, 
 use Rattle.std.proofs.lemmas.Cmp.{nat_eq_equiv}
 use Rattle.std.proofs.lemmas.Map.Views.{list_any-from_Contains}
 use Rattle.std.specs.List.{IsDistinct}
-use Rattle.std.specs.Prelude.{None, Option, Some, replicate, unwrap_or}
+use Rattle.std.specs.Prelude.{None, Option, Some, is_some, replicate, unwrap_or}
 use Rattle.hex.specs.Hex.{decode_pairs}
 use Rattle.wasm_values.specs.declared.profile.Profile.TheVariants.{Three}
 use Rattle.pool_limits.specs.declared.numbers.Numbers.{Numbers}
@@ -55,7 +55,7 @@ retired_module = refl
 
 -- a call of the function `f` of the module at this place, on fuel 5, which sends this
 abbrev call_with : (place : ℕ) (retired : Bool) (request : Option (List ℕ)) → Directive
-call_with place retired request = Call 0 place retired (record { export = codes "f"; fuel = 5; request = request; args = [] })
+call_with place retired request = Call 0 place retired (record { export = codes "f"; fuel = 5; request = request; shows = is_some request; args = [] })
 
 -- the modules at places 2 and 0 are retired, in this order
 first_of_two : is_retired (2 ∷ 0 ∷ []) 2 ≡ true

@@ -212,7 +212,7 @@ refused line reason = Err (BadLine line reason)
 
 -- a call of the function `f` of the first module, on this fuel
 abbrev call : (tenant fuel : ℕ) → Directive
-call tenant fuel = Call tenant 0 false (record { export = codes "f"; fuel = fuel; request = None; args = [] })
+call tenant fuel = Call tenant 0 false (record { export = codes "f"; fuel = fuel; request = None; shows = false; args = [] })
 
 abbrev module_m : Directive
 module_m = Module (codes "m") (0 ∷ [])

@@ -107,15 +107,15 @@ number_of_calls_behind_a_request : sent 1000000 (codes "m") (codes "1") (codes "
 unfolding send_directive_of request_of call_of place_of number_up_to argument_of integer_of
 number_of_calls_behind_a_request = refl
 
-sends_bytes : sent 0 (codes "m") (codes "7") (codes "0fFf") (codes "i32:1") ≡ Ok (Call 3 0 false (record { export = codes "f"; fuel = 7; request = Some (15 ∷ 255 ∷ []); args = I32 1 ∷ [] }))
+sends_bytes : sent 0 (codes "m") (codes "7") (codes "0fFf") (codes "i32:1") ≡ Ok (Call 3 0 false (record { export = codes "f"; fuel = 7; request = Some (15 ∷ 255 ∷ []); shows = true; args = I32 1 ∷ [] }))
 unfolding send_directive_of request_of call_of place_of number_up_to argument_of integer_of decode_pairs
 sends_bytes = refl
 
-sends_no_bytes : sent 0 (codes "m") (codes "7") (codes "-") (codes "i32:1") ≡ Ok (Call 3 0 false (record { export = codes "f"; fuel = 7; request = Some []; args = I32 1 ∷ [] }))
+sends_no_bytes : sent 0 (codes "m") (codes "7") (codes "-") (codes "i32:1") ≡ Ok (Call 3 0 false (record { export = codes "f"; fuel = 7; request = Some []; shows = true; args = I32 1 ∷ [] }))
 unfolding send_directive_of request_of call_of place_of number_up_to argument_of integer_of
 sends_no_bytes = refl
 
-calls_without_a_request : call_after 0 (codes "m") (codes "7") (codes "i32:1") ≡ Ok (Call 3 0 false (record { export = codes "f"; fuel = 7; request = None; args = I32 1 ∷ [] }))
+calls_without_a_request : call_after 0 (codes "m") (codes "7") (codes "i32:1") ≡ Ok (Call 3 0 false (record { export = codes "f"; fuel = 7; request = None; shows = false; args = I32 1 ∷ [] }))
 unfolding call_directive_of call_of place_of number_up_to argument_of integer_of
 calls_without_a_request = refl
 

@@ -2,6 +2,7 @@ pub mod Ladder
 pub mod Profiles
 pub mod Tenants
 pub mod Text
-pub mod Invocations
+pub mod Quiet
 pub mod Reading
 pub mod Refusal
+pub mod Calls

@@ -1,5 +1,5 @@
 -- The request text: what each line of a file asks for, and the ladder of reasons for which it is refused.
-use Rattle.std.specs.Prelude.{◌≡◌, ◌↔◌, ◌<◌, ◌≤◌, ℕ, ◌+◌, ◌==◌, ◌&&◌, not, nat_lt, nat_le, Bool, true, false, if◌then◌else◌, List, [], ◌∷◌, ◌++◌, length, codes, filter_map, count_by, Option, Some, None, is_none, unwrap_or, Result, Ok, Err}
+use Rattle.std.specs.Prelude.{◌≡◌, ◌↔◌, ◌<◌, ◌≤◌, ℕ, ◌+◌, ◌==◌, ◌&&◌, not, nat_lt, nat_le, Bool, true, false, if◌then◌else◌, List, [], ◌∷◌, ◌++◌, length, codes, filter_map, count_by, Option, Some, None, is_none, is_some, unwrap_or, Result, Ok, Err}
 use Rattle.std.specs.List.{All, Contains, IsDistinct, list_all, list_any, slice_get}
 use Rattle.std.specs.Option.{ok_or}
 use Rattle.std.specs.Str.{bytes_eq}
@@ -55,7 +55,7 @@ unfoldable pub call_of : Declared → (place : ℕ) (export : List ℕ) (fuel : 
 call_of before place export fuel request words = do
   args ← ok_or (arguments_of words) BadArgument
   _ ← demand (nat_lt before.calls 1000000) TooManyCalls
-  Ok (Call before.tenants.current place (is_retired before.retired place) (record { export = export; fuel = fuel; request = request; args = args }))
+  Ok (Call before.tenants.current place (is_retired before.retired place) (record { export = export; fuel = fuel; request = request; shows = is_some request; args = args }))
 
 -- what the words after `call` ask for
 unfoldable pub call_directive_of : Declared → List (List ℕ) → Result Directive Reason
@@ -186,12 +186,8 @@ nothing_read = record { profile = None; tenants = no_tenants; directives = [] }
 
 -- what they declare
 abbrev pub declared_by : ReadLines → Declared
-declared_by before = record {
-  names = module_names before.directives;
-  retired = retired_places before.directives;
-  calls = call_count before.directives;
-  tenants = before.tenants;
-}
+declared_by before =
+    record { names = module_names before.directives; retired = retired_places before.directives; calls = call_count before.directives; tenants = before.tenants }
 
 -- they declare this, and what holds of each file that is read holds of them
 abbrev pub HaveDeclared : ReadLines → Declared → Type 0
@@ -271,12 +267,8 @@ pub record Asked : Type 0 where
 
 -- what lines ask for that are all of a file
 abbrev pub asked_by : ReadLines → Asked
-asked_by read = record {
-  profile = modules_profile (profile_in read);
-  whole = has_tenants (profile_in read);
-  wants = read.tenants.wants;
-  directives = read.directives;
-}
+asked_by read =
+    record { profile = modules_profile (profile_in read); whole = has_tenants (profile_in read); wants = read.tenants.wants; directives = read.directives }
 
 -- what a request file of these bytes asks for where the pools have these numbers, or why it is refused
 unfoldable pub requests_of : Numbers → List ℕ → Result Asked FileRefusal

@@ -1,19 +1,21 @@
 //! One line of a request file is read.
-ghost use Rattle.std.specs.Prelude.{◌≡◌, ◌<◌, IfOk, length};
+ghost use Rattle.std.specs.Prelude.{◌≡◌, ◌&&◌, [], false, IfOk, codes};
 ghost use Rattle.std.specs.Option.{ok_or, option_map};
+ghost use Rattle.std.specs.Str.{bytes_eq};
 ghost use Rattle.request_words.specs.Words.{arguments_of, hex_bytes, line_words};
-ghost use Rattle.request_text.specs.Text.{call_directive_of, call_of, directive_of, module_directive_of, request_of, retire_directive_of, send_directive_of};
-ghost use Rattle.request_text.specs.Reading.{Agrees, HasRoom, IsOwnPlace};
+ghost use Rattle.request_text.specs.Profiles.{sends};
+ghost use Rattle.request_text.specs.Text.{directive_of, module_directive_of, request_of, retire_directive_of};
+ghost use Rattle.request_text.specs.Reading.{Agrees, HasRoom, Leaves};
 
 use crate::fault::LineFault;
 use crate::file_profile::FileProfile;
-use crate::invocation::Invocation;
 use crate::request::{Directive, MOST_NAME_BYTES, Reason};
 use crate::scope::Scope;
 use call_payload::Payload;
-use request_words::{argument, fuel, next_word};
+use request_calls::Arguments;
+use request_words::{from_word, leading_argument, next_word};
 use std::alloc::Global;
-use wasm_values::{Items, Val};
+use wasm_values::Items;
 
 // A copy of some bytes.
 fn copied(alloc: Global, bytes: &[u8]) -> Result<Items<u8>, LineFault>
@@ -67,23 +69,27 @@ fn module_directive(alloc: Global, scope: &Scope, words: &[u8]) -> Result<Direct
     Ok(Directive::Module { name, bytes })
 }
 
-// The arguments that the words give.
-fn arguments(alloc: Global, words: &[u8]) -> Result<Items<Val>, LineFault>
-    ensures { Agrees result (ok_or (arguments_of (line_words words.now)) Reason.BadArgument) }
+// Reads the arguments that the words give.
+pub(crate) fn read_arguments(
+    alloc: Global,
+    words: &[u8],
+    args: &mut Arguments,
+) -> Result<(), LineFault>
+    requires { args.old ≡ [] }
+    ensures { Leaves result args.new (ok_or (arguments_of (line_words words.now)) Reason.BadArgument) }
 {
-    let mut args = Vec::new(alloc);
     let mut rest = words;
-    while let Some((word, after)) = next_word(rest) {
-        let arg = argument(word).ok_or(Reason::BadArgument)?;
-        args.push(arg).map_err(|_| LineFault::NoMemory)?;
+    while let Some(text) = from_word(rest) {
+        let (arg, after) = leading_argument(text).ok_or(Reason::BadArgument)?;
+        args.push(alloc, arg)?;
         rest = after;
     }
-    Ok(Items::new(args))
+    Ok(())
 }
 
 // The bytes of a request.
 #[tactic(auto, unfolding(crate::specs::Text::request_of))]
-fn request(alloc: Global, word: &[u8]) -> Result<Payload, LineFault>
+pub(crate) fn request(alloc: Global, word: &[u8]) -> Result<Payload, LineFault>
     ensures { Agrees result (request_of word.now) }
 {
     let bytes = if word == b"-".as_slice() {
@@ -93,72 +99,6 @@ fn request(alloc: Global, word: &[u8]) -> Result<Payload, LineFault>
     };
     let request = Payload::new(bytes).ok_or(Reason::RequestTooLong)?;
     Ok(request)
-}
-
-// A call of the module at this place, which may be retired, with the arguments that the words are, by the tenant whose calls follow.
-#[inline(always)]
-#[tactic(auto, unfolding(crate::specs::Text::call_of))]
-fn call(
-    alloc: Global,
-    scope: &Scope,
-    place: u32,
-    export: &[u8],
-    fuel: u32,
-    request: Option<Payload>,
-    words: &[u8],
-) -> Result<Directive, LineFault>
-    requires placed { place < length scope.now.names }
-    requires own { IsOwnPlace scope.now.names place }
-    ensures meaning { Agrees result (call_of scope.now place export.now fuel request (line_words words.now)) }
-    ensures room { IfOk result (HasRoom scope.now) }
-{
-    let args = arguments(alloc, words)?;
-    if !scope.takes_call() {
-        return Err(LineFault::Refused(Reason::TooManyCalls));
-    }
-    let invocation = Invocation {
-        export: copied(alloc, export)?,
-        fuel,
-        request,
-        args,
-    };
-    Ok(Directive::Call {
-        tenant: scope.tenant(),
-        module: place,
-        retired: scope.is_retired(place),
-        invocation,
-    })
-}
-
-// What the words after `call` ask for.
-#[tactic(auto, unfolding(crate::specs::Text::call_directive_of))]
-fn call_directive(alloc: Global, scope: &Scope, words: &[u8]) -> Result<Directive, LineFault>
-    ensures meaning { Agrees result (call_directive_of scope.now (line_words words.now)) }
-    ensures room { IfOk result (HasRoom scope.now) }
-{
-    let (name, rest) = next_word(words).ok_or(Reason::BadWords)?;
-    let (export, rest) = next_word(rest).ok_or(Reason::BadWords)?;
-    let (fuel_word, rest) = next_word(rest).ok_or(Reason::BadWords)?;
-    let module = scope.place(name).ok_or(Reason::UnknownModule)?;
-    let fuel = fuel(fuel_word).ok_or(Reason::BadFuel)?;
-    call(alloc, scope, module, export, fuel, None, rest)
-}
-
-// What the words after `send` ask for.
-#[inline(never)]
-#[tactic(auto, unfolding(crate::specs::Text::send_directive_of))]
-fn send_directive(alloc: Global, scope: &Scope, words: &[u8]) -> Result<Directive, LineFault>
-    ensures meaning { Agrees result (send_directive_of scope.now (line_words words.now)) }
-    ensures room { IfOk result (HasRoom scope.now) }
-{
-    let (name, rest) = next_word(words).ok_or(Reason::BadWords)?;
-    let (export, rest) = next_word(rest).ok_or(Reason::BadWords)?;
-    let (fuel_word, rest) = next_word(rest).ok_or(Reason::BadWords)?;
-    let (digits, rest) = next_word(rest).ok_or(Reason::BadWords)?;
-    let module = scope.place(name).ok_or(Reason::UnknownModule)?;
-    let fuel = fuel(fuel_word).ok_or(Reason::BadFuel)?;
-    let request = request(alloc, digits)?;
-    call(alloc, scope, module, export, fuel, Some(request), rest)
 }
 
 // What the words after `retire` ask for.
@@ -180,24 +120,22 @@ fn retire_directive(alloc: Global, scope: &Scope, words: &[u8]) -> Result<Direct
     Ok(Directive::Retire { module, name })
 }
 
-// What a line asks for whose first word is this one, with these behind it.
+// What a line asks for whose first word is this one, which is neither `call` nor `send`, with these behind it.
 #[tactic(auto, unfolding(crate::specs::Text::directive_of))]
-pub(crate) fn line_directive(
+pub(crate) fn other_directive(
     alloc: Global,
     profile: FileProfile,
     scope: &Scope,
     word: &[u8],
     words: &[u8],
 ) -> Result<Directive, LineFault>
+    requires call { bytes_eq word.now (codes "call") ≡ false }
+    requires send { (sends profile && bytes_eq word.now (codes "send")) ≡ false }
     ensures meaning { Agrees result (directive_of profile scope.now word.now (line_words words.now)) }
     ensures room { IfOk result (HasRoom scope.now) }
 {
     if word == b"module".as_slice() {
         module_directive(alloc, scope, words)
-    } else if word == b"call".as_slice() {
-        call_directive(alloc, scope, words)
-    } else if profile.sends() && word == b"send".as_slice() {
-        send_directive(alloc, scope, words)
     } else if profile.retires() && word == b"retire".as_slice() {
         retire_directive(alloc, scope, words)
     } else {

@@ -4,7 +4,6 @@
 mod directive;
 mod fault;
 mod file_profile;
-mod invocation;
 pub mod laws;
 mod parser;
 mod reading;
@@ -14,7 +13,6 @@ mod retired_places;
 mod scope;
 mod tenants;
 
-pub use invocation::Invocation;
 pub use parser::parse;
 pub use refusal::write_text_fault;
 pub use report_text::{
@@ -23,3 +21,4 @@ pub use report_text::{
 pub use request::{
     Directive, MOST_BYTES, MOST_CALLS, MOST_MODULES, MOST_NAME_BYTES, ParseFault, Reason, Requests,
 };
+pub use request_calls::{Arguments, ExportName, Invocation};

@@ -9,7 +9,7 @@ use crate::fault::LineFault;
 use crate::reading::Reading;
 use crate::request::{MOST_BYTES, ParseFault, Requests};
 use pool_limits::PoolConfig;
-use request_words::next_line;
+use request_words::{has_printable_lines, next_line};
 use std::alloc::Global;
 
 // The fault of the line with this number.
@@ -31,10 +31,11 @@ fn read_lines(alloc: Global, config: &PoolConfig, text: &[u8]) -> Result<Reading
     let mut reading = Reading::new(alloc);
     let mut number = 0u32;
     let mut left = Some(text);
+    let printable = has_printable_lines(text);
     while let Some(rest) = left {
         let (line, after) = next_line(rest);
         number += 1;
-        match reading.read(alloc, config, line) {
+        match reading.read(alloc, config, line, printable) {
             Ok(()) => left = after,
             Err(fault) => return Err(at_line(number, fault)),
         }

@@ -1,12 +1,13 @@
 //! What a request file asks for, and why one is refused.
-ghost use Rattle.std.specs.Prelude.{◌≡◌, ◌≤◌, Some, false, length};
+ghost use Rattle.std.specs.Prelude.{◌≡◌, ◌≤◌, Some, false, length, map};
 ghost use Rattle.request_text.specs.Refusal.{reason_text};
 ghost use Rattle.request_text.specs.Profiles.{has_tenants, modules_profile};
+ghost use Rattle.request_text.specs.Quiet.{quiet, quiet_directive};
 ghost use Rattle.request_text.specs.Text.{AreRequests, MayRunInSlices};
 
 use crate::file_profile::FileProfile;
-use crate::invocation::Invocation;
 use pool_limits::{MOST_TENANTS, Want};
+use request_calls::Invocation;
 use std::fmt;
 use std::marker::Model;
 use thiserror::Error;
@@ -69,6 +70,27 @@ impl Model for Requests {
     ghost invariant = { λ r. IsFile r.profile r.wants.items r.directives.items };
 }
 
+impl Directive {
+    // From here on its line shows no bytes.
+    fn show_no_bytes(&mut self)
+        ensures { self.new ≡ quiet_directive self.old }
+    {
+        if let Directive::Call { invocation, .. } = self {
+            invocation.shows = false;
+        }
+    }
+}
+
+// From here on no line shows bytes.
+#[tactic(auto, using(std::proofs::lemmas::List::Edits::map_over_more))]
+fn show_no_bytes(directives: &mut Vec<Directive>)
+    ensures { directives.new.items ≡ map quiet_directive directives.old.items }
+{
+    for directive in directives.iter_mut() {
+        directive.show_no_bytes();
+    }
+}
+
 impl Requests {
     // The requests of these directives, in this profile, of tenants that want this. Takes no memory.
     pub(crate) fn new(profile: FileProfile, wants: Vec<Want>, directives: Vec<Directive>) -> Self
@@ -84,6 +106,20 @@ impl Requests {
             wants,
             directives,
         }
+    }
+
+    /// The same requests, where no line shows bytes that a call answers. Takes no memory.
+    #[tactic(auto, using(crate::proofs::QuietLemmas::quiet_requests, crate::proofs::QuietLemmas::quiet_in_slices))]
+    pub fn quiet(self) -> Requests
+        ensures { result ≡ quiet self }
+    {
+        let Requests {
+            profile,
+            wants,
+            mut directives,
+        } = self;
+        show_no_bytes(&mut directives);
+        Requests::new(profile, wants, directives)
     }
 
     /// The profile in which the modules are read.

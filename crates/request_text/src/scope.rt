@@ -88,7 +88,18 @@ impl Scope {
         }
     }
 
+    // The place of the module of this name, from 0, by the map.
+    #[inline(never)]
+    fn mapped_place(&self, name: &[u8]) -> Option<u32>
+        ensures place { result ≡ place_of self.now.names name.now }
+        ensures within { IfSome result (λ place. place < length self.now.names) }
+        ensures own { IfSome result (IsOwnPlace self.now.names) }
+    {
+        self.places.get(name).copied()
+    }
+
     // The place of the module of this name, from 0. Calls of one module often stand one behind the other.
+    #[inline(always)]
     pub(crate) fn place(&self, name: &[u8]) -> Option<u32>
         ensures place { result ≡ place_of self.now.names name.now }
         ensures within { IfSome result (λ place. place < length self.now.names) }
@@ -97,7 +108,7 @@ impl Scope {
         if has_name(&self.names, self.recent, name) {
             return Some(self.recent);
         }
-        self.places.get(name).copied()
+        self.mapped_place(name)
     }
 
     // Whether the module at this place is retired.
@@ -137,6 +148,7 @@ impl Scope {
     }
 
     // Declares what this directive does.
+    #[inline(always)]
     pub(crate) fn add(&mut self, alloc: Global, directive: &Directive) -> Result<(), AllocError>
         requires { HasRoom self.old directive.now }
         ensures more { OnOk result (self.new ≡ declared_after self.old directive.now) }

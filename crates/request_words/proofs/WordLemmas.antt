@@ -1,18 +1,24 @@
 -- How the lines of a text and the words of a line begin.
-use Rattle.std.proofs.Common.{◌≡◌, ◌==◌, ◌+◌, ◌<◌, ◌≤◌, ℕ, suc, Bool, true, false, not, cond, List, [], ◌∷◌, length, take, drop, refl, ap, sym, ◌∙◌, Some, None, arith}
-use Rattle.std.specs.List.{slice_split, onto_first, position_or_len, position, filter}
+use Rattle.std.proofs.Common.{◌≡◌, ◌==◌, ◌+◌, ◌<◌, ◌≤◌, ℕ, suc, Bool, true, false, not, ◌&&◌, ◌||◌, cond, List, [], ◌∷◌, ◌++◌, length, take, drop, codes, get_or, nat_lt, true≢false, refl, ap, sym, ◌∙◌, Some, None, arith}
+use Rattle.std.specs.List.{All, list_all, slice_split, onto_first, position_or_len, position, filter}
 use Rattle.std.proofs.Common.{subst}
 use Rattle.std.specs.Prelude.{IfSome, Option}
-use Rattle.std.proofs.lemmas.Bool.{cond-true, cond-false, false_from_ne_true, le-ltb, lt-ltb, ltb-true, not-true}
+use Rattle.std.proofs.Math.Bool.{or-false}
+use Rattle.std.proofs.lemmas.Bool.{and_from, and_parts, cond-true, cond-false, false_from_ne_true, le-ltb, lt-ltb, ltb-true, not-true}
 use Rattle.std.proofs.lemmas.Bool.Decides.{nat_tests}
-use Rattle.std.proofs.lemmas.List.{drop_all, take_all}
+use Rattle.std.proofs.lemmas.List.{append-nil, append_assoc, drop_all, get_or-take, length-drop, length-take-le, take-append-drop, take_all}
+use Rattle.std.proofs.Math.Seq.{take-append_seam}
+use Rattle.std.proofs.lemmas.List.Elements.{All-cons, All-head, All-nil, All-tail}
 use Rattle.std.proofs.lemmas.List.Quantifiers.{position-Some}
 use Rattle.std.proofs.lemmas.List.Splits.{slice_split_first, slice_split_none}
-use Rattle.std.proofs.lemmas.List.Sums.{fails_before_first, position_or_len_is}
+use Rattle.std.proofs.lemmas.List.Sums.{fails_before_first, passes_at_first, position_or_len_is, prefix_len-le-length}
+use Rattle.std.proofs.lemmas.Slice.Eq.{bytes_eq-Decides}
+use Rattle.std.specs.Str.{bytes_eq}
 use Rattle.std.proofs.lemmas.Option.{cond_some}
 use Rattle.std.proofs.Math.Seq.{drop-cons}
 use Rattle.memchr.specs.Find.{IsFirstByte}
-use Rattle.request_words.specs.Words.{line_words, is_empty, text_lines}
+use Rattle.request_words.specs.FirstWords.{IsWord, after_word, first_word}
+use Rattle.request_words.specs.Words.{is_empty, is_printable, line_words, text_lines}
 
 -- ---- the first place of a byte
 
@@ -152,3 +158,127 @@ words-first line start found =
     let text = drop-cons line start 0 at.0 in
     sym (words-drop_spaces line) ∙ ap (λ n. line_words (drop n line)) first.1
     ∙ subst (λ (t : List ℕ). line_words t ≡ take (position_or_len is_space t) t ∷ line_words (drop (position_or_len is_space t) t)) (sym text) (words-word _ _ (not-true _ at.1))
+
+-- ---- printable lines
+
+-- a byte that is printable or ends a line
+abbrev pub is_plain : ℕ → Bool
+is_plain b = is_printable b || b == 10
+
+abbrev IsPrintable : List ℕ → Type 0
+IsPrintable line = list_all is_printable line ≡ true
+
+-- one more printable byte on the first line
+printable-onto_first : (b : ℕ) (lines : List (List ℕ)) → is_printable b ≡ true → All IsPrintable lines → All IsPrintable (onto_first b lines)
+printable-onto_first b [] is all = All-cons IsPrintable (b ∷ []) [] (and_from (is_printable b) true is refl) (All-nil IsPrintable)
+printable-onto_first b (line ∷ lines) is all =
+    All-cons IsPrintable (b ∷ line) lines (and_from (is_printable b) (list_all is_printable line) is (All-head IsPrintable line lines all)) (All-tail IsPrintable line lines all)
+
+-- a text of such bytes has printable lines
+pub plain-lines : (text : List ℕ) → list_all is_plain text ≡ true → All IsPrintable (text_lines text)
+plain-lines [] all = All-cons IsPrintable [] [] refl (All-nil IsPrintable)
+plain-lines (b ∷ rest) all =
+    let parts = and_parts (is_plain b) (list_all is_plain rest) all in
+    by_feed (b == 10) refl parts.0 (plain-lines rest parts.1)
+  where
+    by_feed : (feed : Bool) → (b == 10) ≡ feed → is_plain b ≡ true → All IsPrintable (text_lines rest) → All IsPrintable (cond feed ([] ∷ text_lines rest) (onto_first b (text_lines rest)))
+    by_feed true at is lines = All-cons IsPrintable [] (text_lines rest) refl lines
+    by_feed false at is lines = printable-onto_first b (text_lines rest) (sym (or-false (is_printable b)) ∙ ap (λ (feed : Bool). is_printable b || feed) (sym at) ∙ is) lines
+
+-- ---- the first word of a text
+
+-- it ends at a space, or with the text
+pub first_ends : (text : List ℕ) (end : ℕ) → end ≤ position_or_len is_space text → end ≤ length text → (end < length text → is_space (get_or text end 0) ≡ true)
+    → position_or_len is_space text ≡ end
+first_ends text end le in_text ends = position_or_len_is is_space text end 0 in_text (λ k lt. fails_before_first is_space text k 0 (omega arith)) ends
+
+-- and goes on at another byte
+pub first_goes_on : (text : List ℕ) (end : ℕ) → end ≤ position_or_len is_space text → end < length text → is_space (get_or text end 0) ≡ false
+    → end < position_or_len is_space text
+first_goes_on text end le lt other = by (nat_lt end n) refl
+  where
+    n : ℕ
+    n = position_or_len is_space text
+
+    by : (b : Bool) → nat_lt end n ≡ b → end < n
+    by true e = grind (arith, nat_tests)
+    by false e =
+        let same : n ≡ end = grind (arith, nat_tests) in
+        let passes = subst (λ (k : ℕ). is_space (get_or text k 0) ≡ true) same (passes_at_first is_space text 0 (omega arith)) in
+        absurd (true≢false (sym passes ∙ other))
+
+-- its bytes are those of the text
+pub first_at : (text : List ℕ) (end : ℕ) → end < position_or_len is_space text → get_or (first_word text) end 0 ≡ get_or text end 0
+first_at text end lt = get_or-take (position_or_len is_space text) text end 0 lt
+
+-- with bytes before it that are no spaces
+pub first-behind : (front text : List ℕ) → list_all is_other front ≡ true → first_word (front ++ text) ≡ front ++ first_word text
+first-behind [] text others = refl
+first-behind (b ∷ front) text others =
+    let parts = and_parts (is_other b) (list_all is_other front) others in
+    let one : 1 + position_or_len is_space (front ++ text) ≡ suc (position_or_len is_space (front ++ text)) = omega arith in
+    ap (λ (other : Bool). take (cond other (1 + position_or_len is_space (front ++ text)) 0) (b ∷ front ++ text)) parts.0
+    ∙ ap (λ (n : ℕ). take n (b ∷ front ++ text)) one ∙ ap (λ (word : List ℕ). b ∷ word) (first-behind front text parts.1)
+
+pub after-behind : (front text : List ℕ) → list_all is_other front ≡ true → after_word (front ++ text) ≡ after_word text
+after-behind [] text others = refl
+after-behind (b ∷ front) text others =
+    let parts = and_parts (is_other b) (list_all is_other front) others in
+    let one : 1 + position_or_len is_space (front ++ text) ≡ suc (position_or_len is_space (front ++ text)) = omega arith in
+    ap (λ (other : Bool). drop (cond other (1 + position_or_len is_space (front ++ text)) 0) (b ∷ front ++ text)) parts.0
+    ∙ ap (λ (n : ℕ). drop n (b ∷ front ++ text)) one ∙ after-behind front text parts.1
+
+-- it is as long as its place says
+pub first_length : (text : List ℕ) → length (first_word text) ≡ position_or_len is_space text
+first_length text = let le = prefix_len-le-length is_other text in length-take-le (position_or_len is_space text) text le
+
+-- what follows it is shorter than the text, but where it is empty
+pub first_full : (text : List ℕ) → length (after_word text) < length text → is_empty (first_word text) ≡ false
+first_full [] lt = absurd (omega arith)
+first_full (b ∷ rest) lt = by (is_space b) lt
+  where
+    by : (space : Bool) → length (drop (cond (not space) (1 + position_or_len is_space rest) 0) (b ∷ rest)) < length (b ∷ rest)
+        → is_empty (take (cond (not space) (1 + position_or_len is_space rest) 0) (b ∷ rest)) ≡ false
+    by true lt = absurd (omega (arith, lt))
+    by false lt = let one : 1 + position_or_len is_space rest ≡ suc (position_or_len is_space rest) = omega arith in rw one refl
+
+pub first_none : (text : List ℕ) → length text ≤ length (after_word text) → first_word text ≡ []
+first_none [] le = refl
+first_none (b ∷ rest) le = by (is_space b) le
+  where
+    by : (space : Bool) → length (b ∷ rest) ≤ length (drop (cond (not space) (1 + position_or_len is_space rest) 0) (b ∷ rest))
+        → take (cond (not space) (1 + position_or_len is_space rest) 0) (b ∷ rest) ≡ []
+    by true le = refl
+    by false le =
+        let one : 1 + position_or_len is_space rest ≡ suc (position_or_len is_space rest) = omega arith in
+        let short : length (b ∷ rest) ≤ length (drop (position_or_len is_space rest) rest) = subst (λ (n : ℕ). length (b ∷ rest) ≤ length (drop n (b ∷ rest))) one le in
+        absurd (omega (arith, short, length-drop (position_or_len is_space rest) rest))
+
+-- a text that begins with such bytes is those and the rest
+pub begins_as : (text front : List ℕ) → bytes_eq (take (length front) text) front ≡ true → text ≡ front ++ drop (length front) text
+begins_as text front is =
+    sym (take-append-drop (length front) text) ∙ ap (λ (begin : List ℕ). begin ++ drop (length front) text) ((bytes_eq-Decides (take (length front) text) front).0 is)
+
+-- where the text does not begin so, its first word does not
+pub first_begins : (text front : List ℕ) → bytes_eq (take (length front) text) front ≡ false → bytes_eq (take (length front) (first_word text)) front ≡ false
+first_begins text front not = false_from_ne_true (bytes_eq (take (length front) (first_word text)) front) (λ is.
+    let word : first_word text ≡ front ++ drop (length front) (first_word text) = begins_as (first_word text) front is in
+    let whole : text ≡ front ++ (drop (length front) (first_word text) ++ after_word text) =
+    sym (take-append-drop (position_or_len is_space text) text) ∙ ap (λ (w : List ℕ). w ++ after_word text) word ∙ append_assoc front (drop (length front) (first_word text)) (after_word text) in
+    let begins : take (length front) text ≡ front = ap (take (length front)) whole ∙ take-append_seam front (drop (length front) (first_word text) ++ after_word text) in
+    true≢false (sym ((bytes_eq-Decides (take (length front) text) front).1 begins) ∙ not))
+
+-- behind such a word and a space are the other words of the line
+pub words-stripped : (word line : List ℕ) → IsWord word → bytes_eq (take (length word) line) word ≡ true → bytes_eq (take 1 (drop (length word) line)) (codes " ") ≡ true
+    → line_words line ≡ word ∷ line_words (drop 1 (drop (length word) line))
+words-stripped [] line (full, others) begins space = absurd (true≢false full)
+words-stripped (b ∷ word) line (full, others) begins space =
+    let behind : List ℕ = drop (length (b ∷ word)) line in
+    let whole : line ≡ b ∷ word ++ behind = begins_as line (b ∷ word) begins in
+    let next : behind ≡ 32 ∷ drop 1 behind = begins_as behind (codes " ") space in
+    let parts = and_parts (is_other b) (list_all is_other word) others in
+    let first : first_word (b ∷ word ++ behind) ≡ b ∷ word =
+    first-behind (b ∷ word) behind others ∙ ap (λ (t : List ℕ). b ∷ word ++ first_word t) next ∙ append-nil (b ∷ word) in
+    let after : line_words (after_word (b ∷ word ++ behind)) ≡ line_words (drop 1 behind) =
+    ap line_words (after-behind (b ∷ word) behind others ∙ ap after_word next) ∙ words-space 32 (drop 1 behind) refl in
+    ap line_words whole ∙ words-word b (word ++ behind) (not-true (is_space b) parts.0) ∙ ap (λ (w : List ℕ). w ∷ line_words (after_word (b ∷ word ++ behind))) first ∙ ap (λ (ws : List (List ℕ)). (b ∷ word) ∷ ws) after

@@ -6,5 +6,7 @@ mod numbers;
 mod words;
 
 pub use digits::hex_bytes;
-pub use numbers::{argument, fuel, number_up_to};
-pub use words::{is_comment, is_printable, next_line, next_word};
+pub use numbers::{fuel, leading_argument, leading_fuel, number_up_to};
+pub use words::{
+    from_word, has_printable_lines, is_comment, is_printable, next_line, next_word, strip_word,
+};

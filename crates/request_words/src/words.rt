@@ -1,6 +1,7 @@
 //! The words of a line.
-ghost use Rattle.std.specs.Prelude.{◌≡◌, ◌==◌, ◌<◌, ◌≤◌, not, [], ◌∷◌, length, take, drop, position, MatchOption, IfSome};
-ghost use Rattle.std.specs.List.{list_all, position_or_len};
+ghost use Rattle.std.specs.Prelude.{◌≡◌, ◌==◌, ◌<◌, ◌≤◌, not, [], ◌∷◌, length, position, true, IsTrue, MatchOption, IfSome};
+ghost use Rattle.std.specs.List.{All, list_all};
+ghost use Rattle.request_words.specs.FirstWords.{IsWord, after_word, first_word};
 ghost use Rattle.request_words.specs.Words.{is_comment, is_printable, line_words, text_lines};
 
 use memchr::memchr;
@@ -58,8 +59,8 @@ fn first_space(text: &[u8]) -> Option<usize>
 
 // The word with which a text begins, and what follows the space behind it.
 fn split_word(text: &[u8]) -> (&[u8], &[u8])
-    ensures word { result.0.now ≡ take (position_or_len (λ b. b == 32) text.now) text.now }
-    ensures rest { line_words result.1.now ≡ line_words (drop (position_or_len (λ b. b == 32) text.now) text.now) }
+    ensures word { result.0.now ≡ first_word text.now }
+    ensures rest { line_words result.1.now ≡ line_words (after_word text.now) }
 {
     match first_space(text) {
         Some(end) => (&text[..end], &text[end + 1..]),
@@ -67,13 +68,33 @@ fn split_word(text: &[u8]) -> (&[u8], &[u8])
     }
 }
 
+/// A line from its first word on, if it has one.
+pub fn from_word(line: &[u8]) -> Option<&[u8]>
+    ensures { MatchOption result (line_words line.now ≡ [])
+        (λ text. line_words line.now ≡ first_word text.now ∷ line_words (after_word text.now)) }
+{
+    let start = word_start(line)?;
+    Some(&line[start..])
+}
+
 /// The first word of a line, and what follows it.
 pub fn next_word(line: &[u8]) -> Option<(&[u8], &[u8])>
     ensures { MatchOption result (line_words line.now ≡ [])
         (λ r. line_words line.now ≡ r.0.now ∷ line_words r.1.now) }
 {
-    let start = word_start(line)?;
-    Some(split_word(&line[start..]))
+    let text = from_word(line)?;
+    Some(split_word(text))
+}
+
+/// What follows this word, which has a byte and no space, where a line begins with it.
+#[inline(always)]
+pub fn strip_word<'a>(line: &'a [u8], word: &[u8]) -> Option<&'a [u8]>
+    requires { IsWord word.now }
+    ensures { IfSome result (λ rest. line_words line.now ≡ word.now ∷ line_words rest.now) }
+{
+    let behind = line.strip_prefix(word)?;
+    let rest = behind.strip_prefix(b" ")?;
+    Some(rest)
 }
 
 /// Whether a line is a comment.
@@ -90,6 +111,17 @@ pub fn is_printable(line: &[u8]) -> bool
     let mut all = true;
     for byte in line {
         all &= b' ' <= *byte && *byte <= b'~';
+    }
+    all
+}
+
+/// Whether each byte of a text is printable ASCII or ends a line. No byte ends the loop early, so that it looks at many in one step.
+pub fn has_printable_lines(text: &[u8]) -> bool
+    ensures { IsTrue result → All (λ line. list_all is_printable line ≡ true) (text_lines text.now) }
+{
+    let mut all = true;
+    for byte in text {
+        all &= (b' ' <= *byte && *byte <= b'~') || *byte == b'\n';
     }
     all
 }

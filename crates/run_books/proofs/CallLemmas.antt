@@ -2,7 +2,7 @@
 use Rattle.std.proofs.Common.{◌≡◌, ℕ, Bool, true, false, List, [], Ok, Err, refl, inl, inr}
 use Rattle.wasm_types.specs.declared.limits.RunLimits.{RunLimits}
 use Rattle.wasm_types.specs.Tree.{ModuleTree}
-use Rattle.request_text.specs.declared.invocation.Invocation.{Invocation}
+use Rattle.request_calls.specs.declared.invocation.Invocation.{Invocation}
 use Rattle.pool_host.specs.declared.lane.LaneAnswer.{LaneAnswer}
 use Rattle.pool_host.specs.declared.lane.LaneAnswer.TheVariants as lane
 use Rattle.pool_model.specs.Contents.{Named}
@@ -10,9 +10,9 @@ use Rattle.pool_host.specs.CallWords.{IsAnswer, is_retired}
 use Rattle.report_text.specs.declared.report.ModuleLine.{ModuleLine}
 use Rattle.report_text.specs.declared.report.CallLine.{CallLine}
 use Rattle.report_text.specs.declared.report.CallLine.TheVariants as call_line
-use Rattle.request_text.specs.Invocations.{sent_by, shown_of}
+use Rattle.request_calls.specs.Invocations.{sent_by, shown_of}
 use Rattle.run_books.specs.Collected.{answer_line}
-use Rattle.run_books.specs.Lines.{IsCallLine, Limits, ShowsAsked, run_limits}
+use Rattle.run_books.specs.Lines.{IsCallLine, Limits, ShowsAsked}
 use Rattle.run_books.specs.Entries.{Entry, IsEntry}
 
 -- the lane answers a call of a module that isn't retired so, and the line is that of the answer
@@ -42,11 +42,11 @@ as_answered m limits asked line shown = elim shown [
 
 module _ (limits : Limits) (bytes : List ℕ) (e : Entry) where
   pub accepted_call : (named : Named) (invocation : Invocation) (a : LaneAnswer) (said : List ℕ) (line : CallLine) → e ≡ Ok named → IsEntry limits bytes e
-      → IsAnswer named.tree (run_limits limits) invocation.export invocation.args (sent_by invocation) invocation.fuel a said → is_retired a ≡ false
+      → IsAnswer named.tree limits.run invocation.export invocation.args (sent_by invocation) invocation.fuel a said → is_retired a ≡ false
       → line ≡ answer_line a (shown_of invocation said) → IsCallLine limits bytes false invocation line
   accepted_call named invocation a said line is h answer free shows =
       let k : IsEntry limits bytes (Ok named) = rw is at h in
-      record { loaded = Ok named.tree; loads = k; shows = shows_answered named.tree (run_limits limits) invocation a said line answer free shows }
+      record { loaded = Ok named.tree; loads = k; shows = shows_answered named.tree limits.run invocation a said line answer free shows }
 
   pub retired_call : (named : Named) (invocation : Invocation) → e ≡ Ok named → IsEntry limits bytes e → IsCallLine limits bytes true invocation call_line.Retired
   retired_call named invocation is h =

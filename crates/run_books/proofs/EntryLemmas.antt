@@ -19,15 +19,15 @@ use Rattle.request_text.specs.declared.request.Directive.{Directive}
 use Rattle.request_text.specs.declared.request.Directive.TheVariants.{Module, Call, Retire}
 use Rattle.report_text.specs.declared.report.ModuleLine.{ModuleLine}
 use Rattle.request_text.specs.Text.{module_bytes, module_names, modules_of}
-use Rattle.run_books.specs.Lines.{Limits, load_limits}
+use Rattle.run_books.specs.Lines.{Limits}
 use Rattle.run_books.specs.Entries.{AreEntries, AreKept, AreTagged, Entry, IsEntered, IsEntry, IsEntryOf, TakesTag, is_module}
 use Rattle.run_books.specs.Books.{AreEntered}
 use Rattle.request_text.proofs.PlaceLemmas.{slice_get-append}
 use Rattle.run_books.proofs.PlaceLemmas.{module_counts, modules_next, no_module}
 
 -- what became of a module is its entry
-pub entry_of_loaded : (limits : Limits) (bytes : List ℕ) (loaded : Result Named LoadFault) (r : Result Entry NoMemory) → IfOk loaded (λ named. Loads limits.profile bytes (load_limits limits) (Ok named.tree))
-    → IfErr loaded (IsRefusal limits.profile bytes (load_limits limits)) → IsEntryOf loaded r → IfOk r (IsEntry limits bytes)
+pub entry_of_loaded : (limits : Limits) (bytes : List ℕ) (loaded : Result Named LoadFault) (r : Result Entry NoMemory) → IfOk loaded (λ named. Loads limits.profile bytes limits.load (Ok named.tree))
+    → IfErr loaded (IsRefusal limits.profile bytes limits.load) → IsEntryOf loaded r → IfOk r (IsEntry limits bytes)
 entry_of_loaded limits bytes (Ok named) r loads h is = rw is loads
 entry_of_loaded limits bytes (Err fault.TooMany) r loads h is = absurd is
 entry_of_loaded limits bytes (Err fault.Malformed) r loads h is = rw is (loading.Malformed, h, refl)

@@ -4,3 +4,4 @@ pub mod DueLemmas
 pub mod EntryLemmas
 pub mod PlaceLemmas
 pub mod PutLemmas
+pub mod QuietLemmas

@@ -9,7 +9,7 @@ use Rattle.pool_model.specs.Contents.{Named}
 use Rattle.request_text.specs.declared.request.Directive.{Directive}
 use Rattle.request_text.specs.declared.request.Directive.TheVariants.{Module, Call, Retire}
 use Rattle.run_books.specs.declared.books.Registry.{Registry}
-use Rattle.run_books.specs.Lines.{Limits, load_limits, loading_line}
+use Rattle.run_books.specs.Lines.{Limits, loading_line}
 use Rattle.report_text.specs.declared.report.ModuleLine.{ModuleLine}
 use Rattle.report_text.specs.declared.report.ModuleLine.TheVariants as module_line
 
@@ -36,8 +36,8 @@ IsEntryOf (Err fault.NoMemory) entry = IsErr entry
 
 -- an entry for the module line of these bytes
 abbrev pub IsEntry : Limits → List ℕ → Entry → Type 0
-IsEntry limits bytes (Ok named) = Loads limits.profile bytes (load_limits limits) (Ok named.tree)
-IsEntry limits bytes (Err line) = (why : Refusal) × Loads limits.profile bytes (load_limits limits) (Err why) × (line ≡ loading_line (Err why))
+IsEntry limits bytes (Ok named) = Loads limits.profile bytes limits.load (Ok named.tree)
+IsEntry limits bytes (Err line) = (why : Refusal) × Loads limits.profile bytes limits.load (Err why) × (line ≡ loading_line (Err why))
 
 -- one for each of these modules, in their order
 abbrev pub AreEntries : Limits → List (List ℕ) → List Entry → Type 0

@@ -4,7 +4,7 @@ use Rattle.wasm_types.specs.declared.limits.LoadLimits.{LoadLimits}
 use Rattle.std.specs.Prelude.{◌≡◌, ◌⊎◌, ℕ, Bool, true, false, List, Option, Some, Result, Ok, Err, slice_get}
 use Rattle.wasm_values.specs.declared.outcome.Outcome.{Outcome}
 use Rattle.wasm_values.specs.declared.outcome.Outcome.TheVariants as outcome
-use Rattle.request_text.specs.declared.invocation.Invocation.{Invocation}
+use Rattle.request_calls.specs.declared.invocation.Invocation.{Invocation}
 use Rattle.wasm_values.specs.declared.profile.Profile.{Profile}
 use Rattle.wasm_types.specs.Tree.{ModuleTree}
 use Rattle.wasm_spec.specs.Loading as loading
@@ -15,24 +15,17 @@ use Rattle.report_text.specs.declared.report.ModuleLine.{ModuleLine}
 use Rattle.report_text.specs.declared.report.ModuleLine.TheVariants as module_line
 use Rattle.report_text.specs.declared.report.CallLine.{CallLine}
 use Rattle.report_text.specs.declared.report.CallLine.TheVariants as call_line
-use Rattle.request_text.specs.Invocations.{sent_by, shown_of}
+use Rattle.request_calls.specs.Invocations.{sent_by, shown_of}
 
 -- the profile of WebAssembly in which a module is read, and what bounds it and its calls: nothing else of a configuration does
 pub record Limits : Type 0 where
   pub profile : Profile
-  pub pages : ℕ
-  pub elements : ℕ
-  pub depth : ℕ
-  pub frame : ℕ
+  pub load : LoadLimits
+  pub run : RunLimits
 
 abbrev pub limits_in : Profile → Numbers → Limits
-limits_in profile n = record { profile = profile; pages = n.pages; elements = n.elements; depth = n.depth; frame = n.frame }
-
-abbrev pub load_limits : Limits → LoadLimits
-load_limits l = record { pages = l.pages; elements = l.elements; frame = l.frame }
-
-abbrev pub run_limits : Limits → RunLimits
-run_limits l = record { pages = l.pages; depth = l.depth }
+limits_in profile n =
+    record { profile = profile; load = record { pages = n.pages; elements = n.elements; frame = n.frame }; run = record { pages = n.pages; depth = n.depth } }
 
 -- ---- the line of a module
 
@@ -67,13 +60,13 @@ ShowsAsked m limits asked line = (LacksExport m asked.export × (line ≡ call_l
 abbrev pub ShowsCall : Limits → (retired : Bool) → Result ModuleTree Refusal → Invocation → CallLine → Type 0
 ShowsCall limits retired (Err refusal) invocation line = line ≡ call_line.NoModule
 ShowsCall limits true (Ok m) invocation line = line ≡ call_line.Retired
-ShowsCall limits false (Ok m) invocation line = ShowsAsked m (run_limits limits) invocation line
+ShowsCall limits false (Ok m) invocation line = ShowsAsked m limits.run invocation line
 
 -- How a call goes: this is fixed by the limits, its profile of WebAssembly, the bytes of its module, whether the module is retired before it, and
 -- what is asked of it.
 pub record IsCallLine (limits : Limits) (bytes : List ℕ) (retired : Bool) (invocation : Invocation) (line : CallLine) : Type 0 where
   pub loaded : Result ModuleTree Refusal
-  pub loads : Loads limits.profile bytes (load_limits limits) loaded
+  pub loads : Loads limits.profile bytes limits.load loaded
   pub shows : ShowsCall limits retired loaded invocation line
 
 -- how the call of the module at this place among the module lines goes, where it is retired or not

@@ -169,10 +169,10 @@ module _ {N : Type 0} {G : Ghosts N} where
       -- a call that began
       pub begun_slice : (turns : ℕ) (m : Named) (due : Due) (before : HostPass N G) (after : Paused N G)
           → IsReady config host m due.invocation.export due.invocation.args due.invocation.fuel due.number before.passes after
-          → Looked host.retired.tags m.tag before.retired after.retired (Some false) → 0 < due.number → slice_get calls (due.number - 1) ≡ Some due → due.invocation.request ≡ None
+          → Looked host.retired.tags m.tag before.retired after.retired (Some false) → 0 < due.number → slice_get calls (due.number - 1) ≡ Some due → due.invocation.request ≡ None → due.invocation.shows ≡ false
           → (due.number < 4294967296) × (due.invocation.fuel < 4294967296)
           → IsSliceOf config host calls turns (queued.Idle before) (due.number, Some m) (record { queued = queued.Paused after; entry = Ok None })
-      begun_slice turns m due before after h look counted there unsent small = record {
+      begun_slice turns m due before after h look counted there unsent quiet small = record {
         fits = record {
           pools = h.own.pools;
           tags = h.own.tags;
@@ -181,6 +181,7 @@ module _ {N : Type 0} {G : Ghosts N} where
             due = due;
             due_is = rw h.number_is there;
             unsent = unsent;
+            quiet = quiet;
             function = h.function;
             may = rw h.begun.named_is h.may;
             call = record { named_is = refl; function_is = h.begun.function_is; fuel_is = h.begun.fuel_is; args_are = h.begun.args_are };
@@ -204,6 +205,7 @@ module _ {N : Type 0} {G : Ghosts N} where
                 due = call.due;
                 due_is = rw again.number_is call.due_is;
                 unsent = call.unsent;
+                quiet = call.quiet;
                 function = call.function;
                 may = rw on.named call.may;
                 call = record { named_is = refl; function_is = on.function ∙ call.call.function_is; fuel_is = on.fuel ∙ call.call.fuel_is; args_are = on.args ∙ call.call.args_are };
@@ -233,7 +235,7 @@ module _ {N : Type 0} {G : Ghosts N} where
                 shows = ended.ends.ends;
                 answers = ended.ends.answers;
               },
-              rw call.unsent refl,
+              rw call.quiet refl,
             );
           }
 

@@ -1,5 +1,5 @@
 -- What goes round among workers that make calls in slices.
-use Rattle.std.specs.Prelude.{◌≡◌, ◌↔◌, ℕ, ◌-◌, ◌*◌, ◌<◌, List, [], ◌∷◌, flat_map, None, Some, slice_get}
+use Rattle.std.specs.Prelude.{◌≡◌, ◌↔◌, ℕ, ◌-◌, ◌*◌, ◌<◌, List, [], ◌∷◌, false, flat_map, None, Some, slice_get}
 use Rattle.module_store.specs.declared.naming.Naming.{Ghosts}
 use Rattle.retired_tags.specs.Passes.{IsTagPass, TagPass}
 use Rattle.pool_host.specs.declared.host.Host.{Host}
@@ -15,12 +15,13 @@ use Rattle.slice_workers.specs.declared.queued.Queued.{Queued}
 use Rattle.slice_workers.specs.declared.queued.Queued.TheVariants as queued
 use Rattle.call_jobs.specs.Entries.{Pair}
 
--- what is paused is the call of this number among these, which is sent nothing; its number and its fuel are of 32 bits
+-- what is paused is the call of this number among these, which is sent nothing, and whose line shows no bytes; its number and its fuel are of 32 bits
 pub record IsCallIn (calls : List Due) (number : ℕ) (v : PausedView) : Type 0 where
   pub counted : 0 < number
   pub due : Due
   pub due_is : slice_get calls (number - 1) ≡ Some due
   pub unsent : due.invocation.request ≡ None
+  pub quiet : due.invocation.shows ≡ false
   pub function : ℕ
   pub may : MayCall v.named.tree due.invocation.export function due.invocation.args
   pub call : IsCallOf v.named function due.invocation.args due.invocation.fuel v

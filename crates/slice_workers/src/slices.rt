@@ -1,6 +1,6 @@
 //! The slices of calls.
-ghost use Rattle.std.specs.Prelude.{◌≡◌, ℕ, ◌-◌, ◌^◌, ◌<◌, ◌≤◌, None, Some, Ok, IfOk, length, slice_get};
-ghost use Rattle.request_text.specs.Invocations.{shown_of};
+ghost use Rattle.std.specs.Prelude.{◌≡◌, ℕ, ◌-◌, ◌^◌, ◌<◌, ◌≤◌, None, Some, Ok, IfOk, false, length, slice_get};
+ghost use Rattle.request_calls.specs.Invocations.{shown_of};
 ghost use Rattle.pool_host.specs.Hosts.{IsHostPass};
 ghost use Rattle.slice_workers.specs.Queued.{IsPausedIn, paused_pair};
 ghost use Rattle.slice_workers.specs.Slices.{HasTried, IsSliceOf, full_in, full_kind};
@@ -47,7 +47,7 @@ fn answered<N: Naming>(pass: HostPass<N>, number: u32, answer: Option<Answer>) -
     }
 }
 
-// Begins a call that is sent nothing.
+// Begins a call that is sent nothing, and whose line shows no bytes.
 fn begin<N: Naming, G: Gate>(
     shared: &SliceShared<N>,
     pass: HostPass<N>,
@@ -60,6 +60,7 @@ fn begin<N: Naming, G: Gate>(
     requires counted { 0 < due.now.number }
     requires due { slice_get shared.now.calls.items (due.now.number - 1) ≡ Some due.now }
     requires unsent { due.now.invocation.request ≡ None }
+    requires quiet { due.now.invocation.shows ≡ false }
     ensures { (turns : ℕ) → IsSliceOf N.config shared.now.host shared.now.calls.items turns (Queued.Idle pass) (due.now.number, Some called.now) result }
 {
     // A count of 32 bits, as the fuel of a paused call is.
@@ -123,7 +124,7 @@ fn send<N: Naming, G: Gate>(
     }
 }
 
-// Begins the call of this number, if it has a module. One that is sent bytes is made whole.
+// Begins the call of this number, if it has a module. One that is sent bytes, or whose line shows some, is made whole.
 fn begin_call<N: Naming, G: Gate>(
     alloc: Global,
     shared: &SliceShared<N>,
@@ -141,9 +142,9 @@ fn begin_call<N: Naming, G: Gate>(
     let due = due_at(&shared.calls, number);
     match item {
         None => answered(pass, number, None),
-        Some(called) => match &due.invocation.request {
-            Some(_) => send(alloc, shared, pass, store, called, due, gate),
-            None => begin(shared, pass, store, called, due, gate),
+        Some(called) => match (&due.invocation.request, due.invocation.shows) {
+            (None, false) => begin(shared, pass, store, called, due, gate),
+            _ => send(alloc, shared, pass, store, called, due, gate),
         },
     }
 }

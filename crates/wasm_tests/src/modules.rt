@@ -30,6 +30,9 @@ const SPELLED: &[(&[u8], bool, bool)] = &[
     (b"\x03\x01\0\x01\x01\0", false, false),
     (b"\x01\x01\0\x01\x01\0", false, false),
     (b"\x7f\x01\0", false, false),
+    // a count of five bytes; one of more than 32 bits
+    (b"\x01\x05\x80\x80\x80\x80\0", true, true),
+    (b"\x01\x05\x80\x80\x80\x80\x10", false, false),
     // a type; a function without code; code without a function
     (b"\x01\x04\x01\x60\0\0", true, true),
     (b"\x01\x04\x01\x60\0\0\x03\x02\x01\0", false, false),
@@ -292,6 +295,24 @@ fn modules_are_valid_or_refused(rt: HostRuntime) {
     for (after, need) in CHECKED {
         assert_eq!(rt; last_need(&rt, rt.alloc(), after), *need, "{after:?}");
     }
+}
+
+// What follows the magic bytes and the version: a block around an `if` with an `else`, and behind it an `if` without one.
+const BLOCKS: &[u8] =
+    b"\x01\x04\x01\x60\0\0\x03\x02\x01\0\x0a\x15\x01\x13\0\x02\x40\x41\0\x04\x40\x01\x05\x01\x0b\x0b\x41\0\x04\x40\x01\x0b\x0b";
+
+// How many sequences the body of a module's first function has.
+fn sequences_of<R: Abort>(rt: &R, alloc: Global, after: &[u8]) -> Option<usize> {
+    let bytes = module(rt, alloc, after);
+    let module = decode(alloc, Profile::One, bytes.as_slice()).expect(rt, "decoded");
+    let function = module.functions.as_slice().first()?;
+    Some(function.body.sequences.len())
+}
+
+// One for the body and for the block, and two for each `if`.
+#[test]
+fn a_body_has_the_sequences_of_its_blocks_and_no_more(rt: HostRuntime) {
+    assert_eq!(rt; sequences_of(&rt, rt.alloc(), BLOCKS), Some(6));
 }
 
 // 50,000 `if`s, each in the second arm of the one around it.

@@ -30,6 +30,7 @@ const NUMBERS: &[(Number, &[u8], Result<i64, Malformed>)] = &[
     (U32, b"\xff\xff\xff\xff\x01", Ok(536870911)),
     (U32, b"\xff\xff\xff\xff\x0f", Ok(4294967295)),
     (U32, b"\xff\xff\xff\xff\x10", NONE),
+    (U32, b"\x80\x80\x80\x80\x10", NONE),
     (U32, b"\xff\xff\xff\xff\x1f", NONE),
     (U32, b"\xff\xff\xff\xff\x40", NONE),
     (U32, b"\xff\xff\xff\xff\x7f", NONE),

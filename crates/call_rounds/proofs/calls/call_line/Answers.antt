@@ -4,8 +4,8 @@ use Rattle.retired_tags.specs.Passes.{steps}
 use Rattle.tenant_share.proofs.RetiringLemmas.{still_knows}
 use Rattle.instance_calls.specs.CallWords.{run_limits}
 use Rattle.pool_host.specs.CallWords.{IsAnswer}
-use Rattle.request_text.specs.Invocations.{shown_of}
-use Rattle.request_text.proofs.InvocationLemmas.{asked_so}
+use Rattle.request_calls.specs.Invocations.{shown_of}
+use Rattle.request_calls.proofs.InvocationLemmas.{asked_so}
 use Rattle.run_books.specs.Put.{module_of}
 use Rattle.run_books.specs.Collected.{answer_line}
 use Rattle.run_books.specs.Lines.{limits_in}

@@ -1,7 +1,7 @@
 use Rattle.std.proofs.Common.{◌∙◌, List, ℕ, ap, sym}
 use Rattle.std.proofs.lemmas.Option.{same_Some}
-use Rattle.request_text.specs.Invocations.{shown_of}
-use Rattle.request_text.proofs.InvocationLemmas.{asked_so}
+use Rattle.request_calls.specs.Invocations.{shown_of}
+use Rattle.request_calls.proofs.InvocationLemmas.{asked_so}
 use Rattle.instance_calls.specs.CallWords.{run_limits}
 use Rattle.pool_host.specs.CallWords.{IsHostAnswer}
 use Rattle.tenant_share.specs.Tenants.{answer_of}

@@ -1,6 +1,7 @@
-use Rattle.std.proofs.Common.{◌+◌, ◌∙◌, ap, arith}
+use Rattle.std.proofs.Common.{◌+◌, ◌∙◌, ap, sym, arith}
+use Rattle.std.proofs.lemmas.List.Elements.{All-head, All-rest, All-same}
 use Rattle.request_text.specs.Text.{requests_from}
-use Rattle.request_text.proofs.LineLemmas.{bytes_left, fewer_left, first_line, lines_left, one_read, one_refused}
+use Rattle.request_text.proofs.LineLemmas.{IsPrintable, bytes_left, fewer_left, first_line, lines_left, one_read, one_refused}
 use Rattle.request_text.proofs.parser.read_lines.Goals as goal
 
 pub loop-left-preserved : goal.loop-left-preserved
@@ -13,7 +14,14 @@ loop-left-preserved c =
     record {
       lines = one_read n c.loop-left.number c.loop-left.reading c.read.new.self _ _ _ (c.loop-left.invariant.lines ∙ ap (requests_from n (c.loop-left.number + 1) c.loop-left.reading) is) c.in-Ok.ensures;
       room = omega (arith, fewer, size, c.loop-left.invariant.room);
+      printable = λ known. All-rest IsPrintable _ _ _ is (c.loop-left.invariant.printable known);
     }
+
+pub read-requires : goal.read-requires
+read-requires c known =
+    let rest = c.in-Some.rest.now in
+    let is = ap lines_left c.in-Some.is ∙ first_line rest _ _ c.next_line.ensures.lines in
+    All-head IsPrintable _ _ (All-same IsPrintable _ _ (sym is) (c.loop-left.invariant.printable known))
 
 pub returns-in-Err-clause-refused : goal.returns-in-Err-clause-refused
 returns-in-Err-clause-refused c =

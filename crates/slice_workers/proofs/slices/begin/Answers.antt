@@ -16,7 +16,7 @@ returns-in-NoExport g c = λ turns.
       number_is = refl;
       due = c.args.due.now;
       due_is = c.requires.due;
-      answered = ([], (rw c.call-call.ensures.export at begun.cause.0, refl), rw c.requires.unsent refl);
+      answered = ([], (rw c.call-call.ensures.export at begun.cause.0, refl), rw c.requires.quiet refl);
     })
     refused
 
@@ -29,7 +29,7 @@ returns-in-BadArgs g c = λ turns.
       number_is = refl;
       due = c.args.due.now;
       due_is = c.requires.due;
-      answered = ([], (rw (c.call-call.ensures.export, c.call-call.ensures.args) at begun.cause.0, refl), rw c.requires.unsent refl);
+      answered = ([], (rw (c.call-call.ensures.export, c.call-call.ensures.args) at begun.cause.0, refl), rw c.requires.quiet refl);
     })
     refused
 
@@ -42,7 +42,7 @@ returns-in-Retired g c = λ turns.
       number_is = refl;
       due = c.args.due.now;
       due_is = c.requires.due;
-      answered = ([], (begun.cause.0.0, rw (c.call-call.ensures.export, c.call-call.ensures.args) at begun.cause.0.1, refl), rw c.requires.unsent refl);
+      answered = ([], (begun.cause.0.0, rw (c.call-call.ensures.export, c.call-call.ensures.args) at begun.cause.0.1, refl), rw c.requires.quiet refl);
     })
     refused
 
@@ -55,7 +55,7 @@ returns-in-Full g c = λ turns.
       number_is = refl;
       due = c.args.due.now;
       due_is = c.requires.due;
-      answered = ([], (begun.cause.0.0, rw (c.call-call.ensures.export, c.call-call.ensures.args) at begun.cause.0.1, refl), rw c.requires.unsent refl);
+      answered = ([], (begun.cause.0.0, rw (c.call-call.ensures.export, c.call-call.ensures.args) at begun.cause.0.1, refl), rw c.requires.quiet refl);
     })
     refused
 
@@ -63,4 +63,4 @@ pub returns-in-Ready : goal.returns-in-Ready
 returns-in-Ready g c = λ turns.
     let begun = rw (c.call-call.ensures.export, c.call-call.ensures.args, c.call-call.ensures.fuel) at c.in-Ready.ensures.begun in
     begun_slice g.N.Naming.config c.args.shared.now.host c.args.shared.now.calls.items turns c.args.called.now c.args.due.now c.args.pass c.in-Ready.paused begun c.in-Ready.ensures.looked
-    c.requires.counted c.requires.due c.requires.unsent (search rules)
+    c.requires.counted c.requires.due c.requires.unsent c.requires.quiet (search rules)

@@ -8,8 +8,8 @@ returns-in-None g c = λ turns.
     rw c.in-None.is (answered_slice g.N.Naming.config c.args.shared.now.host c.args.shared.now.calls.items turns (queued.Idle c.args.pass) (c.args.number, None) _ _ _ c.answered.ensures.queued c.answered.ensures.entry
     c.requires.pass (record { number_is = refl; due = c.due_at-due.result.now; due_is = search (rules, c.due_at-due.ensures.there); answered = (refl, refl) }) refl)
 
-pub returns-in-Some-request : goal.returns-in-Some-request
-returns-in-Some-request g c = rw (c.in-Some.is, sym c.due_at-due.ensures.number) c.send.ensures
+pub returns-in_default : goal.returns-in_default
+returns-in_default g c = rw (c.in-Some.is, sym c.due_at-due.ensures.number) c.send.ensures
 
 pub begin-requires-clause-counted : goal.begin-requires-clause-counted
 begin-requires-clause-counted g c κs within =
@@ -17,5 +17,5 @@ begin-requires-clause-counted g c κs within =
     let counted = c.requires.counted in
     omega arith
 
-pub returns-in-None-request : goal.returns-in-None-request
-returns-in-None-request g c = rw (c.in-Some.is, sym c.due_at-due.ensures.number) c.begin.ensures
+pub returns-in-None-false : goal.returns-in-None-false
+returns-in-None-false g c = rw (c.in-Some.is, sym c.due_at-due.ensures.number) c.begin.ensures

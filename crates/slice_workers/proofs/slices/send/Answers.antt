@@ -1,8 +1,8 @@
 use Rattle.std.proofs.Common.{Some, ap, refl}
 use Rattle.instance_calls.specs.CallWords.{run_limits}
 use Rattle.pool_host.specs.CallWords.{IsHostAnswer}
-use Rattle.request_text.specs.Invocations.{shown_of}
-use Rattle.request_text.proofs.InvocationLemmas.{asked_so}
+use Rattle.request_calls.specs.Invocations.{shown_of}
+use Rattle.request_calls.proofs.InvocationLemmas.{asked_so}
 use Rattle.slice_workers.proofs.SliceLemmas.{whole_slice}
 use Rattle.slice_workers.proofs.slices.send.Goals as goal
 

@@ -1,16 +1,15 @@
 -- What a call is sent, and what its line shows of the bytes that it answered.
-use Rattle.std.specs.Prelude.{◌≡◌, ℕ, List, [], Option, unwrap_or}
-use Rattle.std.specs.Option.{option_map}
+use Rattle.std.specs.Prelude.{◌≡◌, ℕ, List, [], Option, None, Some, if◌then◌else◌, unwrap_or}
 use Rattle.call_payload.specs.declared.call.Call.{Call}
-use Rattle.request_text.specs.declared.invocation.Invocation.{Invocation}
+use Rattle.request_calls.specs.declared.invocation.Invocation.{Invocation}
 
 -- the bytes that a call is sent: none by a `call` line
 abbrev pub sent_by : Invocation → List ℕ
 sent_by invocation = unwrap_or invocation.request []
 
--- a `send` line shows all bytes that the call answered, and a `call` line says nothing of them
+-- a line shows all bytes that the call answered, or says nothing of them
 abbrev pub shown_of : Invocation → (bytes : List ℕ) → Option (List ℕ)
-shown_of invocation bytes = option_map (λ request. bytes) invocation.request
+shown_of invocation bytes = if invocation.shows then Some bytes else None
 
 -- the call asks what the line does
 pub record Asks (invocation : Invocation) (call : Call) : Type 0 where

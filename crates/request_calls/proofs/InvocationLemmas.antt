@@ -2,8 +2,8 @@
 use Rattle.std.proofs.Common.{ℕ, List, subst}
 use Rattle.wasm_values.specs.declared.outcome.Val.{Val}
 use Rattle.call_payload.specs.declared.call.Call.{Call}
-use Rattle.request_text.specs.declared.invocation.Invocation.{Invocation}
-use Rattle.request_text.specs.Invocations.{Asks, sent_by}
+use Rattle.request_calls.specs.declared.invocation.Invocation.{Invocation}
+use Rattle.request_calls.specs.Invocations.{Asks, sent_by}
 
 -- a fact of what the call asks is one of what the line does
 pub asked_so : (P : (export : List ℕ) → (args : List Val) → (request : List ℕ) → (fuel : ℕ) → Type 0) (line : Invocation) (call : Call) → Asks line call

@@ -1,18 +1,21 @@
 //! What a line asks of a module.
 ghost use Rattle.std.specs.Prelude.{◌≡◌, ◌≤◌, IfOk, length};
-ghost use Rattle.request_text.specs.Invocations.{sent_by, shown_of, Asks};
+ghost use Rattle.request_calls.specs.Invocations.{sent_by, shown_of, Asks};
 
+use crate::short_lists::{Arguments, ExportName};
 use call_payload::{Call, MOST_REQUEST, Payload};
 use std::alloc::Global;
-use wasm_values::{Items, NoMemory, Val};
+use wasm_values::{Items, NoMemory};
 
 /// A call of an export, on this fuel, in instructions, with these arguments.
 pub struct Invocation {
-    pub export: Items<u8>,
+    pub export: ExportName,
     pub fuel: u32,
-    /// The bytes that a `send` line sends. A `call` line sends none, and its answer shows none.
+    /// The bytes that a `send` line sends. A `call` line sends none.
     pub request: Option<Payload>,
-    pub args: Items<Val>,
+    /// Whether the line of the report shows the bytes that it answers.
+    pub shows: bool,
+    pub args: Arguments,
 }
 
 impl Drop for Invocation {
@@ -21,6 +24,7 @@ impl Drop for Invocation {
             export: _,
             fuel: _,
             request: _,
+            shows: _,
             args: _,
         } = self;
     }
@@ -60,7 +64,7 @@ impl Invocation {
         }
     }
 
-    /// What the line shows of the bytes that the call answered: a copy where it was sent a request, and else nothing.
+    /// What the line shows of the bytes that the call answered: a copy of them, or nothing.
     ///
     /// # Errors
     ///
@@ -68,13 +72,11 @@ impl Invocation {
     pub fn shown(&self, alloc: Global, bytes: &[u8]) -> Result<Option<Items<u8>>, NoMemory>
         ensures { IfOk result (λ shown. shown ≡ shown_of self.now bytes.now) }
     {
-        match self.request {
-            Some(_) => {
-                let copy = bytes.to_vec(alloc).map_err(|_| NoMemory)?;
-                Ok(Some(Items::new(copy)))
-            }
-            None => Ok(None),
+        if !self.shows {
+            return Ok(None);
         }
+        let copy = bytes.to_vec(alloc).map_err(|_| NoMemory)?;
+        Ok(Some(Items::new(copy)))
     }
 
     /// A copy of what is asked.
@@ -85,13 +87,14 @@ impl Invocation {
     pub fn copy(&self, alloc: Global) -> Result<Invocation, NoMemory>
         ensures { IfOk result (λ copy. copy ≡ self.now) }
     {
-        let export = self.export.as_slice().to_vec(alloc).map_err(|_| NoMemory)?;
-        let args = self.args.as_slice().to_vec(alloc).map_err(|_| NoMemory)?;
+        let export = ExportName::from_slice(alloc, self.export.as_slice()).map_err(|_| NoMemory)?;
+        let args = self.args.copy(alloc).map_err(|_| NoMemory)?;
         Ok(Invocation {
-            export: Items::new(export),
+            export,
             fuel: self.fuel,
             request: copied(alloc, &self.request)?,
-            args: Items::new(args),
+            shows: self.shows,
+            args,
         })
     }
 }
