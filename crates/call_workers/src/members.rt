@@ -7,10 +7,18 @@ use tenant_share::Caller;
 use wasm_values::NoMemory;
 
 /// What lives across rounds: what workers share, and a caller for each worker.
-#[derive(Drop)]
 pub struct Crew<N: Naming> {
     pub shared: Shared<N>,
     pub callers: Vec<Caller<N>>,
+}
+
+impl<N: Naming> Drop for Crew<N> {
+    fn drop(self) {
+        let Crew {
+            shared: _,
+            callers: _,
+        } = self;
+    }
 }
 
 /// What a worker works with: its pass of each tenant, and its pass of the round's queue.

@@ -147,7 +147,7 @@ const DONE: Answer = Answer::Done(ONE);
 const FIVE: Answer = Answer::Done(Outcome::Done(Some(Val::I32(5))));
 
 // Of one memory, which call 1 has; of two; and of two, where call 2 is of a module that is registered beside call 1.
-const ROWS: [(u32, bool, Answer); 3] = [
+static ROWS: [(u32, bool, Answer); 3] = [
     (1, false, Answer::Full(Kind::Memory)),
     (2, false, DONE),
     (2, true, FIVE),
@@ -156,7 +156,7 @@ const ROWS: [(u32, bool, Answer); 3] = [
 #[test]
 fn a_call_is_made_or_finds_no_memory_beside_a_held_call(rt: HostRuntime) {
     let alloc = rt.alloc();
-    for (memories, adds, second) in ROWS {
+    for &(memories, adds, second) in &ROWS {
         let opened = open(&rt, alloc, 2, 4);
         let ends = held::<Brand, HostRuntime>(&rt, alloc, opened, memories, adds);
         assert_eq!(rt; ends, ([DONE, second, DONE], [0, 0, 0]));

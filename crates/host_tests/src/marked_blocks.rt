@@ -137,7 +137,7 @@ type Row = (usize, &'static str, usize, u32, u64, Outcome, u32);
 
 const NONE: Outcome = Outcome::Done(None);
 
-const ROWS: [Row; 7] = [
+static ROWS: [Row; 7] = [
     (0, "bump", 0, 0, 100, ONE, 1),
     (1, "poke", 2, 4094, 100, NONE, 2),
     (1, "poke", 2, 4092, 100, NONE, 1),

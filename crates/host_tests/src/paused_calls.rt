@@ -160,7 +160,7 @@ fn ended<N: Naming, R: Abort>(
 // The fuel of a call that counts down from 3, its slices, the last one, how it ends, and what it leaves of its fuel.
 type Sliced = (u64, &'static [u64], u64, Outcome, u64);
 
-const ROWS: [Sliced; 5] = [
+static ROWS: [Sliced; 5] = [
     (19, &[5, 5, 5], 5, Outcome::Done(Some(Val::I32(0))), 0),
     (19, &[0, 18], 1, Outcome::Done(Some(Val::I32(0))), 0),
     (25, &[5, 5, 5], 9, Outcome::Done(Some(Val::I32(0))), 6),
@@ -202,8 +202,8 @@ fn check_slices<N: Naming, R: Abort + Wait>(rt: &R, alloc: Global, opened: Opene
     let bytes = COUNTING.as_slice();
     let module = register(rt, alloc, &store, &mut desk, Profile::One, bytes);
     let (host, mut pass, _other) = two_callers(rt, alloc, &store, 1);
-    for row in ROWS {
-        let (outcome, back) = in_slices(rt, &host, pass, &store, &module, row);
+    for row in &ROWS {
+        let (outcome, back) = in_slices(rt, &host, pass, &store, &module, *row);
         assert_eq!(rt; (outcome, back.left()), (row.3, row.4), "in {row:?}");
         pass = back;
     }

@@ -10,6 +10,10 @@ use Rattle.wasm_values.specs.declared.profile.Profile.{Profile}
 use Rattle.wasm_values.specs.declared.profile.Profile.TheVariants.{One, Two}
 use Rattle.wasm_spec.specs.InstrGrammar.{Shape, NotPlain, added, first_opcodes, numeric, opcodes, shape}
 
+-- the shape of an opcode that is known
+pub known : (opcode n : ℕ) → opcode ≡ n → shape One opcode ≡ shape One n
+known opcode n is = ap (shape One) is
+
 -- the shapes of so many opcodes in a row
 abbrev pub shapes : Profile → ℕ → ℕ → List Shape
 shapes profile first zero = []

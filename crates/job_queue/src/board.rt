@@ -8,9 +8,14 @@ use std::marker::Model;
 use wasm_values::NoMemory;
 
 /// One place for the line of each call, in order of the calls' numbers, which begin at 1.
-#[derive(Drop)]
 pub struct Board {
     lines: Vec<Option<CallLine>>,
+}
+
+impl Drop for Board {
+    fn drop(self) {
+        let Board { lines: _ } = self;
+    }
 }
 
 impl Model for Board {
@@ -78,7 +83,8 @@ impl Board {
     pub fn into_lines(self) -> Vec<Option<CallLine>>
         ensures { result.items ≡ self }
     {
-        self.lines
+        let Board { lines } = self;
+        lines
     }
 
     /// The lines in order of their calls' numbers, none where nothing was collected.

@@ -17,10 +17,15 @@ use wasm_values::NoMemory;
 pub type JobPass<M> = Pass<(u32, M), Account<M>>;
 
 /// A queue of calls: of the number of each, with an item. Threads share it by `&`, each with a pass of its own.
-#[derive(Drop)]
 pub struct Jobs<M> {
     queue: RuledArrayQueue<(u32, M), Account<M>, Balance>,
     terms: Terms,
+}
+
+impl<M: Drop> Drop for Jobs<M> {
+    fn drop(self) {
+        let Jobs { queue: _, terms: _ } = self;
+    }
 }
 
 impl<M: Drop> Jobs<M> {

@@ -35,10 +35,15 @@ pub struct RunAccount<T> {
 pub type RunPass<T> = Pass<T, RunAccount<T>>;
 
 /// A queue that threads share by `&`, each with a pass of its own. What it holds is what `A` admits.
-#[derive(Drop)]
 pub struct RunQueue<T, A: Admits<T>> {
     queue: RuledArrayQueue<T, RunAccount<T>, RunBalance<A>>,
     terms: RunTerms,
+}
+
+impl<T: Drop, A: Admits<T>> Drop for RunQueue<T, A> {
+    fn drop(self) {
+        let RunQueue { queue: _, terms: _ } = self;
+    }
 }
 
 impl<T: Drop, A: Admits<T>> RunQueue<T, A> {

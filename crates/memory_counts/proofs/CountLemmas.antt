@@ -10,7 +10,7 @@ use Rattle.pool_core.specs.declared.words.State.TheVariants.{Awaiting, Cold}
 use Rattle.pool_core.specs.declared.words.StateWord.{StateWord}
 use Rattle.pool_core.specs.declared.words.Target.{Target}
 use Rattle.pool_core.specs.StateWords.{bit, free_word, is_warm, is_well_formed, packed, stamp_bound, tag_bound, unpacked}
-use Rattle.pool_core.proofs.WordBits.{bits_say_the_word}
+use Rattle.pool_core.proofs.WordBits.{bits_say_the_word, one_or_other}
 use Rattle.slot_words.specs.declared.views.Operation.{Operation}
 use Rattle.slot_words.specs.Parts.{Grew}
 use Rattle.slot_words.specs.Passes.{Holds, IsIdle, Pass, trail}
@@ -83,10 +83,6 @@ module _ {V : Type 0} where
 
 one_by : {A : Type 0} (test : A → Bool) (x : A) → count_by test (x ∷ []) ≡ bit (test x)
 one_by test x = omega arith
-
-one_or_other : (b : Bool) → bit b + bit (not b) ≡ 1
-one_or_other true = refl
-one_or_other false = refl
 
 -- a slot that awaits under a tag of twenty bits
 well_formed_left : (tag s : ℕ) → tag < tag_bound → is_well_formed (record { state = Awaiting; tag = tag; stamp = s % stamp_bound }) ≡ true

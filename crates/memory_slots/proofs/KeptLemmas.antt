@@ -1,20 +1,23 @@
 -- What a memory keeps as it is made ready.
-use Rattle.std.proofs.Common.{◌≡◌, ℕ, ◌-◌, ◌*◌, ◌≤◌, Bool, true, false, cond, List, [], ◌∷◌, length, take, refl, sym, ap, ◌∙◌, subst, arith}
-use Rattle.std.specs.Prelude.{Option, Some, map, replicate, slice_index}
-use Rattle.std.proofs.lemmas.List.{length-map, take_at}
+use Rattle.std.proofs.Common.{◌≡◌, ℕ, ◌-◌, ◌*◌, ◌/◌, ◌<◌, ◌≤◌, ⊎_elim, Bool, true, false, cond, List, [], ◌∷◌, length, take, refl, sym, ap, ◌∙◌, subst, arith}
+use Rattle.std.specs.Prelude.{IfSome, Option, Some, None, map, replicate, slice_index, slice_index_or}
+use Rattle.std.proofs.lemmas.Bool.{cases_lt, cond-false, false≢true, ne_eqb}
+use Rattle.std.proofs.lemmas.List.{get_or_past, get_or-replicate, length-map, length-replicate, take_at}
 use Rattle.wasm_types.specs.declared.types.Limits.{Limits}
 use Rattle.wasm_spec.specs.Store.{fresh_store, minimum_of, page_size}
 use Rattle.wasm_spec.specs.Instances.{room_for}
 use Rattle.wasm_spec.proofs.ResultLaws.{length-fresh_memory}
 use Rattle.linear_memory.specs.declared.memory.Memory.{Memory}
+use Rattle.linear_memory.specs.Bytes.{IsMemory, IsZeroed}
+use Rattle.memory_blocks.specs.Blocks.{block_size}
 use Rattle.pool_model.specs.declared.kinds.Kind.TheVariants as kind
-use Rattle.pool_model.specs.Contents.{Named, MemoryContents, belongs_to, memory_image, rewritten_from, prepared, restored, HasImageOutside, IsFreshMemory}
+use Rattle.pool_model.specs.Contents.{Named, MemoryContents, belongs_to, memory_image, rewritten_from, prepared, restored, restored_for, HasImageOutside, IsColdMemory, IsFreshMemory}
 use Rattle.pool_model.proofs.Parts.{rewritten-is, filled-past}
 use Rattle.pool_model.proofs.Images.{clean_is}
 use Rattle.pool_limits.specs.declared.numbers.Numbers.{Numbers}
 use Rattle.pool_limits.specs.Limits.{load_limits}
 use Rattle.wasm_spec.specs.Within.{IsWithin}
-use Rattle.memory_slots.specs.Kept.{IsKeptMemory, contents_of}
+use Rattle.memory_slots.specs.Kept.{IsInSlot, IsKeptMemory, contents_of}
 use Rattle.memory_slots.specs.Lent.{IsReady}
 
 -- bytes for as many pages, and as many marks
@@ -87,3 +90,69 @@ restored_is config m holds old new is kept fresh after marks =
     let Q : Option Named → Type 0 = λ h. IsKeptMemory config (contents_of old h) → contents_of new h ≡ restored config.pages kind.Memory (contents_of old h) in
     subst Q (sym is) (λ k. prepared_is config m (contents_of old (Some m)) (contents_of new (Some m)) k fresh
     (record { bytes = after.room ∙ sym k.room; marks = ap length marks ∙ length-map old.marks.items (λ (marked : Bool). false) }) (λ b. refl)) kept
+
+-- ---- its own module or another
+
+-- what was restored for its own module was prepared for it
+pub own_prepared : (pages : ℕ) (m : Named) (x new : MemoryContents) → x.holds ≡ Some m → new ≡ restored pages kind.Memory x → new ≡ prepared pages m kind.Memory x
+own_prepared pages m x new own is = is ∙ ap (λ (o : Option Named). restored_for pages o kind.Memory x) own
+
+pub own_fresh : (pages : ℕ) (m : Named) (x new : MemoryContents) → x.holds ≡ Some m → IfSome x.holds (IsFreshMemory pages new) → IsFreshMemory pages new m
+own_fresh pages m x new own fresh = subst (λ (o : Option Named). IfSome o (IsFreshMemory pages new)) own fresh
+
+-- it belongs to no module of this number
+pub belongs_not : (m : Named) (holds : Option Named) → ((own : Named) → holds ≡ Some own → own.number ≡ m.number → ⊥) → belongs_to m holds ≡ false
+belongs_not m None other = refl
+belongs_not m (Some own) other = ne_eqb own.number m.number (other own refl)
+
+-- what was written over another module's memory was prepared
+pub other_prepared : (pages : ℕ) (m : Named) (x new : MemoryContents) → belongs_to m x.holds ≡ false → IsFreshMemory pages new m → new.marks ≡ map (λ (marked : Bool). false) x.marks
+    → new ≡ prepared pages m kind.Memory x
+other_prepared pages m x new other fresh marks =
+    let bytes = fresh.bytes ∙ sym (cond-false (belongs_to m x.holds) (rewritten_from 0 x.marks (memory_image pages (Some m)) x.bytes) (memory_image pages (Some m)) other) in
+    let size = fresh.size in
+    let holds = fresh.holds in
+    λ i. record { bytes = bytes i; pages = size i; marks = marks i; holds = holds i }
+
+-- ---- cold memories
+
+all_false : (n k : ℕ) → slice_index_or (replicate n false) k false ≡ false
+all_false n k = ⊎_elim (λ (lt : k < n). get_or-replicate n k false false lt)
+    (λ (le : n ≤ k). get_or_past (replicate n false) k false (let long = length-replicate n false in omega arith)) (cases_lt k n)
+
+zeroed_bytes : (pages : ℕ) (memory : Memory) → IsZeroed pages memory → memory.bytes.items ≡ memory_image pages None
+zeroed_bytes pages memory zeroed =
+    let whole : pages * page_size ≡ pages * page_size - 0 = omega arith in
+    zeroed.bytes ∙ ap (λ (n : ℕ). replicate n 0) whole
+
+-- a memory of zeros is cold
+pub zeroed_cold : (pages : ℕ) (memory : Memory) → IsZeroed pages memory → IsColdMemory pages (contents_of memory None)
+zeroed_cold pages memory zeroed = record {
+  holds = refl;
+  size = zeroed.size;
+  bytes = zeroed_bytes pages memory zeroed;
+  clean = λ k. ap (λ (l : List Bool). slice_index_or l k false) zeroed.marks ∙ all_false (pages * page_size / block_size) k;
+}
+
+-- it may lie in a slot, where no block of it was written
+pub zeroed_in_slot : (config : Numbers) (memory : Memory) (written : List Bool) → config.pages ≤ 256 → IsZeroed config.pages memory → IsMemory config.pages memory
+    → written ≡ replicate (length memory.marks.items) false → IsInSlot config written memory None
+zeroed_in_slot config memory written few zeroed is none =
+    let room = ap length zeroed.bytes ∙ length-replicate (config.pages * page_size) 0 in
+    let marked = ap length zeroed.marks ∙ length-replicate (config.pages * page_size / block_size) false in
+    let size = zeroed.size in
+    record {
+      image = record {
+        kept = record {
+          room = room;
+          marked = omega arith;
+          few = few;
+          size = omega arith;
+          outside = λ i q. ap (λ (l : List ℕ). slice_index l i) (zeroed_bytes config.pages memory zeroed);
+        };
+        blocks = ap length none ∙ length-replicate (length memory.marks.items) false;
+        zeros = λ i lt free. filled-past config.pages [] i (omega arith);
+        least = λ k is. absurd (false≢true (sym (ap (λ (l : List Bool). slice_index_or l k false) none ∙ all_false (length memory.marks.items) k) ∙ is));
+      };
+      accessible = is.accessible;
+    }

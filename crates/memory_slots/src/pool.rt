@@ -72,8 +72,9 @@ impl<N: Naming> MemoryPool<N> {
         ensures count { IfOk result (λ o. passes_of o.0 ≡ passes) }
         ensures passes { IfOk result (λ o. (length o.1.items ≡ passes) × All (IsNewPassOf o.0) o.1.items) }
     {
-        let opened = slot_pools::open(alloc, store, count, warm, passes).map_err(|_| NoMemory)?;
-        let (words, all) = opened;
+        let Ok((words, all)) = slot_pools::open(alloc, store, count, warm, passes) else {
+            return Err(NoMemory);
+        };
         Ok((MemoryPool { words }, all))
     }
 

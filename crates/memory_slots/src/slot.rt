@@ -83,7 +83,9 @@ impl<N: Naming> MemSlot<N> {
         let pages = store.config().numbers().pages;
         let memory = Memory::zeroed(alloc, pages)?;
         let blocks = memory.marks.as_slice().len();
-        let written = Marks::unmarked(alloc, blocks).map_err(|_| NoMemory)?;
+        let Ok(written) = Marks::unmarked(alloc, blocks) else {
+            return Err(NoMemory);
+        };
         Ok(MemSlot {
             memory,
             holds: None,

@@ -1,5 +1,5 @@
 -- A pool is lawful as it opens.
-use Rattle.std.proofs.Common.{◌≡◌, ℕ, zero, suc, ◌+◌, ◌-◌, ◌*◌, Bool, false, List, ◌∷◌, replicate, get_or, refl, sym, ap, ◌∙◌, subst, arith}
+use Rattle.std.proofs.Common.{◌≡◌, ℕ, zero, suc, ◌+◌, ◌-◌, ◌*◌, ◌≤◌, Bool, false, List, ◌∷◌, replicate, get_or, set, refl, sym, ap, ◌∙◌, subst, arith}
 use Rattle.std.specs.Prelude.{None}
 use Rattle.std.specs.List.{count_by}
 use Rattle.std.proofs.lemmas.List.Sums.{sum_by-cons}
@@ -9,7 +9,7 @@ use Rattle.pool_core.specs.declared.seats.Stage.TheVariants.{Live, Unmade}
 use Rattle.pool_core.specs.declared.words.StateWord.{StateWord}
 use Rattle.pool_core.specs.Lawful.{IsSoundSeat, Lawful, has_mark, has_permit, has_refusal, is_free_awaiting, is_free_warm}
 use Rattle.pool_core.specs.Laws.{OpensCold, OpensUnmade}
-use Rattle.pool_core.specs.PoolCore.{idle_seat, is_holding, opening_core}
+use Rattle.pool_core.specs.PoolCore.{core_of, idle_seat, is_holding, opening_core}
 use Rattle.pool_core.specs.StateWords.{bit, cold_word, is_well_formed}
 
 module _ {A : Type 0} where
@@ -47,6 +47,17 @@ lawful_opening slots limit seats =
       awaiting = rw (w1, p2) refl;
       words = λ n. ap (λ (w : StateWord). is_well_formed w.target) (get_or-replicate_same slots cold_word n);
     }
+
+-- the pool that is made of lists of one value each, the first seat then being live
+pub opening_is : (slots limit seats l : ℕ) (ws : List StateWord) (ps : List Seat) (p q : Seat) → 1 ≤ seats → ws ≡ replicate slots cold_word → p ≡ idle_seat Unmade → ps ≡ replicate seats p → q ≡ get_or ps 0 q → l ≡ limit
+    → core_of ws (set ps 0 (record q { stage = Live })) 0 0 0 l ≡ opening_core slots limit seats
+opening_is slots limit zero l ws ps p q some ws_is p_is ps_is q_is l_is = absurd (omega arith)
+opening_is slots limit (suc n) l ws ps p q some ws_is p_is ps_is q_is l_is =
+    let first : q ≡ idle_seat Unmade = q_is ∙ ap (λ (xs : List Seat). get_or xs 0 q) ps_is ∙ p_is in
+    let less : n ≡ suc n - 1 = omega arith in
+    let seats : set ps 0 (record q { stage = Live }) ≡ idle_seat Live ∷ replicate (suc n - 1) (idle_seat Unmade) =
+    ap (λ (xs : List Seat). set xs 0 (record q { stage = Live })) ps_is ∙ (λ i. record (first i) { stage = Live } ∷ replicate (less i) (p_is i)) in
+    λ i. core_of (ws_is i) (seats i) 0 0 0 (l_is i)
 
 pub opens_cold : OpensCold
 opens_cold slots limit seats n = get_or-replicate_same slots cold_word n

@@ -20,7 +20,7 @@ use Rattle.pool_core.specs.Runs.{AllAllowed, core_after_all}
 use Rattle.pool_core.specs.StateWords.{bit, free_word, held_word, is_awaiting, is_warm, is_well_formed}
 use Rattle.pool_core.proofs.CoreChanges.{IsFairSeatChange, lawful_seat_change}
 use Rattle.pool_core.proofs.SeatChanges.{CanRelease, IsAtRest, at_rest_of, holds_it, live_away, lawful_when_won, lawful_release, lawful_restage}
-use Rattle.pool_core.proofs.WordBits.{bit_le}
+use Rattle.pool_core.proofs.WordBits.{bit_le, one_or_other}
 
 -- a rule that is not broken leaves the answer to the rules after it
 pub passes : (b : Bool) (k r : ℕ) → cond b (suc k) r ≡ 0 → (b ≡ false) × (r ≡ 0)
@@ -86,10 +86,6 @@ one_bit true b e h = omega arith
 one_bit false true e h = refl
 one_bit false false e h = absurd (true≢false (sym e))
 
-one_of : (b : Bool) → bit b + bit (not b) ≡ 1
-one_of true = refl
-one_of false = refl
-
 closed_as : {X : Type 0} (f : Seat → X) (p : Seat) → ((p : Seat) → f (record p { stage = Closed }) ≡ f p) → f (closed_seat p) ≡ f p
 closed_as f p same = let split : (b : Bool) → f (cond b (record p { stage = Closed }) p) ≡ f p = elim [ true ↦ same p | false ↦ refl ] in split (is_live p.stage)
 
@@ -152,7 +148,7 @@ lawful_after c (Close s) law h = record {
 }
 lawful_after c (WarmLoad s) law h = law
 lawful_after c (WarmUp s) law h = let a = no_rule_broken c (WarmUp s) h in let p : Seat = seat_at c s in let live = not-false (is_live p.stage) a.seat in let at = some_held p.holds a.holder in
-    let b : Bool = ltb c.warm c.limit in let m = or_parts p.permit p.refusal a.excess in let q : Seat = record p { permit = b; refusal = not b } in let one = one_of b in let low = bit_le b in
+    let b : Bool = ltb c.warm c.limit in let m = or_parts p.permit p.refusal a.excess in let q : Seat = record p { permit = b; refusal = not b } in let one = one_or_other b in let low = bit_le b in
     let no_permit : bit p.permit ≡ 0 = ap bit m.0 in let no_refusal : bit p.refusal ≡ 0 = ap bit m.1 in
     lawful_seat_change c s q (c.warm + 1) c.awaiting c.clock law (live_in c.seats s live) (fair_while_holding c p q at.0 (c.warm + 1) c.awaiting at.1 at.1 live refl (omega arith) (omega arith) (λ x u v. let lim = room_for x c.warm c.limit (omega arith) (omega arith) in lim) refl)
 lawful_after c (WarmDown s) law h = let a = no_rule_broken c (WarmDown s) h in let p : Seat = seat_at c s in let live = not-false (is_live p.stage) a.seat in let at = some_held p.holds a.holder in
@@ -187,6 +183,12 @@ pub release_is : (c : PoolCore) (s n : ℕ) (to : Target) (p : Seat) (ps : List 
 release_is c s n to p ps ws p_is ps_is ws_is =
     let seats : ps ≡ set c.seats s (idle_seat (seat_at c s).stage) = ps_is ∙ ap (λ (q : Seat). set c.seats s (idle_seat q.stage)) p_is in
     λ i. record c { words = ws_is i; seats = seats i }
+
+-- and the one where one seat becomes what f says
+pub seat_change_is : (c : PoolCore) (s : ℕ) (p : Seat) (f : Seat → Seat) (ps : List Seat) → p ≡ seat_at c s → ps ≡ set c.seats s (f p) → record c { seats = ps } ≡ with_seat c s (f (seat_at c s))
+seat_change_is c s p f ps p_is ps_is =
+    let seats : ps ≡ set c.seats s (f (seat_at c s)) = ps_is ∙ ap (λ (q : Seat). set c.seats s (f q)) p_is in
+    λ i. record c { seats = seats i }
 
 -- what is the pool after an event is lawful
 pub lawful_after_is : (c d c' : PoolCore) (e : Event) → Lawful c → c' ≡ c → refusal_of c' e ≡ 0 → d ≡ core_after c e → Lawful d

@@ -1,11 +1,15 @@
 -- A list of events, one event longer.
 use Rattle.std.proofs.Common.{◌≡◌, ◌<◌, ◌+◌, ℕ, List, [], ◌∷◌, ◌++◌, length, take, get_or, refl, sym, ap, ◌∙◌, subst}
 use Rattle.std.proofs.lemmas.List.{take_more}
+use Rattle.std.proofs.lemmas.Option.{slice_get-get_or}
+use Rattle.std.specs.Prelude.{Some, slice_get}
 use Rattle.pool_core.specs.declared.events.Event.{Event}
+use Rattle.pool_core.specs.declared.replays.ReplayFault.{ReplayFault}
+use Rattle.pool_core.specs.declared.replays.ReplayFault.TheVariants.{NoMemory, Unlawful}
 use Rattle.pool_core.specs.EventEffects.{core_after}
 use Rattle.pool_core.specs.PoolCore.{PoolCore}
 use Rattle.pool_core.specs.RefusalRules.{refusal_of}
-use Rattle.pool_core.specs.Runs.{AllAllowed, core_after_all}
+use Rattle.pool_core.specs.Runs.{AllAllowed, IsRefusedAt, IsReplayFault, Refuses, core_after_all}
 
 pub core_after_all-more : (c : PoolCore) (es : List Event) (e : Event) → core_after_all c (es ++ e ∷ []) ≡ core_after (core_after_all c es) e
 core_after_all-more c [] e = refl
@@ -21,3 +25,10 @@ one_more o es i d c c' h all is ok to = let e : Event = get_or es i d in let m :
   subst (AllAllowed o) (sym m) (allowed_more o (take i es) e all (ap (λ (p : PoolCore). refusal_of p e) (sym is) ∙ ok)),
   to ∙ ap (λ (p : PoolCore). core_after p e) is ∙ sym (core_after_all-more o (take i es) e) ∙ ap (core_after_all o) (sym m),
 )
+
+-- what is refused at its place is the fault of the whole list
+pub fault_at : (o : PoolCore) (es : List Event) (i : ℕ) (d : Event) (c : PoolCore) (f : ReplayFault) → i < length es → AllAllowed o (take i es) → c ≡ core_after_all o (take i es) → IsRefusedAt i c (get_or es i d) f → IsReplayFault o es f
+fault_at o es i d c (Unlawful at rule number) h all is refused = let e : Event = get_or es i d in
+    subst (λ (k : ℕ). AllAllowed o (take k es) × ((x : Event) × (slice_get es k ≡ Some x) × Refuses (core_after_all o (take k es)) x rule number)) (sym refused.0)
+    (all, (e, slice_get-get_or es i d h, subst (λ (p : PoolCore). Refuses p e rule number) is refused.1))
+fault_at o es i d c NoMemory h all is refused = absurd refused

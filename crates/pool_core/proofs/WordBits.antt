@@ -13,6 +13,11 @@ pub bit_le : (b : Bool) → bit b ≤ 1
 bit_le true = omega arith
 bit_le false = omega arith
 
+-- a bit and its opposite sum to one
+pub one_or_other : (b : Bool) → bit b + bit (not b) ≡ 1
+one_or_other true = refl
+one_or_other false = refl
+
 above_held_bit : StateWord → ℕ
 above_held_bit w = state_code w.target.state + 4 * w.target.tag + 4 * tag_bound * w.target.stamp
 

@@ -8,9 +8,9 @@ use Rattle.slot_words.specs.declared.views.SeatTrail.{SeatTrail}
 use Rattle.slot_words.specs.declared.words.Words.{Words}
 use Rattle.slot_words.specs.Closing.{ClosesAs, CountsLeft}
 use Rattle.slot_words.specs.Owned.{limit_of, passes_of, slots_of}
-use Rattle.slot_words.specs.Passes.{Pass, operations, share_of, trails}
+use Rattle.slot_words.specs.Passes.{Pass, joined_trails, operations, seat_number, share_of, trail, trails}
 use Rattle.slot_words.specs.Views.{in_one}
-use Rattle.pool_host.specs.Closing.{AreCounts}
+use Rattle.pool_host.specs.Closing.{AreCounts, IsJoined}
 
 module _ {X A : Type 0} (parts_of : X → List A) where
   -- the last of these comes first
@@ -24,6 +24,11 @@ module _ {X A : Type 0} (parts_of : X → List A) where
   joined_next xs ys x done more whole last joined before =
       let rest : List A = flat_map parts_of (reverse ys) in
       ap (λ os. os ++ rest) joined ∙ append_assoc done (parts_of x) rest ∙ ap (λ os. done ++ os) (last_first xs ys x last) ∙ before
+
+-- a pass of its own that was joined into another
+pub is_joined : {V : Type 0} (p other q : Pass V) → share_of other ≡ 1 → share_of q ≡ share_of p + share_of other → seat_number q ≡ seat_number p → trail q ≡ trail p
+    → joined_trails q ≡ joined_trails p ++ trails other → IsJoined p other q
+is_joined p other q one share number same joined = record { share = rw one at share; done = cc }
 
 -- what a pass leaves that stands for so many and has these trails
 pub counts_of : {V I : Type 0} (words : Words V I) (p : Pass V) (n : ℕ) (ts : List SeatTrail) (k : KindCounts) → share_of p ≡ n → trails p ≡ ts → ClosesAs (slots_of words) (limit_of words) (passes_of words) (share_of p) (trails p) k

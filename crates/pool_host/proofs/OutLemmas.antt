@@ -20,3 +20,12 @@ module _ {V : Type 0} where
   pub out_has : (slots : ℕ) (p : Pass V) (o : Option Slot) → HasOut p o → IsWithin slots o → HoldsSlot slots p o
   out_has slots p None out within = (out.0, none_out p.me.1 out.1)
   out_has slots p (Some s) out within = ((out.0, one_out p.me.1 s.number out.1 out.2), within)
+
+  -- and the other way round, as a call begins
+  pub has_out : (slots : ℕ) (p : Pass V) (o : Option Slot) → HoldsSlot slots p o → HasOut p o
+  has_out slots p None held = (held.0, ap (map (λ e. e.0)) held.1, ap are_empty held.1)
+  has_out slots p (Some s) held = (held.0.0, ap (map (λ e. e.0)) held.0.1, ap are_empty held.0.1)
+
+  pub is_within : (slots : ℕ) (p : Pass V) (o : Option Slot) → HoldsSlot slots p o → IsWithin slots o
+  is_within slots p None held = tt
+  is_within slots p (Some s) held = held.1

@@ -1,5 +1,7 @@
 -- What comes of a call that takes no slots.
 use Rattle.std.proofs.Common.{◌≡◌, ℕ, List, [], refl, ap}
+use Rattle.std.specs.List.{All}
+use Rattle.std.proofs.lemmas.List.Elements.{All-weaker}
 use Rattle.wasm_values.specs.declared.outcome.Val.{Val}
 use Rattle.slot_words.specs.Passes.{trail}
 use Rattle.retired_tags.specs.Passes.{IsTagPass}
@@ -15,13 +17,20 @@ use Rattle.pool_host.specs.declared.passes.Passes.{Passes}
 use Rattle.pool_host.specs.declared.refusals.Refused.{Refused}
 use Rattle.pool_host.specs.declared.refusals.Refused.TheVariants.{BadArgs, Full, NoExport, Retired}
 use Rattle.pool_host.specs.CallWords.{IfFull, IsFuelLeft, IsHostAnswer}
-use Rattle.pool_host.specs.Hosts.{ArePassesOf, AreSamePasses}
+use Rattle.pool_host.specs.Hosts.{ArePassesOf, AreSamePasses, IsHostPass, IsNewHostPass}
 use Rattle.pool_host.specs.Looks.{look_of, refused_look}
 use Rattle.pool_host.specs.Pausing.{HasBegun}
 use Rattle.pool_host.specs.Starting.{HasRefused, refused_answer, refused_begun}
 use Rattle.pool_host.specs.Kinds.{IsFullTakeOf, IsGiveOf, IsTakeOf}
 use Rattle.pool_host.specs.Trails.{AddsTrails, HasCause}
 use Rattle.pool_host.proofs.VisitLemmas.{nothing, nothing_if}
+
+-- passes as they are handed out are the host's
+pub are_own : {N : Type 0} {G : Ghosts N} (host : Host N) (all : List (HostPass N G)) → All (IsNewHostPass host) all → All (IsHostPass host) all
+are_own host all new = All-weaker (IsNewHostPass host) (IsHostPass host) (λ pass is. record {
+  pools = record { ticket = is.pools.ticket.own; memory = is.pools.memory.own; table = is.pools.table.own };
+  tags = is.tags.own;
+}) all new
 
 pub look_is : (why : Refused) → look_of (refused_answer why) ≡ refused_look why
 look_is NoExport = refl

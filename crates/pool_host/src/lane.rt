@@ -33,12 +33,17 @@ pub enum LaneAnswer {
 }
 
 /// A host with one caller, whose pass is its only one.
-#[derive(Drop)]
 pub struct LaneHost<N: Naming> {
     host: Host<N>,
     pass: HostPass<N>,
     ghost own: { IsHostPass host pass },
     ghost alone: { HandedOut host 1 },
+}
+
+impl<N: Naming> Drop for LaneHost<N> {
+    fn drop(self) {
+        let LaneHost { host: _, pass: _ } = self;
+    }
 }
 
 impl<N: Naming> LaneHost<N> {

@@ -39,7 +39,7 @@ fn its_own_come_first_and_cold_ones_by_the_limit(rt: HostRuntime) {
 
 #[test]
 fn as_many_cold_slots_as_a_pool_may_have_come_by_their_number(rt: HostRuntime) {
-    let (words, mut pass, _other) = opened(rt.alloc(), 1_024, 1).expect(&rt, "memory");
+    let (words, mut pass, _other) = opened(&rt, rt.alloc(), 1_024, 1);
     let mut seen = Seen::new();
     words.scan(&mut pass, &mut seen);
     let all = order(seen.words(), 7, 0, 1);

@@ -1,5 +1,5 @@
 //! A value that notes what is done to it, and pools of such values.
-ghost use Rattle.std.specs.Prelude.{◌≡◌, ◌<◌, ◌≤◌, IfOk};
+ghost use Rattle.std.specs.Prelude.{◌≡◌, ◌<◌, ◌≤◌};
 ghost use Rattle.pool_core.specs.declared.limits.TheConstants.{TAG_LIMIT};
 ghost use Rattle.slot_words.specs.Owned.{IsNewPassOf, passes_of, slots_of};
 
@@ -7,6 +7,7 @@ use pool_core::{NoMemory, TAG_LIMIT};
 use slot_pools::{OpenSlot, open};
 use slot_words::{Pass, Pooled, Words};
 use std::alloc::Global;
+use std::process::Abort;
 
 // A value of the module `tag`, with how often it was cleared, restored and given back.
 #[derive(Drop)]
@@ -54,16 +55,17 @@ impl OpenSlot for Noted {
 
 // So many slots, of which so many may be warm, and two passes.
 pub(crate) fn opened(
+    rt: &impl Abort,
     alloc: Global,
     slots: u32,
     warm: u32,
-) -> Result<(Words<Noted>, Pass<Noted>, Pass<Noted>), NoMemory>
+) -> (Words<Noted>, Pass<Noted>, Pass<Noted>)
     requires { (1 ≤ slots) × (slots ≤ 1024) }
-    ensures slots { IfOk result (λ o. slots_of o.0 ≡ slots) }
-    ensures passes { IfOk result (λ o. IsNewPassOf o.0 o.1 × IsNewPassOf o.0 o.2 × (passes_of o.0 ≡ 2)) }
+    ensures slots { slots_of result.0 ≡ slots }
+    ensures passes { IsNewPassOf result.0 result.1 × IsNewPassOf result.0 result.2 × (passes_of result.0 ≡ 2) }
 {
-    let (words, mut passes) = open::<Noted>(alloc, &(), slots, warm, 2)?;
+    let (words, mut passes) = open::<Noted>(alloc, &(), slots, warm, 2).expect(rt, "memory");
     let first = passes.pop().unwrap();
     let second = passes.pop().unwrap();
-    Ok((words, first, second))
+    (words, first, second)
 }

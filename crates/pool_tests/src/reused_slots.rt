@@ -1,5 +1,5 @@
 //! Which slots a pass takes one after another, and what is done to their values: no clause counts how often one is cleared or restored.
-ghost use Rattle.std.specs.Prelude.{◌<◌};
+ghost use Rattle.std.specs.Prelude.{◌≡◌, ◌<◌, ◌≤◌, length};
 ghost use Rattle.slot_words.specs.Passes.{IsIdle, IsSamePass};
 ghost use Rattle.slot_words.specs.Owned.{IsPassOf, slots_of};
 
@@ -127,21 +127,53 @@ const ROWS: [Row; 9] = [
     },
 ];
 
+// Makes the visits of a row.
+fn check_visits(
+    rt: &impl Abort,
+    words: &Words<Noted>,
+    pass: &mut Pass<Noted>,
+    place: usize,
+    row: &Row,
+)
+    requires own { IsPassOf words.now pass.old }
+    requires idle { IsIdle pass.old }
+    ensures same { IsSamePass pass.old pass.new }
+    ensures idle { IsIdle pass.new }
+{
+    for (module, slot) in row.visits {
+        let taken = visit(words, pass, row.kind, *module);
+        assert_eq!(rt; taken, Some(*slot), "row {place}");
+    }
+}
+
+// Sees how the slots were left.
+fn check_left(
+    rt: &impl Abort,
+    words: &Words<Noted>,
+    pass: &mut Pass<Noted>,
+    place: usize,
+    slots: &[(State, u32, u32)],
+)
+    requires own { IsPassOf words.now pass.old }
+    requires idle { IsIdle pass.old }
+    requires slots { length slots.now ≡ slots_of words.now }
+    requires few { length slots.now ≤ 3 }
+{
+    for n in 0..slots.len() {
+        let noted = left(words, pass, n as u32);
+        assert_eq!(rt; noted, Some(slots[n]), "slot {n} of row {place}");
+    }
+}
+
 fn check_row(rt: &impl Abort, alloc: Global, place: usize, row: &Row) {
     let slots = row.left.len();
     assert!(rt; slots >= 1 && slots <= 3);
-    let (words, mut pass, _other) = opened(alloc, slots as u32, row.warm).expect(rt, "memory");
-    for (module, slot) in row.visits {
-        let taken = visit(&words, &mut pass, row.kind, *module);
-        assert_eq!(rt; taken, Some(*slot), "row {place}");
-    }
+    let (words, mut pass, _other) = opened(rt, alloc, slots as u32, row.warm);
+    check_visits(rt, &words, &mut pass, place, row);
     let (module, cleaned) = row.swept;
     let swept = sweep(&words, &mut pass, u32::from(module));
     assert_eq!(rt; swept, cleaned, "row {place}");
-    for n in 0..slots {
-        let noted = left(&words, &mut pass, n as u32);
-        assert_eq!(rt; noted, Some(row.left[n]), "slot {n} of row {place}");
-    }
+    check_left(rt, &words, &mut pass, place, row.left);
 }
 
 #[test]

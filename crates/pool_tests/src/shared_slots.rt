@@ -30,7 +30,7 @@ fn give_or_drop(words: &Words<Noted>, mut pass: Pass<Noted>, lease: Lease<Noted>
 // What a scan sees while two passes have a slot each, the second after it found the first one's held; and the counts by the first, once
 // the second gave its own back or was dropped with it.
 fn two_holders(rt: &impl Abort, alloc: Global, gives: bool) -> ([u64; 2], KindCounts) {
-    let (words, mut first, mut second) = opened(alloc, 2, 0).expect(rt, "memory");
+    let (words, mut first, mut second) = opened(rt, alloc, 2, 0);
     let Some(lease) = claimed(&words, &mut first, 0) else {
         panic!(rt; "slot 0 is held");
     };
@@ -63,7 +63,7 @@ fn closing_counts_what_was_given_back_and_what_was_kept(rt: HostRuntime) {
 
 // Which slot the second of two passes is given of a pool of one: while the first has it, and when that gave it back.
 fn beside(rt: &impl Abort, alloc: Global, kind: Kind) -> [Option<u32>; 2] {
-    let (words, mut first, mut second) = opened(alloc, 1, 1).expect(rt, "memory");
+    let (words, mut first, mut second) = opened(rt, alloc, 1, 1);
     let lease = take(&words, &mut first, kind, 5).expect(rt, "free");
     let full = visit(&words, &mut second, kind, 5);
     give(&words, &mut first, lease, kind, 5);
@@ -120,7 +120,7 @@ fn both_visit<R: Threads>(
 
 #[test]
 fn two_threads_never_have_one_slot_at_once(rt: HostRuntime) {
-    let (words, first, second) = opened(rt.alloc(), 1, 1).expect(&rt, "memory");
+    let (words, first, second) = opened(&rt, rt.alloc(), 1, 1);
     let (won, won_too, mut pass) = both_visit(&rt, &words, first, second);
     let lease = slot_pools::take(&words, &mut pass, &(), Policy::Any).expect(&rt, "free");
     assert_eq!(rt; lease.value.visits, won.wrapping_add(won_too));

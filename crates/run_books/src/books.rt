@@ -37,10 +37,18 @@ impl Span {
 }
 
 /// The entries of the module lines so far, and the desk at which the next module is registered.
-#[derive(Drop)]
 pub struct Registry<N: Naming> {
     pub entries: Vec<Entry<N>>,
     pub desk: Desk<N>,
+}
+
+impl<N: Naming> Drop for Registry<N> {
+    fn drop(self) {
+        let Registry {
+            entries: _,
+            desk: _,
+        } = self;
+    }
 }
 
 /// The entries of the module lines so far, and the lines of the calls that were made so far.

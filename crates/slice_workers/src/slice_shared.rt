@@ -10,7 +10,6 @@ use pool_host::Host;
 
 /// What workers share that make calls in slices: the host on which they make them, the queue that hands them numbers, and the calls of
 /// these numbers.
-#[derive(Drop)]
 pub struct SliceShared<N: Naming> {
     pub host: Host<N>,
     pub jobs: Jobs<Item<N>>,
@@ -18,4 +17,14 @@ pub struct SliceShared<N: Naming> {
     ghost numbered: { AreNumbered calls.items },
     ghost first: { first_of jobs ≡ 1 },
     ghost enough: { count_of jobs ≤ length calls.items },
+}
+
+impl<N: Naming> Drop for SliceShared<N> {
+    fn drop(self) {
+        let SliceShared {
+            host: _,
+            jobs: _,
+            calls: _,
+        } = self;
+    }
 }

@@ -10,6 +10,7 @@ mod Holdings
 mod KindSums
 mod LookSums
 pub mod Lookups
+mod NewPasses
 pub mod NotedBySeats
 mod NotedSums
 mod OneCount

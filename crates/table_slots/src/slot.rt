@@ -69,7 +69,9 @@ impl<N: Naming> TableSlot<N> {
         ensures { IfOk result (IsCold N.config.pages Table) }
     {
         let room = store.config().numbers().elements as usize;
-        let entries = Vec::with_capacity(alloc, room).map_err(|_| NoMemory)?;
+        let Ok(entries) = Vec::with_capacity(alloc, room) else {
+            return Err(NoMemory);
+        };
         Ok(TableSlot {
             entries,
             count: 0,

@@ -1,5 +1,5 @@
 -- A machine at another place of its sequence, and where a step leaves it.
-use Rattle.std.proofs.Common.{◌≡◌, ℕ, List, Bool, true, false, Option, Some, None, refl, sym, ap, ◌∙◌, subst}
+use Rattle.std.proofs.Common.{◌≡◌, ℕ, List, Bool, true, false, Option, Some, None, refl, sym, ap, ◌∙◌, subst, arith}
 use Rattle.wasm_spec.specs.Execution.{Terms}
 use Rattle.wasm_types.specs.declared.module.Module.{Module}
 use Rattle.wasm_types.specs.Tree.{ModuleTree}
@@ -78,6 +78,10 @@ ready_placed _ machine place globals h = tt
 
 pub keeps_placed : (old new : Machine) (p q : ℕ) → KeepsRoom old new → KeepsRoom (placed old p) (placed new q)
 keeps_placed old new p q keeps = record { values = keeps.values; labels = keeps.labels; frames = keeps.frames }
+
+-- what two steps keep
+pub keeps_on : (old middle new : Machine) → KeepsRoom old middle → KeepsRoom middle new → KeepsRoom old new
+keeps_on old middle new h k = record { values = omega (arith, h.values, k.values); labels = omega (arith, h.labels, k.labels); frames = omega (arith, h.frames, k.frames) }
 
 -- a run goes on from the same place
 pub moved : (m : Module) (limits : Terms) (frame : ℕ) (machine : Machine) (store : Store) (r : ℕ → Ended) (p q : ℕ) → p ≡ q

@@ -108,7 +108,7 @@ sign-kept n a b r some fits e =
     (rem-sign (signed n a) (signed n b))
 
 -- the quotient of the least signed number by -1
-least-quotient : (n a b : ℕ) → 0 < n → overflows n a b ≡ true → int_div (signed n a) (signed n b) ≡ pos (2 ^ (n - 1))
+pub least-quotient : (n a b : ℕ) → 0 < n → overflows n a b ≡ true → int_div (signed n a) (signed n b) ≡ pos (2 ^ (n - 1))
 least-quotient n a b some e =
     let half : ℕ = 2 ^ (n - 1) in
     let some_half : 0 < half = pow_pos (n - 1) in

@@ -3,4 +3,5 @@ pub mod Division
 pub mod Shifts
 pub mod Extensions
 pub mod Signed
+pub mod Quotients
 pub mod StdOperators

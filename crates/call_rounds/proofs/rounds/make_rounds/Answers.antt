@@ -47,3 +47,21 @@ returns g c =
     rounds_end g.N.Naming.config c.args.requests.now _ _ _ _ c.requires.new c.loop-at.invariant.rounds
     (drop_all c.loop-at.at c.args.requests.now.directives (rw c.directives-directives.ensures.all at c.loop-at-test.false)) c.make_round-2.ensures.run
     (rw c.directives-directives.ensures.all at c.make_round-2.ensures.made)
+
+pub make_round-requires-clause-run : goal.make_round-requires-clause-run
+make_round-requires-clause-run g c κs within = c.loop-at.invariant.run
+
+pub make_round-requires-clause-to : goal.make_round-requires-clause-to
+make_round-requires-clause-to g c κs within = (c.loop-at.invariant.behind, rw c.directives-directives.ensures.all at c.loop-at.auto.at-end)
+
+pub make_round-requires-clause-one_round : goal.make_round-requires-clause-one_round
+make_round-requires-clause-one_round g c κs within = c.loop-at.invariant.one_round
+
+pub retire-requires-clause-run : goal.retire-requires-clause-run
+retire-requires-clause-run g c = c.in_ok-run.ensures.run
+
+pub retire-requires-clause-line : goal.retire-requires-clause-line
+retire-requires-clause-line g c =
+    let all = c.args.requests.now.directives in
+    let here = got_item all c.loop-at.at _ (rw c.directives-directives.ensures.all at c.loop-at-test.true) (rw c.directives-directives.ensures.all at c.index-directives-at.is) in
+    (c.in-Retire.name, rw c.in_ok-run.ensures.made.done (here ∙ ap (λ (d : Directive). Some d) c.in-Retire.is))

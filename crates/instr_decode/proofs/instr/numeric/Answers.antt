@@ -2,7 +2,7 @@ use Rattle.std.proofs.Common.{refl, ◌∙◌, arith}
 use Rattle.wasm_values.specs.declared.profile.Profile.TheVariants.{One}
 use Rattle.wasm_types.specs.declared.instr.Width.TheVariants.{W32, W64}
 use Rattle.wasm_spec.specs.InstrGrammar.{shape, comparisons, operators}
-use Rattle.instr_decode.proofs.Opcodes.{run, run-same}
+use Rattle.instr_decode.proofs.Opcodes.{known, run, run-same}
 use Rattle.instr_decode.proofs.instr.numeric.Goals as goal
 
 pub returns-in-69-to-79 : goal.returns-in-69-to-79
@@ -36,3 +36,27 @@ returns-in-168-to-171 c = run-same One 0xA8 4 _ refl c.args.opcode (omega arith)
 pub returns-in-174-to-191 : goal.returns-in-174-to-191
 unfolding shape
 returns-in-174-to-191 c = run-same One 0xAE 18 _ refl c.args.opcode (omega arith) (omega arith)
+
+pub returns-in-65 : goal.returns-in-65
+unfolding shape
+returns-in-65 c = known c.args.opcode 0x41 (omega arith)
+
+pub returns-in-66 : goal.returns-in-66
+unfolding shape
+returns-in-66 c = known c.args.opcode 0x42 (omega arith)
+
+pub returns-in-67 : goal.returns-in-67
+unfolding shape
+returns-in-67 c = known c.args.opcode 0x43 (omega arith)
+
+pub returns-in-167 : goal.returns-in-167
+unfolding shape
+returns-in-167 c = known c.args.opcode 0xA7 (omega arith)
+
+pub returns-in-172 : goal.returns-in-172
+unfolding shape
+returns-in-172 c = known c.args.opcode 0xAC (omega arith)
+
+pub returns-in-173 : goal.returns-in-173
+unfolding shape
+returns-in-173 c = known c.args.opcode 0xAD (omega arith)

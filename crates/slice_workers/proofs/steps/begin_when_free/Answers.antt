@@ -27,3 +27,24 @@ loop-preserved g c =
       did = worked_more g.N.Naming.config c.args.shared.now.host c.args.shared.now.calls.items g.A.InSlices.slice [] _ _ _ _ _ _
           (worked_more g.N.Naming.config c.args.shared.now.host c.args.shared.now.calls.items g.A.InSlices.slice [] _ _ _ _ _ _ i.did tried) c.in_ok-make_others.ensures.did;
     }
+
+pub begin_held-requires-clause-at_work : goal.begin_held-requires-clause-at_work
+begin_held-requires-clause-at_work g c κs within = c.loop.invariant.at_work
+
+pub begin_held-requires-clause-fits : goal.begin_held-requires-clause-fits
+begin_held-requires-clause-fits g c κs within = c.requires.fits
+
+pub make_others-requires-clause-at_work : goal.make_others-requires-clause-at_work
+make_others-requires-clause-at_work g c κs within = c.begin_held.ensures.at_work
+
+pub make_others-requires-clause-fits : goal.make_others-requires-clause-fits
+make_others-requires-clause-fits g c κs within = c.requires.fits
+
+pub returns-in_err-began-clause-at_work : goal.returns-in_err-began-clause-at_work
+returns-in_err-began-clause-at_work g c = c.begin_held.ensures.at_work
+
+pub returns-then-began-clause-at_work : goal.returns-then-began-clause-at_work
+returns-then-began-clause-at_work g c = c.begin_held.ensures.at_work
+
+pub returns-in_err-make_others-clause-at_work : goal.returns-in_err-make_others-clause-at_work
+returns-in_err-make_others-clause-at_work g c = c.make_others.ensures.at_work

@@ -2,6 +2,8 @@ use Rattle.std.proofs.Common.{◌≡◌, ℕ, List, Option, Some, None, sym, ap,
 use Rattle.std.specs.Prelude.{slice_get}
 use Rattle.wasm_spec.specs.Store.{Store}
 use Rattle.wasm_machine.specs.Simulation.{paid}
+use Rattle.wasm_machine.proofs.MarkLemmas.{marks_none}
+use Rattle.wasm_machine.proofs.PlaceLemmas.{keeps_on}
 use Rattle.wasm_machine.proofs.IndirectCallLemmas.{member, element_number, no_element, empty_element, other_type, element_calls}
 use Rattle.wasm_spec.specs.Execution.{terms_of}
 use Rattle.machine_steps.specs.Lent.{store_of}
@@ -66,3 +68,20 @@ call-requires-clause-can c =
       calling = element_calls m limits h.frame c.args.machine.now c.pop32-i.new.self h.store h.here c.args.x c.pop32-i.result h.to h.before c.pop32-i.ensures.represents y
           (member m h.frame y h.runnable (h.before.stored.table c.pop32-i.result y there)) there c.has_type.result c.has_type.ensures c.if-has_type.true c.pop32-i.ensures.room;
     }
+
+-- ---- the room and the marks that stay
+
+pub returns-then-has_type-clause-room : goal.returns-then-has_type-clause-room
+returns-then-has_type-clause-room c = keeps_on c.args.machine.now c.pop32-i.new.self c.call.new.machine c.pop32-i.ensures.room c.call.ensures.room
+
+pub returns-in-None-clause-marks : goal.returns-in-None-clause-marks
+returns-in-None-clause-marks c = marks_none c.args.inputs.now.m.now c.args.memory.now c.args.memory.now 0 refl
+
+pub returns-in-Some-None-clause-marks : goal.returns-in-Some-None-clause-marks
+returns-in-Some-None-clause-marks c = marks_none c.args.inputs.now.m.now c.args.memory.now c.args.memory.now 0 refl
+
+pub returns-else-has_type-clause-marks : goal.returns-else-has_type-clause-marks
+returns-else-has_type-clause-marks c = marks_none c.args.inputs.now.m.now c.args.memory.now c.args.memory.now 0 refl
+
+pub returns-then-has_type-clause-marks : goal.returns-then-has_type-clause-marks
+returns-then-has_type-clause-marks c = c.call.ensures.marks

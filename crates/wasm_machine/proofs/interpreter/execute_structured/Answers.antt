@@ -7,6 +7,8 @@ use Rattle.wasm_machine.proofs.BlockLemmas.{block_goes, loop_goes}
 use Rattle.wasm_machine.proofs.IfLemmas.{if_number, if_label, if_goes}
 use Rattle.machine_steps.specs.StackLayout.{KeepsRoom}
 use Rattle.wasm_machine.proofs.StepLemmas.{call_calls}
+use Rattle.wasm_machine.proofs.FunctionLemmas.{stands_in}
+use Rattle.wasm_machine.proofs.MarkLemmas.{marks_as, marks_none}
 use Rattle.wasm_machine.proofs.RoomLemmas.{begun, fetched, block_label, loop_label, named_at, opened_after}
 use Rattle.wasm_spec.specs.Execution.{terms_of}
 use Rattle.machine_steps.specs.declared.machine.Position.{Position}
@@ -146,3 +148,62 @@ enter_arm-requires-clause-there c =
     let popped = c.pop32-condition.ensures.represents h.configuration h.top h.rest h.represents h.are in
     let function : Position → ℕ = λ at. at.function in
     omega (arith, b.around.there, ap function b.represents.at, ap function h.represents.at, ap function popped.1.at)
+
+-- ---- where the machine stands, and the room and the marks that stay
+
+pub enter_named-requires-clause-there : goal.enter_named-requires-clause-there
+enter_named-requires-clause-there c =
+    let (frame, globals, r, run, simulates) = c.requires.runs in
+    stands_in c.args.inputs.now.m.now simulates.configuration c.args.machine.now simulates.represents simulates.typed.around.there
+
+pub named_by-inner-requires : goal.named_by-inner-requires
+named_by-inner-requires c =
+    let (frame, globals, r, run, simulates) = c.requires.runs in
+    stands_in c.args.inputs.now.m.now simulates.configuration c.args.machine.now simulates.represents simulates.typed.around.there
+
+pub call-requires-clause-memory : goal.call-requires-clause-memory
+call-requires-clause-memory c = (room_for c.args.inputs.now.m.now.memories c.args.inputs.now.limits.pages, c.requires.memory)
+
+pub call_indirect-requires-clause-memory : goal.call_indirect-requires-clause-memory
+call_indirect-requires-clause-memory c = (room_for c.args.inputs.now.m.now.memories c.args.inputs.now.limits.pages, c.requires.memory)
+
+pub returns-in-Block-clause-room : goal.returns-in-Block-clause-room
+returns-in-Block-clause-room c =
+    let kept = c.enter_named.ensures.room in
+    record { values = kept.values; labels = kept.labels; frames = kept.frames }
+
+pub returns-in-Loop-clause-room : goal.returns-in-Loop-clause-room
+returns-in-Loop-clause-room c =
+    let kept = c.enter_block.ensures.room in
+    record { values = kept.values; labels = kept.labels; frames = kept.frames }
+
+pub returns-in-Call-clause-room : goal.returns-in-Call-clause-room
+returns-in-Call-clause-room c =
+    let kept = c.call.ensures.room in
+    record { values = kept.values; labels = kept.labels; frames = kept.frames }
+
+pub returns-in-CallIndirect-clause-room : goal.returns-in-CallIndirect-clause-room
+returns-in-CallIndirect-clause-room c =
+    let kept = c.call_indirect.ensures.room in
+    record { values = kept.values; labels = kept.labels; frames = kept.frames }
+
+pub returns-in-If-clause-room : goal.returns-in-If-clause-room
+returns-in-If-clause-room c =
+    let popped = c.pop32-condition.ensures.room in
+    let kept = c.enter_arm.ensures.room in
+    record { values = omega (arith, popped.values, kept.values); labels = omega (arith, popped.labels, kept.labels); frames = omega (arith, popped.frames, kept.frames) }
+
+pub returns-in-Block-clause-marks : goal.returns-in-Block-clause-marks
+returns-in-Block-clause-marks c = marks_none c.args.inputs.now.m.now c.args.memory.now c.args.memory.now 2 refl
+
+pub returns-in-Loop-clause-marks : goal.returns-in-Loop-clause-marks
+returns-in-Loop-clause-marks c = marks_none c.args.inputs.now.m.now c.args.memory.now c.args.memory.now 2 refl
+
+pub returns-in-If-clause-marks : goal.returns-in-If-clause-marks
+returns-in-If-clause-marks c = marks_none c.args.inputs.now.m.now c.args.memory.now c.args.memory.now 2 refl
+
+pub returns-in-Call-clause-marks : goal.returns-in-Call-clause-marks
+returns-in-Call-clause-marks c = let m = c.args.inputs.now.m.now in marks_as m m c.args.memory.now c.call.new.memory 2 refl c.call.ensures.marks
+
+pub returns-in-CallIndirect-clause-marks : goal.returns-in-CallIndirect-clause-marks
+returns-in-CallIndirect-clause-marks c = let m = c.args.inputs.now.m.now in marks_as m m c.args.memory.now c.call_indirect.new.memory 2 refl c.call_indirect.ensures.marks

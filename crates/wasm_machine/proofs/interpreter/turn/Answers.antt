@@ -5,7 +5,7 @@ use Rattle.machine_steps.specs.Lent.{store_of}
 use Rattle.wasm_machine.specs.Simulation.{paid, sequence_at}
 use Rattle.wasm_machine.specs.Stretches.{LiesIn, fuel_of, place_of}
 use Rattle.wasm_machine.proofs.FunctionLemmas.{stands_in}
-use Rattle.wasm_machine.proofs.PlaceLemmas.{moved}
+use Rattle.wasm_machine.proofs.PlaceLemmas.{keeps_on, moved}
 use Rattle.wasm_machine.proofs.StretchLemmas.{goes_later, over_same}
 use Rattle.wasm_machine.proofs.interpreter.turn.Goals as goal
 
@@ -104,3 +104,23 @@ pub returns-in-Traps-clause-steps : goal.returns-in-Traps-clause-steps
 returns-in-Traps-clause-steps c frame r run simulates g =
     let left : ℕ = c.fuel_behind-left-in-Traps.result in
     ap r (let same : fuel_of c.args.ahead - left + g ≡ suc g = omega (arith, c.fuel_behind-left-in-Traps.ensures) in same) ∙ c.in-Traps.ensures.steps frame r run simulates g
+
+-- ---- the room and the marks that stay
+
+pub returns-in-Stays-clause-room : goal.returns-in-Stays-clause-room
+returns-in-Stays-clause-room c = keeps_on c.args.machine.now c.execute.new.machine c.fetch.new.machine c.execute.ensures.room c.fetch.ensures.room
+
+pub returns-in-Continues-clause-room : goal.returns-in-Continues-clause-room
+returns-in-Continues-clause-room c = keeps_on c.args.machine.now c.execute.new.machine c.fetch-in-Continues.new.machine c.execute.ensures.room c.fetch-in-Continues.ensures.room
+
+pub returns-in-Stays-clause-marks : goal.returns-in-Stays-clause-marks
+returns-in-Stays-clause-marks c = c.execute.ensures.marks
+
+pub returns-in-Continues-clause-marks : goal.returns-in-Continues-clause-marks
+returns-in-Continues-clause-marks c = c.execute.ensures.marks
+
+pub returns-in-Finishes-clause-marks : goal.returns-in-Finishes-clause-marks
+returns-in-Finishes-clause-marks c = c.execute.ensures.marks
+
+pub returns-in-Traps-clause-marks : goal.returns-in-Traps-clause-marks
+returns-in-Traps-clause-marks c = c.execute.ensures.marks

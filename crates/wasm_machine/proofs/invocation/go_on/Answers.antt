@@ -52,3 +52,32 @@ returns-in-OutOfFuel-clause-stands c out frame r run simulates = (c.in-OutOfFuel
 
 pub returns-in-OutOfFuel-clause-marked : goal.returns-in-OutOfFuel-clause-marked
 returns-in-OutOfFuel-clause-marked c frame r run simulates turns x le e = c.in-OutOfFuel.ensures.marked frame r run simulates turns x (omega (arith, le)) e
+
+-- ---- the marks and the room
+
+pub returns-in-Done-clause-unspent : goal.returns-in-Done-clause-unspent
+returns-in-Done-clause-unspent c = c.in-Done.ensures.unspent
+
+pub returns-in-Done-clause-marks : goal.returns-in-Done-clause-marks
+returns-in-Done-clause-marks c = c.in-Done.ensures.marks
+
+pub returns-in-Done-clause-room : goal.returns-in-Done-clause-room
+returns-in-Done-clause-room c = c.in-Done.ensures.room
+
+pub returns-in-Trapped-clause-unspent : goal.returns-in-Trapped-clause-unspent
+returns-in-Trapped-clause-unspent c = c.in-Trapped.ensures.unspent
+
+pub returns-in-Trapped-clause-marks : goal.returns-in-Trapped-clause-marks
+returns-in-Trapped-clause-marks c = c.in-Trapped.ensures.marks
+
+pub returns-in-Trapped-clause-room : goal.returns-in-Trapped-clause-room
+returns-in-Trapped-clause-room c = c.in-Trapped.ensures.room
+
+pub returns-in-OutOfFuel-clause-unspent : goal.returns-in-OutOfFuel-clause-unspent
+returns-in-OutOfFuel-clause-unspent c = c.in-OutOfFuel.ensures.unspent
+
+pub returns-in-OutOfFuel-clause-marks : goal.returns-in-OutOfFuel-clause-marks
+returns-in-OutOfFuel-clause-marks c = c.in-OutOfFuel.ensures.marks
+
+pub returns-in-OutOfFuel-clause-room : goal.returns-in-OutOfFuel-clause-room
+returns-in-OutOfFuel-clause-room c = c.in-OutOfFuel.ensures.room

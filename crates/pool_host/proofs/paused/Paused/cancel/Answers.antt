@@ -1,5 +1,6 @@
-use Rattle.std.proofs.Common.{refl}
+use Rattle.std.proofs.Common.{◌∙◌, refl}
 use Rattle.instance_calls.specs.Instances.{left_by}
+use Rattle.pool_host.proofs.IdleLemmas.{idle_rests}
 use Rattle.pool_host.proofs.PausedLemmas.{slots_had, still_of, those_given}
 use Rattle.pool_host.proofs.paused.Paused.cancel.Goals as goal
 
@@ -24,4 +25,19 @@ returns g c =
       };
       no_answer = end.ensures.answer;
       left_is = end.ensures.left;
+    }
+
+pub invariant_of-result : goal.invariant_of-result
+invariant_of-result g c =
+    let self = c.args.self in
+    let after = c.give.new.passes in
+    let given = c.give.ensures in record {
+      rests_ticket = idle_rests after.ticket given.idle.ticket;
+      rests_memory = idle_rests after.memory given.idle.memory;
+      rests_table = idle_rests after.table given.idle.table;
+      one_ticket = given.same.ticket.share_is ∙ self.one_ticket;
+      one_memory = given.same.memory.share_is ∙ self.one_memory;
+      one_table = given.same.table.share_is ∙ self.one_table;
+      one_retired = self.one_retired;
+      counted = given.counted self.counted;
     }

@@ -1,5 +1,6 @@
-use Rattle.std.proofs.Common.{refl}
+use Rattle.std.proofs.Common.{◌∙◌, refl}
 use Rattle.instance_calls.specs.Instances.{left_by}
+use Rattle.pool_host.proofs.IdleLemmas.{idle_rests}
 use Rattle.pool_host.proofs.PausedLemmas.{slots_had, still_of, those_given}
 use Rattle.pool_host.proofs.paused.Paused.resume.Goals as goal
 
@@ -25,4 +26,19 @@ returns-in-Done g c =
       over = over.over;
       ends = c.in-Done.ensures.1;
       left_is = c.in-Done.ensures.2;
+    }
+
+pub invariant_of-pass : goal.invariant_of-pass
+invariant_of-pass g c =
+    let self = c.args.self in
+    let after = c.give.new.passes in
+    let given = c.give.ensures in record {
+      rests_ticket = idle_rests after.ticket given.idle.ticket;
+      rests_memory = idle_rests after.memory given.idle.memory;
+      rests_table = idle_rests after.table given.idle.table;
+      one_ticket = given.same.ticket.share_is ∙ self.one_ticket;
+      one_memory = given.same.memory.share_is ∙ self.one_memory;
+      one_table = given.same.table.share_is ∙ self.one_table;
+      one_retired = self.one_retired;
+      counted = given.counted self.counted;
     }
