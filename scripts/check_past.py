@@ -72,7 +72,7 @@ def main():
     if len(sys.argv) < 2 or sys.argv[1] not in crates:
         sys.exit(__doc__)
     crate = crates[sys.argv[1]]
-    standing = lend(rt, list(crates.values()))
+    standing = lend(rt, [it for it in crate.below() if is_ours(it)])
     os.makedirs(f"{crate.folder}/out/past", exist_ok=True)
     sys.exit(subprocess.run(command(crate, standing, sys.argv[2:]), cwd=crate.folder, check=False).returncode)
 
