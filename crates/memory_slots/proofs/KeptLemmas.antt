@@ -1,7 +1,7 @@
 -- What a memory keeps as it is made ready.
 use Rattle.std.proofs.Common.{◌≡◌, ℕ, ◌-◌, ◌*◌, ◌/◌, ◌<◌, ◌≤◌, ⊎_elim, Bool, true, false, cond, List, [], ◌∷◌, length, take, refl, sym, ap, ◌∙◌, subst, arith}
 use Rattle.std.specs.Prelude.{IfSome, Option, Some, None, map, replicate, slice_index, slice_index_or}
-use Rattle.std.proofs.lemmas.Bool.{cases_lt, cond-false, false≢true, ne_eqb}
+use Rattle.std.proofs.lemmas.Bool.{cases_lt, cond-false, false≢true}
 use Rattle.std.proofs.lemmas.List.{get_or_past, get_or-replicate, length-map, length-replicate, take_at}
 use Rattle.wasm_types.specs.declared.types.Limits.{Limits}
 use Rattle.wasm_spec.specs.Store.{fresh_store, minimum_of, page_size}
@@ -99,11 +99,6 @@ own_prepared pages m x new own is = is ∙ ap (λ (o : Option Named). restored_f
 
 pub own_fresh : (pages : ℕ) (m : Named) (x new : MemoryContents) → x.holds ≡ Some m → IfSome x.holds (IsFreshMemory pages new) → IsFreshMemory pages new m
 own_fresh pages m x new own fresh = subst (λ (o : Option Named). IfSome o (IsFreshMemory pages new)) own fresh
-
--- it belongs to no module of this number
-pub belongs_not : (m : Named) (holds : Option Named) → ((own : Named) → holds ≡ Some own → own.number ≡ m.number → ⊥) → belongs_to m holds ≡ false
-belongs_not m None other = refl
-belongs_not m (Some own) other = ne_eqb own.number m.number (other own refl)
 
 -- what was written over another module's memory was prepared
 pub other_prepared : (pages : ℕ) (m : Named) (x new : MemoryContents) → belongs_to m x.holds ≡ false → IsFreshMemory pages new m → new.marks ≡ map (λ (marked : Bool). false) x.marks

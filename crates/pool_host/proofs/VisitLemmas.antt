@@ -1,6 +1,6 @@
 -- A take and the give of its slot are a visit.
-use Rattle.std.proofs.Common.{◌≡◌, ℕ, Bool, true, false, Option, Some, None, Ok, Err, List, [], ◌++◌, refl, sym, ap, ◌∙◌, subst, append-nil}
-use Rattle.std.specs.Prelude.{Result, OnErr, is_some, if◌then◌else◌}
+use Rattle.std.proofs.Common.{◌≡◌, ℕ, Bool, true, false, Option, Some, None, List, [], ◌++◌, refl, sym, ap, ◌∙◌, subst, append-nil}
+use Rattle.std.specs.Prelude.{is_some, if◌then◌else◌}
 use Rattle.slot_words.specs.declared.leases.Lease.{Lease}
 use Rattle.slot_words.specs.declared.views.Operation.{Operation}
 use Rattle.slot_words.specs.Parts.{Grew}
@@ -57,8 +57,3 @@ grew_to P t u v grew same = record { done = grew.done; grown = same ∙ grew.gro
 
 pub grew_from : (P : List Operation → Type 0) (s t u : List Operation) → Grew P t u → t ≡ s → Grew P s u
 grew_from P s t u grew same = record { done = grew.done; grown = grew.grown ∙ ap (λ os. os ++ grew.done) same; is = grew.is }
-
--- what holds whatever came of a call
-pub on_err : {A E : Type 0} (r : Result A E) (P : Type 0) → P → OnErr r P
-on_err (Ok x) P holds = tt
-on_err (Err e) P holds = holds

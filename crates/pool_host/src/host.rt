@@ -58,9 +58,8 @@ impl<N: Naming> Drop for Host<N> {
 }
 
 impl<N: Naming> Host<N> {
-    /// A host with so many slots of each kind, and as many passes as are asked for. There are no others. Of the memories, and of
-    /// the tables, at most as many as the store's configuration says are warm while no call has them. No module is retired. It has a
-    /// word for each module that the store may have.
+    /// A host with so many slots of each kind, just as many passes as are asked for, and a bit for each module that the store may
+    /// have. No module is retired. At most as many memories, and as many tables, as the configuration says are warm while no call has them.
     ///
     /// # Errors
     ///

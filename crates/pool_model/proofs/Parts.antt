@@ -2,7 +2,7 @@
 use Rattle.std.proofs.Common.{◌≡◌, ℕ, ◌-◌, ◌*◌, ◌/◌, ◌≤◌, Bool, true, false, cond, List, [], ◌∷◌, ◌++◌, length, take, drop, refl, sym, ap, ◌∙◌, subst, arith, true≢false}
 use Rattle.std.specs.Prelude.{Option, Some, None, ltb, map, replicate, slice_index}
 use Rattle.std.proofs.lemmas.List.{length-map, length-take-le, take-append-drop, drop_at, take_at, nil_from_length}
-use Rattle.std.proofs.lemmas.Bool.{ltb-false, eqb-true}
+use Rattle.std.proofs.lemmas.Bool.{ltb-false, eqb-true, ne_eqb}
 use Rattle.wasm_values.specs.declared.outcome.Val.{Val}
 use Rattle.wasm_types.specs.declared.types.Limits.{Limits}
 use Rattle.wasm_types.specs.Tree.{ModuleTree}
@@ -20,6 +20,13 @@ use Rattle.pool_model.specs.PoolMachine.{World, IsModule, load_limits}
 use Rattle.pool_model.specs.Worlds.{IsZeroPast, in_slots}
 use Rattle.pool_model.proofs.Bytes.{filled-is}
 pub use Rattle.pool_model.proofs.Bytes.{length-filled, filled-past, rewritten-is}
+
+-- ---- whose contents they are
+
+-- they belong to no module of this number
+pub belongs_not : (m : Named) (holds : Option Named) → ((own : Named) → holds ≡ Some own → own.number ≡ m.number → ⊥) → belongs_to m holds ≡ false
+belongs_not m None other = refl
+belongs_not m (Some own) other = ne_eqb own.number m.number (other own refl)
 
 -- ---- modules that were loaded
 

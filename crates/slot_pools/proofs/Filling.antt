@@ -1,5 +1,5 @@
 -- What a take adds to its pass's trail: what it read, its claims, and what settles the slot that was won.
-use Rattle.std.proofs.Common.{◌≡◌, ℕ, leb, List, ◌∷◌, ◌++◌, Result, Ok, Err, refl}
+use Rattle.std.proofs.Common.{◌≡◌, ℕ, leb, List, ◌∷◌, ◌++◌, Result, refl}
 use Rattle.std.specs.Result.{OnErr}
 use Rattle.slot_words.specs.declared.views.Operation.{Operation}
 use Rattle.slot_words.specs.declared.views.Operation.TheVariants.{WarmLoad}
@@ -12,14 +12,7 @@ use Rattle.slot_pools.specs.declared.policy.Policy.{Policy}
 use Rattle.slot_pools.specs.declared.policy.Policy.TheVariants.{Batched, Affine, Any}
 use Rattle.slot_pools.specs.Looks.{AreWords, IsLook, IsReading}
 use Rattle.slot_pools.specs.LookWins.{reads, IsOrderBy}
-
-pub on_err : {T E P : Type 0} (r : Result T E) → P → OnErr r P
-on_err (Ok x) p = tt
-on_err (Err e) p = p
-
-pub err_weaker : {T E P Q : Type 0} (r : Result T E) → (P → Q) → OnErr r P → OnErr r Q
-err_weaker (Ok x) f h = tt
-err_weaker (Err e) f h = f h
+use Rattle.slot_pools.proofs.ResultLemmas.{on_err}
 
 -- claims along an order of this kind
 abbrev pub Along : (List ℕ → Type 0) → (List ℕ → List Operation → Type 0) → List Operation → Type 0

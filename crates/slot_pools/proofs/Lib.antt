@@ -1,3 +1,4 @@
+pub mod ResultLemmas
 mod Causing
 mod Filling
 mod LastClaiming

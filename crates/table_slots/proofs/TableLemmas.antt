@@ -1,6 +1,6 @@
 -- Tables of loaded modules.
 use Rattle.std.proofs.Common.{◌≡◌, ◌≤◌, ℕ, true, false, List, ◌++◌, length, take, drop, refl, sym, ap, ◌∙◌, subst, arith, length-append}
-use Rattle.std.proofs.lemmas.Bool.{cond-true, cond-false, eq-eqb, ne_eqb}
+use Rattle.std.proofs.lemmas.Bool.{cond-true, cond-false, eq-eqb}
 use Rattle.std.proofs.lemmas.List.{length-drop, take_at}
 use Rattle.std.specs.Prelude.{Option, Some, None}
 use Rattle.wasm_spec.specs.Store.{fresh_store, table_size}
@@ -37,11 +37,6 @@ own_prepared pages m x own =
     let is : belongs_to m x.holds ≡ true = subst (λ (o : Option Named). belongs_to m o ≡ true) (sym own) (own_number m) in
     let entries = sym (cond-true (belongs_to m x.holds) x.entries (table_image (Some m)) is) in
     λ i. record { entries = entries i; holds = own i }
-
--- it belongs to no module of this number
-pub belongs_not : (m : Named) (holds : Option Named) → ((own : Named) → holds ≡ Some own → own.number ≡ m.number → ⊥) → belongs_to m holds ≡ false
-belongs_not m None other = refl
-belongs_not m (Some own) other = ne_eqb own.number m.number (other own refl)
 
 -- what was written over another module's table was prepared
 pub other_prepared : (pages : ℕ) (m : Named) (x new : TableContents) → belongs_to m x.holds ≡ false → IsTableOf new m → new ≡ prepared pages m Table x

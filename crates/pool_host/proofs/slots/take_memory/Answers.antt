@@ -3,7 +3,7 @@ use Rattle.wasm_spec.specs.Store.{fresh_store}
 use Rattle.pool_model.specs.Contents.{needs, shown_memory}
 use Rattle.pool_model.specs.declared.kinds.Kind.TheVariants.{Memory}
 use Rattle.pool_host.specs.Kinds.{IsTurnedAwayFrom}
-use Rattle.pool_host.proofs.VisitLemmas.{on_err}
+use Rattle.slot_pools.proofs.ResultLemmas.{on_err}
 use Rattle.pool_host.proofs.slots.take_memory.Goals as goal
 
 pub returns-then-not-needs_memory-clause-fresh : goal.returns-then-not-needs_memory-clause-fresh
@@ -17,7 +17,7 @@ returns-in_err-lease-clause-full g c =
     let met = c.in_err-lease.ensures in
     let away : IsTurnedAwayFrom Memory c.args.pool.now c.args.loaded.now.module.now c.args.pass.now c.take_for.new.pass =
     record { needed_is = sym c.needs_memory.ensures.is ∙ c.if-not-needs_memory.false; full = met.full.1; others = met.another } in
-    on_err c.from_residual.result _ away
+    on_err c.from_residual.result away
 
 pub returns-clause-fresh : goal.returns-clause-fresh
 returns-clause-fresh g c =

@@ -1,7 +1,7 @@
 use Rattle.std.proofs.Common.{refl}
 use Rattle.std.proofs.lemmas.Result.{IfOk-weaker}
 use Rattle.affinity_index.specs.Unheld.{unheld}
-use Rattle.slot_pools.proofs.Filling.{err_weaker}
+use Rattle.std.proofs.lemmas.Result.{on_err_weaker}
 use Rattle.slot_pools.proofs.claims.claim_seen.Goals as goal
 
 pub returns-in-Batched-clause-trail : goal.returns-in-Batched-clause-trail
@@ -21,7 +21,7 @@ returns-in-Any-clause-trail g c = rw c.in-Any.is (IfOk-weaker c.claim_first_unhe
     record { done = won.done; grown = won.grown; is = (unheld c.args.seen.now, refl, won.is) }) c.claim_first_unheld.ensures.trail)
 
 pub returns-in-Any-clause-held : goal.returns-in-Any-clause-held
-returns-in-Any-clause-held g c = rw c.in-Any.is (err_weaker c.claim_first_unheld.result (λ h.
+returns-in-Any-clause-held g c = rw c.in-Any.is (on_err_weaker c.claim_first_unheld.result (λ h.
     (h.0, record { done = h.1.done; grown = h.1.grown; is = (unheld c.args.seen.now, refl, h.1.is) })) c.claim_first_unheld.ensures.held)
 
 pub claim_first_unheld-requires-clause-seen : goal.claim_first_unheld-requires-clause-seen

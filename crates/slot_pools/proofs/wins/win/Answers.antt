@@ -1,6 +1,7 @@
 use Rattle.std.proofs.Common.{inl, inr}
 use Rattle.slot_words.specs.Owned.{limit_of, slots_of}
-use Rattle.slot_pools.proofs.Filling.{after_lost, on_err}
+use Rattle.slot_pools.proofs.Filling.{after_lost}
+use Rattle.slot_pools.proofs.ResultLemmas.{on_err}
 use Rattle.slot_pools.proofs.ToldLemmas.{told_last, told_seen}
 use Rattle.slot_pools.proofs.wins.win.Goals as goal
 

@@ -1,16 +1,11 @@
 use Rattle.std.proofs.Common.{subst}
-use Rattle.std.specs.Prelude.{OnErr, Result, Ok, Err}
 use Rattle.pool_limits.specs.declared.numbers.Numbers.{Numbers}
 use Rattle.slot_words.specs.declared.words.Words.{Words}
 use Rattle.slot_pools.specs.declared.policy.Policy.TheVariants.{Any}
 use Rattle.slot_pools.specs.Takes.{Takes, MeetsFull}
+use Rattle.slot_pools.proofs.ResultLemmas.{on_err}
 use Rattle.instance_slots.specs.Tickets.{TicketView}
 use Rattle.instance_slots.proofs.pool.TicketPool.take_for.Goals as goal
-
--- what holds anyway holds of an error
-on_err : {T E P : Type 0} (r : Result T E) → P → OnErr r P
-on_err (Ok x) p = tt
-on_err (Err e) p = p
 
 pub returns-in_err-lease-clause-full : goal.returns-in_err-lease-clause-full
 returns-in_err-lease-clause-full g c =

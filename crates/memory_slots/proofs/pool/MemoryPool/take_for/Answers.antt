@@ -1,16 +1,11 @@
 use Rattle.std.proofs.Common.{ℕ, subst}
-use Rattle.std.specs.Prelude.{OnErr, Result, Ok, Err}
 use Rattle.pool_model.specs.Contents.{MemoryContents}
 use Rattle.pool_limits.specs.declared.numbers.Numbers.{Numbers}
 use Rattle.slot_words.specs.declared.words.Words.{Words}
 use Rattle.slot_pools.specs.declared.policy.Policy.TheVariants.{Batched}
 use Rattle.slot_pools.specs.Takes.{Takes, MeetsFull}
+use Rattle.slot_pools.proofs.ResultLemmas.{on_err}
 use Rattle.memory_slots.proofs.pool.MemoryPool.take_for.Goals as goal
-
--- what holds anyway holds of an error
-on_err : {T E P : Type 0} (r : Result T E) → P → OnErr r P
-on_err (Ok x) p = tt
-on_err (Err e) p = p
 
 pub returns-in_err-taken-clause-full : goal.returns-in_err-taken-clause-full
 returns-in_err-taken-clause-full g c =

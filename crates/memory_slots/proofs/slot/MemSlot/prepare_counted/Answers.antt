@@ -4,7 +4,8 @@ use Rattle.std.proofs.lemmas.Bool.{false≢true}
 use Rattle.std.proofs.lemmas.Option.{same_Some}
 use Rattle.block_restore.proofs.MarkLemmas.{count_within}
 use Rattle.pool_model.specs.Contents.{Named, MemoryContents, belongs_to}
-use Rattle.memory_slots.proofs.KeptLemmas.{belongs_not, other_prepared, own_fresh, own_prepared}
+use Rattle.pool_model.proofs.Parts.{belongs_not}
+use Rattle.memory_slots.proofs.KeptLemmas.{other_prepared, own_fresh, own_prepared}
 use Rattle.memory_slots.proofs.slot.MemSlot.prepare_counted.Given as given
 use Rattle.memory_slots.proofs.slot.MemSlot.prepare_counted.Goals as goal
 use Rattle.memory_slots.proofs.slot.MemSlot.prepare_counted.Goals.{in-Some+else-same, in_default}

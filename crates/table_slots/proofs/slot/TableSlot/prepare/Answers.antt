@@ -3,7 +3,8 @@ use Rattle.std.specs.Prelude.{Some}
 use Rattle.std.proofs.lemmas.Bool.{false≢true}
 use Rattle.std.proofs.lemmas.Option.{same_Some}
 use Rattle.pool_model.specs.Contents.{Named, TableContents, belongs_to}
-use Rattle.table_slots.proofs.TableLemmas.{belongs_not, other_prepared, own_prepared}
+use Rattle.pool_model.proofs.Parts.{belongs_not}
+use Rattle.table_slots.proofs.TableLemmas.{other_prepared, own_prepared}
 use Rattle.table_slots.proofs.slot.TableSlot.prepare.Goals as goal
 use Rattle.table_slots.proofs.slot.TableSlot.prepare.Goals.{in-Some+else-same, in_default}
 
