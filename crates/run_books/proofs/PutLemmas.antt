@@ -4,7 +4,7 @@ use Rattle.std.specs.Prelude.{slice_get, count_by}
 use Rattle.std.specs.List.{All}
 use Rattle.std.proofs.lemmas.Bool.{cases_eq}
 use Rattle.std.proofs.lemmas.Bool.Decides.{nat_tests}
-use Rattle.std.proofs.lemmas.List.{replicate_more}
+use Rattle.std.proofs.lemmas.List.{length-replicate, replicate_more}
 use Rattle.std.proofs.lemmas.List.Elements.{All-append, All-cons, All-nil, All-replicate}
 use Rattle.std.proofs.lemmas.List.Sums.{sum_by-append, sum_by-cons}
 use Rattle.request_calls.specs.declared.invocation.Invocation.{Invocation}
@@ -130,6 +130,13 @@ module _ (all : List Directive) (span : Span) (is_span : IsSpan all span) where
 
 pub put_none : (a : Puts) → a ≡ with_put a []
 put_none a = ap (λ (pairs : List Pair). record a { put = pairs }) (sym (append-nil a.put))
+
+pub many_put : (a b : Puts) (n : ℕ) → b ≡ with_put a (replicate n (0, None)) → length b.put ≡ length a.put + n
+many_put a b n e =
+    let zero_pair : Pair = (0, None) in
+    let put : length b.put ≡ length (a.put ++ replicate n zero_pair) = ap (λ (x : Puts). length x.put) e in
+    let both = length-append a.put (replicate n zero_pair) in
+    let ends = length-replicate {A = Pair} n zero_pair in omega arith
 
 pub put_then : (a b c : Puts) (n : ℕ) → b ≡ with_put a (replicate n (0, None)) → c ≡ with_put b ((0, None) ∷ []) → c ≡ with_put a (replicate (n + 1) (0, None))
 put_then a b c n e f =

@@ -1,4 +1,4 @@
-use Rattle.std.proofs.Common.{◌∙◌, Some, ap, arith, inr}
+use Rattle.std.proofs.Common.{◌≡◌, ◌∙◌, Some, ap, arith, inr}
 use Rattle.request_text.specs.declared.request.Directive.{Directive}
 use Rattle.run_books.specs.Lines.{limits_in}
 use Rattle.run_books.proofs.EntryLemmas.{entered_module, entered_other, kept_all, kept_more, many_entries, room_for_module}
@@ -107,3 +107,30 @@ returns-clause-many g c = puts_many c.args.requests.now.directives c.args.span c
 
 pub returns-clause-put : goal.returns-clause-put
 returns-clause-put g c = puts_end c.args.requests.now.directives c.args.span c.requires.span_is _ _ _ _ _ c.loop-at.invariant.left c.loop-at-test.false
+
+pub returns-in_err-enter-in-Module-clause-own : goal.returns-in_err-enter-in-Module-clause-own
+returns-in_err-enter-in-Module-clause-own g c = c.loop-at.invariant.own
+
+pub returns-in_err-enter-in-Module-clause-putter : goal.returns-in_err-enter-in-Module-clause-putter
+returns-in_err-enter-in-Module-clause-putter g c = c.loop-at.invariant.left.putter
+
+pub put-requires-clause-own : goal.put-requires-clause-own
+put-requires-clause-own g c = c.loop-at.invariant.own
+
+pub put-requires-clause-putter : goal.put-requires-clause-putter
+put-requires-clause-putter g c = c.loop-at.invariant.left.putter
+
+pub returns-clause-own : goal.returns-clause-own
+returns-clause-own g c = c.loop-at.invariant.own
+
+pub returns-clause-putter : goal.returns-clause-putter
+returns-clause-putter g c = c.loop-at.invariant.left.putter
+
+pub returns-clause-kept : goal.returns-clause-kept
+returns-clause-kept g c = c.loop-at.invariant.kept
+
+pub returns-clause-entered : goal.returns-clause-entered
+returns-clause-entered g c =
+    let within = c.loop-at.invariant.within in
+    let past = c.loop-at-test.false in
+    let all : c.loop-at.at ≡ c.args.span.to = omega arith in rw (← all) c.loop-at.invariant.entered
