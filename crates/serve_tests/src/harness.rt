@@ -8,9 +8,9 @@ use std::thread::Threads;
 
 // Of a source and of a sink: the size of its pieces, and the calls that fail.
 #[derive(Clone, Copy)]
-pub(crate) struct Ends {
-    pub(crate) source: (usize, &'static [u64]),
-    pub(crate) sink: (usize, &'static [u64]),
+pub(crate) struct Ends<'a> {
+    pub(crate) source: (usize, &'a [u64]),
+    pub(crate) sink: (usize, &'a [u64]),
 }
 
 // Ends that never fail.
@@ -24,7 +24,7 @@ pub(crate) const SOUND: Ends = Ends {
 pub(crate) struct Run<'a> {
     pub(crate) line: &'a str,
     pub(crate) bytes: &'a [u8],
-    pub(crate) ends: Ends,
+    pub(crate) ends: Ends<'a>,
     pub(crate) status: u8,
     pub(crate) written: &'a [u8],
 }
@@ -76,30 +76,27 @@ fn status_of<R: Abort + Threads + Wait + Sync, G: Gate>(
     serve(rt, alloc, &words, source, sink, gate)
 }
 
-// What a run with further words ends with and writes.
+// What a run ends with and writes.
 pub(crate) fn ended<R: Abort + Threads + Wait + Sync, G: Gate>(
     rt: &R,
     alloc: Global,
     run: &Run,
-    more: &str,
     gate: &G,
 ) -> (u8, MemSink) {
-    let line = [run.line, more].join(alloc, " ").expect(rt, "memory");
     let mut source = source(rt, alloc, run);
     let mut sink = sink(rt, alloc, run);
-    let status = status_of(rt, alloc, line.as_str(), &mut source, &mut sink, gate);
+    let status = status_of(rt, alloc, run.line, &mut source, &mut sink, gate);
     (status, sink)
 }
 
-// A run with further words ends and writes as it must.
+// A run ends and writes as it must.
 pub(crate) fn check<R: Abort + Threads + Wait + Sync, G: Gate>(
     rt: &R,
     alloc: Global,
     run: &Run,
-    more: &str,
     gate: &G,
 ) {
-    let (status, sink) = ended(rt, alloc, run, more, gate);
-    assert_eq!(rt; sink.bytes(), run.written, "{} {more}", run.line);
-    assert_eq!(rt; status, run.status, "{} {more}", run.line);
+    let (status, sink) = ended(rt, alloc, run, gate);
+    assert!(rt; sink.bytes() == run.written, "{}", run.line);
+    assert_eq!(rt; status, run.status, "{}", run.line);
 }

@@ -1,11 +1,14 @@
-//! Tests of whole files of requests, over sources and sinks in memory: each line of the report, each kind of directive, each status. Nothing stands on this crate.
+//! Tests of whole runs that are no rows of `run_cases`: sources and sinks that fail or have small pieces, gates that count or hold calls,
+//! and files that a function makes. Nothing stands on this crate.
 #![tactic(auto)]
 
 #[cfg(test)]
-mod files;
+mod ends;
+#[cfg(test)]
+mod gates;
 #[cfg(test)]
 mod harness;
 #[cfg(test)]
-mod meetings;
+mod large;
 #[cfg(test)]
-mod retirements;
+mod meetings;

@@ -1,5 +1,5 @@
 //! Whole runs whose gate tells how the calls were made: how many entered, and how many were under way at the same time.
-use crate::files::MOST_TURNS;
+use crate::gates::MOST_TURNS;
 use crate::harness::{ended, over};
 use host_edge::Gate;
 use std::alloc::Global;
@@ -96,7 +96,7 @@ fn met<R: Abort + Threads + Wait + Sync>(rt: &R, alloc: Global, run: &Met) -> (u
         inside: AtomicU64::new(0),
         most: AtomicU64::new(0),
     };
-    let (status, _sink) = ended(rt, alloc, &over(line, text, ""), "", &gate);
+    let (status, _sink) = ended(rt, alloc, &over(line, text, ""), &gate);
     assert_eq!(rt; status, 0, "{line}");
     let entered = gate.entered.load(Ordering::SeqCst);
     (entered, gate.most.load(Ordering::SeqCst))
