@@ -1,5 +1,5 @@
 //! Cases are read.
-use crate::texts::Text;
+use crate::texts::{push_line, spread};
 use anyhow::{Error, bail, ensure};
 use std::alloc::Global;
 
@@ -21,8 +21,8 @@ pub(crate) struct Case<'a> {
     pub(crate) status: Option<u8>,
     // the words that write the file, or the file itself
     pub(crate) maker: Option<&'a str>,
-    pub(crate) file: Text,
-    pub(crate) report: Text,
+    pub(crate) file: String,
+    pub(crate) report: String,
     place: Place,
 }
 
@@ -34,8 +34,8 @@ impl<'a> Case<'a> {
             runs: Vec::new(alloc),
             status: None,
             maker: None,
-            file: Text::new(alloc),
-            report: Text::new(alloc),
+            file: String::new(alloc),
+            report: String::new(alloc),
             place: Place::Head,
         }
     }
@@ -74,19 +74,19 @@ impl<'a> Case<'a> {
     }
 
     /// Reads the next line.
-    pub(crate) fn read(&mut self, line: &'a str) -> Result<(), Error> {
+    pub(crate) fn read(&mut self, alloc: Global, line: &'a str) -> Result<(), Error> {
         match (self.place, line) {
             (Place::File, "report") => {
-                self.file.end()?;
+                self.file = spread(alloc, self.file.as_str())?;
                 self.place = Place::Report;
             }
             (Place::Report, "end") => {
                 ensure!(self.has_head(), "no title, no run or no status");
-                self.report.end()?;
+                self.report = spread(alloc, self.report.as_str())?;
                 self.place = Place::Behind;
             }
-            (Place::File, _) => self.file.push_line(line)?,
-            (Place::Report, _) => self.report.push_line(line)?,
+            (Place::File, _) => push_line(&mut self.file, line)?,
+            (Place::Report, _) => push_line(&mut self.report, line)?,
             _ => self.read_head(line)?,
         }
         Ok(())

@@ -2,27 +2,28 @@
 //! request file, and what each must write:
 //!
 //! ```text
-//! # behind an end, and ahead of a file, a line may be a comment
+//! # ahead of a file, a line may be a comment
 //! case several workers write the same report
 //! $ poolhost run
 //! $ poolhost run --workers 4
 //! status 0
 //! file
 //! module e 0061736d01000000
-//! 20 times
+//! {20
 //! call e f* 1
-//! once
+//! }\
 //! call e g{30 x} 1\
 //! report
 //! module e ok
-//! 21 times
+//! {21
 //! @ refused export
+//! }\
 //! end
 //! ```
 //!
-//! The lines behind `20 times` stand so many times one after another, up to the next such line, and those behind `once` once. In a
-//! line, `{30 x}` is 30 times x. A `*` is the number of the time, from 0, and a `@` the next of the numbers from 1 on. A `\` at the
-//! end of a line takes its line feed away. In place of `file`, `file by poolhost make 7 20` takes the file that these words write.
+//! What stands behind the number in `{20 x}` stands so many times. A `*` in it is the number of the time, from 0, and a `@` the next of
+//! the numbers from 1 on. A `\` at the end of a line takes its line feed away. In place of `file`, `file by poolhost make 7 20` takes
+//! what these words write.
 //!
 //! Each run that ends or writes otherwise is printed, and then the status is 1. It is 2 if the cases can't be read.
 #![tactic(auto)]
@@ -49,7 +50,7 @@ fn check_all<R: Print + Threads + Wait + Sync>(
     let mut tally = Tally::default();
     let mut case = Case::new(alloc);
     for line in cases.lines() {
-        case.read(line)
+        case.read(alloc, line)
             .context(format_args!("{}: {line}", case.title))?;
         if case.is_whole() {
             check(rt, alloc, &case, &mut tally)?;
@@ -63,9 +64,13 @@ fn check_all<R: Print + Threads + Wait + Sync>(
 // The status of the program.
 fn status_of<R: Input + Print + Threads + Wait + Sync>(rt: &R, alloc: Global) -> Result<u8, Error> {
     let cases = io::read_to_string(alloc, rt.reader())?;
-    let tally = check_all(rt, alloc, cases.as_str())?;
-    println!(rt; "{tally}")?;
-    Ok(if tally.wrong == 0 { 0 } else { 1 })
+    let Tally { cases, runs, wrong } = check_all(rt, alloc, cases.as_str())?;
+    if wrong == 0 {
+        println!(rt; "{runs} runs of {cases} cases ended and wrote as they must")?;
+        return Ok(0);
+    }
+    println!(rt; "{wrong} of {runs} runs of {cases} cases were wrong")?;
+    Ok(1)
 }
 
 fn main(rt: HostRuntime) -> ExitCode {

@@ -6,7 +6,7 @@ use host_run::serve;
 use std::alloc::{AllocError, Global};
 use std::sync::Wait;
 use std::thread::Threads;
-use std::{fmt, io, str};
+use std::{io, str};
 
 // The most bytes that a source gives and a sink takes at once.
 const PIECE: usize = 4096;
@@ -14,23 +14,9 @@ const PIECE: usize = 4096;
 /// How many cases there were, how many runs, and how many of these were wrong.
 #[derive(Clone, Copy, Default)]
 pub(crate) struct Tally {
-    cases: u64,
-    runs: u64,
+    pub(crate) cases: u64,
+    pub(crate) runs: u64,
     pub(crate) wrong: u64,
-}
-
-impl fmt::Display for Tally {
-    fn fmt<W: fmt::Write>(&self, f: &mut fmt::Formatter<W>) -> fmt::Result {
-        let Tally { cases, runs, wrong } = *self;
-        if wrong == 0 {
-            write!(
-                f,
-                "{runs} runs of {cases} cases ended and wrote as they must"
-            )
-        } else {
-            write!(f, "{wrong} of {runs} runs of {cases} cases were wrong")
-        }
-    }
 }
 
 // What a run on these words over a file ends with and writes.
@@ -60,11 +46,11 @@ fn line_apart<'a>(text: &'a str, other: &str) -> &'a str {
 
 // Prints a run that was wrong, and where.
 fn tell<R: Print>(rt: &R, case: &Case, words: &str, status: u8, written: &[u8]) -> io::Result<()> {
-    let due = case.report.text();
+    let due = case.report.as_str();
     let written = str::from_utf8(written).unwrap_or("no text");
     println!(rt; "case {}", case.title)?;
     println!(rt; "$ {words}")?;
-    println!(rt; "status {status}")?;
+    println!(rt; "status {status}, must be {}", case.status.unwrap_or(0))?;
     if written != due {
         println!(rt; "wrote, where it differs: {}", line_apart(written, due))?;
         println!(rt; "must write: {}", line_apart(due, written))?;
@@ -97,11 +83,11 @@ pub(crate) fn check<R: Print + Threads + Wait + Sync>(
     let made = made(rt, alloc, case)?;
     let file = match &made {
         Some(sink) => sink.bytes(),
-        None => case.file.text().as_bytes(),
+        None => case.file.as_bytes(),
     };
     for words in &case.runs {
         let (status, sink) = run(rt, alloc, *words, file)?;
-        if Some(status) != case.status || sink.bytes() != case.report.text().as_bytes() {
+        if Some(status) != case.status || sink.bytes() != case.report.as_bytes() {
             tally.wrong = tally.wrong.saturating_add(1);
             tell(rt, case, *words, status, sink.bytes())?;
         }

@@ -1,27 +1,19 @@
-//! Texts in parts that stand many times.
-use anyhow::{Error, bail};
+//! Texts of which parts stand many times.
+use anyhow::{Context, Error};
 use std::alloc::{AllocError, Global};
 
-/// A text that the lines of a case make.
-#[derive(Drop)]
-pub(crate) struct Text {
-    whole: String,
-    // the part that the last lines make, and how many times it stands
-    part: String,
-    times: u32,
-    // what the last `@` stood for
-    last: u32,
-}
-
-// How many times the lines behind this one stand, if it says so.
-fn times_of(line: &str) -> Option<u32> {
-    if line == "once" {
-        return Some(1);
+/// Appends a line. A `\` at its end takes the line feed away.
+pub(crate) fn push_line(text: &mut String, line: &str) -> Result<(), AllocError> {
+    match line.strip_suffix('\\') {
+        Some(line) => text.push_str(line),
+        None => {
+            text.push_str(line)?;
+            text.push('\n')
+        }
     }
-    line.strip_suffix(" times")?.parse().ok()
 }
 
-// Pushes letters, of which a `*` is the time, and a `@` the next number.
+// Appends letters, of which a `*` is the time, and a `@` the next number.
 fn push_time(
     text: &mut String,
     letters: &str,
@@ -45,71 +37,25 @@ fn push_time(
     Ok(())
 }
 
-// Pushes what stands in braces: how many times, a space, and letters.
-fn push_braced(text: &mut String, braced: &str, last: &mut u32) -> Result<(), Error> {
-    let Some((times, letters)) = braced.split_once(' ') else {
-        bail!("no number in braces");
-    };
+// Appends what stands in braces: how many times, a space or a line feed, and letters.
+fn push_times(text: &mut String, braced: &str, last: &mut u32) -> Result<(), Error> {
+    let (times, letters) = braced
+        .split_once(char::is_whitespace)
+        .context("no number in braces")?;
     for time in 0..times.parse::<u32>()? {
         push_time(text, letters, time, last)?;
     }
     Ok(())
 }
 
-// Pushes a part once.
-fn push_part(text: &mut String, part: &str, time: u32, last: &mut u32) -> Result<(), Error> {
-    for piece in part.split('}') {
-        match piece.split_once('{') {
-            Some((letters, braced)) => {
-                push_time(text, letters, time, last)?;
-                push_braced(text, braced, last)?;
-            }
-            None => push_time(text, piece, time, last)?,
-        }
+/// The text in which what stands in braces stands as many times as they say.
+pub(crate) fn spread(alloc: Global, text: &str) -> Result<String, Error> {
+    let mut whole = String::new(alloc);
+    let mut last = 0;
+    for piece in text.split('}') {
+        let (letters, braced) = piece.split_once('{').unwrap_or((piece, "0 "));
+        push_time(&mut whole, letters, 0, &mut last)?;
+        push_times(&mut whole, braced, &mut last)?;
     }
-    Ok(())
-}
-
-impl Text {
-    /// An empty text.
-    pub(crate) fn new(alloc: Global) -> Self {
-        Text {
-            whole: String::new(alloc),
-            part: String::new(alloc),
-            times: 1,
-            last: 0,
-        }
-    }
-
-    /// Takes the next line.
-    pub(crate) fn push_line(&mut self, line: &str) -> Result<(), Error> {
-        if let Some(times) = times_of(line) {
-            self.end()?;
-            self.times = times;
-            return Ok(());
-        }
-        match line.strip_suffix('\\') {
-            Some(line) => self.part.push_str(line)?,
-            None => {
-                self.part.push_str(line)?;
-                self.part.push('\n')?;
-            }
-        }
-        Ok(())
-    }
-
-    /// Ends the part that the last lines made.
-    pub(crate) fn end(&mut self) -> Result<(), Error> {
-        for time in 0..self.times {
-            push_part(&mut self.whole, self.part.as_str(), time, &mut self.last)?;
-        }
-        self.part.clear();
-        self.times = 1;
-        Ok(())
-    }
-
-    /// The parts that were ended.
-    pub(crate) fn text(&self) -> &str {
-        self.whole.as_str()
-    }
+    Ok(whole)
 }
