@@ -31,3 +31,23 @@ loop-tenant-preserved g c =
           (All-weaker (IsNewTenantPass after (tenants_of before)) (IsTenantPass after) (new_is_own after (tenants_of before)) more (last_new before after adds.host adds.hosts_are own adds.new)));
       order = subst (AreInOrder after passes) (sym put) (order_more before after adds.host adds.hosts_are passes all own count adds.many adds.new i.order);
     }
+
+pub add_host-requires-clause-tenant : goal.add_host-requires-clause-tenant
+add_host-requires-clause-tenant g c =
+    let many = c.loop-tenant.invariant.many in
+    let end = c.loop-tenant.invariant.end_is in
+    let test = c.loop-tenant-test.true in omega arith
+
+pub returns-clause-passes : goal.returns-clause-passes
+returns-clause-passes g c = c.loop-tenant.invariant.own
+
+pub returns-clause-order : goal.returns-clause-order
+returns-clause-order g c = c.loop-tenant.invariant.order
+
+pub returns-clause-shares : goal.returns-clause-shares
+returns-clause-shares g c =
+    let i = c.loop-tenant.invariant in
+    let many = i.many in
+    let end = i.end_is in
+    let past = c.loop-tenant-test.false in
+    let last = c.loop-tenant.auto.tenant-end in record { many = omega arith; each = i.shares }

@@ -1,4 +1,4 @@
-use Rattle.std.proofs.Common.{◌≡◌, ◌∙◌, subst}
+use Rattle.std.proofs.Common.{◌≡◌, ◌∙◌, refl, subst}
 use Rattle.std.proofs.lemmas.Option.{get_or_from_slice_get}
 use Rattle.pool_host.specs.declared.host.Host.{Host}
 use Rattle.pool_host.specs.Hosts.{IsHostPass}
@@ -24,3 +24,21 @@ returns-clause-sweeps g c = λ host there.
     let called = c.index-host.result.now in
     let is : called ≡ host = c.index-host.ensures ∙ get_or_from_slice_get c.args.self.now.hosts.items c.args.pass.now.tenant host called there in
     subst (λ (h : Host _). Sweeps h c.args.module.now c.retire.result c.args.pass.now.pass.passes c.retire.new.pass.passes) is c.retire.ensures.sweeps
+
+pub returns-clause-same : goal.returns-clause-same
+returns-clause-same g c = record { tenant_is = refl; same = c.retire.ensures.same }
+
+pub returns-clause-bytes : goal.returns-clause-bytes
+returns-clause-bytes g c = c.retire.ensures.bytes
+
+pub returns-clause-known : goal.returns-clause-known
+returns-clause-known g c = c.retire.ensures.known
+
+pub returns-clause-before : goal.returns-clause-before
+returns-clause-before g c = c.retire.ensures.before
+
+pub retire-requires : goal.retire-requires
+retire-requires g c =
+    let own = c.requires in
+    let called = c.index-host.result.now in
+    let is : called ≡ own.host = c.index-host.ensures ∙ get_or_from_slice_get c.args.self.now.hosts.items c.args.pass.now.tenant own.host called own.there in rw is own.own
