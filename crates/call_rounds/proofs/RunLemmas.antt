@@ -23,7 +23,7 @@ use Rattle.call_workers.specs.declared.members.Crew.{Crew}
 use Rattle.call_workers.specs.Crews.{StillKnow}
 use Rattle.pool_host.specs.declared.lane.LaneHost.{LaneHost}
 use Rattle.slice_workers.specs.declared.crew.SliceCrew.{SliceCrew}
-use Rattle.slice_workers.specs.declared.slice_shared.SliceShared.{SliceShared}
+use Rattle.slice_steps.specs.declared.slice_shared.SliceShared.{SliceShared}
 use Rattle.slice_workers.specs.Crews.{IsNewSliceCrew}
 use Rattle.run_books.specs.declared.books.Books.{Books}
 use Rattle.run_books.specs.declared.books.Span.{Span}

@@ -13,8 +13,8 @@ use Rattle.call_workers.specs.declared.members.Done.{Done}
 use Rattle.call_workers.specs.declared.members.Round.{Round}
 use Rattle.call_workers.specs.Crews.{IsDone, IsNewRound, WorkerKnows, given_back}
 use Rattle.slice_workers.specs.declared.crew.Sliced.{Sliced}
-use Rattle.slice_workers.specs.declared.slice_shared.SliceShared.{SliceShared}
-use Rattle.slice_workers.specs.Slices.{AreCaused, SlicedAll}
+use Rattle.slice_steps.specs.declared.slice_shared.SliceShared.{SliceShared}
+use Rattle.slice_workers.specs.Sliced.{AreCaused, SlicedAll}
 use Rattle.run_books.specs.declared.books.Books.{Books}
 use Rattle.run_books.specs.declared.books.Registry.{Registry}
 use Rattle.run_books.specs.declared.books.Span.{Span}

@@ -8,7 +8,7 @@ ghost use Rattle.request_text.specs.Text.{call_count};
 ghost use Rattle.run_books.specs.Due.{dues_from};
 ghost use Rattle.run_books.specs.Put.{CanPutAll, HasPutAll};
 ghost use Rattle.run_books.specs.Books.{AreBooks, HasEntered};
-ghost use Rattle.slice_workers.specs.Slices.{AreCaused, SlicedAll};
+ghost use Rattle.slice_workers.specs.Sliced.{AreCaused, SlicedAll};
 ghost use Rattle.call_rounds.specs.Worked.{AnswersFile, AreOfSlices, MadeBySlicers};
 
 use crate::shares::worker_count;

@@ -1,6 +1,7 @@
 -- What workers did in slices is put together, and the calls that still go round are made to their end.
-use Rattle.std.proofs.Common.{◌≡◌, inr, ℕ, ◌+◌, false, List, [], ◌∷◌, ◌++◌, Option, Ok, Err, ap, ◌∙◌, subst, arith, append_assoc, append-nil, length, length-append}
+use Rattle.std.proofs.Common.{◌≡◌, inl, inr, ℕ, ◌+◌, false, List, [], ◌∷◌, ◌++◌, Option, Ok, Err, ap, ◌∙◌, subst, arith, append_assoc, append-nil, length, length-append}
 use Rattle.std.specs.Prelude.{Result, OnOk}
+use Rattle.std.specs.List.{AllZip}
 use Rattle.std.specs.List.Sorted.{IsPermutation}
 use Rattle.std.proofs.lemmas.List.Sorted.{IsPermutation-append_comm, IsPermutation-append_left, IsPermutation-trans}
 use Rattle.job_queue.specs.declared.accounts.Account.{Account}
@@ -14,21 +15,44 @@ use Rattle.job_queue.specs.RunPasses.{IsFirstRunPass, IsRunPass, RunPass, run_ac
 use Rattle.module_store.specs.declared.naming.Naming.{Ghosts}
 use Rattle.pool_limits.specs.declared.numbers.Numbers.{Numbers}
 use Rattle.pool_model.specs.Contents.{Named}
+use Rattle.pool_host.specs.declared.host.Host.{Host}
 use Rattle.pool_host.specs.declared.passes.HostPass.{HostPass}
 use Rattle.pool_host.specs.declared.paused.Paused.{Paused}
 use Rattle.call_jobs.specs.declared.calls.Due.{Due}
 use Rattle.call_jobs.specs.declared.entries.Worked.{Worked}
-use Rattle.slice_workers.specs.declared.queued.Queued.{Queued}
-use Rattle.slice_workers.specs.declared.queued.Queued.TheVariants as queued
-use Rattle.slice_workers.specs.declared.slice_shared.SliceShared.{SliceShared}
-use Rattle.call_jobs.specs.Entries.{Pair, called, zeros}
-use Rattle.slice_workers.specs.Queued.{IsOfRun, pair_of, paused_pair, pairs_of}
+use Rattle.slice_steps.specs.declared.queued.Queued.{Queued}
+use Rattle.slice_steps.specs.declared.queued.Queued.TheVariants as queued
+use Rattle.slice_steps.specs.declared.slice_shared.SliceShared.{SliceShared}
+use Rattle.call_jobs.specs.Entries.{IsEntry, Pair, called, zeros}
+use Rattle.slice_steps.specs.Queued.{IsOfRun, pair_of, paused_pair, pairs_of}
+use Rattle.slice_steps.specs.Slices.{DidSlices, IsMade, IsMadeBy}
 use Rattle.slice_workers.specs.Crews.{HasIdle}
-use Rattle.slice_workers.specs.Slices.{AreMade, DidSlices, HasSlicedAll, HaveSliced, IsMadeBy, IsSliced}
+use Rattle.slice_workers.specs.Sliced.{AreMade, HasSlicedAll, HaveSliced, IsSliced}
 use Rattle.slice_workers.proofs.Cancelling.{flat_map_same, without}
 use Rattle.call_jobs.proofs.EndLemmas.{zeros-append}
 use Rattle.call_jobs.proofs.EntryLemmas.{all_zip_append, called-append}
-use Rattle.slice_workers.proofs.SliceLemmas.{all_entries, all_sliced, both_even, paused_found, pairs_of-append}
+use Rattle.slice_steps.proofs.SliceLemmas.{both_even, paused_found, pairs_of-append}
+
+-- what is so of each pair of elements
+all_zip_of : {A B : Type 0} (R S : A → B → Type 0) → ((x : A) (y : B) → R x y → S x y) → (xs : List A) (ys : List B) → AllZip R xs ys → AllZip S xs ys
+all_zip_of R S so [] [] h = tt
+all_zip_of R S so [] (y ∷ ys) h = absurd h
+all_zip_of R S so (x ∷ xs) [] h = absurd h
+all_zip_of R S so (x ∷ xs) (y ∷ ys) h = (so x y h.0, all_zip_of R S so xs ys h.1)
+
+-- entries that workers made in slices are those of all, and are entries
+module _ {N : Type 0} (G : Ghosts N) (config : Numbers) (host : Host N) (calls : List Due) (slice : ℕ) where
+  pub all_sliced : (made : List Pair) (entries : List Worked) → AllZip (IsMade G config host calls slice slice) made entries → AllZip (IsSliced G config host calls slice) made entries
+  all_sliced made entries h =
+      all_zip_of (IsMade G config host calls slice slice) (IsSliced G config host calls slice)
+      (λ (pair : Pair) (worked : Worked) (m : IsMade G config host calls slice slice pair worked). inl m) made entries h
+
+  entry_of : (pair : Pair) (worked : Worked) → IsSliced G config host calls slice pair worked → IsEntry config calls pair worked
+  entry_of pair worked (inl m) = m.made.entry
+  entry_of pair worked (inr m) = m.made.entry
+
+  pub all_entries : (made : List Pair) (entries : List Worked) → AllZip (IsSliced G config host calls slice) made entries → AllZip (IsEntry config calls) made entries
+  all_entries made entries h = all_zip_of (IsSliced G config host calls slice) (IsEntry config calls) entry_of made entries h
 
 abbrev Given : Type 0
 Given = Account (Option Named)

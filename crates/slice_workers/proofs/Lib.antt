@@ -1,3 +1,2 @@
 pub mod Cancelling
-pub mod SliceLemmas
 pub mod EndLemmas

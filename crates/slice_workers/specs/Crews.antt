@@ -10,13 +10,13 @@ use Rattle.pool_limits.specs.declared.numbers.Numbers.{Numbers}
 use Rattle.pool_limits.specs.declared.share.Share.{Share}
 use Rattle.pool_host.specs.Hosts.{HandedOut, HasShare, IsHostPass, IsNewHostPass}
 use Rattle.call_jobs.specs.declared.calls.Due.{Due}
-use Rattle.slice_workers.specs.declared.queued.Queued.{Queued}
-use Rattle.slice_workers.specs.declared.slice_shared.SliceShared.{SliceShared}
+use Rattle.slice_steps.specs.declared.queued.Queued.{Queued}
+use Rattle.slice_steps.specs.declared.slice_shared.SliceShared.{SliceShared}
 use Rattle.slice_workers.specs.declared.crew.SliceCrew.{SliceCrew}
 use Rattle.slice_workers.specs.declared.crew.SliceDone.{SliceDone}
-use Rattle.slice_workers.specs.declared.steps.Slicer.{Slicer}
-use Rattle.slice_workers.specs.Queued.{IsOfRun, pairs_of}
-use Rattle.slice_workers.specs.Slices.{DidSlices}
+use Rattle.slice_steps.specs.declared.steps.Slicer.{Slicer}
+use Rattle.slice_steps.specs.Queued.{IsOfRun, pairs_of}
+use Rattle.slice_steps.specs.Slices.{DidSlices}
 
 module _ {N : Type 0} {G : Ghosts N} where
   -- So many workers that have not begun, over a host with these slots, and a queue for these calls with room for all and a 0 for each worker.

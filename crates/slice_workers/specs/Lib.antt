@@ -1,3 +1,2 @@
-pub mod Queued
-pub mod Slices
+pub mod Sliced
 pub mod Crews

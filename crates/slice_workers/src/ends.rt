@@ -3,21 +3,16 @@ ghost use Rattle.std.specs.Prelude.{◌≡◌, ◌+◌, ◌<◌, [], All, IfOk, 
 ghost use Rattle.job_queue.specs.Passes.{IsJobPass, given_to, passes_of, put_by, share_of};
 ghost use Rattle.job_queue.specs.RunPasses.{FitsWhere, HasAllRunPasses, run_capacity};
 ghost use Rattle.call_jobs.specs.Entries.{AnswersAll, EndsAll};
+ghost use Rattle.slice_steps.specs.Queued.{IsOfRun};
 ghost use Rattle.slice_workers.specs.Crews.{HasIdle, IsSliceDone};
-ghost use Rattle.slice_workers.specs.Queued.{IsOfRun, IsPausedIn};
-ghost use Rattle.slice_workers.specs.Slices.{AreCaused, HasSlicedAll, HaveSliced, IsEndOf, SlicedAll, WorkersHaveSliced};
+ghost use Rattle.slice_workers.specs.Sliced.{AreCaused, HasSlicedAll, HaveSliced, SlicedAll, WorkersHaveSliced};
 
 use crate::crew::{SliceDone, Sliced};
-use crate::queued::Queued;
-use crate::run_names::InSlices;
-use crate::slice_shared::SliceShared;
-use crate::slices::{Slice, resume};
-use crate::steps::Slicer;
 use call_jobs::{Item, Worked, put_behind};
 use host_edge::Gate;
 use job_queue::{Admits, JobPass, RunPass, RunQueue};
 use module_store::{ModuleStore, Naming};
-use pool_host::{HostPass, Paused};
+use slice_steps::{InSlices, Queued, SliceShared, Slicer, end_call};
 use std::sync::Wait;
 use wasm_values::NoMemory;
 
@@ -78,40 +73,6 @@ pub(crate) fn join_slicers<N: Naming, A: Admits<Queued<N>> + InSlices>(
         join_next(shared, queue, first, &mut sliced, next)?;
     }
     Ok(sliced)
-}
-
-// Makes so many turns of a call that it is answered: its entry, and what is left.
-fn make_to_end<N: Naming, G: Gate>(
-    shared: &SliceShared<N>,
-    store: &ModuleStore<N>,
-    paused: Paused<N>,
-    gate: &G,
-) -> (Worked, Queued<N>)
-    requires paused { IsPausedIn shared.now.host shared.now.calls.items paused.passes paused.retired paused.running paused.number }
-    ensures { IsEndOf N.config shared.now paused result.1 result.0 }
-{
-    let Slice { queued, entry } = resume(shared, store, paused, u64::MAX, gate);
-    match entry {
-        Ok(Some(worked)) => (worked, queued),
-        _ => unreachable!(),
-    }
-}
-
-// Makes a call to its end: its entry, and the pass that is left.
-fn end_call<N: Naming, G: Gate>(
-    shared: &SliceShared<N>,
-    store: &ModuleStore<N>,
-    paused: Paused<N>,
-    gate: &G,
-) -> (Worked, HostPass<N>)
-    requires paused { IsPausedIn shared.now.host shared.now.calls.items paused.passes paused.retired paused.running paused.number }
-    ensures { IsEndOf N.config shared.now paused (Queued.Idle result.1) result.0 }
-{
-    let (worked, left) = make_to_end(shared, store, paused, gate);
-    match left {
-        Queued::Idle(pass) => (worked, pass),
-        Queued::Paused(_) => unreachable!(),
-    }
 }
 
 // Makes the calls that still go round to their end, once all passes of the run queue are joined.

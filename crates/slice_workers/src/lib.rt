@@ -3,14 +3,7 @@
 
 mod crew;
 mod ends;
-mod pace;
-mod queued;
-mod run_names;
-mod slice_shared;
-mod slices;
-mod steps;
-mod work_loop;
 
 pub use crew::{SliceCrew, Sliced, open_slice_crew, slice_all};
 pub use ends::finish_slices;
-pub use slice_shared::SliceShared;
+pub use slice_steps::SliceShared;

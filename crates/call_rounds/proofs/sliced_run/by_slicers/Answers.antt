@@ -1,5 +1,5 @@
 use Rattle.std.proofs.Common.{◌≡◌, ◌∙◌, ◌+◌, ap, arith, length, refl}
-use Rattle.slice_workers.specs.declared.slice_shared.SliceShared.{SliceShared}
+use Rattle.slice_steps.specs.declared.slice_shared.SliceShared.{SliceShared}
 use Rattle.call_jobs.specs.Entries.{AnswersAll}
 use Rattle.run_books.specs.declared.books.Span.{Span}
 use Rattle.run_books.specs.Due.{dues_from}

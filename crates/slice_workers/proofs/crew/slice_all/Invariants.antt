@@ -1,4 +1,4 @@
-use Rattle.slice_workers.specs.Queued.{AreIdleOn, IsSlicedIn}
+use Rattle.slice_steps.specs.Queued.{AreIdleOn, IsSlicedIn}
 use Rattle.slice_workers.proofs.crew.slice_all.Given as goal
 
 abbrev pub ghosts-slice_in : goal.ghosts-slice_in

@@ -1,6 +1,6 @@
 use Rattle.std.proofs.Common.{◌∙◌, ap}
 use Rattle.slice_workers.proofs.EndLemmas.{ended_paused, made_all, sliced_all, took_idle_pass}
-use Rattle.slice_workers.proofs.SliceLemmas.{came_round}
+use Rattle.slice_steps.proofs.SliceLemmas.{came_round}
 use Rattle.slice_workers.proofs.ends.end_paused.Goals as goal
 
 pub returns-in-None-next-clause-all : goal.returns-in-None-next-clause-all

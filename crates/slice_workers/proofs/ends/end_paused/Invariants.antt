@@ -1,6 +1,6 @@
 use Rattle.job_queue.specs.Passes.{share_of}
 use Rattle.job_queue.specs.RunPasses.{HasAllRunPasses}
-use Rattle.slice_workers.specs.Slices.{HaveSliced}
+use Rattle.slice_workers.specs.Sliced.{HaveSliced}
 use Rattle.slice_workers.proofs.ends.end_paused.Given as goal
 
 abbrev pub invariant-loop : goal.invariant-loop

@@ -2,7 +2,7 @@ use Rattle.std.proofs.Common.{◌≡◌, ◌+◌, length}
 use Rattle.std.specs.List.{All}
 use Rattle.job_queue.specs.Passes.{share_of}
 use Rattle.slice_workers.specs.Crews.{IsSliceDone}
-use Rattle.slice_workers.specs.Slices.{WorkersHaveSliced}
+use Rattle.slice_workers.specs.Sliced.{WorkersHaveSliced}
 use Rattle.slice_workers.proofs.ends.join_slicers.Given as goal
 
 abbrev pub invariant-loop-next : goal.invariant-loop-next

@@ -1,0 +1,10 @@
+use Rattle.std.proofs.Common.{◌≡◌, []}
+use Rattle.slice_steps.specs.Slices.{HandWorked, IsAtWork}
+use Rattle.slice_steps.proofs.work_loop.help.Given as goal
+
+abbrev pub invariant-loop : goal.invariant-loop
+invariant-loop g l = record {
+  at_work : IsAtWork l.queue l.shared g.A.InSlices.slice 0 l.worker l.hand;
+  own : l.worker.own ≡ l.initial.worker.own;
+  did : HandWorked g.N.Naming.config l.shared g.A.InSlices.slice [] l.initial.worker l.worker l.initial.hand l.hand;
+}
