@@ -8,7 +8,7 @@ and how many times the first program's least and median are. The seconds are tho
 which part is whose the system samples by its clock, too coarsely for a short run. The pools are as small as the loops allow, since
 it is the machine that is timed, and not their opening. Another guest of the machine can make a single run take twice as long: so many
 short rounds, by --divide, tell more than few long ones. With --count the host's instructions are printed too, by callgrind: those of
-a turn, as the difference of two sizes (of a call for fib). The status is 1 where a program ends with another status than 0 or two of
+a turn, as the difference of two sizes (of a call for fib). Loops from int64 on were compiled from C by clang at -O2. The status is 1 where a program ends with another status than 0 or two of
 them report another line.
 """
 import argparse
@@ -23,11 +23,14 @@ import tempfile
 
 LOOPS = pathlib.Path(__file__).parent / "loops"
 # The turns of each loop, and of fib the number whose sum it is, which is made less by one for each division by 1.618.
-TURNS = {"count": 17_000_000, "mix": 8_000_000, "memory": 6_500_000, "calls": 10_000_000, "blocks": 7_000_000, "fib": 33}
+TURNS = {
+    "count": 17_000_000, "mix": 8_000_000, "memory": 6_500_000, "calls": 10_000_000, "blocks": 7_000_000, "fib": 33,
+    "int64": 6_000_000, "indirect": 6_000_000, "switch": 5_000_000, "sort": 3_000, "crc": 7_000, "matrix": 1_500, "sha256": 17_000,
+}
 FUEL = 4294967295
-POOLS = "--instances 1 --memories 1 --tables 1 --pages 1 --elements 0".split()
+POOLS = "--instances 1 --memories 1 --tables 1 --pages 1 --elements 8".split()
 # The two sizes by which the host's instructions are counted.
-SIZES = {name: (16, 20) if name == "fib" else (1000, 2000) for name in TURNS}
+SIZES = {name: (16, 20) if name == "fib" else (1000, 2000) if turns > 1_000_000 else (10, 20) for name, turns in TURNS.items()}
 
 
 def turns_of(name, divide):
