@@ -3,4 +3,5 @@ mod SweepLemmas
 mod SweepParts
 mod SweptPools
 pub mod TellingLemmas
+mod TriedNumbers
 mod WorkedSweep

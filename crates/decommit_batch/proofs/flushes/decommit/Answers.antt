@@ -1,4 +1,5 @@
-use Rattle.std.proofs.Common.{◌≡◌, ◌∷◌, [], refl, append_assoc, false, ltb}
+use Rattle.std.proofs.Common.{arith, ◌≡◌, ◌∷◌, [], refl, append_assoc, false, ltb}
+use Rattle.std.proofs.lemmas.Grind.{common_steps}
 use Rattle.slot_words.specs.Owned.{limit_of}
 use Rattle.pool_core.specs.StateWords.{packed, cold_word}
 use Rattle.slot_words.specs.declared.views.Operation.TheVariants.{Release, WarmUp, WarmDown, AwaitDown}
@@ -15,3 +16,6 @@ returns-else-warm_up-clause-trail g c =
       grown = simp (c.release-else-warm_up.ensures.trail, c.warm_down.ensures.trail.1, c.if-warm_up.ensures.trail.2, c.await_down.ensures.trail.1, append_assoc);
       is = (a, r, rw refused (d, refl));
     }
+
+pub returns-then-warm_up-clause-trail : goal.returns-then-warm_up-clause-trail
+returns-then-warm_up-clause-trail g c = grind (arith, common_steps)
