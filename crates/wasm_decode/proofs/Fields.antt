@@ -1,7 +1,8 @@
 -- What the sections of a module say of its parts.
-use Rattle.std.proofs.Common.{◌≡◌, ℕ, List, length, map, ap, subst, arith}
-use Rattle.std.specs.Prelude.{Result, MatchResult, IsErrAnd}
+use Rattle.std.proofs.Common.{◌≡◌, ◌<◌, ℕ, List, [], ◌∷◌, length, map, ap, subst, arith}
+use Rattle.std.specs.Prelude.{Result, MatchResult, IsErrAnd, IsErrOf, Err}
 use Rattle.std.proofs.lemmas.List.{length-map}
+use Rattle.std.proofs.lemmas.Result.{err_from_is_err_and}
 use Rattle.wasm_values.specs.declared.profile.Profile.{Profile}
 use Rattle.wasm_types.specs.Tree.{DataTree, FunctionTree, ModuleTree}
 use Rattle.wasm_spec.specs.Numbers.{TakesUnsigned}
@@ -10,7 +11,10 @@ use Rattle.wasm_spec.proofs.UnambiguousNumbers.{unsigned-unique}
 use Rattle.wasm_spec.proofs.UnambiguousModules.{data-unique, sized_body-unique, spelled_vec-unique}
 use Rattle.instr_decode.specs.Decoding.{IsNone}
 use Rattle.instr_decode.specs.declared.fault.DecodeFault.{DecodeFault}
+use Rattle.instr_decode.specs.declared.fault.DecodeFault.TheVariants.{NoMemory}
 use Rattle.instr_decode.proofs.Decoding.{exits, none-through}
+use Rattle.wasm_decode.specs.declared.section.Section.{Section as Given}
+use Rattle.wasm_decode.specs.Sections.{WantsSection, section_of}
 use Rattle.wasm_decode.specs.Fields.{DefinitionsTree, InitializationTree, SpellsFunctions, SpellsDefinitions, SpellsInitialization}
 
 -- the exit of a `?` behind a part that nothing is spelled for
@@ -45,3 +49,16 @@ initialization-of profile sections m h = (
   record { start = m.start; element_segments = m.element_segments; data_segments = m.data_segments },
   record { start = h.start; element_segments = h.element_segments; data_segments = h.data_segments; data_count = h.data_count },
 )
+
+-- the exit of a `?` behind a part for which memory may be wanted
+pub exits-wanted : {T X : Type 0} (r : Result T DecodeFault) (fault : DecodeFault) (Wants : Type 0) → IsErrAnd r (λ e. e ≡ fault) → (IsErrOf {T = X} (Err fault) NoMemory → Wants) → IsErrOf r NoMemory → Wants
+exits-wanted r fault Wants e wants is = let p = err_from_is_err_and r e in wants (cc (p.1, p.2, is))
+
+-- memory is wanted for a section only where there are some, and so is a vector that has items
+pub wants-some : {A : Type 0} (Takes : A → List ℕ → List ℕ → Type 0) (Wants : List ℕ → Type 0) (id : ℕ) (sections : List Given) → WantsSection Takes Wants (section id (map section_of sections)) → 0 < length sections
+wants-some Takes Wants id [] wants = absurd wants
+wants-some Takes Wants id (s ∷ sections) wants = omega arith
+
+pub spelled-some : {A : Type 0} (Takes : A → List ℕ → List ℕ → Type 0) (id : ℕ) (sections : List Given) (xs : List A) → SpellsVec Takes xs (section id (map section_of sections)) → 0 < length xs → 0 < length sections
+spelled-some Takes id [] xs spelled some = omega (arith, some, ap length spelled)
+spelled-some Takes id (s ∷ sections) xs spelled some = omega arith

@@ -4,7 +4,7 @@ use Rattle.wasm_spec.specs.TypeGrammar.{TakesFuncType, TakesTableType, TakesLimi
 use Rattle.wasm_spec.specs.Grammar.{TakesGlobal, Section, section, SpellsVec}
 use Rattle.wasm_decode.specs.Sections.{section_of}
 use Rattle.wasm_decode.specs.Fields.{SpellsFunctions, SpellsDefinitions}
-use Rattle.wasm_decode.proofs.Fields.{exits-part}
+use Rattle.wasm_decode.proofs.Fields.{exits-part, exits-wanted, wants-some}
 use Rattle.wasm_decode.proofs.decoder.decode_definitions.Goals as goal
 
 pub returns-in_err-types-clause-read : goal.returns-in_err-types-clause-read
@@ -41,3 +41,18 @@ returns-clause-read c =
       memories = simp map-id at c.in_ok-memories.ensures.read;
       globals = c.in_ok-globals.ensures.read;
     }
+
+pub returns-in_err-types-clause-wanted : goal.returns-in_err-types-clause-wanted
+returns-in_err-types-clause-wanted c e = wants-some _ _ 1 c.args.sections.now (exits-wanted c.from_residual.result c.in_err-types.field-0.0 _ c.from_residual.ensures.1 c.in_err-types.ensures.wanted e)
+
+pub returns-in_err-functions-clause-wanted : goal.returns-in_err-functions-clause-wanted
+returns-in_err-functions-clause-wanted c e = exits-wanted c.from_residual-in_err-functions.result c.in_err-functions.field-0.0 _ c.from_residual-in_err-functions.ensures.1 c.in_err-functions.ensures.wanted e
+
+pub returns-in_err-tables-clause-wanted : goal.returns-in_err-tables-clause-wanted
+returns-in_err-tables-clause-wanted c e = exits-wanted c.from_residual-in_err-tables.result c.in_err-tables.field-0.0 _ c.from_residual-in_err-tables.ensures.1 c.in_err-tables.ensures.wanted e
+
+pub returns-in_err-memories-clause-wanted : goal.returns-in_err-memories-clause-wanted
+returns-in_err-memories-clause-wanted c e = wants-some _ _ 5 c.args.sections.now (exits-wanted c.from_residual-in_err-memories.result c.in_err-memories.field-0.0 _ c.from_residual-in_err-memories.ensures.1 c.in_err-memories.ensures.wanted e)
+
+pub returns-in_err-globals-clause-wanted : goal.returns-in_err-globals-clause-wanted
+returns-in_err-globals-clause-wanted c e = wants-some _ _ 6 c.args.sections.now (exits-wanted c.from_residual-in_err-globals.result c.in_err-globals.field-0.0 _ c.from_residual-in_err-globals.ensures.1 c.in_err-globals.ensures.wanted e)

@@ -3,7 +3,7 @@ use Rattle.std.proofs.lemmas.List.{map-id}
 use Rattle.wasm_spec.specs.Grammar.{TakesImport, TakesExport, Section, section, SpellsVec, SpellsFields}
 use Rattle.wasm_decode.specs.Sections.{section_of}
 use Rattle.wasm_decode.specs.Fields.{SpellsDefinitions, SpellsInitialization}
-use Rattle.wasm_decode.proofs.Fields.{definitions-of, exits-part, initialization-of}
+use Rattle.wasm_decode.proofs.Fields.{definitions-of, exits-part, exits-wanted, initialization-of, wants-some}
 use Rattle.wasm_decode.proofs.decoder.decode_fields.Goals as goal
 
 pub returns-in_err-definitions-clause-read : goal.returns-in_err-definitions-clause-read
@@ -44,3 +44,15 @@ returns-clause-read c =
       data_segments = i.data_segments;
       data_count = i.data_count;
     }
+
+pub returns-in_err-imports-clause-wanted : goal.returns-in_err-imports-clause-wanted
+returns-in_err-imports-clause-wanted c e = wants-some _ _ 2 c.args.sections.now (exits-wanted c.from_residual.result c.in_err-imports.field-0.0 _ c.from_residual.ensures.1 c.in_err-imports.ensures.wanted e)
+
+pub returns-in_err-exports-clause-wanted : goal.returns-in_err-exports-clause-wanted
+returns-in_err-exports-clause-wanted c e = wants-some _ _ 7 c.args.sections.now (exits-wanted c.from_residual-in_err-exports.result c.in_err-exports.field-0.0 _ c.from_residual-in_err-exports.ensures.1 c.in_err-exports.ensures.wanted e)
+
+pub returns-in_err-initialization-clause-wanted : goal.returns-in_err-initialization-clause-wanted
+returns-in_err-initialization-clause-wanted c e = exits-wanted c.from_residual-in_err-initialization.result c.in_err-initialization.field-0.0 _ c.from_residual-in_err-initialization.ensures.1 c.in_err-initialization.ensures.wanted e
+
+pub returns-in_err-definitions-clause-wanted : goal.returns-in_err-definitions-clause-wanted
+returns-in_err-definitions-clause-wanted c e = exits-wanted c.from_residual-in_err-definitions.result c.in_err-definitions.field-0.0 _ c.from_residual-in_err-definitions.ensures.1 c.in_err-definitions.ensures.wanted e

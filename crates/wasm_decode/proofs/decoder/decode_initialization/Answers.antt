@@ -4,7 +4,7 @@ use Rattle.wasm_types.specs.Tree.{data_tree}
 use Rattle.wasm_spec.specs.Grammar.{TakesElement, TakesData, Section, section, SpellsVec, SpellsStart, SpellsCount}
 use Rattle.wasm_decode.specs.Sections.{section_of}
 use Rattle.wasm_decode.specs.Fields.{SpellsInitialization}
-use Rattle.wasm_decode.proofs.Fields.{data-counted, exits-part}
+use Rattle.wasm_decode.proofs.Fields.{data-counted, exits-part, exits-wanted, wants-some}
 use Rattle.wasm_decode.proofs.decoder.decode_initialization.Goals as goal
 
 pub returns-in_err-start-clause-read : goal.returns-in_err-start-clause-read
@@ -29,3 +29,19 @@ returns-else-is_counted-clause-read c = λ i h.
     let long : length (map data_tree c.in_ok-data_segments.data_segments) ≡ c.len.result = omega (arith, length-map c.in_ok-data_segments.data_segments data_tree, c.len.ensures) in
     let holds : IsTrue c.is_counted.result = c.is_counted.ensures.1 (subst (λ (n : ℕ). SpellsCount n (section 12 ss)) long counted) in
     absurd (first_of (cc, search rules))
+
+pub returns-in_err-element_segments-clause-wanted : goal.returns-in_err-element_segments-clause-wanted
+returns-in_err-element_segments-clause-wanted c e = wants-some _ _ 9 c.args.sections.now (exits-wanted c.from_residual-in_err-element_segments.result c.in_err-element_segments.field-0.0 _ c.from_residual-in_err-element_segments.ensures.1 c.in_err-element_segments.ensures.wanted e)
+
+pub returns-in_err-data_segments-clause-wanted : goal.returns-in_err-data_segments-clause-wanted
+returns-in_err-data_segments-clause-wanted c e = wants-some _ _ 11 c.args.sections.now (exits-wanted c.from_residual-in_err-data_segments.result c.in_err-data_segments.field-0.0 _ c.from_residual-in_err-data_segments.ensures.1 c.in_err-data_segments.ensures.wanted e)
+
+pub returns-then-is_counted-clause-read : goal.returns-then-is_counted-clause-read
+returns-then-is_counted-clause-read c =
+    let long : length (map data_tree c.in_ok-data_segments.data_segments) ≡ c.len.result = omega (arith, length-map c.in_ok-data_segments.data_segments data_tree, c.len.ensures) in
+    record {
+      start = c.in_ok-start.ensures.read;
+      element_segments = c.in_ok-element_segments.ensures.read;
+      data_segments = c.in_ok-data_segments.ensures.read;
+      data_count = rw long (c.is_counted.ensures.0 c.if-is_counted.true);
+    }

@@ -2,6 +2,7 @@ use Rattle.std.proofs.Common.{◌≡◌, ℕ, ◌+◌, inl, inr, [], ◌∷◌, 
 use Rattle.std.proofs.lemmas.List.{length-map, map-append, length_push}
 use Rattle.std.proofs.lemmas.Result.{err_from_is_err_and}
 use Rattle.leb_read.specs.Reading.{rest}
+use Rattle.instr_decode.specs.declared.fault.DecodeFault.TheVariants.{NoMemory}
 use Rattle.instr_decode.proofs.Decoding.{exits, vec-none, each-more}
 use Rattle.instr_decode.proofs.Wants.{vec-wants}
 use Rattle.wasm_decode.proofs.item.ItemsItem.decode.Goals as goal
@@ -44,3 +45,6 @@ loop-preserved g c =
       so_far = rw trees (each-more (g.T.Item.Takes c.args.profile) (map g.T.Item.tree items) (g.T.Item.tree item) (rest c.u32.new.self) (rest c.loop.cursor) (rest c.decode.new.cursor) c.loop.invariant.so_far c.in_ok-item.ensures.read.spelled);
       long = ap length e ∙ length_push items item ∙ ap (λ (n : ℕ). n + 1) c.loop.invariant.long;
     }
+
+pub returns-in_err-push-clause-read : goal.returns-in_err-push-clause-read
+returns-in_err-push-clause-read g c = exits c.from_residual-in_err-push.result _ _ NoMemory c.from_residual-in_err-push.ensures.1 tt
