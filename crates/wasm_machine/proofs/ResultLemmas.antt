@@ -1,5 +1,5 @@
 -- Whole runs.
-use Rattle.std.proofs.Common.{◌≡◌, ℕ, ◌+◌, ◌-◌, ◌*◌, ◌<◌, ◌≤◌, List, [], ◌∷◌, ◌++◌, length, take, reverse, Option, Some, refl, sym, ap, ◌∙◌, subst, arith, length-append, mul-le-mul_right}
+use Rattle.std.proofs.Common.{◌≡◌, ℕ, ◌+◌, ◌-◌, ◌*◌, ◌<◌, ◌≤◌, List, [], ◌∷◌, ◌++◌, length, take, reverse, Option, Some, refl, sym, ap, ◌∙◌, subst, arith, length-append, length-take, mul-le-mul_right}
 use Rattle.std.specs.Prelude.{slice_get}
 use Rattle.std.proofs.Math.Seq.{take-append_seam}
 use Rattle.std.proofs.lemmas.List.{reverse-append, reverse-reverse, length-reverse, length-map}
@@ -97,6 +97,12 @@ stands_inside n m limits frame machine memory table globals answer count r same 
 own_there : (m : Module) (store : Store) (globals : List Val) → store.globals ≡ own m globals → IsTypedStore m store → length (own m globals) ≡ length m.globals
 own_there m store globals is typed =
     ap length (sym is) ∙ sym (length-map store.globals type_of) ∙ ap length typed.globals ∙ length-map (module_tree m).globals _ ∙ length-map m.globals global_tree
+
+-- so that there are no fewer
+pub enough_globals : (n m : Module) (store : Store) (globals : List Val) (count : ℕ) → n ≡ m → count ≡ length n.globals → store.globals ≡ own m globals → IsTypedStore m store → count ≤ length globals
+enough_globals n m store globals count same counted is typed =
+    let many : count ≡ length m.globals = counted ∙ ap (λ (p : Module). length p.globals) same in
+    omega (arith, own_there m store globals is typed, length-take (length m.globals) globals)
 
 -- and the first of what they were written back into
 pub globals_back : (n m : Module) (store : Store) (globals new rest : List Val) (count : ℕ) → n ≡ m → count ≡ length n.globals → store.globals ≡ own m globals → IsTypedStore m store

@@ -49,3 +49,11 @@ returns-clause-steps c request frame store r run e =
 
 pub returns-clause-room : goal.returns-clause-room
 returns-clause-room c = c.enter_function.ensures.room
+
+pub param_count-requires : goal.param_count-requires
+param_count-requires c =
+    let e = c.requires.1.calling in
+    own_there c.args.inputs.now.m.now c.args.x e.function e.there
+
+pub returns-then-len-inputs-clause-room : goal.returns-then-len-inputs-clause-room
+returns-then-len-inputs-clause-room c = record { values = omega arith; labels = omega arith; frames = omega arith }
