@@ -1,19 +1,20 @@
 -- What tenants can't have, and what the lines that name them leave.
-use Rattle.std.proofs.Common.{◌≡◌, ℕ, ◌+◌, ◌<◌, ◌≤◌, Bool, true, false, List, [], ◌∷◌, ◌++◌, length, refl, ap, ◌∙◌, arith}
+use Rattle.std.proofs.Common.{◌≡◌, ℕ, ◌<◌, ◌≤◌, Bool, true, false, List, [], ◌∷◌, ◌++◌, length, refl, ap, ◌∙◌, arith, length-append}
 use Rattle.std.specs.Prelude.{Option, Some, None, Result, Ok, Err, IfOk, is_none, nat_le, nat_lt}
 use Rattle.std.specs.List.{All}
 use Rattle.std.specs.Option.{ok_or, option_or}
 use Rattle.std.proofs.lemmas.Bool.{cond-false, le-ltb}
 use Rattle.std.proofs.lemmas.Bool.Decides.{nat_tests}
+use Rattle.std.proofs.lemmas.List.Elements.{All-push}
 use Rattle.pool_limits.specs.declared.numbers.Numbers.{Numbers}
 use Rattle.pool_limits.specs.declared.wants.PlanFault.{PlanFault}
-use Rattle.pool_limits.specs.declared.wants.PlanFault.TheVariants.{BadShare}
 use Rattle.pool_limits.specs.declared.wants.Want.{Want}
 use Rattle.pool_limits.specs.Plans.{first_over, plan_fault, HasSlots}
 use Rattle.pool_limits.proofs.WantLemmas.{none_bad}
 use Rattle.request_text.specs.declared.request.Reason.{Reason}
 use Rattle.request_text.specs.declared.request.Reason.TheVariants as why
 use Rattle.request_text.specs.Ladder.{◌>>=◌, demand}
+use Rattle.request_text.specs.Reading.{AreTenants}
 use Rattle.request_text.specs.Tenants.{Tenants, for_after, share_number, want_of, slots_in, tenant_after, tenant_named, tenants_with}
 
 -- ---- what can't be had
@@ -92,3 +93,16 @@ for-keeps before (name ∷ []) =
     step-IfOk (demand (nat_le (length name) 64) why.BadName) _ (λ _. Unit {0}) _ (any-IfOk (demand (nat_le (length name) 64) why.BadName)) (λ _ _.
     step-IfOk (ok_or (tenant_named before name) why.UnknownTenant) _ (λ _. Unit {0}) _ (any-IfOk (ok_or (tenant_named before name) why.UnknownTenant)) (λ tenant _. refl))
 for-keeps before words = tt
+
+-- what holds of tenants holds with one more, which wants slots of each kind, where few stand before it
+pub tenants_more : (before : Tenants) (name : List ℕ) (want : Want) → AreTenants before → length before.wants < 15 → HasSlots want
+    → AreTenants (record before { names = before.names ++ name ∷ []; wants = before.wants ++ want ∷ [] })
+tenants_more before name want are few slots =
+    let names = length-append before.names (name ∷ []) in
+    let wants = length-append before.wants (want ∷ []) in
+    record {
+      named = omega (arith, names, wants, are.named);
+      few = omega (arith, wants);
+      each = All-push HasSlots before.wants want are.each slots;
+      current = omega (arith, wants, are.current);
+    }
