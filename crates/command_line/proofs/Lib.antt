@@ -2,6 +2,7 @@ pub mod RowFacts
 pub mod LevelWalk
 pub mod LevelValues
 pub mod SubcommandFacts
+pub mod NumberRows
 pub mod NumberTexts
 pub mod CommandLevels
 pub mod ParsedWords

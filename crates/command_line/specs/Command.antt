@@ -1,6 +1,7 @@
 -- The command `poolhost`, as clap's parse reads it.
-use Rattle.std.specs.Prelude.{ℕ, pos, true, Some, List, [], ◌∷◌, ◌++◌, codes}
-use Rattle.clap.specs.Words.{App, Rule, Text, new_app, new_rule, with_subcommand}
+use Rattle.std.specs.Prelude.{ℕ, pos, true, Some, List, [], ◌∷◌, ◌++◌, codes, fold}
+use Rattle.std.specs.Borrow.{Bor}
+use Rattle.clap.specs.Words.{App, Rule, Text, new_app, new_rule, with_rule, with_subcommand}
 use Rattle.clap.specs.Simple.{on_top}
 use Rattle.clap.specs.declared.builder.action.ArgAction.TheVariants.{Set, SetTrue}
 use Rattle.clap.specs.declared.builder.value_parser.ValueParser.{ValueParser}
@@ -14,6 +15,10 @@ number_option name least most default = record (new_rule name) {
   parser = Some (vp.Signed (pos least) (pos most));
   defaults = default ∷ [];
 }
+
+-- the option of a row: its name, the least and the most of its numbers, and its default
+abbrev pub number_row : Bor Text × ℕ × ℕ × Bor Text → Rule
+number_row row = number_option row.0.now row.1 row.2 row.3.now
 
 abbrev pub run_options : List Rule
 run_options = number_option (codes "workers") 1 16 (codes "1")
@@ -36,6 +41,10 @@ flag name = record (new_rule name) { long = Some name; action = Some SetTrue }
 -- the command of this name, with these rules and no help
 abbrev pub command_named : (name : Text) → List Rule → App
 command_named name rules = on_top (λ s. record s { rules = rules; disable_help_flag = true }) (new_app name)
+
+-- the command with these rules more, one after another
+abbrev pub with_rules : App → List Rule → App
+with_rules a rules = fold with_rule a rules
 
 -- `run`, with its options and its flag
 abbrev pub run_command : App

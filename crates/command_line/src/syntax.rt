@@ -1,9 +1,9 @@
 //! The command as `clap` builds it.
-ghost use Rattle.std.specs.Prelude.{◌≡◌, IfOk, false, pos};
+ghost use Rattle.std.specs.Prelude.{◌≡◌, [], IfOk, false, map, pos};
 ghost use Rattle.clap.specs.Words.{app_of, with_rule};
 ghost use Rattle.clap.specs.declared.builder.command.Command.TheViews.{out-Command as fields_of};
 ghost use Rattle.clap.specs.declared.builder.value_parser.ValueParser.TheVariants as vp;
-ghost use Rattle.command_line.specs.Command.{flag, make_command, number_argument, number_option, poolhost_command, run_command};
+ghost use Rattle.command_line.specs.Command.{command_named, flag, make_command, number_argument, number_option, number_row, poolhost_command, run_command, with_rules};
 
 use clap::builder::ValueParser;
 use clap::{Arg, ArgAction, Command};
@@ -39,6 +39,24 @@ fn with_number<'a>(
     command.arg(option)
 }
 
+// The command with an option for each row, which has its name, the least and the most of its numbers, and its default.
+fn with_numbers<'a>(
+    alloc: Global,
+    command: Command<'a>,
+    rows: &[(&'a str, u32, u32, &'a str)],
+) -> Result<Command<'a>, AllocError>
+    requires { (fields_of command).has_globals ≡ false }
+    ensures app { IfOk result (λ r. app_of r ≡ with_rules (app_of command.entry) (map number_row rows.now)) }
+    ensures local { IfOk result (λ r. (fields_of r).has_globals ≡ false) }
+{
+    let mut with_rows = command;
+    for row in rows {
+        let (name, least, most, default) = *row;
+        with_rows = with_number(alloc, with_rows, name, least, most, default)?;
+    }
+    Ok(with_rows)
+}
+
 // The command with a flag.
 fn with_flag<'a>(
     alloc: Global,
@@ -72,25 +90,34 @@ fn with_argument<'a>(
     command.arg(argument)
 }
 
+// The command of this name, with no help and no rule yet.
+fn command_named<'a>(alloc: Global, name: &'a str) -> Command<'a>
+    ensures app { app_of result ≡ command_named name.entry.now [] }
+    ensures local { (fields_of result).has_globals ≡ false }
+{
+    Command::new(alloc, name).disable_help_flag(true)
+}
+
 // `run`, with its options and its flag.
 fn run_command<'a>(alloc: Global) -> Result<Command<'a>, AllocError>
     ensures app { IfOk result (λ r. app_of r ≡ run_command) }
     ensures local { IfOk result (λ r. (fields_of r).has_globals ≡ false) }
 {
-    let empty = Command::new(alloc, "run").disable_help_flag(true);
-    let workers = with_number(alloc, empty, "workers", 1, 16, "1")?;
-    let instances = with_number(alloc, workers, "instances", 1, 1_024, "4")?;
-    let memories = with_number(alloc, instances, "memories", 1, 1_024, "4")?;
-    let tables = with_number(alloc, memories, "tables", 1, 1_024, "4")?;
-    let warm = with_number(alloc, tables, "warm", 0, 1_024, "2")?;
-    let batch = with_number(alloc, warm, "batch", 1, 1_024, "4")?;
-    let pages = with_number(alloc, batch, "pages", 1, 256, "32")?;
-    let elements = with_number(alloc, pages, "elements", 0, 65536, "1024")?;
-    let depth = with_number(alloc, elements, "depth", 1, 1000, "128")?;
-    let frame = with_number(alloc, depth, "frame", 1, 4096, "1024")?;
-    let slice = with_number(alloc, frame, "slice", 0, u32::MAX, "0")?;
-    let summary = with_flag(alloc, slice, "summary")?;
-    Ok(summary)
+    let options = [
+        ("workers", 1, 16, "1"),
+        ("instances", 1, 1_024, "4"),
+        ("memories", 1, 1_024, "4"),
+        ("tables", 1, 1_024, "4"),
+        ("warm", 0, 1_024, "2"),
+        ("batch", 1, 1_024, "4"),
+        ("pages", 1, 256, "32"),
+        ("elements", 0, 65536, "1024"),
+        ("depth", 1, 1000, "128"),
+        ("frame", 1, 4096, "1024"),
+        ("slice", 0, u32::MAX, "0"),
+    ];
+    let run = with_numbers(alloc, command_named(alloc, "run"), &options)?;
+    with_flag(alloc, run, "summary")
 }
 
 // `make`, with its arguments.
@@ -98,7 +125,7 @@ fn make_command<'a>(alloc: Global) -> Result<Command<'a>, AllocError>
     ensures app { IfOk result (λ r. app_of r ≡ make_command) }
     ensures local { IfOk result (λ r. (fields_of r).has_globals ≡ false) }
 {
-    let empty = Command::new(alloc, "make").disable_help_flag(true);
+    let empty = command_named(alloc, "make");
     let seed = with_argument(alloc, empty, "seed", ValueParser::unsigned(0, u64::MAX))?;
     with_argument(alloc, seed, "count", number_from_to(1, 100_000))
 }
@@ -109,11 +136,10 @@ pub(crate) fn poolhost_command<'a>(alloc: Global) -> Result<Command<'a>, AllocEr
     ensures local { IfOk result (λ r. (fields_of r).has_globals ≡ false) }
 {
     let run = run_command(alloc)?;
-    let make = make_command(alloc)?;
-    let empty = Command::new(alloc, "poolhost")
-        .disable_help_flag(true)
+    let with_run = command_named(alloc, "poolhost")
         .disable_help_subcommand(true)
-        .subcommand_required(true);
-    let command = empty.subcommand(run)?.subcommand(make)?;
-    Ok(command)
+        .subcommand_required(true)
+        .subcommand(run)?;
+    let make = make_command(alloc)?;
+    with_run.subcommand(make)
 }
