@@ -1,5 +1,6 @@
 -- A command that gets an option for each row of a table.
-use Rattle.std.proofs.Common.{◌≡◌, ℕ, false, List, ◌∷◌, map, ap, ◌∙◌, Bor}
+use Rattle.std.proofs.Common.{◌≡◌, ℕ, ◌+◌, ◌<◌, false, List, length, map, drop, get_or, ap, ◌∙◌, Bor}
+use Rattle.std.proofs.lemmas.List.{drop_more}
 use Rattle.clap.specs.Words.{Text, app_of, with_rule}
 use Rattle.clap.specs.declared.builder.command.Command.{Command}
 use Rattle.clap.specs.declared.builder.command.Command.TheViews.{out-Command as fields_of}
@@ -13,6 +14,10 @@ pub record LacksRows (all : List Row) (first : Command) (left : List Row) (comma
   pub app : with_rules (app_of command) (map number_row left) ≡ with_rules (app_of first) (map number_row all)
   pub local : (fields_of command).has_globals ≡ false
 
-pub one_row_more : (all : List Row) (first : Command) (row : Row) (left : List Row) (before after : Command) → LacksRows all first (row ∷ left) before
-    → app_of after ≡ with_rule (app_of before) (number_row row) → (fields_of after).has_globals ≡ false → LacksRows all first left after
-one_row_more all first row left before after h app local = record { app = ap (λ a. with_rules a (map number_row left)) app ∙ h.app; local = local }
+pub one_row_more : (all : List Row) (first : Command) (i : ℕ) (none : Row) (before after : Command) → LacksRows all first (drop i all) before → i < length all
+    → app_of after ≡ with_rule (app_of before) (number_row (get_or all i none)) → (fields_of after).has_globals ≡ false → LacksRows all first (drop (i + 1) all) after
+one_row_more all first i none before after h within added local =
+    let rest : List Row = drop (i + 1) all in record {
+      app = ap (λ a. with_rules a (map number_row rest)) added ∙ (rw (drop_more all i none within) at h.app);
+      local = local;
+    }
