@@ -32,9 +32,9 @@ fn five_words() -> [u64; 5]
 fn its_own_come_first_and_cold_ones_by_the_limit(rt: HostRuntime) {
     let seen = five_words();
     let at_limit = order(&seen, 7, 3, 3);
-    assert_eq!(rt; at_limit.numbers(), [3, 0, 2, 1].as_slice());
+    assert!(rt; at_limit.numbers() == [3, 0, 2, 1].as_slice());
     let below = order(&seen, 7, 2, 3);
-    assert_eq!(rt; below.numbers(), [3, 0, 1, 2].as_slice());
+    assert!(rt; below.numbers() == [3, 0, 1, 2].as_slice());
 }
 
 #[test]

@@ -73,7 +73,7 @@ struct Row {
     counts: [u64; 3],
 }
 
-const ROWS: [Row; 11] = [
+static ROWS: [Row; 11] = [
     // A claim of a held slot changes nothing, and gives no leave to release it.
     Row {
         opening: [1, 1, 2],
@@ -277,9 +277,9 @@ fn check_row(rt: &impl Abort, alloc: Global, place: usize, row: &Row) {
     let words = [core.word(0), core.word(1), core.word(2)];
     let counts = [core.warm(), core.awaiting(), core.clock()];
     let end = (refused, words, counts);
-    assert_eq!(rt; end, (row.refused, row.words, row.counts), "row {place}");
+    assert!(rt; end == (row.refused, row.words, row.counts), "row {place}");
     let replayed = replay(alloc, slots, warm, seats, row.events);
-    assert_eq!(rt; replayed.err(), row.refused, "row {place}");
+    assert!(rt; replayed.err() == row.refused, "row {place}, replayed");
 }
 
 #[test]
@@ -296,7 +296,6 @@ fn words_are_packed_as_the_layout_says(rt: HostRuntime) {
         tag: 7,
         stamp: 12,
     };
-    assert_eq!(rt; pack(target, false), 100663354);
-    assert_eq!(rt; pack(target, true), 100663355);
-    assert_eq!(rt; pack(WARM_5, false), 42);
+    let packed = [pack(target, false), pack(target, true), pack(WARM_5, false)];
+    assert_eq!(rt; packed, [100663354, 100663355, 42]);
 }

@@ -55,7 +55,7 @@ struct Row {
     left: &'static [(State, u32, u32)],
 }
 
-const ROWS: [Row; 9] = [
+static ROWS: [Row; 9] = [
     // Its own warm slot is not restored as it is taken, and at the limit the one that was left first goes to another module.
     Row {
         warm: 2,
@@ -142,7 +142,7 @@ fn check_visits(
 {
     for (module, slot) in row.visits {
         let taken = visit(words, pass, row.kind, *module);
-        assert_eq!(rt; taken, Some(*slot), "row {place}");
+        assert!(rt; taken == Some(*slot), "row {place}");
     }
 }
 
@@ -161,7 +161,7 @@ fn check_left(
 {
     for n in 0..slots.len() {
         let noted = left(words, pass, n as u32);
-        assert_eq!(rt; noted, Some(slots[n]), "slot {n} of row {place}");
+        assert!(rt; noted == Some(slots[n]), "slot {n} of row {place}");
     }
 }
 
@@ -172,7 +172,7 @@ fn check_row(rt: &impl Abort, alloc: Global, place: usize, row: &Row) {
     check_visits(rt, &words, &mut pass, place, row);
     let (module, cleaned) = row.swept;
     let swept = sweep(&words, &mut pass, u32::from(module));
-    assert_eq!(rt; swept, cleaned, "row {place}");
+    assert!(rt; swept == cleaned, "row {place}");
     check_left(rt, &words, &mut pass, place, row.left);
 }
 

@@ -57,7 +57,8 @@ fn closing_counts_what_was_given_back_and_what_was_kept(rt: HostRuntime) {
             awaiting: 0,
             held,
         };
-        assert_eq!(rt; two_holders(&rt, rt.alloc(), gives), ([1, 1], counts));
+        let got = two_holders(&rt, rt.alloc(), gives);
+        assert!(rt; got == ([1, 1], counts), "{gives}");
     }
 }
 
@@ -73,7 +74,7 @@ fn beside(rt: &impl Abort, alloc: Global, kind: Kind) -> [Option<u32>; 2] {
 #[test]
 fn a_held_pool_is_full_until_its_slot_is_given_back(rt: HostRuntime) {
     for kind in [Batched(1), Batched(2), Affine, Any] {
-        assert_eq!(rt; beside(&rt, rt.alloc(), kind), [None, Some(0)]);
+        assert!(rt; beside(&rt, rt.alloc(), kind) == [None, Some(0)]);
     }
 }
 
