@@ -1,5 +1,6 @@
 //! The stores, hosts and callers of the tests. Each store has its name from the test that opens it.
 ghost use Rattle.std.specs.Prelude.{◌<◌};
+ghost use Rattle.module_store.specs.Names.{Bears};
 ghost use Rattle.pool_host.specs.Hosts.{IsHostPass};
 
 use host_edge::Gate;
@@ -48,17 +49,33 @@ pub(crate) fn register<N: Naming, R: Abort + Wait>(
         .expect(rt, "registered")
 }
 
-// Opens a host of three memories, and gives its one pass.
+// A store, and the module of these bytes in it.
+pub(crate) fn one_module<N: Naming, R: Abort + Wait>(
+    rt: &R,
+    alloc: Global,
+    opened: Opened,
+    bytes: &[u8],
+) -> (ModuleStore<N>, ModuleRef<N>)
+    requires { Bears opened N.shelves N.config N.most }
+{
+    let (store, mut desk) = opened.named::<N>();
+    let module = register(rt, alloc, &store, &mut desk, Profile::One, bytes);
+    (store, module)
+}
+
+// Opens a host of so many memories, and gives its one pass.
 pub(crate) fn one_caller<N: Naming, R: Abort>(
     rt: &R,
     alloc: Global,
     store: &ModuleStore<N>,
+    memories: u32,
 ) -> (Host<N>, HostPass<N>)
+    requires { 0 < memories × memories < 5 }
     ensures { IsHostPass result.0 result.1 }
 {
     let share = Share {
         instances: 1,
-        memories: 3,
+        memories,
         tables: 1,
     };
     let (host, mut passes) = Host::open(alloc, store, share, 1).expect(rt, "opened");

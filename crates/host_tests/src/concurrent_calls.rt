@@ -19,10 +19,10 @@ use wasm_values::{Outcome, Profile, Val};
 static ADD: [u8; 41] =
     *b"\0asm\x01\0\0\0\x01\x07\x01\x60\x02\x7f\x7f\x01\x7f\x03\x02\x01\0\x07\x07\x01\x03add\0\0\x0a\x09\x01\x07\0\x20\0\x20\x01\x6a\x0b";
 
-// Holds call 1 as it enters until call 2 was answered, and lets call 2 begin then; both for so many turns at most.
+// Holds call 1 as it enters until call 2 was answered, and lets the others begin then; both for so many turns at most.
 #[derive(Drop)]
-struct HoldingGate {
-    entered: AtomicBool,
+pub(crate) struct HoldingGate {
+    pub(crate) entered: AtomicBool,
     answered: AtomicBool,
     // call 2 was answered while call 1 was held
     seen: AtomicBool,
@@ -30,7 +30,7 @@ struct HoldingGate {
 
 const MOST_TURNS: u64 = 2_000_000_000;
 
-fn wait_for(flag: &AtomicBool) -> bool {
+pub(crate) fn wait_for(flag: &AtomicBool) -> bool {
     for _ in 0..MOST_TURNS {
         if flag.load(Ordering::SeqCst) {
             return true;
@@ -40,7 +40,7 @@ fn wait_for(flag: &AtomicBool) -> bool {
 }
 
 impl HoldingGate {
-    fn new() -> HoldingGate {
+    pub(crate) fn new() -> HoldingGate {
         HoldingGate {
             entered: AtomicBool::new(false),
             answered: AtomicBool::new(false),
@@ -159,6 +159,9 @@ fn a_call_is_made_or_finds_no_memory_beside_a_held_call(rt: HostRuntime) {
     for &(memories, adds, second) in &ROWS {
         let opened = open(&rt, alloc, 2, 4);
         let ends = held::<Brand, HostRuntime>(&rt, alloc, opened, memories, adds);
-        assert_eq!(rt; ends, ([DONE, second, DONE], [0, 0, 0]));
+        assert!(rt;
+            ends == ([DONE, second, DONE], [0, 0, 0]),
+            "{memories}, {adds}"
+        );
     }
 }

@@ -1,7 +1,7 @@
 //! A call of one caller.
 ghost use Rattle.module_store.specs.Names.{Bears};
 
-use crate::callers::{BUMP, ONE, open, register};
+use crate::callers::{BUMP, ONE, one_module, open};
 use host_edge::OpenGate;
 use module_store::{Naming, Opened};
 use pool_host::{LaneAnswer, LaneHost};
@@ -10,7 +10,6 @@ use std::alloc::Global;
 use std::marker::Brand;
 use std::process::Abort;
 use std::sync::Wait;
-use wasm_values::Profile;
 
 const SHARE: Share = Share {
     instances: 1,
@@ -22,8 +21,7 @@ const SHARE: Share = Share {
 fn called<N: Naming, R: Abort + Wait>(rt: &R, alloc: Global, opened: Opened) -> (LaneAnswer, u64)
     requires { Bears opened N.shelves N.config N.most }
 {
-    let (store, mut desk) = opened.named::<N>();
-    let module = register(rt, alloc, &store, &mut desk, Profile::One, BUMP.as_slice());
+    let (store, module) = one_module::<N, R>(rt, alloc, opened, BUMP.as_slice());
     let mut lane = LaneHost::open(alloc, &store, SHARE).expect(rt, "opened");
     let answer = lane.call(&store, &module, b"bump", &[], 10, 1, &OpenGate);
     (answer, lane.left())
@@ -33,5 +31,5 @@ fn called<N: Naming, R: Abort + Wait>(rt: &R, alloc: Global, opened: Opened) -> 
 fn a_lane_makes_a_call(rt: HostRuntime) {
     let opened = open(&rt, rt.alloc(), 1, 1);
     let answer = called::<Brand, HostRuntime>(&rt, rt.alloc(), opened);
-    assert_eq!(rt; answer, (LaneAnswer::Done(ONE), 2));
+    assert!(rt; answer == (LaneAnswer::Done(ONE), 2));
 }

@@ -1,4 +1,5 @@
-//! Tests of calls on hosts and lanes: calls at the same time, calls that are paused, and the slots and blocks that calls leave behind. Nothing stands on this crate.
+//! Tests of calls on hosts and lanes, and of tenants: calls at the same time, calls that are paused, the slots and blocks that calls leave
+//! behind, a module that is retired, and tenants' plans and calls. Nothing stands on this crate.
 #![tactic(auto)]
 
 #[cfg(test)]
@@ -11,5 +12,11 @@ mod lane;
 mod marked_blocks;
 #[cfg(test)]
 mod paused_calls;
+#[cfg(test)]
+mod plans;
+#[cfg(test)]
+mod retirement;
+#[cfg(test)]
+mod tenants;
 #[cfg(test)]
 mod warm_slots;

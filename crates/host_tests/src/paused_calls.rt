@@ -3,7 +3,7 @@ ghost use Rattle.module_store.specs.Names.{Bears};
 ghost use Rattle.pool_host.specs.Hosts.{IsHostPass};
 ghost use Rattle.pool_host.specs.Pausing.{IsOfHost};
 
-use crate::callers::{BUMP, ONE, bump, close_one, open, register, two_callers};
+use crate::callers::{BUMP, ONE, bump, close_one, one_module, open, two_callers};
 use host_edge::Gate;
 use module_store::{ModuleRef, ModuleStore, Naming, Opened};
 use pool_host::{Answer, Begun, Host, HostPass, Kind, Paused, Turned};
@@ -12,7 +12,7 @@ use std::marker::Brand;
 use std::process::Abort;
 use std::sync::Wait;
 use std::sync::atomic::{AtomicU64, Ordering};
-use wasm_values::{Outcome, Profile, Val};
+use wasm_values::{Outcome, Val};
 
 // Counts its argument down in a loop: six turns for each, and one.
 static COUNTING: [u8; 47] =
@@ -168,19 +168,19 @@ static ROWS: [Sliced; 5] = [
     (18, &[], 18, Outcome::Fuel, 0),
 ];
 
-// How such a call ends in slices, and its pass.
+// Such a call ends as its row says. Gives its pass back.
 fn in_slices<N: Naming, R: Abort>(
     rt: &R,
     host: &Host<N>,
     pass: HostPass<N>,
     store: &ModuleStore<N>,
     module: &ModuleRef<N>,
-    row: Sliced,
-) -> (Outcome, HostPass<N>)
+    row: &Sliced,
+) -> HostPass<N>
     requires { IsHostPass host.now pass }
-    ensures { IsHostPass host.now result.1 }
+    ensures { IsHostPass host.now result }
 {
-    let (fuel, slices, last, _, _) = row;
+    let (fuel, slices, last, outcome, left) = *row;
     let gate = NotingGate::new();
     let asked = Asked {
         export: "c",
@@ -192,20 +192,21 @@ fn in_slices<N: Naming, R: Abort>(
     for slice in slices {
         paused = again(rt, host, store, paused, *slice, &gate);
     }
-    ended(rt, host, store, paused, last, &gate)
+    let (end, pass) = ended(rt, host, store, paused, last, &gate);
+    assert!(rt;
+        end == outcome && pass.left() == left,
+        "fuel {fuel}, last {last}"
+    );
+    pass
 }
 
 fn check_slices<N: Naming, R: Abort + Wait>(rt: &R, alloc: Global, opened: Opened)
     requires { Bears opened N.shelves N.config N.most }
 {
-    let (store, mut desk) = opened.named::<N>();
-    let bytes = COUNTING.as_slice();
-    let module = register(rt, alloc, &store, &mut desk, Profile::One, bytes);
+    let (store, module) = one_module::<N, R>(rt, alloc, opened, COUNTING.as_slice());
     let (host, mut pass, _other) = two_callers(rt, alloc, &store, 1);
     for row in &ROWS {
-        let (outcome, back) = in_slices(rt, &host, pass, &store, &module, *row);
-        assert_eq!(rt; (outcome, back.left()), (row.3, row.4), "in {row:?}");
-        pass = back;
+        pass = in_slices(rt, &host, pass, &store, &module, row);
     }
 }
 
@@ -240,63 +241,11 @@ fn refused_twice<N: Naming, R: Abort>(
     ([missing, bad], pass)
 }
 
-// Why call 4 does not begin while call 3 is paused, which is given up then.
-fn beside_paused<N: Naming, R: Abort>(
-    rt: &R,
-    host: &Host<N>,
-    first: HostPass<N>,
-    second: HostPass<N>,
-    store: &ModuleStore<N>,
-    module: &ModuleRef<N>,
-    gate: &NotingGate,
-) -> (Answer, HostPass<N>, HostPass<N>)
-    requires { IsHostPass host.now first × IsHostPass host.now second }
-    ensures { IsHostPass host.now result.1 × IsHostPass host.now result.2 }
-{
-    let paused = begun(rt, host, first, store, module, bumping(3), gate);
-    let paused = again(rt, host, store, paused, 7, gate);
-    let (full, second) = refused(rt, host, second, store, module, bumping(4), gate);
-    (full, paused.cancel(host, store, gate), second)
-}
-
-// The number of call 6, and how it ends in two slices.
-fn in_two_slices<N: Naming, R: Abort>(
-    rt: &R,
-    host: &Host<N>,
-    pass: HostPass<N>,
-    store: &ModuleStore<N>,
-    module: &ModuleRef<N>,
-    gate: &NotingGate,
-) -> (u64, Outcome, HostPass<N>)
-    requires { IsHostPass host.now pass }
-    ensures { IsHostPass host.now result.2 }
-{
-    let paused = begun(rt, host, pass, store, module, bumping(6), gate);
-    let paused = again(rt, host, store, paused, 7, gate);
-    let number = paused.number();
-    let (outcome, pass) = ended(rt, host, store, paused, 1, gate);
-    (number, outcome, pass)
-}
-
-// Begins call 7, which is dropped.
-fn begin_and_drop<N: Naming, R: Abort>(
-    rt: &R,
-    host: &Host<N>,
-    pass: HostPass<N>,
-    store: &ModuleStore<N>,
-    module: &ModuleRef<N>,
-    gate: &NotingGate,
-)
-    requires { IsHostPass host.now pass }
-{
-    let _ = begun(rt, host, pass, store, module, bumping(7), gate);
-}
-
 const FULL: Answer = Answer::Full(Kind::Memory);
 
 const DONE: Answer = Answer::Done(ONE);
 
-// Calls 1 to 4 with the first pass and the second, and call 5 with the second, when call 3 is given up.
+// Calls 1 to 4 with the first pass and the second, and call 5 with the second, when call 3, which is paused beside call 4, is given up.
 // A refused call leaves all its fuel, and one that is given up leaves what its turns have not used.
 fn check_given_up<N: Naming, R: Abort>(
     rt: &R,
@@ -310,18 +259,20 @@ fn check_given_up<N: Naming, R: Abort>(
     requires { IsHostPass host.now first × IsHostPass host.now second }
     ensures { IsHostPass host.now result.0 × IsHostPass host.now result.1 }
 {
-    let (refusals, first) = refused_twice(rt, host, first, store, module, gate);
+    let ([missing, bad], first) = refused_twice(rt, host, first, store, module, gate);
     let unspent = first.left();
-    let (full, first, second) = beside_paused(rt, host, first, second, store, module, gate);
+    let paused = begun(rt, host, first, store, module, bumping(3), gate);
+    let paused = again(rt, host, store, paused, 7, gate);
+    let (full, second) = refused(rt, host, second, store, module, bumping(4), gate);
+    let first = paused.cancel(host, store, gate);
     let (done, second) = bump(host, second, store, module, 5, gate);
-    let [missing, bad] = refusals;
     let answers = [missing, bad, full, done];
-    assert_eq!(rt; (unspent, first.left(), second.left()), (100, 93, 92));
-    assert_eq!(rt; answers, [Answer::NoExport, Answer::BadArgs, FULL, DONE]);
+    assert_eq!(rt; [unspent, first.left(), second.left()], [100, 93, 92]);
+    assert!(rt; answers == [Answer::NoExport, Answer::BadArgs, FULL, DONE]);
     (first, second)
 }
 
-// Call 6 with the first pass, call 7, whose memory stays held since it is dropped, and call 8 with the second pass.
+// Call 6 with the first pass, in two slices, call 7, whose memory stays held since it is dropped, and call 8 with the second pass.
 fn check_dropped<N: Naming, R: Abort>(
     rt: &R,
     host: &Host<N>,
@@ -334,18 +285,20 @@ fn check_dropped<N: Naming, R: Abort>(
     requires { IsHostPass host.now first × IsHostPass host.now second }
     ensures { IsHostPass host.now result }
 {
-    let (number, outcome, first) = in_two_slices(rt, host, first, store, module, gate);
-    begin_and_drop(rt, host, first, store, module, gate);
+    let paused = begun(rt, host, first, store, module, bumping(6), gate);
+    let paused = again(rt, host, store, paused, 7, gate);
+    let number = paused.number();
+    let (outcome, first) = ended(rt, host, store, paused, 1, gate);
+    let _ = begun(rt, host, first, store, module, bumping(7), gate);
     let (full, second) = bump(host, second, store, module, 8, gate);
-    assert_eq!(rt; (number, outcome, full), (6, ONE, FULL));
+    assert!(rt; (number, outcome, full) == (6, ONE, FULL));
     second
 }
 
 fn check_slots<N: Naming, R: Abort + Wait>(rt: &R, alloc: Global, opened: Opened)
     requires { Bears opened N.shelves N.config N.most }
 {
-    let (store, mut desk) = opened.named::<N>();
-    let module = register(rt, alloc, &store, &mut desk, Profile::One, BUMP.as_slice());
+    let (store, module) = one_module::<N, R>(rt, alloc, opened, BUMP.as_slice());
     let (host, first, second) = two_callers(rt, alloc, &store, 1);
     let gate = NotingGate::new();
     let (first, second) = check_given_up(rt, &host, first, second, &store, &module, &gate);

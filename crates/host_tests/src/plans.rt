@@ -45,7 +45,7 @@ const REST: Want = Want {
 };
 
 // What tenants want, and what is left to tenant 0, or why there is no plan.
-const ROWS: [(&[Want], Result<Want, PlanFault>); 3] = [
+static ROWS: [(&[Want], Result<Want, PlanFault>); 3] = [
     (&[FIRST], Ok(REST)),
     (
         &[FIRST, SECOND],
@@ -75,7 +75,7 @@ fn rest(alloc: Global, wants: &[Want]) -> Result<Want, PlanFault> {
 
 #[test]
 fn tenant_0_has_the_rest_or_there_is_no_plan(rt: HostRuntime) {
-    for (wants, want) in ROWS {
-        assert_eq!(rt; rest(rt.alloc(), wants), want);
+    for (wants, want) in &ROWS {
+        assert!(rt; rest(rt.alloc(), wants) == *want, "{wants:?}");
     }
 }

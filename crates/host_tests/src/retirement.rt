@@ -2,11 +2,11 @@
 ghost use Rattle.module_store.specs.Names.{Bears};
 ghost use Rattle.pool_host.specs.Hosts.{IsHostPass};
 
-use crate::stores::{ONE, one_module};
+use crate::callers::{BUMP, ONE, close_one, one_caller, one_module};
 use host_edge::OpenGate;
 use module_store::{ModuleRef, ModuleStore, Naming, Opened};
-use pool_host::{Answer, Host, HostPass, PoolCounts, Retire};
-use pool_limits::{Numbers, PoolConfig, Share};
+use pool_host::{Answer, Host, HostPass, Retire};
+use pool_limits::{Numbers, PoolConfig};
 use slot_words::KindCounts;
 use std::alloc::Global;
 use std::marker::Brand;
@@ -27,12 +27,6 @@ const NUMBERS: Numbers = Numbers {
     frame: 16,
 };
 
-const SHARE: Share = Share {
-    instances: 1,
-    memories: 2,
-    tables: 1,
-};
-
 // What a call of the module and its retirement are answered, and both once more.
 fn around_retirement<N: Naming>(
     host: &Host<N>,
@@ -51,26 +45,11 @@ fn around_retirement<N: Naming>(
     ([before, behind], [first, again])
 }
 
-// The slots of a host that is closed with its one pass.
-fn close_one<N: Naming, R: Abort>(
-    rt: &R,
-    alloc: Global,
-    host: Host<N>,
-    pass: HostPass<N>,
-) -> PoolCounts
-    requires { IsHostPass host pass }
-{
-    let mut passes = Vec::new(alloc);
-    passes.push(pass).expect(rt, "room");
-    host.close(passes)
-}
-
 fn check<N: Naming, R: Abort + Wait>(rt: &R, alloc: Global, opened: Opened)
     requires { Bears opened N.shelves N.config N.most }
 {
-    let (store, module) = one_module::<N, R>(rt, alloc, opened);
-    let (host, mut passes) = Host::open(alloc, &store, SHARE, 1).expect(rt, "opened");
-    let mut pass = passes.pop().unwrap();
+    let (store, module) = one_module::<N, R>(rt, alloc, opened, BUMP.as_slice());
+    let (host, mut pass) = one_caller(rt, alloc, &store, 2);
     let (calls, retired) = around_retirement(&host, &mut pass, &store, &module);
     let memories = close_one(rt, alloc, host, pass).memory;
     let all_cold = KindCounts {
@@ -79,11 +58,9 @@ fn check<N: Naming, R: Abort + Wait>(rt: &R, alloc: Global, opened: Opened)
         awaiting: 0,
         held: 0,
     };
-    assert_eq!(rt;
-        (calls, memories),
-        ([Answer::Done(ONE), Answer::Retired], all_cold)
-    );
-    assert_eq!(rt; retired, [Retire::First { cleaned: 1 }, Retire::Already]);
+    assert!(rt; calls == [Answer::Done(ONE), Answer::Retired]);
+    assert!(rt; retired == [Retire::First { cleaned: 1 }, Retire::Already]);
+    assert_eq!(rt; memories, all_cold);
 }
 
 #[test]

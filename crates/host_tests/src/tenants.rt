@@ -3,8 +3,8 @@ ghost use Rattle.std.specs.Prelude.{◌≡◌, length};
 ghost use Rattle.module_store.specs.Names.{Bears};
 ghost use Rattle.tenant_share.specs.Tenants.{IsTenantPass};
 
-use crate::stores::{ONE, one_module};
-use host_edge::Gate;
+use crate::callers::{BUMP, ONE, one_module};
+use crate::concurrent_calls::{HoldingGate, wait_for};
 use module_store::{ModuleRef, ModuleStore, Naming, Opened};
 use pool_host::{Answer, Kind};
 use pool_limits::{Numbers, PoolConfig, Want};
@@ -12,51 +12,9 @@ use std::alloc::Global;
 use std::marker::Brand;
 use std::process::Abort;
 use std::sync::Wait;
-use std::sync::atomic::{AtomicBool, Ordering};
 use std::thread;
 use std::thread::Threads;
 use tenant_share::{Plan, ShareHost, TenantPass};
-
-// Holds call 1 as it enters until call 2 was answered, and lets the others begin then; both for so many turns at most.
-#[derive(Drop)]
-struct HoldingGate {
-    entered: AtomicBool,
-    answered: AtomicBool,
-}
-
-const MOST_TURNS: u64 = 2_000_000_000;
-
-fn wait_for(flag: &AtomicBool) {
-    for _ in 0..MOST_TURNS {
-        if flag.load(Ordering::SeqCst) {
-            return;
-        }
-    }
-}
-
-impl HoldingGate {
-    fn new() -> HoldingGate {
-        HoldingGate {
-            entered: AtomicBool::new(false),
-            answered: AtomicBool::new(false),
-        }
-    }
-}
-
-impl Gate for HoldingGate {
-    fn entered(&self, call: u64) {
-        if call == 1 {
-            self.entered.store(true, Ordering::SeqCst);
-            wait_for(&self.answered);
-        }
-    }
-
-    fn answered(&self, call: u64) {
-        if call == 2 {
-            self.answered.store(true, Ordering::SeqCst);
-        }
-    }
-}
 
 // One memory and one table are left to tenant 0.
 const NUMBERS: Numbers = Numbers {
@@ -126,7 +84,7 @@ fn held<N: Naming + Send + Sync, R: Abort + Threads + Wait + Sync>(
     requires plan { plan.now.0 ≡ N.config }
     requires tenants { length plan.now.1 ≡ 2 }
 {
-    let (store, module) = one_module::<N, R>(rt, alloc, opened);
+    let (store, module) = one_module::<N, R>(rt, alloc, opened, BUMP.as_slice());
     let (share, one, two, other) = three_passes(rt, alloc, &store, plan);
     let gate = HoldingGate::new();
     thread::join(
@@ -158,5 +116,5 @@ fn a_tenant_is_full_by_its_own_calls_alone(rt: HostRuntime) {
     let opened = Opened::open(alloc, config).expect(&rt, "memory");
     let answers = held::<Brand, HostRuntime>(&rt, alloc, opened, &plan);
     let done = Answer::Done(ONE);
-    assert_eq!(rt; answers, (done, (Answer::Full(Kind::Memory), done)));
+    assert!(rt; answers == (done, (Answer::Full(Kind::Memory), done)));
 }

@@ -47,16 +47,16 @@ fn memories_after<N: Naming, R: Abort + Wait>(
         register(rt, alloc, &store, &mut desk, Profile::One, BUMP.as_slice()),
         register(rt, alloc, &store, &mut desk, Profile::One, BUMP.as_slice()),
     ];
-    let (host, mut pass) = one_caller(rt, alloc, &store);
+    let (host, mut pass) = one_caller(rt, alloc, &store, 3);
     for call in calls {
         let module = &modules[call % 3];
         let answer = host.call(&mut pass, &store, module, b"bump", &[], 100, 1, &OpenGate);
-        assert_eq!(rt; answer, Answer::Done(ONE));
+        assert!(rt; answer == Answer::Done(ONE));
     }
     let seen = host.look(&mut pass);
     let takes = pass.takes();
     let counts = close_one(rt, alloc, host, pass);
-    assert_eq!(rt; seen, counts);
+    assert!(rt; seen == counts);
     (counts.memory, takes)
 }
 
@@ -78,6 +78,6 @@ fn memories_are_warm_up_to_the_limit_and_await_up_to_a_batch(rt: HostRuntime) {
     for (warm, batch, calls, left, taken) in rows {
         let opened = open(&rt, alloc, warm, batch);
         let counts = memories_after::<Brand, HostRuntime>(&rt, alloc, opened, calls);
-        assert_eq!(rt; counts, (left, taken), "{calls:?}");
+        assert!(rt; counts == (left, taken), "{calls:?}");
     }
 }

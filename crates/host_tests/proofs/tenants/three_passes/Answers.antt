@@ -1,6 +1,6 @@
 use Rattle.std.proofs.lemmas.List.Elements.{All-pop}
 use Rattle.tenant_share.specs.Tenants.{IsTenantPass}
-use Rattle.tenant_tests.proofs.tenants.three_passes.Goals as goal
+use Rattle.host_tests.proofs.tenants.three_passes.Goals as goal
 
 pub returns-clause-own : goal.returns-clause-own
 returns-clause-own g c =
