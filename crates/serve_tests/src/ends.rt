@@ -21,7 +21,7 @@ module g 0061736d010000000108026000006000017f03030200010503010001071002056469727
 call g dirty 43
 ";
 
-const ENDS: [Run; 11] = [
+static ENDS: [Run; 11] = [
     // in small pieces
     Run {
         line: RUN,
@@ -213,7 +213,7 @@ fn each_write_fails_in_turn(rt: HostRuntime) {
     }
 }
 
-const REFUSED: [&str; 6] = [
+static REFUSED: [&str; 6] = [
     "poolhost make",
     "poolhost make 1",
     "poolhost make -1 1",
@@ -230,7 +230,7 @@ const UNREAD: Ends = Ends {
 
 #[test]
 fn words_of_make_are_refused(rt: HostRuntime) {
-    for line in REFUSED {
+    for &line in &REFUSED {
         let run = Run {
             line,
             bytes: b"",

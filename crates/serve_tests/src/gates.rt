@@ -42,7 +42,7 @@ impl Gate for CountingGate {
     }
 }
 
-const COUNTED: [&str; 5] = [
+static COUNTED: [&str; 5] = [
     "poolhost run",
     "poolhost run --workers 2 --instances 3 --memories 3 --tables 3",
     "poolhost run --workers 4 --instances 5 --memories 5 --tables 5",
@@ -53,7 +53,7 @@ const COUNTED: [&str; 5] = [
 // Where there are slots for each call that is under way, and the lane's, no call is answered twice, in slices of one as well.
 #[test]
 fn the_gate_is_told_of_each_call_and_of_each_that_begins(rt: HostRuntime) {
-    for line in COUNTED {
+    for &line in &COUNTED {
         let gate = CountingGate {
             entered: AtomicU64::new(0),
             answered: AtomicU64::new(0),
@@ -153,7 +153,7 @@ fn check_held<R: Abort + Threads + Wait + Sync>(rt: &R, alloc: Global, run: &Hel
 }
 
 // One memory is shared: while the first call is held the others are answered Full, and the lane makes them again.
-const ON_THE_LANE: [Held; 2] = [
+static ON_THE_LANE: [Held; 2] = [
     Held {
         line: "poolhost run --workers 2 --memories 2",
         parts: &[BUMPS],
@@ -180,7 +180,7 @@ fn a_call_that_finds_no_slot_is_made_again_on_the_lane(rt: HostRuntime) {
 }
 
 // Two memories are shared: the second call runs while the first is held, and no call is made twice.
-const AT_THE_SAME_TIME: Held = Held {
+static AT_THE_SAME_TIME: Held = Held {
     line: "poolhost run --workers 2 --memories 3 --instances 3 --tables 2",
     parts: &[BUMPS],
     held: 1,
@@ -195,7 +195,7 @@ fn two_calls_run_at_the_same_time(rt: HostRuntime) {
 }
 
 // One tenant has a memory: while its first call is held its others are answered Full, and the other tenant's call is not.
-const FULL_TENANT: Held = Held {
+static FULL_TENANT: Held = Held {
     line: "poolhost run --workers 2 --memories 4 --instances 5 --tables 4",
     parts: &[
         "profile 4\ntenant flood 2 1 1 0\ntenant quiet 1 1 1 0\nfor flood\n",
@@ -214,7 +214,7 @@ fn a_full_tenant_leaves_the_other_its_slots(rt: HostRuntime) {
 }
 
 // One memory is shared: while the first call is held the others are answered Full, and the lane makes them again before the line.
-const MADE_AGAIN: [Held; 2] = [
+static MADE_AGAIN: [Held; 2] = [
     Held {
         line: "poolhost run --workers 2 --memories 2",
         parts: &["profile 5\n", BUMPS, "retire bump\ncall bump bump 100\n"],
@@ -246,7 +246,7 @@ fn a_full_call_is_made_again_before_its_module_is_retired(rt: HostRuntime) {
 }
 
 // One tenant has a memory: its calls that find it held are made again before the line, and the other tenant's call stands behind it.
-const SERVED_BEFORE: Held = Held {
+static SERVED_BEFORE: Held = Held {
     line: "poolhost run --workers 2 --memories 4 --instances 5 --tables 4",
     parts: &[
         "profile 5\ntenant flood 2 1 1 0\ntenant quiet 1 1 1 0\nfor flood\n",

@@ -84,7 +84,7 @@ fn push_large<R: Abort>(rt: &R, text: &mut String, written: &mut String) {
     }
 }
 
-const MANY: [&str; 6] = [
+static MANY: [&str; 6] = [
     "poolhost run --pages 1",
     "poolhost run --pages 1 --slice 100",
     "poolhost run --pages 1 --workers 2",
@@ -101,7 +101,7 @@ fn many_retire_lines_have_one_report(rt: HostRuntime) {
     let mut written = String::new(rt.alloc());
     push_large(&rt, &mut text, &mut written);
     assert!(rt; written.as_str().ends_with(LAST));
-    for line in MANY {
+    for &line in &MANY {
         check_text(&rt, rt.alloc(), line, text.as_str(), written.as_str());
     }
 }

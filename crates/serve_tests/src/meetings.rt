@@ -102,7 +102,7 @@ fn met<R: Abort + Threads + Wait + Sync>(rt: &R, alloc: Global, run: &Met) -> (u
     (entered, gate.most.load(Ordering::SeqCst))
 }
 
-const NEVER_ENTERED: [Met; 4] = [
+static NEVER_ENTERED: [Met; 4] = [
     ("poolhost run", RETIRED, 1, 0),
     ("poolhost run --workers 2", RETIRED, 1, 0),
     ("poolhost run --workers 4", RETIRED, 1, 0),
@@ -118,7 +118,7 @@ fn a_call_behind_a_retire_line_never_enters(rt: HostRuntime) {
     }
 }
 
-const AT_ONCE: [Met; 5] = [
+static AT_ONCE: [Met; 5] = [
     ("poolhost run", BUMPS, 1, 1),
     ("poolhost run --workers 2", BUMPS, 1, 2),
     ("poolhost run --workers 3", BUMPS, 1, 3),
@@ -150,7 +150,7 @@ fn two_workers_are_in_calls_behind_a_retire_line(rt: HostRuntime) {
 }
 
 // Runs in slices, and how many workers each has.
-const IN_SLICES: [(Met, u64); 2] = [
+static IN_SLICES: [(Met, u64); 2] = [
     (
         (
             "poolhost run --workers 2 --slice 10 --memories 5 --instances 5 --tables 5",
