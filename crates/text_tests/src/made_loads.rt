@@ -7,7 +7,7 @@ const MODULES: &str =
     module g 0061736d010000000108026000006000017f030302000105030100010710020564697274790000046c6f6f6b00010a26021500410140001a41ffff07417f3a000003400c000b0b0e00410140001a41ffff072d00000b\n";
 
 // Seeds, numbers of calls, and the calls.
-const ROWS: [(u64, u32, &str); 5] = [
+static ROWS: [(u64, u32, &str); 5] = [
     (1, 1, "call g dirty 43\n"),
     (0, 1, "call g look 100\n"),
     (1, 0, ""),
@@ -26,9 +26,9 @@ const ROWS: [(u64, u32, &str); 5] = [
 
 #[test]
 fn loads_are_those_that_were_computed_by_hand(rt: HostRuntime) {
-    for (seed, count, calls) in ROWS {
+    for &(seed, count, calls) in &ROWS {
         let want = [MODULES, calls].join(rt.alloc(), "").expect(&rt, "memory");
         let file = make(rt.alloc(), seed, count).expect(&rt, "memory");
-        assert_eq!(rt; file.as_slice(), want.as_bytes(), "of seed {seed}");
+        assert!(rt; file.as_slice() == want.as_bytes(), "of seed {seed}");
     }
 }

@@ -7,7 +7,7 @@ use std::alloc::Global;
 use std::process::Abort;
 use wasm_values::{Items, Outcome, TrapKind, Val};
 
-const MODULES: [ModuleLine; 6] = [
+static MODULES: [ModuleLine; 6] = [
     ModuleLine::Accepted,
     ModuleLine::Malformed,
     ModuleLine::Unsupported,
@@ -16,7 +16,7 @@ const MODULES: [ModuleLine; 6] = [
     ModuleLine::Segment,
 ];
 
-const ENDS: [Outcome; 13] = [
+static ENDS: [Outcome; 13] = [
     Outcome::Done(None),
     Outcome::Done(Some(Val::I32(5))),
     Outcome::Done(Some(Val::I32(2147483648))),
@@ -50,12 +50,12 @@ fn append_call<R: Abort>(rt: &R, alloc: Global, out: &mut Vec<u8>, number: u32, 
 
 // Appends the lines of modules, of a retirement, and of calls that ended, which are numbered from 1 on.
 fn append_ends<R: Abort>(rt: &R, alloc: Global, out: &mut Vec<u8>) {
-    for line in MODULES {
+    for &line in &MODULES {
         write_module(alloc, out, b"e", line).expect(rt, "memory");
     }
     write_retire(alloc, out, b"e").expect(rt, "memory");
     let mut number = 1u32;
-    for end in ENDS {
+    for &end in &ENDS {
         append_call(rt, alloc, out, number, CallLine::Done(end));
         number = number.wrapping_add(1);
     }
@@ -74,10 +74,10 @@ fn lines_are_appended(rt: HostRuntime) {
     let none = CallLine::Sent(None, items(&rt, alloc, b""));
     append_call(&rt, alloc, &mut out, 18, none);
     append_call(&rt, alloc, &mut out, 19, CallLine::Retired);
-    assert_eq!(rt; out.as_slice(), APPENDED.as_bytes());
+    assert!(rt; out.as_slice() == APPENDED.as_bytes());
 }
 
-const FILE_MODULES: [ModuleLine; 5] = [
+static FILE_MODULES: [ModuleLine; 5] = [
     ModuleLine::Accepted,
     ModuleLine::Malformed,
     ModuleLine::Accepted,
@@ -85,7 +85,7 @@ const FILE_MODULES: [ModuleLine; 5] = [
     ModuleLine::Limit,
 ];
 
-const FILE_ENDS: [Outcome; 6] = [
+static FILE_ENDS: [Outcome; 6] = [
     Outcome::Done(None),
     Outcome::Done(Some(Val::I32(5))),
     Outcome::Trap(TrapKind::Uninit),
@@ -103,13 +103,13 @@ fn push_call<R: Abort>(rt: &R, lines: &mut Vec<ReportLine>, line: CallLine) {
 // Lines of a report: modules, calls, and a retirement.
 fn report<R: Abort>(rt: &R, alloc: Global) -> Vec<ReportLine> {
     let mut lines = Vec::new(alloc);
-    for line in FILE_MODULES {
+    for &line in &FILE_MODULES {
         let name = items(rt, alloc, b"calls");
         lines
             .push(ReportLine::Module { name, line })
             .expect(rt, "memory");
     }
-    for end in FILE_ENDS {
+    for &end in &FILE_ENDS {
         push_call(rt, &mut lines, CallLine::Done(end));
     }
     push_call(rt, &mut lines, CallLine::NoModule);
@@ -139,7 +139,7 @@ fn a_report_has_its_text_and_its_summary(rt: HostRuntime) {
     let lines = report(&rt, alloc);
     let mut out = Vec::from_slice(alloc, b"before\n").expect(&rt, "memory");
     write_summary(alloc, &mut out, &lines).expect(&rt, "memory");
-    assert_eq!(rt; out.as_slice(), SUMMARY.as_bytes());
+    assert!(rt; out.as_slice() == SUMMARY.as_bytes());
     let text = report_text(alloc, lines).expect(&rt, "memory");
-    assert_eq!(rt; text.as_slice(), TEXT.as_bytes());
+    assert!(rt; text.as_slice() == TEXT.as_bytes());
 }
