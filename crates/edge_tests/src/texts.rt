@@ -2,10 +2,9 @@
 use command_line::WordsFault;
 use host_edge::Failed;
 use job_queue::Stray;
-use std::test::Fail;
 
 #[test]
-fn faults_have_their_texts(rt: HostRuntime) -> Result<(), Fail> {
+fn faults_have_their_texts(rt: HostRuntime) {
     let text = format!(in rt.alloc();
         "{}; {}; {}; {}; {}",
         Failed,
@@ -13,10 +12,10 @@ fn faults_have_their_texts(rt: HostRuntime) -> Result<(), Fail> {
         Stray::Stranger(2),
         WordsFault::Refused,
         WordsFault::NoMemory
-    )?;
+    )
+    .expect(&rt, "memory");
     assert_eq!(rt;
         text.as_str(),
         "the stream failed; call 1 was collected before; there is no call 2; refused words; out of memory"
     );
-    Ok(())
 }

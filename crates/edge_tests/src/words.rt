@@ -8,7 +8,7 @@ use std::alloc::Global;
 type Asked = ([u32; 10], bool, u32);
 
 // The usual numbers, the least, the greatest, and numbers in other forms.
-const RUNS: &[(&str, Asked)] = &[
+static RUNS: &[(&str, Asked)] = &[
     ("run", ([1, 4, 4, 4, 2, 4, 32, 1024, 128, 1024], false, 0)),
     (
         "run --workers 1 --instances 1 --memories 1 --tables 1 --warm 0 --batch 1 --pages 1 --elements 0 --depth 1 --frame 1 --slice 0",
@@ -34,14 +34,14 @@ const RUNS: &[(&str, Asked)] = &[
 ];
 
 // Words of a load, with its seed and its count.
-const LOADS: &[(&str, u64, u32)] = &[
+static LOADS: &[(&str, u64, u32)] = &[
     ("make 0 1", 0, 1),
     ("make 18446744073709551615 100000", u64::MAX, 100_000),
     ("make +7 007", 7, 7),
 ];
 
 // Numbers out of their ranges, too few slots for several workers, and other words.
-const OTHERS: &[&str] = &[
+static OTHERS: &[&str] = &[
     "run --workers 0",
     "run --workers 17",
     "run --instances 0",
@@ -139,14 +139,14 @@ fn a_run_without_options_has_the_default_configuration(rt: HostRuntime) {
         summary: false,
         slice: 0,
     };
-    assert_eq!(rt; read(rt.alloc(), "run"), Ok(want));
+    assert!(rt; read(rt.alloc(), "run") == Ok(want));
 }
 
 #[test]
 fn a_run_has_the_numbers_that_are_named_and_the_usual_others(rt: HostRuntime) {
     for (line, want) in RUNS {
         let got = read(rt.alloc(), line).map(asked);
-        assert_eq!(rt; got, Ok(Some(*want)), "at {line}");
+        assert!(rt; got == Ok(Some(*want)), "at {line}");
     }
 }
 
@@ -157,17 +157,14 @@ fn a_load_has_a_seed_and_a_count(rt: HostRuntime) {
             seed: *seed,
             count: *count,
         };
-        assert_eq!(rt; read(rt.alloc(), line), Ok(want), "at {line}");
+        assert!(rt; read(rt.alloc(), line) == Ok(want), "at {line}");
     }
 }
 
 #[test]
 fn other_words_are_refused(rt: HostRuntime) {
     for line in OTHERS {
-        assert_eq!(rt;
-            read(rt.alloc(), line),
-            Err(WordsFault::Refused),
-            "at {line}"
-        );
+        let got = read(rt.alloc(), line);
+        assert!(rt; got == Err(WordsFault::Refused), "at {line}");
     }
 }
