@@ -1,6 +1,12 @@
-use Rattle.std.proofs.Common.{refl}
+use Rattle.std.proofs.Common.{refl, rules}
+use Rattle.tenant_share.specs.Tenants.{tenants_of}
+use Rattle.tenant_share.proofs.PlaceLemmas.{All-at}
+use Rattle.call_jobs.specs.Entries.{IsOfTenants}
 use Rattle.call_workers.proofs.TakenLemmas.{entry_made, made_for_all, made_none}
 use Rattle.call_workers.proofs.calls.make.Goals as goal
+
+pub made-requires : goal.made-requires
+made-requires g c = (search rules, (c.requires.caller, All-at (IsOfTenants (tenants_of c.args.share.now)) _ _ _ c.requires.tenants c.due_at-due.ensures.there))
 
 pub returns-in-Some-clause-entry : goal.returns-in-Some-clause-entry
 returns-in-Some-clause-entry g c =

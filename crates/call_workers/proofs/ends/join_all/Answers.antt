@@ -31,3 +31,33 @@ returns-clause-given g c =
     let none = c.in_default.ensures.cases.0 in
     let empty : length c.loop-one.done.items ≡ 0 = omega arith in
     given_all c.loop-one.done.items _ _ empty c.loop-one.invariant.given
+
+pub join_pass-requires-clause-own : goal.join_pass-requires-clause-own
+join_pass-requires-clause-own g c = c.loop-one.invariant.joined.own
+
+pub returns-in_err-made-clause-callers : goal.returns-in_err-made-clause-callers
+returns-in_err-made-clause-callers g c = c.loop-one.invariant.callers
+
+pub returns-in_err-put_behind-clause-callers : goal.returns-in_err-put_behind-clause-callers
+returns-in_err-put_behind-clause-callers g c = c.loop-one.invariant.callers
+
+pub returns-clause-callers : goal.returns-clause-callers
+returns-clause-callers g c = c.loop-one.invariant.callers
+
+pub returns-clause-known : goal.returns-clause-known
+returns-clause-known g c = c.loop-one.invariant.known
+
+pub loop-one-init : goal.loop-one-init
+loop-one-init g c = record {
+  fewer = search rules;
+  joined = search rules;
+  given = search rules;
+  callers = c.requires.callers;
+  back = search rules;
+  known = λ tag knew ended. knew;
+  knowing = λ tag ended. ended;
+  done = c.requires.done;
+}
+
+pub join_pass-requires-clause-other : goal.join_pass-requires-clause-other
+join_pass-requires-clause-other g c = (rw c.in-Some.is at (All-pop (HasEnded g.N.Naming.config c.args.shared.now c.args.jobs.now) _ _ _ c.pop.ensures.items c.loop-one.invariant.done).1).own

@@ -1,5 +1,5 @@
 use Rattle.std.proofs.Common.{arith}
-use Rattle.call_workers.proofs.TakenLemmas.{begins, ends, gave_then_failed, goes_on}
+use Rattle.call_workers.proofs.TakenLemmas.{begins, ends, gave_then_failed, goes_on, waits}
 use Rattle.call_workers.proofs.work_loop.work.Goals as goal
 
 pub loop-init : goal.loop-init
@@ -26,3 +26,23 @@ loop-preserved g c =
       own = c.next-in-loop.ensures.own;
       working = rw (c.push_reserved.ensures.items, c.reserve.ensures.items) working;
     }
+
+pub returns-in_err-map_err-clause-caller : goal.returns-in_err-map_err-clause-caller
+returns-in_err-map_err-clause-caller g c = c.loop.invariant.caller
+
+pub returns-in_err-map_err-clause-own : goal.returns-in_err-map_err-clause-own
+returns-in_err-map_err-clause-own g c = c.loop.invariant.own
+
+pub loop-preserved-in-None-next : goal.loop-preserved-in-None-next
+loop-preserved-in-None-next g c =
+    let i = c.loop.invariant in record {
+      caller = i.caller;
+      own = c.next-in-loop.ensures.own;
+      working = rw c.reserve.ensures.items (waits _ _ _ _ _ _ _ _ i.working _ c.in-None-next.ensures.none);
+    }
+
+pub returns-then-number-eq0-clause-caller : goal.returns-then-number-eq0-clause-caller
+returns-then-number-eq0-clause-caller g c = c.loop.invariant.caller
+
+pub returns-then-number-eq0-clause-own : goal.returns-then-number-eq0-clause-own
+returns-then-number-eq0-clause-own g c = c.next-in-loop.ensures.own
