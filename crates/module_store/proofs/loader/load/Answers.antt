@@ -1,4 +1,4 @@
-use Rattle.std.proofs.Common.{subst, sym}
+use Rattle.std.proofs.Common.{rules, subst, sym}
 use Rattle.std.proofs.lemmas.Result.{err_from_is_err_and}
 use Rattle.wasm_types.specs.Tree.{module_tree}
 use Rattle.wasm_spec.specs.Grammar.{Spells}
@@ -15,5 +15,5 @@ returns-in_err-image-clause-refused c =
     (subst (Spells c.args.profile c.args.bytes.now) same c.in_ok-module.ensures.read)
     (subst (IsSupported c.args.profile) same c.in_ok-valid.ensures.supported)
     (subst IsValid same c.in_ok-valid.ensures.valid)
-    c.in_ok-check.ensures.ok
+    (search rules)
     c.in_err-image.ensures.misfit)
