@@ -5,7 +5,6 @@ use Rattle.wasm_types.specs.declared.types.Limits.{Limits}
 use Rattle.wasm_decode.specs.declared.types.TableType.{TableType}
 use Rattle.wasm_decode.proofs.decoder.limits.Goals as goal
 
-
 pub returns-in_err-push-clause-limits : goal.returns-in_err-push-clause-limits
 returns-in_err-push-clause-limits c = IfOk-from_err c.from_residual.result _ c.from_residual.ensures.0
 

@@ -25,7 +25,7 @@ loop-preserved c = let bits = c.args.self.now in let i = c.loop.invariant in let
       len = omega arith;
       room = omega arith;
       each = subst (All (IsNewTagPass bits)) (sym c.push_reserved.ensures.items)
-      (All-push (IsNewTagPass bits) _ _ i.each (new_pass bits c.split_pass-next.result (s.given.0 ∙ i.own) (s.given.1 ∙ (λ k. (view_given (i.first k).0, [])))));
+          (All-push (IsNewTagPass bits) _ _ i.each (new_pass bits c.split_pass-next.result (s.given.0 ∙ i.own) (s.given.1 ∙ (λ k. (view_given (i.first k).0, [])))));
     }
 
 pub returns-clause-each : goal.returns-clause-each
