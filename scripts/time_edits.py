@@ -80,6 +80,13 @@ def function_at(file, number):
     return next((found[1] for found in map(FUNCTION.match, reversed(lines)) if found), Path(file).stem)
 
 
+def full_name(functions, file, name):
+    """The function of this name in this source, or else the first so called, as the check names it."""
+    module = file.removeprefix("src/").removesuffix(".rt").replace("/", "::")
+    same = [it for it in functions if it.split("::")[-1] == name]
+    return next((it for it in same if it.startswith(f"{module}::")), (same or [name])[0])
+
+
 def goals_in(crate, said):
     """The goals that a check left open, in its order, each once."""
     found, lines = {}, said.splitlines()
@@ -87,8 +94,7 @@ def goals_in(crate, said):
     for line in lines:
         left, unfit = OPEN.match(line), UNFIT.match(line)
         if left:
-            name = function_at(f"{crate.folder}/{left[1]}", int(left[2]))
-            function, goal = next((it for it in functions if it.split("::")[-1] == name), name), left[3]
+            function, goal = full_name(functions, left[1], function_at(f"{crate.folder}/{left[1]}", int(left[2]))), left[3]
         elif unfit and not NAME_GONE.search(unfit[3]):
             function, goal = unfit[1].replace("/", "::"), unfit[2]
         else:
