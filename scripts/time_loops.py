@@ -65,17 +65,23 @@ def run_of(program):
     return [program, "run", *POOLS]
 
 
-def timed(words, file):
-    """The processor seconds of a run, and its last line."""
+def run_on(words, file):
+    """The processor seconds of a run on this file, and the lines that it writes."""
     with open(file, "rb") as given, tempfile.TemporaryFile() as out:
         actions = [(os.POSIX_SPAWN_DUP2, given.fileno(), 0), (os.POSIX_SPAWN_DUP2, out.fileno(), 1)]
         process = os.posix_spawn(words[0], words, os.environ, file_actions=actions)
         _, status, used = os.wait4(process, 0)
         out.seek(0)
         lines = out.read().decode().splitlines()
-    if status or not lines:
+    if status:
         sys.exit(f"{' '.join(words)} ended with status {os.waitstatus_to_exitcode(status)}")
-    return used.ru_utime + used.ru_stime, lines[-1]
+    return used.ru_utime + used.ru_stime, lines
+
+
+def timed(words, file):
+    """The processor seconds of a run, and its last line."""
+    seconds, lines = run_on(words, file)
+    return seconds, lines[-1]
 
 
 def instructions(loop, program):

@@ -88,6 +88,3 @@ fn serve_args<S: Source, K: Sink>(
     let words = words_of(alloc, args)?;
     Ok(serve(rt, alloc, words.as_slice(), source, sink, &OpenGate))
 }
-
-#[cfg(test)]
-mod tests;
