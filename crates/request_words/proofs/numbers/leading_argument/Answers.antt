@@ -1,4 +1,4 @@
-use Rattle.std.proofs.Common.{◌∙◌, ◌≡◌, List, ℕ, ap, sym, drop}
+use Rattle.std.proofs.Common.{◌∙◌, List, ℕ, ap, sym}
 use Rattle.std.specs.Option.{option_map}
 use Rattle.wasm_values.specs.declared.outcome.Val.TheVariants.{I32, I64}
 use Rattle.request_words.specs.FirstWords.{after_word, first_word}

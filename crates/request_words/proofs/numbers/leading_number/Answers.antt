@@ -1,6 +1,6 @@
 use Rattle.std.proofs.Common.{◌≡◌, ◌∙◌, ◌==◌, ◌+◌, ◌<◌, ℕ, List, false, true, length, get_or, ap, sym, arith}
 use Rattle.std.specs.Char.{is_ascii_digit}
-use Rattle.std.specs.List.{list_all, position_or_len}
+use Rattle.std.specs.List.{list_all}
 use Rattle.std.proofs.lemmas.List.{take_rest}
 use Rattle.request_words.specs.FirstWords.{first_word}
 use Rattle.request_words.proofs.NumberLemmas.{digits_more, no_space, not_digits, value_more, value_within, word_read}

@@ -1,9 +1,8 @@
-use Rattle.std.proofs.Common.{◌≡◌, ◌∙◌, ◌<◌, ◌≤◌, List, ℕ, Some, inl, inr, length, ap, sym, subst, arith}
+use Rattle.std.proofs.Common.{◌∙◌, ◌<◌, ◌≤◌, List, ℕ, Some, inl, inr, length, ap, sym, subst, arith}
 use Rattle.request_words.specs.FirstWords.{first_word}
 use Rattle.request_words.specs.Words.{number_up_to}
 use Rattle.request_words.proofs.NumberLemmas.{none_above, none_of_none, none_within, some_within}
 use Rattle.request_words.proofs.WordLemmas.{first_full, first_none}
-use Rattle.request_words.proofs.numbers.leading_number_up_to.Goals.{else-rest-text-via-then-rest-text+else-number-most, else-rest-text-via-else-rest-text}
 use Rattle.request_words.proofs.numbers.leading_number_up_to.Goals as goal
 
 pub returns-in_err-number-clause-number : goal.returns-in_err-number-clause-number
